@@ -1,0 +1,4 @@
+pub mod Text
+pub mod Digest
+pub mod RepoName
+pub mod Token
