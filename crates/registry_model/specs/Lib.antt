@@ -1,0 +1,13 @@
+pub use Rattle.oci_names.specs.Text
+pub mod World
+pub mod Usage
+pub mod Soundness
+pub mod Refusals
+pub mod Answer
+pub mod Form
+pub mod Ask
+pub mod Blobs
+pub mod Lookups
+pub mod Verdict
+pub mod Command
+pub mod Keeping
