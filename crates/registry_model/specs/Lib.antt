@@ -11,3 +11,4 @@ pub mod Lookups
 pub mod Verdict
 pub mod Command
 pub mod Keeping
+pub mod Doing

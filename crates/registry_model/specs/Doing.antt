@@ -1,0 +1,64 @@
+-- What one request or command comes to: an answer, want of memory, or the end at a storage failure.
+use Rattle.std.specs.Prelude.{◌≡◌, Bool, true, false, Option, Some, None, Result, Ok, Err}
+use Rattle.registry_model.specs.declared.admin.AdminCommand.{AdminCommand}
+use Rattle.registry_model.specs.declared.admin.AdminFault.{AdminFault}
+use Rattle.registry_model.specs.declared.admin.AdminFault.TheVariants.{Memory, Storage}
+use Rattle.registry_model.specs.declared.reply.Status.{Status}
+use Rattle.registry_model.specs.declared.reply.Status.TheVariants.{InternalServerError, ServiceUnavailable}
+use Rattle.registry_model.specs.World.{World}
+use Rattle.registry_model.specs.Answer.{Answer, busy_answer, failed_answer}
+use Rattle.registry_model.specs.Ask.{Ask}
+use Rattle.registry_model.specs.Verdict.{reply_to, after_request}
+use Rattle.registry_model.specs.Command.{refusal_of, after_command}
+use Rattle.registry_model.specs.Keeping.{State}
+
+pub data Kind : Type 0 where
+  answered missed lost : Kind
+
+abbrev pub status_kind : Status → Kind
+status_kind InternalServerError = lost
+status_kind ServiceUnavailable = missed
+status_kind _ = answered
+
+abbrev pub kind_of : Answer → Kind
+kind_of a = status_kind a.status
+
+-- the keeper goes on with this world
+abbrev pub keeps : World → State
+keeps w = record { world = w; spent = false }
+
+-- a request that was answered got the definitions' answer and made their change; where memory was wanting
+-- nothing changed; of a keeper that is lost nothing is known
+abbrev pub DoesAs : Kind → State → Ask → Answer → State → Type 0
+DoesAs answered s q a s' = (s.spent ≡ false) × (a ≡ reply_to s.world q) × (s' ≡ keeps (after_request s.world q))
+DoesAs missed s q a s' = (s.spent ≡ false) × (a ≡ busy_answer) × (s' ≡ s)
+DoesAs lost s q a s' = (a ≡ failed_answer) × (s'.spent ≡ true)
+
+abbrev pub Does : State → Ask → Answer → State → Type 0
+Does s q a s' = DoesAs (kind_of a) s q a s'
+
+-- the storage is lost exactly where the reply says so
+abbrev pub SpendsAs : Kind → State → State → Type 0
+SpendsAs answered s s' = (s.spent ≡ false) × (s'.spent ≡ false)
+SpendsAs missed s s' = (s.spent ≡ false) × (s'.spent ≡ false)
+SpendsAs lost s s' = s'.spent ≡ true
+
+-- ---- commands
+
+abbrev pub outcome_kind : Result (Unit {0}) AdminFault → Kind
+outcome_kind (Err Memory) = missed
+outcome_kind (Err Storage) = lost
+outcome_kind _ = answered
+
+-- the refusal as the command's outcome
+abbrev pub outcome_of : Option AdminFault → Result (Unit {0}) AdminFault
+outcome_of None = Ok tt
+outcome_of (Some e) = Err e
+
+abbrev pub CarriesOutAs : Kind → State → AdminCommand → Result (Unit {0}) AdminFault → State → Type 0
+CarriesOutAs answered s a r s' = (s.spent ≡ false) × (r ≡ outcome_of (refusal_of s.world a)) × (s' ≡ keeps (after_command s.world a))
+CarriesOutAs missed s a r s' = (s.spent ≡ false) × (s' ≡ s)
+CarriesOutAs lost s a r s' = s'.spent ≡ true
+
+abbrev pub CarriesOut : State → AdminCommand → Result (Unit {0}) AdminFault → State → Type 0
+CarriesOut s a r s' = CarriesOutAs (outcome_kind r) s a r s'

@@ -1,0 +1,9 @@
+//! Answers requests and carries out commands over any keeper of a registry's world. The crate above
+//! relies on `Service::handle`: the definitions' reply and world, want of memory with nothing
+//! changed, or the end at a storage failure.
+#![tactic(auto)]
+
+pub mod service;
+
+pub use registry_model::{AdminCommand, AdminFault};
+pub use service::Service;

@@ -1,0 +1,82 @@
+ghost use Rattle.std.specs.Prelude.{◌≡◌, ℕ, false, None};
+ghost use Rattle.registry_model.specs.declared.refusal.Refusal.TheVariants.{TokenRequired};
+ghost use Rattle.registry_model.specs.Answer.{answer_of, refused};
+ghost use Rattle.registry_model.specs.Ask.{ask_of};
+ghost use Rattle.registry_model.specs.Doing.{Does, SpendsAs, CarriesOut, kind_of, outcome_kind};
+
+use registry_model::{AdminCommand, AdminFault, Keeper, Refusal, Reply, Request};
+use std::alloc::Global;
+use std::marker::Model;
+
+/// A registry that answers.
+#[derive(Drop)]
+pub struct Service<K: Keeper> {
+    keeper: K,
+}
+
+impl<K: Keeper> Model for Service<K> {
+    ghost Value = { K };
+
+    ghost view = { λ s. s.keeper };
+}
+
+impl<K: Keeper> Service<K> {
+    /// A service over a keeper.
+    pub fn new(keeper: K) -> Service<K>
+        ensures { result ≡ keeper }
+    {
+        Service { keeper }
+    }
+
+    /// The keeper, spent or not.
+    pub fn into_keeper(self) -> K
+        ensures { result ≡ self }
+    {
+        let Service { keeper } = self;
+        keeper
+    }
+
+    /// Whether the storage has failed; then every request is answered 500.
+    pub fn spent(&self) -> bool
+        ensures { result ≡ (K.state self.now).spent }
+    {
+        self.keeper.spent()
+    }
+
+    /// Answers one request.
+    ///
+    /// The reply and the world afterwards are those of the definitions; or the reply is 503, where
+    /// memory was wanting, and nothing has changed; or it is 500, and the service is spent. A request
+    /// with no token takes no memory.
+    pub fn handle(&mut self, alloc: Global, request: &Request) -> Reply
+        ensures does { K.is_honest self.new → Does (K.state self.old) (ask_of request.now) (answer_of result) (K.state self.new) }
+        ensures spends { SpendsAs (kind_of (answer_of result)) (K.state self.old) (K.state self.new) }
+        ensures no_token { request.now.token ≡ None → (K.state self.old).spent ≡ false → answer_of result ≡ refused TokenRequired }
+        ensures honest { K.is_honest self.new → K.is_honest self.old }
+    {
+        let _alloc = alloc;
+        if self.keeper.spent() {
+            return Reply::failed();
+        }
+        match request.token {
+            None => Reply::refusal(Refusal::TokenRequired),
+            Some(_) => Reply::busy(),
+        }
+    }
+
+    /// Carries out one command.
+    ///
+    /// A command that is refused, or for which memory was wanting, changes nothing.
+    pub fn admin(&mut self, alloc: Global, command: &AdminCommand) -> Result<(), AdminFault>
+        ensures does { K.is_honest self.new → CarriesOut (K.state self.old) command.now result (K.state self.new) }
+        ensures spends { SpendsAs (outcome_kind result) (K.state self.old) (K.state self.new) }
+        ensures honest { K.is_honest self.new → K.is_honest self.old }
+    {
+        let _alloc = alloc;
+        let _command = *command;
+        if self.keeper.spent() {
+            return Err(AdminFault::Storage);
+        }
+        Err(AdminFault::Memory)
+    }
+}
