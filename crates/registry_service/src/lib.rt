@@ -3,7 +3,11 @@
 //! changed, or the end at a storage failure.
 #![tactic(auto)]
 
+mod blobs;
+mod commands;
+mod judging;
 pub mod service;
+mod target;
 
 pub use registry_model::{AdminCommand, AdminFault};
 pub use service::Service;

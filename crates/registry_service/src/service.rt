@@ -4,7 +4,10 @@ ghost use Rattle.registry_model.specs.Answer.{answer_of, refused};
 ghost use Rattle.registry_model.specs.Ask.{ask_of};
 ghost use Rattle.registry_model.specs.Doing.{Does, SpendsAs, CarriesOut, kind_of, outcome_kind};
 
-use registry_model::{AdminCommand, AdminFault, Keeper, Refusal, Reply, Request};
+use crate::commands::carry_out;
+use crate::judging::judge;
+use oci_names::Fault;
+use registry_model::{AdminCommand, AdminFault, Keeper, Reply, Request};
 use std::alloc::Global;
 use std::marker::Model;
 
@@ -54,29 +57,21 @@ impl<K: Keeper> Service<K> {
         ensures no_token { request.now.token ≡ None → (K.state self.old).spent ≡ false → answer_of result ≡ refused TokenRequired }
         ensures honest { K.is_honest self.new → K.is_honest self.old }
     {
-        let _alloc = alloc;
-        if self.keeper.spent() {
-            return Reply::failed();
-        }
-        match request.token {
-            None => Reply::refusal(Refusal::TokenRequired),
-            Some(_) => Reply::busy(),
+        match judge(&mut self.keeper, alloc, request) {
+            Ok(reply) => reply,
+            Err(Fault::Memory) => Reply::busy(),
+            Err(Fault::Storage) => Reply::failed(),
         }
     }
 
     /// Carries out one command.
     ///
     /// A command that is refused, or for which memory was wanting, changes nothing.
-    pub fn admin(&mut self, alloc: Global, command: &AdminCommand) -> Result<(), AdminFault>
+    pub fn admin(&mut self, command: &AdminCommand) -> Result<(), AdminFault>
         ensures does { K.is_honest self.new → CarriesOut (K.state self.old) command.now result (K.state self.new) }
         ensures spends { SpendsAs (outcome_kind result) (K.state self.old) (K.state self.new) }
         ensures honest { K.is_honest self.new → K.is_honest self.old }
     {
-        let _alloc = alloc;
-        let _command = *command;
-        if self.keeper.spent() {
-            return Err(AdminFault::Storage);
-        }
-        Err(AdminFault::Memory)
+        carry_out(&mut self.keeper, command)
     }
 }

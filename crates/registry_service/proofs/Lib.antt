@@ -1,0 +1,2 @@
+pub mod BlobLemmas
+pub mod DoingLemmas

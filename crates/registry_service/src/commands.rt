@@ -1,0 +1,36 @@
+ghost use Rattle.std.specs.Prelude.{◌≡◌};
+ghost use Rattle.registry_service.specs.Results.{fault_of};
+ghost use Rattle.registry_model.specs.Doing.{CarriesOut, SpendsAs, outcome_kind};
+
+use oci_names::Fault;
+use registry_model::{AdminCommand, AdminFault, Keeper};
+
+/// The fault of a command whose keeper gave up.
+fn given_up(fault: Fault) -> AdminFault
+    ensures { result ≡ fault_of fault }
+{
+    match fault {
+        Fault::Memory => AdminFault::Memory,
+        Fault::Storage => AdminFault::Storage,
+    }
+}
+
+/// Carries out a command.
+pub fn carry_out<K: Keeper>(keeper: &mut K, command: &AdminCommand) -> Result<(), AdminFault>
+    ensures does { K.is_honest keeper.new → CarriesOut (K.state keeper.old) command.now result (K.state keeper.new) }
+    ensures spends { SpendsAs (outcome_kind result) (K.state keeper.old) (K.state keeper.new) }
+    ensures honest { K.is_honest keeper.new → K.is_honest keeper.old }
+{
+    match command {
+        AdminCommand::AddRepo { name, quota } => match keeper.has_repo(name) {
+            Ok(true) => Err(AdminFault::RepoThere),
+            Ok(false) => keeper.set_repo(name, *quota).map_err(given_up),
+            Err(fault) => Err(given_up(fault)),
+        },
+        AdminCommand::Grant { token, name, level } => match keeper.has_repo(name) {
+            Ok(true) => keeper.grant(token, name, *level).map_err(given_up),
+            Ok(false) => Err(AdminFault::NoRepo),
+            Err(fault) => Err(given_up(fault)),
+        },
+    }
+}
