@@ -166,19 +166,21 @@ impl Digest {
     }
 
     /// The sha256 digest of the bytes. The only fault is `NameFault::Memory`.
-    pub fn of_sha256(_alloc: Global, bytes: &[u8]) -> Result<Digest, NameFault>
+    pub fn of_sha256(alloc: Global, bytes: &[u8]) -> Result<Digest, NameFault>
         ensures { MatchResult result (λ digest. digest ≡ sha256_digest bytes.now) (λ fault. fault ≡ NameFault.Memory) }
     {
-        let _bytes = bytes;
-        Err(NameFault::Memory)
+        let encoded = hex::encode(alloc, Sha256::digest(bytes))?;
+        let text = format!(in alloc; "sha256:{encoded}")?;
+        Ok(Digest { text })
     }
 
     /// The sha512 digest of the bytes. The only fault is `NameFault::Memory`.
-    pub fn of_sha512(_alloc: Global, bytes: &[u8]) -> Result<Digest, NameFault>
+    pub fn of_sha512(alloc: Global, bytes: &[u8]) -> Result<Digest, NameFault>
         ensures { MatchResult result (λ digest. digest ≡ sha512_digest bytes.now) (λ fault. fault ≡ NameFault.Memory) }
     {
-        let _bytes = bytes;
-        Err(NameFault::Memory)
+        let encoded = hex::encode(alloc, Sha512::digest(bytes))?;
+        let text = format!(in alloc; "sha512:{encoded}")?;
+        Ok(Digest { text })
     }
 
     /// Whether the digest is that of the bytes. Takes no memory.
