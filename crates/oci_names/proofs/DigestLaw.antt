@@ -53,9 +53,9 @@ step_in_component b t true s e is s_is e_is i = more letter (both components enc
 step_in_component b t false true e is s_is e_is i =
     skip letter (both components encoded_part) (b ∷ t)
     (more (both (one is_algorithm_separator) algorithm_component) encoded_part (b ∷ t)
-      (regroup (one is_algorithm_separator) algorithm_component (both components encoded_part) (b ∷ t)
-        (cons is_algorithm_separator (both algorithm_component (both components encoded_part)) b t s_is
-          (ungroup algorithm_component components encoded_part t i))))
+    (regroup (one is_algorithm_separator) algorithm_component (both components encoded_part) (b ∷ t)
+    (cons is_algorithm_separator (both algorithm_component (both components encoded_part)) b t s_is
+    (ungroup algorithm_component components encoded_part t i))))
 step_in_component b t false false true is s_is e_is i =
     skip letter (both components encoded_part) (b ∷ t)
     (skip (both (one is_algorithm_separator) algorithm_component) encoded_part (b ∷ t) (cons (λ c. c == 58) encoded b t e_is i))
@@ -94,20 +94,20 @@ component_leads : (s : Place) → IsStart s → Leads place_after is_end algorit
 component_leads s at =
     leads-both place_after is_end letter (many letter) s IsComponent IsComponent
     (leads-one place_after is_end is_lowercase_or_digit s IsComponent
-      (λ b h. ap (λ x. place_after x b) at ∙ ap (λ x. cond x Component Outside) h))
+    (λ b h. ap (λ x. place_after x b) at ∙ ap (λ x. cond x Component Outside) h))
     (λ r in_r. leads-many place_after is_end letter r IsComponent in_r
-      (λ q in_q. leads-one place_after is_end is_lowercase_or_digit q IsComponent
-        (λ b h. ap (λ x. place_after x b) in_q
-          ∙ ap (λ x. cond x Component (cond (is_algorithm_separator b) ComponentStart (cond (b == 58) EncodedStart Outside))) h)))
+    (λ q in_q. leads-one place_after is_end is_lowercase_or_digit q IsComponent
+    (λ b h. ap (λ x. place_after x b) in_q
+    ∙ ap (λ x. cond x Component (cond (is_algorithm_separator b) ComponentStart (cond (b == 58) EncodedStart Outside))) h)))
 
 -- no separator is a letter or a digit
 separator_is_no_letter : (b : ℕ) → is_algorithm_separator b ≡ true → is_lowercase_or_digit b ≡ false
 separator_is_no_letter b h =
     elim (or_cases (b == 43 || b == 46 || b == 95) (b == 45) h) [
       | inl before ↦ elim (or_cases (b == 43 || b == 46) (b == 95) before) [
-          | inl first ↦ elim (or_cases (b == 43) (b == 46) first) [ inl plus ↦ at 43 refl plus | inr dot ↦ at 46 refl dot ]
-          | inr underscore ↦ at 95 refl underscore
-        ]
+        | inl first ↦ elim (or_cases (b == 43) (b == 46) first) [ inl plus ↦ at 43 refl plus | inr dot ↦ at 46 refl dot ]
+        | inr underscore ↦ at 95 refl underscore
+      ]
       | inr dash ↦ at 45 refl dash
     ]
   where
@@ -118,29 +118,29 @@ separator_leads : (s : Place) → IsComponent s → Leads place_after is_end (on
 separator_leads s at =
     leads-one place_after is_end is_algorithm_separator s IsStart
     (λ b h. ap (λ x. place_after x b) at
-      ∙ ap (λ x. cond x Component (cond (is_algorithm_separator b) ComponentStart (cond (b == 58) EncodedStart Outside))) (separator_is_no_letter b h)
-      ∙ ap (λ x. cond x ComponentStart (cond (b == 58) EncodedStart Outside)) h)
+    ∙ ap (λ x. cond x Component (cond (is_algorithm_separator b) ComponentStart (cond (b == 58) EncodedStart Outside))) (separator_is_no_letter b h)
+    ∙ ap (λ x. cond x ComponentStart (cond (b == 58) EncodedStart Outside)) h)
 
 algorithm_leads : Leads place_after is_end algorithm ComponentStart IsComponent
 algorithm_leads =
     leads-both place_after is_end algorithm_component components ComponentStart IsComponent IsComponent (component_leads ComponentStart refl)
     (λ r in_r. leads-many place_after is_end (both (one is_algorithm_separator) algorithm_component) r IsComponent in_r
-      (λ q in_q. leads-both place_after is_end (one is_algorithm_separator) algorithm_component q IsStart IsComponent (separator_leads q in_q) component_leads))
+    (λ q in_q. leads-both place_after is_end (one is_algorithm_separator) algorithm_component q IsStart IsComponent (separator_leads q in_q) component_leads))
 
 encoded_leads : (s : Place) → s ≡ EncodedStart → Leads place_after is_end encoded s IsEncoded
 encoded_leads s at =
     leads-both place_after is_end (one is_encoded) (many (one is_encoded)) s IsEncoded IsEncoded
     (leads-one place_after is_end is_encoded s IsEncoded (λ b h. ap (λ x. place_after x b) at ∙ ap (λ x. cond x Encoded Outside) h))
     (λ r in_r. leads-many place_after is_end (one is_encoded) r IsEncoded in_r
-      (λ q in_q. leads-one place_after is_end is_encoded q IsEncoded (λ b h. ap (λ x. place_after x b) in_q ∙ ap (λ x. cond x Encoded Outside) h)))
+    (λ q in_q. leads-one place_after is_end is_encoded q IsEncoded (λ b h. ap (λ x. place_after x b) in_q ∙ ap (λ x. cond x Encoded Outside) h)))
 
 digest_leads : Leads place_after is_end digest ComponentStart IsEncoded
 digest_leads =
     leads-both place_after is_end algorithm encoded_part ComponentStart IsComponent IsEncoded algorithm_leads
     (λ r in_r. leads-both place_after is_end (byte 58) encoded r (λ q. q ≡ EncodedStart) IsEncoded
-      (leads-one place_after is_end (λ b. b == 58) r (λ q. q ≡ EncodedStart)
-        (λ b h. let e : b ≡ 58 = eqb-true b 58 h in rw e (ap (λ x. place_after x 58) in_r)))
-      encoded_leads)
+    (leads-one place_after is_end (λ b. b == 58) r (λ q. q ≡ EncodedStart)
+    (λ b h. let e : b ≡ 58 = eqb-true b 58 h in rw e (ap (λ x. place_after x 58) in_r)))
+    encoded_leads)
 
 pub has_grammar_decides : (t : Text) → (has_grammar t ≡ true) ↔ IsIn digest t
 has_grammar_decides t = (is_in_rest place_after is_end rest ends steps t ComponentStart, λ i. ap is_end (digest_leads t i))
@@ -179,3 +179,20 @@ is_digest_decides t = (
   λ i. and_from (has_grammar t) (has_registered_form t) ((has_grammar_decides t).1 i.grammar)
       (form_of t (is_sha256 t) (is_sha512 t) refl refl i.sha256_form i.sha512_form),
 )
+
+-- ---- what the code's two tests tell
+
+pub refused_by_grammar : (t : Text) (r : Bool) → r ≡ has_grammar t → r ≡ false → ¬ IsIn digest t
+refused_by_grammar t r same is i = false≢true (sym is ∙ same ∙ (has_grammar_decides t).1 i)
+
+pub refused_by_form : (t u : Text) (r s : Bool) → r ≡ has_grammar t → r ≡ true → u ≡ t → s ≡ has_registered_form u → s ≡ false
+    → IsIn digest t × ¬ IsDigest t
+refused_by_form t u r s same is text form refused =
+    let whole : s ≡ has_registered_form t = form ∙ ap has_registered_form text in (
+      (has_grammar_decides t).0 (sym same ∙ is),
+      λ d. false≢true (sym refused ∙ whole ∙ (and_parts (has_grammar t) (has_registered_form t) ((is_digest_decides t).1 d)).1),
+    )
+
+pub taken_by_both : (t u : Text) (r s : Bool) → r ≡ has_grammar t → r ≡ true → u ≡ t → s ≡ has_registered_form u → s ≡ true → IsDigest t
+taken_by_both t u r s same is text form taken =
+    (is_digest_decides t).0 (and_from (has_grammar t) (has_registered_form t) (sym same ∙ is) (ap has_registered_form (sym text) ∙ sym form ∙ taken))

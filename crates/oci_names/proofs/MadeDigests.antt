@@ -82,14 +82,14 @@ hex_is_encoded : (b : ℕ) → is_lowercase_hex b ≡ true → is_encoded b ≡ 
 hex_is_encoded b h =
     or_left (is_alphanumeric b || b == 61 || b == 95) (b == 45)
     (or_left (is_alphanumeric b || b == 61) (b == 95) (or_left (is_alphanumeric b) (b == 61)
-        (elim (or_cases (is_between 97 102 b) (is_digit b) h) [
-          | inl letter ↦
-              let parts = and_parts (nat_le 97 b) (nat_le b 102) letter in
-              let below : b ≤ 102 = leb-true b 102 parts.1 in
-              or_left (is_lowercase b || is_uppercase b) (is_digit b)
-              (or_left (is_lowercase b) (is_uppercase b) (and_from (nat_le 97 b) (nat_le b 122) parts.0 (le-leb b 122 (omega arith))))
-          | inr digit ↦ or_right (is_lowercase b || is_uppercase b) (is_digit b) digit
-        ])))
+    (elim (or_cases (is_between 97 102 b) (is_digit b) h) [
+      | inl letter ↦
+          let parts = and_parts (nat_le 97 b) (nat_le b 102) letter in
+          let below : b ≤ 102 = leb-true b 102 parts.1 in
+          or_left (is_lowercase b || is_uppercase b) (is_digit b)
+          (or_left (is_lowercase b) (is_uppercase b) (and_from (nat_le 97 b) (nat_le b 122) parts.0 (le-leb b 122 (omega arith))))
+      | inr digit ↦ or_right (is_lowercase b || is_uppercase b) (is_digit b) digit
+    ])))
 
 hex_stays : (e : Text) → list_all is_lowercase_hex e ≡ true → fold place_after Encoded e ≡ Encoded
 hex_stays [] h = refl

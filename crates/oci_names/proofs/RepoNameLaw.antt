@@ -43,21 +43,23 @@ begin_word b t h i =
 
 -- a separator and a path after a word
 separated : (u t : Text) → IsIn separator u → IsIn path t → IsIn in_word (u ++ t)
+unfolding IsIn
 separated u t i j =
     skip letter (both words components) (u ++ t)
     (more (both separator word) components (u ++ t)
-      (regroup separator word (both words components) (u ++ t)
-        (u, t, refl, i, ungroup word words components t j)))
+    (regroup separator word (both words components) (u ++ t)
+    (u, t, refl, i, ungroup word words components t j)))
 
 -- a slash and a path after a word
 after_slash : (t : Text) → IsIn path t → IsIn in_word (47 ∷ t)
 after_slash t i =
     skip letter (both words components) (47 ∷ t)
     (skip (both separator word) components (47 ∷ t)
-      (many-more (both (byte 47) component) (47 ∷ t)
-        (regroup (byte 47) component components (47 ∷ t) (cons (λ b. b == 47) path 47 t refl i))))
+    (many-more (both (byte 47) component) (47 ∷ t)
+    (regroup (byte 47) component components (47 ∷ t) (cons (λ b. b == 47) path 47 t refl i))))
 
 after_underscore : (t : Text) → IsIn (rest Underscore) t → IsIn in_word (95 ∷ t)
+unfolding IsIn
 after_underscore t (inl i) = separated (95 ∷ []) t (inr (inl (95, refl, refl))) i
 after_underscore t (inr (u, v, e, (b, h, f), i)) =
     let is_underscore : b ≡ 95 = eqb-true b 95 h in
@@ -65,6 +67,7 @@ after_underscore t (inr (u, v, e, (b, h, f), i)) =
     rw whole (separated (95 ∷ 95 ∷ []) v (inr (inr (inl (95 ∷ [], 95 ∷ [], refl, (95, refl, refl), (95, refl, refl))))) i)
 
 after_dash : (t : Text) → IsIn (rest Dashes) t → IsIn in_word (45 ∷ t)
+unfolding IsIn
 after_dash t (u, v, e, i, j) =
     rw e (separated (45 ∷ u) v (inr (inr (inr (cons (λ b. b == 45) (many (byte 45)) 45 u refl i)))) j)
 
@@ -72,6 +75,7 @@ after_dash t (u, v, e, i, j) =
 step_in_word : (b : ℕ) (t : Text) (letters dot_or_slash underscore dash : Bool)
     → is_lowercase_or_digit b ≡ letters → (b == 46 || b == 47) ≡ dot_or_slash → (b == 95) ≡ underscore → (b == 45) ≡ dash
     → IsIn (rest (cond letters Word (cond dot_or_slash Start (cond underscore Underscore (cond dash Dashes Outside))))) t → IsIn in_word (b ∷ t)
+unfolding IsIn
 step_in_word b t true d u h is d_is u_is h_is i = more letter (both words components) (b ∷ t) (cons is_lowercase_or_digit in_word b t is i)
 step_in_word b t false true u h is d_is u_is h_is i =
     elim (or_cases (b == 46) (b == 47) d_is) [
@@ -88,17 +92,20 @@ step_at_start b t false is i = absurd (not_in_none t i)
 
 step_at_underscore : (b : ℕ) (t : Text) (letters underscore : Bool) → is_lowercase_or_digit b ≡ letters → (b == 95) ≡ underscore
     → IsIn (rest (cond letters Word (cond underscore Start Outside))) t → IsIn (rest Underscore) (b ∷ t)
+unfolding IsIn
 step_at_underscore b t true u is u_is i = inl (begin_word b t is i)
 step_at_underscore b t false true is u_is i = inr (cons (λ c. c == 95) path b t u_is i)
 step_at_underscore b t false false is u_is i = absurd (not_in_none t i)
 
 step_at_dashes : (b : ℕ) (t : Text) (letters dash : Bool) → is_lowercase_or_digit b ≡ letters → (b == 45) ≡ dash
     → IsIn (rest (cond letters Word (cond dash Dashes Outside))) t → IsIn (rest Dashes) (b ∷ t)
+unfolding IsIn
 step_at_dashes b t true h is h_is i = skip (byte 45) path (b ∷ t) (begin_word b t is i)
 step_at_dashes b t false true is h_is i = more (byte 45) path (b ∷ t) (cons (λ c. c == 45) (rest Dashes) b t h_is i)
 step_at_dashes b t false false is h_is i = absurd (not_in_none t i)
 
 steps : (s : Place) (b : ℕ) (t : Text) → IsIn (rest (place_after s b)) t → IsIn (rest s) (b ∷ t)
+unfolding IsIn
 steps Start b t i = step_at_start b t (is_lowercase_or_digit b) refl i
 steps Word b t i = step_in_word b t (is_lowercase_or_digit b) (b == 46 || b == 47) (b == 95) (b == 45) refl refl refl refl i
 steps Underscore b t i = step_at_underscore b t (is_lowercase_or_digit b) (b == 95) refl refl i
@@ -106,6 +113,7 @@ steps Dashes b t i = step_at_dashes b t (is_lowercase_or_digit b) (b == 45) refl
 steps Outside b t i = absurd (not_in_none t i)
 
 ends : (s : Place) → is_end s ≡ true → IsIn (rest s) []
+unfolding IsIn
 ends Start h = absurd (false≢true h)
 ends Word h = skip letter (both words components) [] (skip (both separator word) components [] (many-none (both (byte 47) component)))
 ends Underscore h = absurd (false≢true h)
@@ -138,7 +146,7 @@ word_leads s begins =
     leads-both place_after is_end letter (many letter) s IsWord IsWord
     (leads-one place_after is_end is_lowercase_or_digit s IsWord begins)
     (λ r at. leads-many place_after is_end letter r IsWord at
-      (λ q in_q. leads-one place_after is_end is_lowercase_or_digit q IsWord (λ b h. ap (λ x. place_after x b) in_q ∙ begins_word b h)))
+    (λ q in_q. leads-one place_after is_end is_lowercase_or_digit q IsWord (λ b h. ap (λ x. place_after x b) in_q ∙ begins_word b h)))
 
 -- one byte leads from the place s to the place r
 byte_leads : (c : ℕ) (s r : Place) (Q : Place → Type 0) → place_after s c ≡ r → Q r → Leads place_after is_end (byte c) s Q
@@ -154,14 +162,15 @@ separator_leads : (s : Place) → IsWord s → Leads place_after is_end separato
 separator_leads s at =
     leads-either place_after is_end (byte 46) (either (byte 95) (either (both (byte 95) (byte 95)) (some (byte 45)))) s BeginsWord (from_word 46 Start refl begins_start)
     (leads-either place_after is_end (byte 95) (either (both (byte 95) (byte 95)) (some (byte 45))) s BeginsWord (from_word 95 Underscore refl begins_underscore)
-      (leads-either place_after is_end (both (byte 95) (byte 95)) (some (byte 45)) s BeginsWord
-        (leads-both place_after is_end (byte 95) (byte 95) s (λ r. r ≡ Underscore) BeginsWord (from_word_to 95 Underscore refl)
-          (λ r in_r. byte_leads 95 r Start BeginsWord (ap (λ x. place_after x 95) in_r) begins_start))
-        (leads-weaker place_after is_end (some (byte 45)) s (λ r. r ≡ Dashes) BeginsWord (λ r e. rw e begins_dashes)
-          (leads-both place_after is_end (byte 45) (many (byte 45)) s (λ r. r ≡ Dashes) (λ r. r ≡ Dashes) (from_word_to 45 Dashes refl) dashes_lead))))
+    (leads-either place_after is_end (both (byte 95) (byte 95)) (some (byte 45)) s BeginsWord
+    (leads-both place_after is_end (byte 95) (byte 95) s (λ r. r ≡ Underscore) BeginsWord (from_word_to 95 Underscore refl)
+    (λ r in_r. byte_leads 95 r Start BeginsWord (ap (λ x. place_after x 95) in_r) begins_start))
+    (leads-weaker place_after is_end (some (byte 45)) s (λ r. r ≡ Dashes) BeginsWord (λ r e. rw e begins_dashes)
+    (leads-both place_after is_end (byte 45) (many (byte 45)) s (λ r. r ≡ Dashes) (λ r. r ≡ Dashes) (from_word_to 45 Dashes refl) dashes_lead))))
   where
     from_word : (c : ℕ) (r : Place) → place_after Word c ≡ r → BeginsWord r → Leads place_after is_end (byte c) s BeginsWord
     from_word c r to q = byte_leads c s r BeginsWord (ap (λ x. place_after x c) at ∙ to) q
+
     from_word_to : (c : ℕ) (r : Place) → place_after Word c ≡ r → Leads place_after is_end (byte c) s (λ q. q ≡ r)
     from_word_to c r to = byte_leads c s r (λ q. q ≡ r) (ap (λ x. place_after x c) at ∙ to) refl
 
@@ -169,14 +178,14 @@ component_leads : (s : Place) → BeginsWord s → Leads place_after is_end comp
 component_leads s begins =
     leads-both place_after is_end word words s IsWord IsWord (word_leads s begins)
     (λ r at. leads-many place_after is_end (both separator word) r IsWord at
-      (λ q in_q. leads-both place_after is_end separator word q BeginsWord IsWord (separator_leads q in_q) word_leads))
+    (λ q in_q. leads-both place_after is_end separator word q BeginsWord IsWord (separator_leads q in_q) word_leads))
 
 path_leads : Leads place_after is_end path Start IsWord
 path_leads =
     leads-both place_after is_end component components Start IsWord IsWord (component_leads Start begins_start)
     (λ r at. leads-many place_after is_end (both (byte 47) component) r IsWord at
-      (λ q in_q. leads-both place_after is_end (byte 47) component q BeginsWord IsWord
-        (byte_leads 47 q Start BeginsWord (ap (λ x. place_after x 47) in_q) begins_start) component_leads))
+    (λ q in_q. leads-both place_after is_end (byte 47) component q BeginsWord IsWord
+    (byte_leads 47 q Start BeginsWord (ap (λ x. place_after x 47) in_q) begins_start) component_leads))
 
 -- ---- both
 

@@ -31,14 +31,14 @@ read_back t h =
     let bounds : (49 ≤ slice_index t 0) × (slice_index t 0 ≤ 57) = first_bounds (slice_index t 0) front.0 in
     let small : digits_value 10 t < 2 ^ 63 = ltb-true (digits_value 10 t) (2 ^ 63) parts.1 in
     let same : decimal (digits_value 10 t) ≡ t =
-          decimal-digits_value own t front.1 (nonempty t front.0) (λ zero_first. absurd (omega arith)) (omega arith) in
+    decimal-digits_value own t front.1 (nonempty t front.0) (λ zero_first. absurd (omega arith)) (omega arith) in
     let positive : 1 ≤ digits_value 10 t = elim (cases_eq (digits_value 10 t) 0) [
-          | inl is_zero ↦
-              let zero_text : t ≡ 48 ∷ [] = sym same ∙ ap decimal is_zero ∙ decimal_digit 0 (omega arith) in
-              let zero_first : slice_index t 0 ≡ 48 = ap (λ x. slice_index x 0) zero_text in
-              absurd (omega arith)
-          | inr not_zero ↦ omega (arith, not_zero)
-        ] in
+      | inl is_zero ↦
+          let zero_text : t ≡ 48 ∷ [] = sym same ∙ ap decimal is_zero ∙ decimal_digit 0 (omega arith) in
+          let zero_first : slice_index t 0 ≡ 48 = ap (λ x. slice_index x 0) zero_text in
+          absurd (omega arith)
+      | inr not_zero ↦ omega (arith, not_zero)
+    ] in
     (sym same, positive, small)
 
 -- the decimal of a number in the range is its text
@@ -49,8 +49,8 @@ taken n positive small =
     let bounds = digit_at (decimal n) 0 numeral.0.1 numeral.0.0 in
     let above : 48 < get_or (decimal n) 0 0 = first_decimal n (omega arith) wide in
     let first : is_between 49 57 (slice_index (decimal n) 0) ≡ true =
-          and_from (nat_le 49 (slice_index (decimal n) 0)) (nat_le (slice_index (decimal n) 0) 57)
-          (le-leb 49 (slice_index (decimal n) 0) (omega arith)) (le-leb (slice_index (decimal n) 0) 57 (omega (arith, bounds))) in
+    and_from (nat_le 49 (slice_index (decimal n) 0)) (nat_le (slice_index (decimal n) 0) 57)
+    (le-leb 49 (slice_index (decimal n) 0) (omega arith)) (le-leb (slice_index (decimal n) 0) 57 (omega (arith, bounds))) in
     let value : digits_value 10 (decimal n) ≡ n = digits_value-decimal own n wide in
     and_from (is_between 49 57 (slice_index (decimal n) 0) && all_ascii_digits (decimal n)) (nat_lt (digits_value 10 (decimal n)) (2 ^ 63))
     (and_from (is_between 49 57 (slice_index (decimal n) 0)) (all_ascii_digits (decimal n)) first (digits_decimal own n wide))

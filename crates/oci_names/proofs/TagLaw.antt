@@ -9,12 +9,14 @@ use Rattle.oci_names.specs.Tag.{IsTag, is_tag, are_tag_characters, tag_character
 use Rattle.oci_names.proofs.Languages.{cons, many_one, list_all-many_one}
 
 characters_in : (t : Text) → are_tag_characters t ≡ true → IsIn tag_characters t
+unfolding IsIn
 characters_in [] h = absurd (false≢true h)
 characters_in (b ∷ t) h =
     let parts = and_parts (is_tag_start b) (list_all is_tag_character t) h in
     cons is_tag_start (many (one is_tag_character)) b t parts.0 (many_one is_tag_character t parts.1)
 
 in_characters : (t : Text) → IsIn tag_characters t → are_tag_characters t ≡ true
+unfolding IsIn
 in_characters t (u, v, e, (b, h, f), j) =
     let whole : t ≡ b ∷ v = e ∙ ap (λ x. x ++ v) f in
     rw whole (and_from (is_tag_start b) (list_all is_tag_character v) h (list_all-many_one is_tag_character v j))

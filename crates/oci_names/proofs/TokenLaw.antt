@@ -77,8 +77,8 @@ token_leads : Leads place_after is_end b64token Start MayPad
 token_leads =
     leads-both place_after is_end (some character) (many (byte 61)) Start IsCharacter MayPad
     (leads-both place_after is_end character (many character) Start IsCharacter IsCharacter
-      (character_leads Start (λ b h. ap (λ x. cond x Character Outside) h))
-      (λ r at. leads-many place_after is_end character r IsCharacter at again))
+    (character_leads Start (λ b h. ap (λ x. cond x Character Outside) h))
+    (λ r at. leads-many place_after is_end character r IsCharacter at again))
     (λ r at. leads-many place_after is_end (byte 61) r MayPad (ap (λ x. place_after x 61) at, ap is_end at) pad_leads)
 
 -- ---- both
