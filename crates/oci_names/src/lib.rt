@@ -7,6 +7,7 @@
 mod byte;
 pub mod digest;
 pub mod fault;
+pub mod laws;
 pub mod reference;
 pub mod repo_name;
 pub mod session;
