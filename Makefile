@@ -1,0 +1,28 @@
+# What a fresh checkout is asked for. `rt` is the command of the Rattle kit (see the README).
+DEMO = registry stdio --memory --repo team/app=1000 --grant t1=team/app=3
+A = sha256:ba7816bf8f01cfea414140de5dae2223b00361a396177a9cb410ff61f20015ad
+REQUEST_FIELDS = Host: r\r\nAuthorization: Bearer t1\r\n
+
+.PHONY: demo build test fmt clean
+
+# Builds, then pushes the blob `abc` and fetches it: both replies, byte for byte.
+demo: build
+	@echo '$$ $(DEMO)' >&2
+	@printf 'POST /v2/team/app/blobs/uploads/?digest=$(A) HTTP/1.1\r\n$(REQUEST_FIELDS)Content-Length: 3\r\n\r\nabcGET /v2/team/app/blobs/$(A) HTTP/1.1\r\n$(REQUEST_FIELDS)\r\n' | build/$(DEMO)
+	@echo
+
+# Proves the program and everything below it, and leaves the executable as build/registry.
+build:
+	cd crates/registry_cli && rt run -- --version
+	mkdir -p build
+	cp crates/registry_cli/out/registry_cli build/registry
+
+# The merge gate: every proof from nothing, the must-fail edits, the tests and the stored run.
+test:
+	rt ci
+
+fmt:
+	for crate in crates/*/; do (cd $$crate && rt fmt) || exit 1; done
+
+clean:
+	rm -rf build crates/*/out
