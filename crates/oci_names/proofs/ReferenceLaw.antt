@@ -43,7 +43,7 @@ unfolding IsIn
 digest_has_colon t (u, v, e, i, (w, x, f, (b, h, g), j)) all =
     let whole : t ≡ u ++ (58 ∷ x) = e ∙ ap (λ y. u ++ y) (f ∙ ap (λ y. y ++ x) (g ∙ ap (λ c. c ∷ []) (eqb-true b 58 h))) in
     let parts = and_parts (list_all is_tag_character u) (list_all is_tag_character (58 ∷ x))
-          (sym (list_all-append is_tag_character u (58 ∷ x)) ∙ ap (list_all is_tag_character) (sym whole) ∙ all) in
+    (sym (list_all-append is_tag_character u (58 ∷ x)) ∙ ap (list_all is_tag_character) (sym whole) ∙ all) in
     false≢true parts.1
 
 pub no_tag_is_digest : (t : Text) → is_tag t ≡ true → is_digest t ≡ false

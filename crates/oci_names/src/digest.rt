@@ -147,7 +147,7 @@ fn encodes_sha512(encoded: &[u8], bytes: &[u8]) -> bool
 
 /// A digest (OCI Image Specification 1.1, Descriptors, Digests). Those of sha256 and sha512 have the
 /// form of their algorithm; one of any other algorithm need only fit the grammar.
-#[derive(Debug, Drop)]
+#[derive(Clone, Debug, Drop)]
 pub struct Digest {
     text: String,
 }

@@ -31,8 +31,7 @@ pub fn reference_grammar()
 /// No text is both a tag and a digest.
 pub fn no_tag_is_a_digest()
     ensures { (t : List ℕ) → is_tag t ≡ true → is_digest t ≡ false }
-{
-}
+{}
 
 /// `is_token` decides whether a text is a token.
 pub fn token_grammar()

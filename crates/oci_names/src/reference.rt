@@ -7,7 +7,7 @@ use std::alloc::Global;
 
 /// What names a manifest of a repository (OCI Distribution Specification 1.1, Definitions). No text is
 /// both: a digest has a colon, and a tag has none.
-#[derive(Debug, Drop)]
+#[derive(Clone, Debug, Drop)]
 pub enum Reference {
     Tag(Tag),
     Digest(Digest),

@@ -67,7 +67,7 @@ fn is_name(text: &str) -> bool
 
 /// A repository name (OCI Distribution Specification 1.1, Pulling manifests): words of `[a-z0-9]`
 /// joined by `.`, `_`, `__`, `/` or dashes, at most 255 bytes in all (profile).
-#[derive(Debug, Drop)]
+#[derive(Clone, Debug, Drop)]
 pub struct RepoName {
     text: String,
 }

@@ -49,7 +49,7 @@ fn is_tag_text(text: &str) -> bool
 
 /// A tag (OCI Distribution Specification 1.1, Pulling manifests):
 /// `[a-zA-Z0-9_][a-zA-Z0-9._-]{0,127}`.
-#[derive(Debug, Drop)]
+#[derive(Clone, Debug, Drop)]
 pub struct Tag {
     text: String,
 }

@@ -62,7 +62,7 @@ fn is_token_text(text: &str) -> bool
 }
 
 /// A bearer token (RFC 6750, section 2.1, `b64token`) of at most 200 bytes (profile).
-#[derive(Debug, Drop)]
+#[derive(Clone, Debug, Drop)]
 pub struct Token {
     text: String,
 }
