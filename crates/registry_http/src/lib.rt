@@ -1,0 +1,14 @@
+//! The bytes of HTTP/1.1 connections: heads, framing, targets, fields and the texts of replies.
+//!
+//! The crate above relies on `serve_connection`: the bytes that a reader gives spell one list of
+//! requests, and what is written are the texts of the replies that the service's definitions give.
+#![tactic(auto)]
+
+pub mod closing;
+pub mod ending;
+pub mod fields;
+pub mod framing;
+pub mod head;
+pub mod intake;
+
+pub use ending::{End, FramingRefusal};
