@@ -38,9 +38,9 @@ last_segment path = after_last is_slash path
 abbrev pub path_before : Text → Text
 path_before path = before_last is_slash path
 
--- the name that the first segments make; it may be empty
+-- the name that the first segments make, without the slash before it; it may be empty
 abbrev pub name_in : Text → Text
-name_in path = drop 1 path
+name_in path = if starts_with nat_eq path (codes "/") then drop 1 path else path
 
 -- by the last three segments of what follows "/v2"; the first line that fits decides
 abbrev pub form_by : Text → Text → Text → Text → Text → Form
@@ -59,7 +59,11 @@ form_behind path =
     let front' = path_before front in
     form_by (last_segment front') (last_segment front) (last_segment path) (path_before front') front'
 
+-- "/v2" and "/v2/" are the base
+abbrev pub form_in_version : Text → Form
+form_in_version path =
+    if bytes_eq path [] || bytes_eq path (codes "/") then base
+    else (if starts_with nat_eq path (codes "/") then form_behind path else no_form)
+
 abbrev pub form_at : Text → Form
-form_at path =
-    if bytes_eq path (codes "/v2/") || bytes_eq path (codes "/v2") then base
-    else (if starts_with nat_eq path (codes "/v2/") then form_behind (drop 3 path) else no_form)
+form_at path = if starts_with nat_eq path (codes "/v2") then form_in_version (drop 3 path) else no_form

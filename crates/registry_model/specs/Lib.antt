@@ -12,3 +12,4 @@ pub mod Verdict
 pub mod Command
 pub mod Keeping
 pub mod Doing
+pub mod Maps

@@ -5,7 +5,10 @@ use oci_names::{RepoName, Token};
 #[derive(Clone, Copy)]
 pub enum AdminCommand<'a> {
     /// Makes an empty repository.
-    AddRepo { name: &'a RepoName, quota: Quota },
+    AddRepo {
+        name: &'a RepoName,
+        quota: Quota,
+    },
     /// Gives a token a level on a repository, in the place of the one that it has.
     Grant {
         token: &'a Token,

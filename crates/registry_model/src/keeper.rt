@@ -45,7 +45,12 @@ pub trait Keeper {
         ensures honest { is_honest self.new → is_honest self.old };
 
     /// The bytes of a blob; `None` where it or its repository is not there.
-    fn blob(&mut self, alloc: Global, repo: &RepoName, digest: &Digest) -> Result<Option<Vec<u8>>, Fault>
+    fn blob(
+        &mut self,
+        alloc: Global,
+        repo: &RepoName,
+        digest: &Digest,
+    ) -> Result<Option<Vec<u8>>, Fault>
         ensures found { is_honest self.new → ReadsBy bytes_in result (blob_at (state self.old).world repo.now digest.now) (state self.old) (state self.new) }
         ensures spends { Spends result (state self.old) (state self.new) }
         ensures honest { is_honest self.new → is_honest self.old };

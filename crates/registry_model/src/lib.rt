@@ -6,6 +6,7 @@
 pub mod admin;
 pub mod keeper;
 pub mod level;
+pub mod maps;
 pub mod quota;
 pub mod refusal;
 pub mod reply;
@@ -15,6 +16,7 @@ pub mod route;
 pub use admin::{AdminCommand, AdminFault};
 pub use keeper::Keeper;
 pub use level::Level;
+pub use maps::MapKeeper;
 pub use quota::{Quota, Usage};
 pub use refusal::Refusal;
 pub use reply::{Body, Reply, Status};

@@ -63,26 +63,46 @@ impl Refusal {
         ensures { result.now ≡ error_body (code_word self) (message_of self) }
     {
         match self {
-            Refusal::TokenRequired => "{\"errors\":[{\"code\":\"UNAUTHORIZED\",\"message\":\"token required\"}]}",
-            Refusal::NoEndpoint => "{\"errors\":[{\"code\":\"UNSUPPORTED\",\"message\":\"no such endpoint\"}]}",
-            Refusal::InvalidName => "{\"errors\":[{\"code\":\"NAME_INVALID\",\"message\":\"invalid repository name\"}]}",
-            Refusal::MethodNotAllowed => "{\"errors\":[{\"code\":\"UNSUPPORTED\",\"message\":\"method not allowed\"}]}",
-            Refusal::AccessDenied => "{\"errors\":[{\"code\":\"DENIED\",\"message\":\"access denied\"}]}",
-            Refusal::BlobUnknown => "{\"errors\":[{\"code\":\"BLOB_UNKNOWN\",\"message\":\"blob unknown\"}]}",
-            Refusal::ManifestUnknown => "{\"errors\":[{\"code\":\"MANIFEST_UNKNOWN\",\"message\":\"manifest unknown\"}]}",
-            Refusal::UploadUnknown => "{\"errors\":[{\"code\":\"BLOB_UPLOAD_UNKNOWN\",\"message\":\"upload unknown\"}]}",
-            Refusal::InvalidDigest => "{\"errors\":[{\"code\":\"DIGEST_INVALID\",\"message\":\"invalid digest\"}]}",
-            Refusal::DigestMismatch => "{\"errors\":[{\"code\":\"DIGEST_INVALID\",\"message\":\"digest does not match\"}]}",
-            Refusal::ContentTooLarge => "{\"errors\":[{\"code\":\"SIZE_INVALID\",\"message\":\"content too large\"}]}",
-            Refusal::RangeLength => "{\"errors\":[{\"code\":\"SIZE_INVALID\",\"message\":\"range does not match body\"}]}",
-            Refusal::RangeOutOfOrder => "{\"errors\":[{\"code\":\"BLOB_UPLOAD_INVALID\",\"message\":\"range out of order\"}]}",
-            Refusal::InvalidRange => "{\"errors\":[{\"code\":\"BLOB_UPLOAD_INVALID\",\"message\":\"invalid content range\"}]}",
-            Refusal::ManifestBlobUnknown => "{\"errors\":[{\"code\":\"MANIFEST_BLOB_UNKNOWN\",\"message\":\"manifest blob unknown\"}]}",
-            Refusal::InvalidManifest => "{\"errors\":[{\"code\":\"MANIFEST_INVALID\",\"message\":\"invalid manifest\"}]}",
-            Refusal::InvalidReference => "{\"errors\":[{\"code\":\"MANIFEST_INVALID\",\"message\":\"invalid reference\"}]}",
-            Refusal::QuotaExceeded => "{\"errors\":[{\"code\":\"DENIED\",\"message\":\"quota exceeded\"}]}",
-            Refusal::TooManyUploads => "{\"errors\":[{\"code\":\"TOOMANYREQUESTS\",\"message\":\"too many uploads\"}]}",
-            Refusal::InvalidPageSize => "{\"errors\":[{\"code\":\"UNSUPPORTED\",\"message\":\"invalid page size\"}]}",
+            Refusal::TokenRequired =>
+                "{\"errors\":[{\"code\":\"UNAUTHORIZED\",\"message\":\"token required\"}]}",
+            Refusal::NoEndpoint =>
+                "{\"errors\":[{\"code\":\"UNSUPPORTED\",\"message\":\"no such endpoint\"}]}",
+            Refusal::InvalidName =>
+                "{\"errors\":[{\"code\":\"NAME_INVALID\",\"message\":\"invalid repository name\"}]}",
+            Refusal::MethodNotAllowed =>
+                "{\"errors\":[{\"code\":\"UNSUPPORTED\",\"message\":\"method not allowed\"}]}",
+            Refusal::AccessDenied =>
+                "{\"errors\":[{\"code\":\"DENIED\",\"message\":\"access denied\"}]}",
+            Refusal::BlobUnknown =>
+                "{\"errors\":[{\"code\":\"BLOB_UNKNOWN\",\"message\":\"blob unknown\"}]}",
+            Refusal::ManifestUnknown =>
+                "{\"errors\":[{\"code\":\"MANIFEST_UNKNOWN\",\"message\":\"manifest unknown\"}]}",
+            Refusal::UploadUnknown =>
+                "{\"errors\":[{\"code\":\"BLOB_UPLOAD_UNKNOWN\",\"message\":\"upload unknown\"}]}",
+            Refusal::InvalidDigest =>
+                "{\"errors\":[{\"code\":\"DIGEST_INVALID\",\"message\":\"invalid digest\"}]}",
+            Refusal::DigestMismatch =>
+                "{\"errors\":[{\"code\":\"DIGEST_INVALID\",\"message\":\"digest does not match\"}]}",
+            Refusal::ContentTooLarge =>
+                "{\"errors\":[{\"code\":\"SIZE_INVALID\",\"message\":\"content too large\"}]}",
+            Refusal::RangeLength =>
+                "{\"errors\":[{\"code\":\"SIZE_INVALID\",\"message\":\"range does not match body\"}]}",
+            Refusal::RangeOutOfOrder =>
+                "{\"errors\":[{\"code\":\"BLOB_UPLOAD_INVALID\",\"message\":\"range out of order\"}]}",
+            Refusal::InvalidRange =>
+                "{\"errors\":[{\"code\":\"BLOB_UPLOAD_INVALID\",\"message\":\"invalid content range\"}]}",
+            Refusal::ManifestBlobUnknown =>
+                "{\"errors\":[{\"code\":\"MANIFEST_BLOB_UNKNOWN\",\"message\":\"manifest blob unknown\"}]}",
+            Refusal::InvalidManifest =>
+                "{\"errors\":[{\"code\":\"MANIFEST_INVALID\",\"message\":\"invalid manifest\"}]}",
+            Refusal::InvalidReference =>
+                "{\"errors\":[{\"code\":\"MANIFEST_INVALID\",\"message\":\"invalid reference\"}]}",
+            Refusal::QuotaExceeded =>
+                "{\"errors\":[{\"code\":\"DENIED\",\"message\":\"quota exceeded\"}]}",
+            Refusal::TooManyUploads =>
+                "{\"errors\":[{\"code\":\"TOOMANYREQUESTS\",\"message\":\"too many uploads\"}]}",
+            Refusal::InvalidPageSize =>
+                "{\"errors\":[{\"code\":\"UNSUPPORTED\",\"message\":\"invalid page size\"}]}",
         }
     }
 }

@@ -1,0 +1,3 @@
+pub mod RouteLemmas
+pub mod MapLemmas
+pub mod WorldLemmas
