@@ -62,7 +62,7 @@ module _ {X : Type 0} (name : Text) (f : X → NamedValue) (hs : List X) (i : �
       ∙ ap (list_any test) (values-append name (map f (take (i + 1) hs)) (map f (drop (i + 1) hs)))
       ∙ list_any-append test (values name (map f (take (i + 1) hs))) (values name (map f (drop (i + 1) hs)))
       ∙ ap (λ b. b || list_any test (values name (map f (drop (i + 1) hs))))
-        (ap (list_any test) (adds v e same) ∙ list_any-append test (values name (map f (take i hs))) (v ∷ []) ∙ found (list_any test (values name (map f (take i hs)))))
+      (ap (list_any test) (adds v e same) ∙ list_any-append test (values name (map f (take i hs))) (v ∷ []) ∙ found (list_any test (values name (map f (take i hs)))))
     where
       found : (b : Bool) → (b || list_any test (v ∷ [])) ≡ true
       found true = refl

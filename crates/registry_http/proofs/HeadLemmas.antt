@@ -115,7 +115,7 @@ fields_same b n m (h ∷ hs) all le fits =
     (λ i. (name i, value i) ∷ others i)
 
 -- what s begins with, s ++ t does
-front_on : (s t p : Text) (n : ℕ) → s ≡ p ++ drop n s → n ≡ length p → s ++ t ≡ p ++ drop n (s ++ t)
+pub front_on : (s t p : Text) (n : ℕ) → s ≡ p ++ drop n s → n ≡ length p → s ++ t ≡ p ++ drop n (s ++ t)
 front_on s t p n e len =
     let whole : s ++ t ≡ p ++ (drop n s ++ t) = ap (λ x. x ++ t) e ∙ append_assoc p (drop n s) t in
     whole ∙ ap (λ x. p ++ x) (sym (ap (drop n) whole ∙ ap (λ k. drop k (p ++ (drop n s ++ t))) len ∙ drop-append_seam p (drop n s ++ t)))

@@ -5,5 +5,8 @@ pub mod Framing
 pub mod Asking
 pub mod Spelling
 pub mod ReplyText
+pub mod Decoding
+pub mod Sending
 pub mod Serving
 pub mod Reading
+pub mod Ending

@@ -1,6 +1,5 @@
 -- The text of a reply (RFC 9112, sections 2.1 and 4; the order of the fields is the profile's).
-use Rattle.std.specs.Prelude.{◌≡◌, ℕ, ◌<◌, ◌==◌, Bool, true, false, List, [], ◌∷◌, ◌++◌, if◌then◌else◌, length, take, Option, Some, None, codes, decimal, unwrap_or, Result, MatchResult}
-use Rattle.std.specs.Io.KnownBytes.{Appends}
+use Rattle.std.specs.Prelude.{ℕ, ◌==◌, Bool, List, [], ◌∷◌, ◌++◌, if◌then◌else◌, length, Option, Some, None, codes, decimal, unwrap_or}
 use Rattle.http.specs.StatusCode.{code_digits, reason_phrase}
 use Rattle.oci_names.specs.Text.{Text}
 use Rattle.registry_model.specs.Answer.{Answer, Content, sent, unsent, code_of}
@@ -10,7 +9,7 @@ use Rattle.registry_http.specs.declared.ending.FramingRefusal.{FramingRefusal}
 abbrev pub crlf : Text
 crlf = 13 ∷ 10 ∷ []
 
-abbrev pub status_line : ℕ → Text
+unfoldable pub status_line : ℕ → Text
 status_line code = codes "HTTP/1.1 " ++ code_digits code ++ codes " " ++ unwrap_or (reason_phrase code) [] ++ crlf
 
 abbrev pub field : Text → Text → Text
@@ -33,14 +32,17 @@ abbrev pub close_field : Bool → Text
 close_field close = if close then codes "Connection: close\r\n" else []
 
 -- a reply to HEAD has the fields of the reply to GET and no body (RFC 9110, section 9.3.2)
-abbrev pub body_text : Bool → Content → Text
-body_text true body = []
-body_text false (sent bytes) = bytes
-body_text false (unsent n) = []
+abbrev pub sent_text : Content → Text
+sent_text (sent bytes) = bytes
+sent_text (unsent n) = []
 
-abbrev pub reply_text : Bool → Bool → Answer → Text
-reply_text head close a =
-    status_line (code_of a.status)
+abbrev pub body_text : Bool → Content → Text
+body_text head body = if head then [] else sent_text body
+
+-- a status line, and what follows it
+abbrev pub reply_after : Text → Bool → Bool → Answer → Text
+reply_after line head close a =
+    line
     ++ length_field (code_of a.status) (length_of a.body)
     ++ field_if (codes "Content-Type") a.content_type
     ++ field_if (codes "Docker-Content-Digest") a.digest
@@ -55,11 +57,9 @@ reply_text head close a =
     ++ crlf
     ++ body_text head a.body
 
+abbrev pub reply_text : Bool → Bool → Answer → Text
+reply_text head close a = reply_after (status_line (code_of a.status)) head close a
+
 -- the text of a framing refusal
 abbrev pub refusal_text : FramingRefusal → Text
 refusal_text r = status_line (refusal_code r) ++ codes "Content-Length: 0\r\nConnection: close\r\n\r\n"
-
--- a text was written, or so many of its first bytes
-abbrev pub Sends : {A : Type 0} → Result A ℕ → Option Text → Option Text → Text → Type 0
-Sends r held held' text =
-    MatchResult r (λ _. Appends held held' text) (λ n. (n < length text) × Appends held held' (take n text))

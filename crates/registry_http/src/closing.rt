@@ -47,9 +47,7 @@ pub fn closes(head: &[u8], fields: &[HeaderSpan], version: u8) -> bool
         return true;
     }
     for field in fields {
-        if same_name(field.name.of(head), b"connection")
-            && lists_close(field.value.of(head))
-        {
+        if same_name(field.name.of(head), b"connection") && lists_close(field.value.of(head)) {
             return true;
         }
     }

@@ -8,6 +8,9 @@ use httparse::spans::{EMPTY_HEADER_SPAN, HeaderSpan, RequestSpans};
 use std::alloc::{AllocError, Global};
 use std::io::Read;
 
+/// The most fields of a head (profile).
+const MOST_FIELDS: usize = 64;
+
 /// Where the parts of a request are in the buffer: the head, what its body carries, and the end.
 #[derive(Clone, Copy)]
 pub struct Ready {
@@ -107,5 +110,42 @@ impl Intake {
                 return Err(stop.at_head(is_empty));
             }
         }
+    }
+
+    /// Reads until the buffer begins with a whole request.
+    pub fn next_request<R: Read>(&mut self, reader: &mut R) -> Result<Ready, Stop>
+        ensures cases { MatchResult result
+            (λ ready. (i : Item) × IsReady self.old.buffer.items self.new.buffer.items (R.remaining reader.old) (R.remaining reader.new) self.new.headers.items ready i)
+            (λ stop. NextStops stop self.old.buffer.items (R.remaining reader.old) (R.remaining reader.new)) }
+        ensures weight { OnOk result (self.new.reads * 65536 + length self.new.buffer.items ≤ self.old.reads * 65536 + length self.old.buffer.items) }
+    {
+        let spans = match self.read_head(reader) {
+            Ok(spans) => spans,
+            Err(stop) => return Err(stop),
+        };
+        if spans.headers > MOST_FIELDS {
+            return Err(Stop::Refuse(FramingRefusal::UnreadableHead));
+        }
+        let head = &self.buffer[..spans.len];
+        let fields = &self.headers[..spans.headers];
+        let closes = closes(head, fields, spans.version);
+        let length = match framing_of(head, fields, spans.version, spans.path.of(head)) {
+            Framing::Length(length) => length,
+            Framing::Refused(refusal) => return Err(Stop::Refuse(refusal)),
+        };
+        let end = spans.len + length;
+        match self.read_until(reader, end) {
+            Ok(()) => Ok(Ready { spans, end, closes }),
+            Err(stop) => Err(stop),
+        }
+    }
+
+    /// Lets go the first bytes of the buffer.
+    pub fn discard(&mut self, count: usize)
+        requires { count ≤ length self.old.buffer.items }
+        ensures buffer { self.new.buffer.items ≡ drop count self.old.buffer.items }
+        ensures reads { self.new.reads ≡ self.old.reads }
+    {
+        self.buffer.drain(..count);
     }
 }

@@ -4,11 +4,24 @@
 //! requests, and what is written are the texts of the replies that the service's definitions give.
 #![tactic(auto)]
 
+pub mod answering;
 pub mod closing;
+pub mod connection;
 pub mod ending;
 pub mod fields;
 pub mod framing;
 pub mod head;
 pub mod intake;
+pub mod outgoing;
+pub mod query;
+pub mod reply_text;
+pub mod target;
+pub mod token;
 
+pub use connection::{serve_connection, spelling_is_unique};
 pub use ending::{End, FramingRefusal};
+pub use outgoing::WriteFault;
+pub use reply_text::write_reply;
+
+#[cfg(test)]
+mod tests;

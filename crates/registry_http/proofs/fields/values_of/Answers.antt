@@ -16,19 +16,19 @@ loop-field-preserved c =
     let test = ap (λ x. str_eq_ignore_ascii_case x c.args.name.now) (sym c.of.ensures) ∙ sym c.same_name.ensures in
     elim c.if-same_name.branch [
       | then-same_name w ↦ elim w.if-count-eq0.branch [
-          | then-count-eq0 w' ↦ record {
-              few = omega arith;
-              count = rw w.count-is (count-adds name of hs i _ c.loop-field-test.true _ _ (test ∙ w.if-same_name.true) refl c.loop-field.invariant.count);
-              first = rw (w.found-is, w'.found-is)
-                  (first-adds name of hs i _ c.loop-field-test.true _ (test ∙ w.if-same_name.true) w'.of-then-count-eq0.ensures (sym c.loop-field.invariant.count ∙ w'.if-count-eq0.true));
-            }
-          | else-count-eq0 w' ↦ record {
-              few = omega arith;
-              count = rw w.count-is (count-adds name of hs i _ c.loop-field-test.true _ _ (test ∙ w.if-same_name.true) refl c.loop-field.invariant.count);
-              first = rw (w.found-is, w'.found-is)
-                  (first-stays name of hs i _ c.loop-field-test.true _ _ (test ∙ w.if-same_name.true) refl (λ none. w'.if-count-eq0.false (c.loop-field.invariant.count ∙ none)) c.loop-field.invariant.first);
-            }
-        ]
+        | then-count-eq0 w' ↦ record {
+          few = omega arith;
+          count = rw w.count-is (count-adds name of hs i _ c.loop-field-test.true _ _ (test ∙ w.if-same_name.true) refl c.loop-field.invariant.count);
+          first = rw (w.found-is, w'.found-is)
+              (first-adds name of hs i _ c.loop-field-test.true _ (test ∙ w.if-same_name.true) w'.of-then-count-eq0.ensures (sym c.loop-field.invariant.count ∙ w'.if-count-eq0.true));
+        }
+        | else-count-eq0 w' ↦ record {
+          few = omega arith;
+          count = rw w.count-is (count-adds name of hs i _ c.loop-field-test.true _ _ (test ∙ w.if-same_name.true) refl c.loop-field.invariant.count);
+          first = rw (w.found-is, w'.found-is)
+              (first-stays name of hs i _ c.loop-field-test.true _ _ (test ∙ w.if-same_name.true) refl (λ none. w'.if-count-eq0.false (c.loop-field.invariant.count ∙ none)) c.loop-field.invariant.first);
+        }
+      ]
       | else-same_name w ↦
           let same = keeps name of hs i _ c.loop-field-test.true (test ∙ w.if-same_name.false) in
           record {
