@@ -1,0 +1,9 @@
+pub mod FieldLemmas
+pub mod HeadLemmas
+pub mod ReadingLemmas
+pub mod RequestLemmas
+pub mod TextLemmas
+pub mod QueryLemmas
+pub mod SendingLemmas
+pub mod ServingLemmas
+pub mod OneSpelling

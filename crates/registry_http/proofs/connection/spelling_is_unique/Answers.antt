@@ -1,0 +1,5 @@
+use Rattle.registry_http.proofs.OneSpelling.{one_spelling}
+use Rattle.registry_http.proofs.connection.spelling_is_unique.Goals as goal
+
+pub returns : goal.returns
+returns c = one_spelling

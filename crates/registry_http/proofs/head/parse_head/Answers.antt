@@ -1,0 +1,37 @@
+use Rattle.std.proofs.Common.{take, arith, length-take}
+use Rattle.registry_http.proofs.HeadLemmas.{overflow_none, refuses_never, refuses_full, not_yet, head_read}
+use Rattle.registry_http.proofs.head.parse_head.Goals as goal
+
+pub returns-then-seen-eq16384 : goal.returns-then-seen-eq16384
+returns-then-seen-eq16384 c =
+    let e = c.head_bytes-seen.ensures in
+    refuses_full c.args.buffer.now (rw (c.in-Ok-Partial.field-0-is, e) at c.in-Ok-Partial.ensures.partial) (rw e at c.if-seen-eq16384.true)
+
+pub returns-else-seen-eq16384 : goal.returns-else-seen-eq16384
+returns-else-seen-eq16384 c =
+    let e = c.head_bytes-seen.ensures in
+    not_yet c.args.buffer.now (rw (c.in-Ok-Partial.field-0-is, e) at c.in-Ok-Partial.ensures.partial) (rw e at c.if-seen-eq16384.false)
+
+pub returns-then-seen-eq16384-2 : goal.returns-then-seen-eq16384-2
+returns-then-seen-eq16384-2 c =
+    let e = c.head_bytes-seen.ensures in
+    let none = overflow_none (take 16384 c.args.buffer.now) (omega (arith, length-take 16384 c.args.buffer.now)) (rw (c.requires, e) at c.in-Err.ensures.no_room) in
+    refuses_full c.args.buffer.now none (rw e at c.if-seen-eq16384-2.true)
+
+pub returns-else-seen-eq16384-2 : goal.returns-else-seen-eq16384-2
+returns-else-seen-eq16384-2 c =
+    let e = c.head_bytes-seen.ensures in
+    let none = overflow_none (take 16384 c.args.buffer.now) (omega (arith, length-take 16384 c.args.buffer.now)) (rw (c.requires, e) at c.in-Err.ensures.no_room) in
+    not_yet c.args.buffer.now none (rw e at c.if-seen-eq16384-2.false)
+
+pub returns-in_default : goal.returns-in_default
+returns-in_default c =
+    let e = c.head_bytes-seen.ensures in
+    refuses_never c.args.buffer.now (rw e at (c.in-Err.ensures.invalid c.in_default.not-TooManyHeaders))
+
+pub returns-in-Ok-Complete : goal.returns-in-Ok-Complete
+returns-in-Ok-Complete c =
+    let e = c.head_bytes-seen.ensures in
+    let within = rw (c.in-Ok-Complete.field-0-is, e) at c.in-Ok-Complete.ensures.within in
+    let complete = rw (c.in-Ok-Complete.field-0-is, e) at c.in-Ok-Complete.ensures.complete in
+    (complete.0, head_read c.args.buffer.now _ _ complete.0 within complete.1)

@@ -1,0 +1,51 @@
+-- How a request's body is framed, by its head (RFC 9112, sections 3.2 and 6; the limit is the profile's).
+use Rattle.std.specs.Prelude.{ℕ, ◌==◌, List, [], ◌∷◌, ◌++◌, Bool, not, ◌&&◌, ◌||◌, if◌then◌else◌, nat_le, nat_lt, length, take, Option, Some, None, codes, bytes_eq}
+use Rattle.std.specs.List.{list_all}
+use Rattle.std.specs.Char.{is_ascii_digit}
+use Rattle.std.specs.Str.Parse.{digits_value}
+use Rattle.oci_names.specs.Text.{Text}
+use Rattle.httparse.specs.Grammar.{RequestHead}
+use Rattle.registry_http.specs.Fields.{NamedValue, fields_of, values, first}
+use Rattle.registry_http.specs.declared.ending.FramingRefusal.TheVariants.{HostCount, TargetForm, TransferEncodingConflict, UnknownTransferEncoding, InvalidContentLength, LengthTooLarge}
+use Rattle.registry_http.specs.declared.framing.Framing.{Framing}
+use Rattle.registry_http.specs.declared.framing.Framing.TheVariants.{Length, Refused}
+
+-- one length: one to nineteen digits, and no more than the limit
+abbrev pub length_of : Text → Framing
+length_of digits =
+    if nat_lt 0 (length digits) && nat_le (length digits) 19 && list_all is_ascii_digit digits then
+    (if nat_le (digits_value 10 digits) 67108864 then Length (digits_value 10 digits) else Refused LengthTooLarge)
+    else Refused InvalidContentLength
+
+-- no length: no body
+abbrev pub length_if : Option Text → Framing
+length_if None = Length 0
+length_if (Some digits) = length_of digits
+
+abbrev pub length_in : List Text → Framing
+length_in lengths = if nat_lt 1 (length lengths) then Refused InvalidContentLength else length_if (first lengths)
+
+-- a Transfer-Encoding stands
+abbrev pub coding_in : ℕ → List Text → Framing
+coding_in minor lengths =
+    if minor == 0 || nat_lt 0 (length lengths) then Refused TransferEncodingConflict else Refused UnknownTransferEncoding
+
+abbrev pub body_in : ℕ → List Text → List Text → Framing
+body_in minor codings lengths = if nat_lt 0 (length codings) then coding_in minor lengths else length_in lengths
+
+-- one Host; HTTP/1.0 may leave it out
+abbrev pub hosts_fit : ℕ → ℕ → Bool
+hosts_fit minor count = count == 1 || (count == 0 && minor == 0)
+
+abbrev pub has_slash : Text → Bool
+has_slash target = bytes_eq (take 1 target) (codes "/")
+
+-- the first refusal that holds, or the body's length
+abbrev pub framing_by : ℕ → Text → List NamedValue → Framing
+framing_by minor target fields =
+    if not (hosts_fit minor (length (values (codes "host") fields))) then Refused HostCount
+    else (if not (has_slash target) then Refused TargetForm
+    else body_in minor (values (codes "transfer-encoding") fields) (values (codes "content-length") fields))
+
+abbrev pub framing : RequestHead → Framing
+framing h = framing_by h.minor h.target (fields_of h)

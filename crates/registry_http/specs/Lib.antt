@@ -1,0 +1,12 @@
+pub use Rattle.registry_model.specs.Doing
+pub mod Refusals
+pub mod Fields
+pub mod Framing
+pub mod Asking
+pub mod Spelling
+pub mod ReplyText
+pub mod Decoding
+pub mod Sending
+pub mod Serving
+pub mod Reading
+pub mod Ending

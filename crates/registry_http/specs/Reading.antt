@@ -1,0 +1,102 @@
+-- What the buffer takes from the reader, and what it then begins with.
+use Rattle.std.specs.Prelude.{◌≡◌, ℕ, ◌<◌, ◌≤◌, ◌⊎◌, List, [], ◌++◌, length, take, drop, map, All, Option, slice_range}
+use Rattle.std.specs.Io.KnownBytes.{Consumes, IsAtEnd}
+use Rattle.httparse.specs.Grammar.{RequestHead, print_request, IsRequestHead, HasNoRequest}
+use Rattle.httparse.specs.Spans.{span_bytes, IsWithin, IsHeaderWithin, header_bytes, name_and_value}
+use Rattle.httparse.specs.declared.spans.HeaderSpan.{HeaderSpan}
+use Rattle.httparse.specs.declared.spans.RequestSpans.{RequestSpans}
+use Rattle.oci_names.specs.Text.{Text}
+use Rattle.registry_http.specs.Spelling.{Item, IsRequest, IsRefused, print_item, closes, HoldsNoHead, IsCut}
+use Rattle.registry_http.specs.declared.ending.FramingRefusal.{FramingRefusal}
+use Rattle.registry_http.specs.declared.ending.FramingRefusal.TheVariants.{NoBufferMemory}
+use Rattle.registry_http.specs.declared.ending.Stop.{Stop}
+use Rattle.registry_http.specs.declared.ending.Stop.TheVariants.{Between, AtEnd, Broken, Refuse}
+use Rattle.registry_http.specs.declared.head.Parsed.{Parsed}
+use Rattle.registry_http.specs.declared.head.Parsed.TheVariants.{Whole, NotYet, Never}
+use Rattle.registry_http.specs.declared.intake.Ready.{Ready}
+
+-- ---- the parts of a head
+
+-- the spans lie in the first n bytes
+pub record HeadFits (n : ℕ) (headers : List HeaderSpan) (spans : RequestSpans) : Type 0 where
+  pub method : IsWithin n spans.method
+  pub path : IsWithin n spans.path
+  pub fields : All (IsHeaderWithin n) headers
+
+-- the spans cover the parts of the head h in these bytes
+pub record IsHeadAt (text : Text) (headers : List HeaderSpan) (spans : RequestSpans) (h : RequestHead) : Type 0 where
+  pub method : span_bytes text spans.method ≡ h.method
+  pub target : span_bytes text spans.path ≡ h.target
+  pub minor : spans.version ≡ h.minor
+  pub fields : map (header_bytes text) headers ≡ map name_and_value h.fields
+
+-- the buffer begins with the head h, and the spans cover its parts
+pub record HeadIsRead (buffer : Text) (headers : List HeaderSpan) (spans : RequestSpans) (h : RequestHead) : Type 0 where
+  pub head : IsRequestHead h
+  pub begins : buffer ≡ print_request h ++ drop spans.len buffer
+  pub len : spans.len ≡ length (print_request h)
+  pub short : spans.len ≤ 16384
+  pub within : spans.len ≤ length buffer
+  pub count : spans.headers ≡ length h.fields
+  pub room : spans.headers ≤ length headers
+  pub fits : HeadFits spans.len (take spans.headers headers) spans
+  pub at : IsHeadAt (take spans.len buffer) (take spans.headers headers) spans h
+
+-- what a parser finds at the front of the buffer
+abbrev pub Parses : Parsed → Text → List HeaderSpan → Type 0
+Parses (Whole spans) buffer headers = (h : RequestHead) × HeadIsRead buffer headers spans h
+Parses NotYet buffer headers = (length buffer < 16384) × HasNoRequest buffer
+Parses Never buffer headers = (tail : Text) → HoldsNoHead (buffer ++ tail)
+
+-- ---- reading
+
+-- the buffer grew by bytes that the reader gave up
+pub record Pulls (old new : Text) (left left' : Option Text) : Type 0 where
+  pub bytes : Text
+  pub grown : new ≡ old ++ bytes
+  pub taken : Consumes left left' bytes
+
+-- of the bytes that were unread and those that came P holds
+pub record Leaves (old : Text) (left left' : Option Text) (P : Text → Type 0) : Type 0 where
+  pub bytes : Text
+  pub taken : Consumes left left' bytes
+  pub here : P (old ++ bytes)
+
+-- why nothing more is read inside a request: at the end of the bytes P holds of them
+abbrev pub StopsInside : (Text → Type 0) → Stop → Text → Option Text → Option Text → Type 0
+StopsInside P Between old left left' = ⊥
+StopsInside P AtEnd old left left' = Leaves old left left' P × IsAtEnd left'
+StopsInside P Broken old left left' = Leaves old left left' P
+StopsInside P (Refuse r) old left left' = r ≡ NoBufferMemory
+
+-- why a read gave no bytes
+abbrev pub FillStops : Stop → Text → Option Text → Option Text → Type 0
+FillStops stop old left left' = StopsInside (λ b. b ≡ old) stop old left left'
+
+-- why there are not so many bytes
+abbrev pub UntilStops : ℕ → Stop → Text → Option Text → Option Text → Type 0
+UntilStops need stop old left left' = StopsInside (λ b. length b < need) stop old left left'
+
+-- why there is no further request; one that is refused is, whatever bytes follow
+abbrev pub NextStops : Stop → Text → Option Text → Option Text → Type 0
+NextStops Between old left left' = Leaves old left left' (λ b. b ≡ []) × IsAtEnd left'
+NextStops AtEnd old left left' = Leaves old left left' IsCut × IsAtEnd left'
+NextStops Broken old left left' = Leaves old left left' (λ b. (b ≡ []) ⊎ IsCut b)
+NextStops (Refuse r) old left left' =
+    (r ≡ NoBufferMemory) ⊎ Leaves old left left' (λ b. (tail : Text) → IsRefused (b ++ tail) r)
+
+-- the request i was taken off the unread bytes: its head and what its body carries stand at the front of the
+-- buffer, and what is unread now behind them
+pub record IsReady (old new : Text) (left left' : Option Text) (headers : List HeaderSpan) (ready : Ready) (i : Item) : Type 0 where
+  pub bytes : Text
+  pub taken : Consumes left left' bytes
+  pub unread : old ++ bytes ≡ print_item i ++ drop ready.end new
+  pub request : IsRequest i
+  pub order : ready.spans.len ≤ ready.end
+  pub within : ready.end ≤ length new
+  pub some : 0 < ready.end
+  pub room : ready.spans.headers ≤ length headers
+  pub fits : HeadFits ready.spans.len (take ready.spans.headers headers) ready.spans
+  pub at : IsHeadAt (take ready.spans.len new) (take ready.spans.headers headers) ready.spans i.head
+  pub body : slice_range new ready.spans.len ready.end ≡ i.body
+  pub closes : ready.closes ≡ closes i

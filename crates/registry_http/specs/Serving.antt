@@ -1,0 +1,101 @@
+-- What a connection does, by its end.
+use Rattle.std.specs.Prelude.{◌≡◌, ℕ, ◌<◌, ◌⊎◌, List, [], ◌∷◌, ◌++◌, length, take, Option, IfSome}
+use Rattle.std.specs.List.{flat_map}
+use Rattle.std.specs.Io.KnownBytes.{Consumes, Appends}
+use Rattle.oci_names.specs.Text.{Text}
+use Rattle.registry_model.specs.Answer.{Answer}
+use Rattle.registry_model.specs.Keeping.{State}
+use Rattle.registry_model.specs.Doing.{Does}
+use Rattle.registry_http.specs.Asking.{ask_in, verb_of, is_head}
+use Rattle.registry_http.specs.Spelling.{Item, IsRequest, IsRefused, print_item, closes, Spells, Front}
+use Rattle.registry_http.specs.ReplyText.{reply_text, refusal_text}
+use Rattle.registry_http.specs.declared.ending.FramingRefusal.{FramingRefusal}
+use Rattle.registry_http.specs.declared.ending.FramingRefusal.TheVariants.{NoBufferMemory}
+use Rattle.registry_http.specs.declared.ending.End.{End}
+use Rattle.registry_http.specs.declared.ending.End.TheVariants.{Closed, Cut, Refused, ReadFailed, WriteFailed}
+
+-- the text of the reply to a request
+abbrev pub text_for : Item → Answer → Text
+text_for i a = reply_text (is_head (verb_of i.head.method)) (closes i) a
+
+-- a request is answered as the definitions say, and the text is that of the answer
+abbrev pub Replies : State → Item → Text → State → Type 0
+Replies s i text s' = (a : Answer) × Does s (ask_in i.head i.body) a s' × (text ≡ text_for i a)
+
+-- requests are answered, one after the other
+abbrev pub Run : State → List Item → List Text → State → Type 0
+Run s [] [] s' = s' ≡ s
+Run s (i ∷ items) (text ∷ texts) s' = (mid : State) × Replies s i text mid × Run mid items texts s'
+Run s [] (text ∷ texts) s' = ⊥
+Run s (i ∷ items) [] s' = ⊥
+
+abbrev pub joined : List Text → Text
+joined texts = flat_map (λ t. t) texts
+
+abbrev pub end_text : End → Text
+end_text Closed = []
+end_text Cut = []
+end_text (Refused r) = refusal_text r
+end_text ReadFailed = []
+end_text (WriteFailed n) = []
+
+-- what a connection took and gave: the bytes that the reader had left before and after, those that the writer
+-- held, and the service's states
+pub record Traffic : Type 0 where
+  pub left : Option Text
+  pub left' : Option Text
+  pub held : Option Text
+  pub held' : Option Text
+  pub state : State
+  pub state' : State
+
+-- b spells requests and this end, and what was written are the replies to them and the end's own text
+pub record Answers (b : Text) (end : End) (t : Traffic) : Type 0 where
+  pub items : List Item
+  pub texts : List Text
+  pub spells : Spells b items end
+  pub run : Run t.state items texts t.state'
+  pub written : Appends t.held t.held' (joined texts ++ end_text end)
+
+-- no memory for the connection's buffer: the requests before are answered, and nothing else is done
+pub record StopsForMemory (b : Text) (t : Traffic) : Type 0 where
+  pub items : List Item
+  pub texts : List Text
+  pub rest : Text
+  pub front : Front b items rest
+  pub run : Run t.state items texts t.state'
+  pub written : Appends t.held t.held' (joined texts ++ refusal_text NoBufferMemory)
+
+-- what stood behind the answered requests where a write failed: a request that was answered by this text, or a
+-- refusal of this text
+abbrev pub InHand : Text → Text → Traffic → List Item → List Text → Type 0
+InHand rest text t items texts =
+    ((i : Item) × (rest' : Text) × (rest ≡ print_item i ++ rest') × IsRequest i
+    × Run t.state (items ++ i ∷ []) (texts ++ text ∷ []) t.state')
+    ⊎ ((r : FramingRefusal) × (text ≡ refusal_text r) × (IsRefused rest r ⊎ (r ≡ NoBufferMemory))
+    × Run t.state items texts t.state')
+
+-- a write failed: the replies before went out whole, and of the text in hand the first n bytes
+pub record StopsAtWrite (b : Text) (n : ℕ) (t : Traffic) : Type 0 where
+  pub items : List Item
+  pub texts : List Text
+  pub rest : Text
+  pub front : Front b items rest
+  pub text : Text
+  pub short : n < length text
+  pub written : Appends t.held t.held' (joined texts ++ take n text)
+  pub in_hand : InHand rest text t items texts
+
+-- a read failed: the bytes before it are answered as if they were all
+pub record StopsAtRead (t : Traffic) : Type 0 where
+  pub read : Text
+  pub consumed : Consumes t.left t.left' read
+  pub answers : Answers read Closed t ⊎ Answers read Cut t
+
+-- what a connection did, by its end
+abbrev pub Serves : End → Traffic → Type 0
+Serves Closed t = IfSome t.left (λ b. Answers b Closed t)
+Serves Cut t = IfSome t.left (λ b. Answers b Cut t)
+Serves (Refused r) t = IfSome t.left (λ b. Answers b (Refused r) t ⊎ ((r ≡ NoBufferMemory) × StopsForMemory b t))
+Serves ReadFailed t = StopsAtRead t
+Serves (WriteFailed n) t = IfSome t.left (λ b. StopsAtWrite b n t)

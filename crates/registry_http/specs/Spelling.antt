@@ -1,0 +1,104 @@
+-- What the bytes on a connection spell: requests, one after the other, and an end (RFC 9112, sections 2, 3 and 6;
+-- the limits are the profile's).
+use Rattle.std.specs.Prelude.{◌≡◌, ℕ, ◌<◌, ◌≤◌, ◌⊎◌, Bool, true, false, List, [], ◌∷◌, ◌++◌, length, take}
+use Rattle.httparse.specs.Grammar.{RequestHead, print_request, IsRequestHead, ReadsRequest, HasNoRequest, NeverHasRequest}
+use Rattle.oci_names.specs.Text.{Text}
+use Rattle.registry_http.specs.Fields.{fields_of, closes_by}
+use Rattle.registry_http.specs.Framing.{framing}
+use Rattle.registry_http.specs.declared.framing.Framing.{Framing}
+use Rattle.registry_http.specs.declared.framing.Framing.TheVariants as framed
+use Rattle.registry_http.specs.declared.ending.FramingRefusal.{FramingRefusal}
+use Rattle.registry_http.specs.declared.ending.FramingRefusal.TheVariants.{UnreadableHead}
+use Rattle.registry_http.specs.declared.ending.End.{End}
+use Rattle.registry_http.specs.declared.ending.End.TheVariants.{Closed, Cut, Refused, ReadFailed, WriteFailed}
+
+-- ---- requests
+
+-- a request: its head, its body as it stands on the connection, and what that carries
+pub record Item : Type 0 where
+  pub head : RequestHead
+  pub coded : Text
+  pub body : Text
+
+-- a body framed so is spelled by these bytes and carries those
+abbrev pub IsBody : Framing → Text → Text → Type 0
+IsBody (framed.Length n) coded body = (coded ≡ body) × (length body ≡ n)
+IsBody (framed.Refused r) coded body = ⊥
+
+-- the head is in the grammar and within the limits, and the body is framed as the head says
+pub record IsRequest (i : Item) : Type 0 where
+  pub head : IsRequestHead i.head
+  pub short : length (print_request i.head) ≤ 16384
+  pub few : length i.head.fields ≤ 64
+  pub body : IsBody (framing i.head) i.coded i.body
+
+-- the bytes of a request
+abbrev pub print_item : Item → Text
+print_item i = print_request i.head ++ i.coded
+
+-- after the reply the connection is closed
+abbrev pub closes : Item → Bool
+closes i = closes_by i.head.minor (fields_of i.head)
+
+-- ---- the end
+
+-- b begins with a head of at most 16,384 bytes
+pub record BeginsWithHead (b : Text) (h : RequestHead) (rest : Text) : Type 0 where
+  pub reads : ReadsRequest b h rest
+  pub short : length (print_request h) ≤ 16384
+
+abbrev pub BodyIsCut : Framing → Text → Type 0
+BodyIsCut (framed.Length n) b = length b < n
+BodyIsCut (framed.Refused r) b = ⊥
+
+abbrev pub BodyIsRefused : Framing → Text → FramingRefusal → Type 0
+BodyIsRefused (framed.Length n) b r = ⊥
+BodyIsRefused (framed.Refused s) b r = r ≡ s
+
+-- the input ends inside a request that is not refused
+abbrev pub IsCut : Text → Type 0
+IsCut b =
+    ((0 < length b) × (length b < 16384) × HasNoRequest b)
+    ⊎ ((h : RequestHead) × (rest : Text) × BeginsWithHead b h rest × (length h.fields ≤ 64) × BodyIsCut (framing h) rest)
+
+-- the first 16,384 bytes hold no whole head, or never will
+abbrev pub HoldsNoHead : Text → Type 0
+HoldsNoHead b = ((16384 ≤ length b) × HasNoRequest (take 16384 b)) ⊎ NeverHasRequest (take 16384 b)
+
+-- the head has too many fields, or it or its body is refused
+abbrev pub HeadIsRefused : RequestHead → Text → FramingRefusal → Type 0
+HeadIsRefused h rest r =
+    ((64 < length h.fields) × (r ≡ UnreadableHead)) ⊎ ((length h.fields ≤ 64) × BodyIsRefused (framing h) rest r)
+
+-- a request stands there that is refused, whatever bytes follow
+abbrev pub IsRefused : Text → FramingRefusal → Type 0
+IsRefused b r =
+    ((r ≡ UnreadableHead) × HoldsNoHead b)
+    ⊎ ((h : RequestHead) × (rest : Text) × BeginsWithHead b h rest × HeadIsRefused h rest r)
+
+-- no further request is read, and why
+abbrev pub Ends : Text → End → Type 0
+Ends b Closed = b ≡ []
+Ends b Cut = IsCut b
+Ends b (Refused r) = IsRefused b r
+Ends b ReadFailed = ⊥
+Ends b (WriteFailed n) = ⊥
+
+-- ---- all requests
+
+-- what follows a request: nothing where it closes the connection, else P
+abbrev pub Then : Bool → List Item → End → Type 0 → Type 0
+Then true items end P = (items ≡ []) × (end ≡ Closed)
+Then false items end P = P
+
+-- b is these requests, one after the other, and then what the end says
+abbrev pub Spells : Text → List Item → End → Type 0
+Spells b [] end = Ends b end
+Spells b (i ∷ items) end =
+    (rest : Text) × IsRequest i × (b ≡ print_item i ++ rest) × Then (closes i) items end (Spells rest items end)
+
+-- b is these requests, each of which leaves the connection open, and then rest
+abbrev pub Front : Text → List Item → Text → Type 0
+Front b [] rest = b ≡ rest
+Front b (i ∷ items) rest =
+    (behind : Text) × IsRequest i × (b ≡ print_item i ++ behind) × (closes i ≡ false) × Front behind items rest

@@ -1,0 +1,72 @@
+ghost use Rattle.std.specs.Prelude.{◌≡◌, IfOk, length};
+ghost use Rattle.httparse.specs.Grammar.{RequestHead};
+ghost use Rattle.registry_model.specs.Answer.{answer_of};
+ghost use Rattle.registry_model.specs.Doing.{Does};
+ghost use Rattle.registry_http.specs.Asking.{ask_in, path_text, query_in, keys_in};
+ghost use Rattle.registry_http.specs.Decoding.{cow_text, keys_shown};
+ghost use Rattle.registry_http.specs.Reading.{HeadFits, IsHeadAt};
+
+use crate::fields::values_of;
+use crate::query::{Values, text_if};
+use crate::target::{decode_path, route_if, split_target, verb};
+use crate::token::token;
+use httparse::spans::{HeaderSpan, RequestSpans};
+use registry_model::{Keeper, Reply, Request};
+use registry_service::Service;
+use std::alloc::{AllocError, Global};
+use std::borrow::CowStr;
+
+/// The decoded texts of a target.
+#[derive(Drop)]
+struct Texts<'a> {
+    path: Option<CowStr<'a, Global>>,
+    values: Values<'a>,
+}
+
+/// Decodes the texts of a target.
+fn decode_target(alloc: Global, target: &[u8]) -> Result<Texts<'_>, AllocError>
+    ensures path { IfOk result (λ texts. cow_text texts.path ≡ path_text target.now) }
+    ensures keys { IfOk result (λ texts. keys_shown texts.values ≡ keys_in (query_in target.now)) }
+{
+    let path = decode_path(alloc, target)?;
+    let values = Values::of(alloc, split_target(target).query)?;
+    Ok(Texts { path, values })
+}
+
+/// Answers a request by its head, where its spans lie, and its body. Where memory is wanting for
+/// the texts of its target the answer is 503, or 500 where the service is spent.
+pub fn answer<K: Keeper>(
+    alloc: Global,
+    service: &mut Service<K>,
+    head: &[u8],
+    fields: &[HeaderSpan],
+    spans: &RequestSpans,
+    body: &[u8],
+) -> Reply
+    requires { HeadFits (length head.now) fields.now spans.now }
+    ensures does { K.is_honest service.new → (h : RequestHead) → IsHeadAt head.now fields.now spans.now h
+        → Does (K.state service.old) (ask_in h body.now) (answer_of result) (K.state service.new) }
+    ensures honest { K.is_honest service.new → K.is_honest service.old }
+{
+    match decode_target(alloc, spans.path.of(head)) {
+        Ok(texts) => {
+            let request = Request {
+                token: token(head, fields),
+                method: verb(spans.method.of(head)),
+                route: route_if(text_if(&texts.path)),
+                query: texts.values.query(),
+                content_type: values_of(head, fields, b"content-type").first,
+                content_range: values_of(head, fields, b"content-range").first,
+                body,
+            };
+            service.handle(alloc, &request)
+        }
+        Err(_) => {
+            if service.spent() {
+                Reply::failed()
+            } else {
+                Reply::busy()
+            }
+        }
+    }
+}

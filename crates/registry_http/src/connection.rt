@@ -1,0 +1,120 @@
+ghost use Rattle.std.specs.Prelude.{◌≡◌, ◌≤◌, List, Option, length, take, map};
+ghost use Rattle.oci_names.specs.Text.{Text};
+ghost use Rattle.registry_http.specs.Spelling.{Item, Spells};
+ghost use Rattle.registry_http.specs.Serving.{Replies, Serves};
+ghost use Rattle.registry_http.specs.Sending.{SendsReply};
+ghost use Rattle.registry_http.specs.Reading.{HeadFits, IsReady};
+ghost use Rattle.registry_http.specs.Ending.{SendsRefusal, StopsWith};
+
+use crate::answering::answer;
+use crate::ending::{End, FramingRefusal, Stop};
+use crate::intake::{Intake, Ready};
+use crate::outgoing::WriteFault;
+use crate::reply_text::{write_refusal, write_reply};
+use crate::target::is_head;
+use registry_model::Keeper;
+use registry_service::Service;
+use std::alloc::Global;
+use std::io::{Read, Write};
+
+/// Answers the request at the front of the buffer, and writes the reply.
+fn reply_to<W: Write, K: Keeper>(
+    alloc: Global,
+    service: &mut Service<K>,
+    intake: &Intake,
+    ready: &Ready,
+    writer: &mut W,
+) -> Result<(), WriteFault>
+    requires order { ready.now.spans.len ≤ ready.now.end }
+    requires within { ready.now.end ≤ length intake.now.buffer.items }
+    requires room { ready.now.spans.headers ≤ length intake.now.headers.items }
+    requires fits { HeadFits ready.now.spans.len (take ready.now.spans.headers intake.now.headers.items) ready.now.spans }
+    ensures honest { K.is_honest service.new → K.is_honest service.old }
+    ensures replies { K.is_honest service.new → (old : Text) (left left' : Option Text) (i : Item)
+        → IsReady old intake.now.buffer.items left left' intake.now.headers.items ready.now i
+        → (text : Text) × Replies (K.state service.old) i text (K.state service.new)
+        × SendsReply result (W.contents writer.old) (W.contents writer.new) text }
+{
+    let spans = &ready.spans;
+    let head = &intake.buffer[..spans.len];
+    let fields = &intake.headers[..spans.headers];
+    let body = &intake.buffer[spans.len..ready.end];
+    let reply = answer(alloc, service, head, fields, spans, body);
+    write_reply(&reply, is_head(spans.method.of(head)), ready.closes, writer)
+}
+
+/// Writes a refusal.
+fn refuse<W: Write>(writer: &mut W, refusal: FramingRefusal) -> End
+    ensures { SendsRefusal result refusal (W.contents writer.old) (W.contents writer.new) }
+{
+    match write_refusal(refusal, writer) {
+        Ok(()) => End::Refused(refusal),
+        Err(fault) => End::WriteFailed {
+            written: fault.written,
+        },
+    }
+}
+
+/// Ends a connection on which there is no further request.
+fn finish<W: Write>(writer: &mut W, stop: Stop) -> End
+    ensures { StopsWith result stop (W.contents writer.old) (W.contents writer.new) }
+{
+    match stop {
+        Stop::Between => End::Closed,
+        Stop::AtEnd => End::Cut,
+        Stop::Broken => End::ReadFailed,
+        Stop::Refuse(refusal) => refuse(writer, refusal),
+    }
+}
+
+/// Serves one connection to its end: reads requests, answers them one after the other, and writes
+/// the replies (RFC 9112; OCI Distribution Specification 1.1).
+///
+/// With all bytes that the reader gives, `Closed`, `Cut` and `Refused` come as those bytes spell
+/// requests, however they were cut into reads; what is written are the texts of the replies and
+/// then that of a refusal. `Refused(NoBufferMemory)` comes where memory for the connection's buffer
+/// is wanting, with the requests before answered. `ReadFailed` is the same for the bytes that came
+/// before the failed read, or before 9,223,372,036,854,775,807 reads. After `WriteFailed` all texts
+/// before went out whole, and of the text in hand exactly the first `written` bytes; a request
+/// whose reply was in hand took effect.
+pub fn serve_connection<R: Read, W: Write, K: Keeper>(
+    alloc: Global,
+    service: &mut Service<K>,
+    reader: &mut R,
+    writer: &mut W,
+) -> End
+    ensures honest { K.is_honest service.new → K.is_honest service.old }
+    ensures serves { K.is_honest service.new → Serves result (record {
+      left = R.remaining reader.old;
+      left' = R.remaining reader.new;
+      held = W.contents writer.old;
+      held' = W.contents writer.new;
+      state = K.state service.old;
+      state' = K.state service.new;
+    }) }
+{
+    let mut intake = match Intake::new(alloc) {
+        Ok(intake) => intake,
+        Err(_) => return refuse(writer, FramingRefusal::NoBufferMemory),
+    };
+    'requests: loop {
+        let ready = match intake.next_request(reader) {
+            Ok(ready) => ready,
+            Err(stop) => return finish(writer, stop),
+        };
+        if let Err(fault) = reply_to(alloc, service, &intake, &ready, writer) {
+            return End::WriteFailed {
+                written: fault.written,
+            };
+        }
+        intake.discard(ready.end);
+        if ready.closes {
+            return End::Closed;
+        }
+    }
+}
+
+/// Bytes spell one list of requests.
+pub fn spelling_is_unique()
+    ensures { (b : Text) (items others : List Item) (e f : End) → Spells b items e → Spells b others f → items ≡ others }
+{}

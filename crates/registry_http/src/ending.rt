@@ -1,0 +1,89 @@
+ghost use Rattle.std.specs.Prelude.{◌≡◌};
+ghost use Rattle.registry_http.specs.Refusals.{refusal_code, stop_at_head};
+
+/// Why a request is refused before it is answered; the connection is closed after it (RFC 9112,
+/// sections 2.2, 3.2 and 6.3; the limits are the profile's).
+#[derive(Clone, Copy, Debug, PartialEq, Eq)]
+pub enum FramingRefusal {
+    /// The head is not in the grammar, is longer than 16,384 bytes or has more than 64 fields.
+    UnreadableHead,
+    /// HTTP/1.1 without `Host`, or any version with more than one.
+    HostCount,
+    /// The target does not begin with `/`.
+    TargetForm,
+    /// `Transfer-Encoding` in HTTP/1.0, or beside `Content-Length`.
+    TransferEncodingConflict,
+    /// A `Transfer-Encoding` that is not served.
+    UnknownTransferEncoding,
+    /// More than one `Content-Length`, or one that is not 1 to 19 digits.
+    InvalidContentLength,
+    /// A body of more than 67,108,864 bytes.
+    LengthTooLarge,
+    /// A chunk line, the end of a chunk or the trailer cannot be read.
+    UnreadableChunk,
+    /// Chunks of more than 67,108,864 bytes together.
+    ChunksTooLarge,
+    /// No memory for the connection's buffer.
+    NoBufferMemory,
+}
+
+impl FramingRefusal {
+    /// The status code of the refusal.
+    pub fn code(self) -> u16
+        ensures { result ≡ refusal_code self }
+    {
+        match self {
+            FramingRefusal::UnreadableHead => 400,
+            FramingRefusal::HostCount => 400,
+            FramingRefusal::TargetForm => 400,
+            FramingRefusal::TransferEncodingConflict => 400,
+            FramingRefusal::UnknownTransferEncoding => 501,
+            FramingRefusal::InvalidContentLength => 400,
+            FramingRefusal::LengthTooLarge => 413,
+            FramingRefusal::UnreadableChunk => 400,
+            FramingRefusal::ChunksTooLarge => 413,
+            FramingRefusal::NoBufferMemory => 503,
+        }
+    }
+}
+
+/// How a connection ended.
+#[derive(Clone, Copy, Debug, PartialEq, Eq)]
+pub enum End {
+    /// The input ended between two requests, or a request asked for the end.
+    Closed,
+    /// The input ended inside a request.
+    Cut,
+    /// A request was refused.
+    Refused(FramingRefusal),
+    /// A read failed, or 9,223,372,036,854,775,807 reads were made.
+    ReadFailed,
+    /// A write failed; so many bytes of the text in hand were written.
+    WriteFailed { written: usize },
+}
+
+/// Why there is no further request.
+#[derive(Clone, Copy)]
+pub enum Stop {
+    /// The input ended between two requests.
+    Between,
+    /// The input ended inside what was read.
+    AtEnd,
+    /// A read failed, or the bound of reads was met.
+    Broken,
+    Refuse(FramingRefusal),
+}
+
+impl Stop {
+    /// The same where a head was read, of which nothing had come if the buffer is empty.
+    pub fn at_head(self, is_empty: bool) -> Stop
+        ensures { result ≡ stop_at_head self is_empty }
+    {
+        match self {
+            Stop::AtEnd => { if is_empty { Stop::Between } else { Stop::AtEnd } }
+            Stop::Between => Stop::Between,
+            Stop::Broken => Stop::Broken,
+            Stop::Refuse(refusal) => Stop::Refuse(refusal),
+        }
+    }
+}

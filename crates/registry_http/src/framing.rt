@@ -1,0 +1,78 @@
+ghost use Rattle.std.specs.Prelude.{◌≡◌, ◌≤◌, ℕ, length, map, All, Option, Some, None};
+ghost use Rattle.httparse.specs.Spans.{header_bytes, IsHeaderWithin};
+ghost use Rattle.registry_model.specs.Ask.{text_in};
+ghost use Rattle.registry_http.specs.Framing.{framing_by, length_of, length_if};
+
+use crate::ending::FramingRefusal;
+use crate::fields::values_of;
+use httparse::spans::HeaderSpan;
+
+/// How a request's body is framed.
+#[derive(Clone, Copy)]
+pub enum Framing {
+    /// So many bytes.
+    Length(usize),
+    Refused(FramingRefusal),
+}
+
+/// The body's length by the value of `Content-Length` (RFC 9110, section 8.6): 1 to 19 digits, at
+/// most 67,108,864.
+fn length_by(digits: &[u8]) -> Framing
+    ensures value { result ≡ length_of digits.now }
+    ensures bound { (n : ℕ) → result ≡ Framing.Length n → n ≤ 67108864 }
+{
+    if digits.is_empty() || digits.len() > 19 {
+        return Framing::Refused(FramingRefusal::InvalidContentLength);
+    }
+    let mut length: u64 = 0;
+    for digit in digits {
+        if !digit.is_ascii_digit() {
+            return Framing::Refused(FramingRefusal::InvalidContentLength);
+        }
+        length = length * 10 + u64::from(*digit - b'0');
+    }
+    if length <= 67_108_864 {
+        Framing::Length(length as usize)
+    } else {
+        Framing::Refused(FramingRefusal::LengthTooLarge)
+    }
+}
+
+/// The body's length where at most one field states it.
+fn length_if_any(digits: Option<&[u8]>) -> Framing
+    ensures value { result ≡ length_if (text_in digits.entry) }
+    ensures bound { (n : ℕ) → result ≡ Framing.Length n → n ≤ 67108864 }
+{
+    match digits {
+        None => Framing::Length(0),
+        Some(digits) => length_by(digits),
+    }
+}
+
+/// How the body is framed by the version, the target and the fields of a head: the first refusal
+/// that holds, or the body's length (RFC 9112, sections 3.2 and 6).
+pub fn framing_of(head: &[u8], fields: &[HeaderSpan], version: u8, target: &[u8]) -> Framing
+    requires { All (IsHeaderWithin (length head.now)) fields.now }
+    ensures value { result ≡ framing_by version target.now (map (header_bytes head.now) fields.now) }
+    ensures bound { (n : ℕ) → result ≡ Framing.Length n → n ≤ 67108864 }
+{
+    let hosts = values_of(head, fields, b"host").count;
+    let may_lack_host = version == 0;
+    if !(hosts == 1 || hosts == 0 && may_lack_host) {
+        return Framing::Refused(FramingRefusal::HostCount);
+    }
+    if target.first() != Some(&b'/') {
+        return Framing::Refused(FramingRefusal::TargetForm);
+    }
+    let lengths = values_of(head, fields, b"content-length");
+    if values_of(head, fields, b"transfer-encoding").count > 0 {
+        if version == 0 || lengths.count > 0 {
+            return Framing::Refused(FramingRefusal::TransferEncodingConflict);
+        }
+        return Framing::Refused(FramingRefusal::UnknownTransferEncoding);
+    }
+    if lengths.count > 1 {
+        return Framing::Refused(FramingRefusal::InvalidContentLength);
+    }
+    length_if_any(lengths.first)
+}

@@ -1,0 +1,178 @@
+ghost use Rattle.std.specs.Prelude.{◌≡◌, ◌++◌, [], Option, unwrap_or};
+ghost use Rattle.http.specs.StatusCode.{IsStatusCode, reason_phrase};
+ghost use Rattle.oci_names.specs.Text.{Text};
+ghost use Rattle.registry_model.specs.Answer.{answer_of, content_of, code_of, owned};
+ghost use Rattle.registry_model.specs.Ask.{text_in};
+ghost use Rattle.registry_http.specs.ReplyText.{status_line, field, field_if, length_of, length_field, close_field, sent_text, body_text, reply_text, refusal_text};
+ghost use Rattle.registry_http.specs.Sending.{Carries, SendsReply};
+
+use crate::ending::FramingRefusal;
+use crate::outgoing::{Outgoing, WriteFault};
+use http::StatusCode;
+use itoa::Buffer;
+use oci_names::Digest;
+use registry_model::{Body, Reply, Status};
+use std::io::Write;
+
+/// The reason phrase of a status code, empty where it has none.
+fn reason(status: StatusCode) -> &'static str
+    ensures { result.now ≡ unwrap_or (reason_phrase status) [] }
+{
+    match status.canonical_reason() {
+        Some(reason) => reason,
+        None => "",
+    }
+}
+
+impl Outgoing {
+    /// Goes on with the status line of a code (RFC 9112, section 4).
+    fn put_status<W: Write>(&mut self, writer: &mut W, code: u16)
+        requires { IsStatusCode code }
+        ensures { (held : Option Text) (text : Text) → Carries self.old held (W.contents writer.old) text
+            → Carries self.new held (W.contents writer.new) (text ++ status_line code) }
+    {
+        if let Ok(status) = StatusCode::from_u16(code) {
+            self.put(writer, b"HTTP/1.1 ");
+            self.put(writer, status.as_str().as_bytes());
+            self.put(writer, b" ");
+            self.put(writer, reason(status).as_bytes());
+            self.put(writer, b"\r\n");
+        }
+    }
+
+    /// Goes on with a field line (RFC 9112, section 5).
+    fn put_field<W: Write>(&mut self, writer: &mut W, name: &[u8], value: &[u8])
+        ensures { (held : Option Text) (text : Text) → Carries self.old held (W.contents writer.old) text
+            → Carries self.new held (W.contents writer.new) (text ++ field name.now value.now) }
+    {
+        self.put(writer, name);
+        self.put(writer, b": ");
+        self.put(writer, value);
+        self.put(writer, b"\r\n");
+    }
+
+    /// Goes on with a field line, where there is a value.
+    fn put_if<W: Write>(&mut self, writer: &mut W, name: &[u8], value: Option<&str>)
+        ensures { (held : Option Text) (text : Text) → Carries self.old held (W.contents writer.old) text
+            → Carries self.new held (W.contents writer.new) (text ++ field_if name.now (text_in value.entry)) }
+    {
+        if let Some(value) = value {
+            self.put_field(writer, name, value.as_bytes());
+        }
+    }
+
+    /// Goes on with a field line, where there is a string.
+    fn put_string<W: Write>(&mut self, writer: &mut W, name: &[u8], value: &Option<String>)
+        ensures { (held : Option Text) (text : Text) → Carries self.old held (W.contents writer.old) text
+            → Carries self.new held (W.contents writer.new) (text ++ field_if name.now (owned value.now)) }
+    {
+        if let Some(value) = value {
+            self.put_field(writer, name, value.as_bytes());
+        }
+    }
+
+    /// Goes on with a field line, where there is a digest.
+    fn put_digest<W: Write>(&mut self, writer: &mut W, name: &[u8], value: &Option<Digest>)
+        ensures { (held : Option Text) (text : Text) → Carries self.old held (W.contents writer.old) text
+            → Carries self.new held (W.contents writer.new) (text ++ field_if name.now value.now) }
+    {
+        if let Some(value) = value {
+            self.put_field(writer, name, value.as_str().as_bytes());
+        }
+    }
+
+    /// Goes on with the length of a body of this status.
+    fn put_length<W: Write>(&mut self, writer: &mut W, status: Status, body: &Body)
+        ensures { (held : Option Text) (text : Text) → Carries self.old held (W.contents writer.old) text
+            → Carries self.new held (W.contents writer.new) (text ++ length_field (code_of status) (length_of (content_of body.now))) }
+    {
+        if status.code() != 204 {
+            let mut digits = Buffer::new();
+            let length = digits.format(body_length(body));
+            self.put_field(writer, b"Content-Length", length.as_bytes());
+        }
+    }
+
+    /// Goes on with the field that says whether the connection is closed after the reply.
+    fn put_close<W: Write>(&mut self, writer: &mut W, close: bool)
+        ensures { (held : Option Text) (text : Text) → Carries self.old held (W.contents writer.old) text
+            → Carries self.new held (W.contents writer.new) (text ++ close_field close) }
+    {
+        if close {
+            self.put(writer, b"Connection: close\r\n");
+        }
+    }
+
+    /// Goes on with the body, which a reply to HEAD leaves out.
+    fn put_body<W: Write>(&mut self, writer: &mut W, head: bool, body: &Body)
+        ensures { (held : Option Text) (text : Text) → Carries self.old held (W.contents writer.old) text
+            → Carries self.new held (W.contents writer.new) (text ++ body_text head (content_of body.now)) }
+    {
+        if !head {
+            self.put(writer, body_bytes(body));
+        }
+    }
+}
+
+/// The bytes that are sent of a body.
+fn body_bytes(body: &Body) -> &[u8]
+    ensures { result.now ≡ sent_text (content_of body.now) }
+{
+    match body {
+        Body::Constant(text) => text.as_bytes(),
+        Body::Owned(bytes) => bytes.as_slice(),
+        Body::Unsent(_) => b"",
+    }
+}
+
+/// How long a body is, also one that is not sent.
+fn body_length(body: &Body) -> u64
+    ensures { result ≡ length_of (content_of body.now) }
+{
+    match body {
+        Body::Constant(text) => text.len() as u64,
+        Body::Owned(bytes) => bytes.len() as u64,
+        Body::Unsent(length) => *length,
+    }
+}
+
+/// Writes a reply (RFC 9112, sections 2.1 and 4): the status line, the fields in the profile's
+/// order, an empty line and the body. With `head` the body is left out (RFC 9110, section 9.3.2),
+/// with `close` the reply says that the connection is closed after it.
+///
+/// Takes no memory. Fails only where the writer does, and says how many bytes were written before.
+pub fn write_reply<W: Write>(
+    reply: &Reply,
+    head: bool,
+    close: bool,
+    writer: &mut W,
+) -> Result<(), WriteFault>
+    ensures { SendsReply result (W.contents writer.old) (W.contents writer.new) (reply_text head close (answer_of reply.now)) }
+{
+    let mut out = Outgoing::new();
+    out.put_status(writer, reply.status.code());
+    out.put_length(writer, reply.status, &reply.body);
+    out.put_if(writer, b"Content-Type", reply.content_type);
+    out.put_digest(writer, b"Docker-Content-Digest", &reply.digest);
+    out.put_string(writer, b"Location", &reply.location);
+    out.put_string(writer, b"Range", &reply.range);
+    out.put_digest(writer, b"OCI-Subject", &reply.subject);
+    out.put_if(writer, b"OCI-Filters-Applied", reply.filters);
+    out.put_string(writer, b"Link", &reply.link);
+    out.put_if(writer, b"Allow", reply.allow);
+    out.put_if(writer, b"WWW-Authenticate", reply.challenge);
+    out.put_close(writer, close);
+    out.put(writer, b"\r\n");
+    out.put_body(writer, head, &reply.body);
+    out.finish(writer)
+}
+
+/// Writes a refusal: its status line, no body, and that the connection is closed.
+pub fn write_refusal<W: Write>(refusal: FramingRefusal, writer: &mut W) -> Result<(), WriteFault>
+    ensures { SendsReply result (W.contents writer.old) (W.contents writer.new) (refusal_text refusal) }
+{
+    let mut out = Outgoing::new();
+    out.put_status(writer, refusal.code());
+    out.put(writer, b"Content-Length: 0\r\nConnection: close\r\n\r\n");
+    out.finish(writer)
+}
