@@ -1,0 +1,99 @@
+use crate::failure::{Failure, of_text};
+use oci_names::{RepoName, Token};
+use registry_model::{Level, Quota};
+use std::alloc::Global;
+
+/// A repository that a registry begins with.
+#[derive(Drop)]
+pub struct RepoOption {
+    pub name: RepoName,
+    pub quota: Quota,
+}
+
+/// A grant that a registry begins with.
+#[derive(Drop)]
+pub struct GrantOption {
+    pub token: Token,
+    pub name: RepoName,
+    pub level: Level,
+}
+
+/// What a registry over memory begins with: repositories, then grants, each in the order given.
+#[derive(Drop)]
+pub struct Setup {
+    pub repos: Vec<RepoOption>,
+    pub grants: Vec<GrantOption>,
+}
+
+/// The number that decimal digits write; leading zeros are allowed.
+fn decimal(text: &str) -> Option<u64> {
+    if text.is_empty() || !text.bytes().all(|byte| byte.is_ascii_digit()) {
+        return None;
+    }
+    text.parse().ok()
+}
+
+fn level_of(text: &str) -> Option<Level> {
+    match decimal(text) {
+        Some(1) => Some(Level::Pull),
+        Some(2) => Some(Level::Push),
+        Some(3) => Some(Level::Delete),
+        _ => None,
+    }
+}
+
+/// `NAME=QUOTA`, split at the last `=`.
+fn split_repo(text: &str) -> Option<(&str, Quota)> {
+    let (name, quota) = text.rsplit_once('=')?;
+    let quota = Quota::new(decimal(quota)?)?;
+    Some((name, quota))
+}
+
+/// `TOKEN=NAME=LEVEL`, split at the last two `=`.
+fn split_grant(text: &str) -> Option<(&str, &str, Level)> {
+    let (front, level) = text.rsplit_once('=')?;
+    let (token, name) = front.rsplit_once('=')?;
+    let level = level_of(level)?;
+    Some((token, name, level))
+}
+
+fn name_of(alloc: Global, text: &str) -> Result<RepoName, Failure> {
+    RepoName::parse(alloc, text).map_err(|fault| of_text(fault, Failure::InvalidName))
+}
+
+fn token_of(alloc: Global, text: &str) -> Result<Token, Failure> {
+    Token::parse(alloc, text).map_err(|fault| of_text(fault, Failure::InvalidToken))
+}
+
+impl Setup {
+    /// Reads the values of `--repo` and `--grant`. What does not split or has no number in range is
+    /// told first, then what is no name, then what is no token.
+    pub fn read(alloc: Global, repos: &[&str], grants: &[&str]) -> Result<Setup, Failure> {
+        let mut split_repos = Vec::new(alloc);
+        for text in repos {
+            split_repos.push(split_repo(text).ok_or(Failure::InvalidOptions)?)?;
+        }
+        let mut split_grants = Vec::new(alloc);
+        for text in grants {
+            split_grants.push(split_grant(text).ok_or(Failure::InvalidOptions)?)?;
+        }
+        let mut named_repos = Vec::new(alloc);
+        for (name, quota) in split_repos {
+            let name = name_of(alloc, name)?;
+            named_repos.push(RepoOption { name, quota })?;
+        }
+        let mut named_grants = Vec::new(alloc);
+        for (token, name, level) in split_grants {
+            named_grants.push((token, name_of(alloc, name)?, level))?;
+        }
+        let mut all_grants = Vec::new(alloc);
+        for (token, name, level) in named_grants {
+            let token = token_of(alloc, token)?;
+            all_grants.push(GrantOption { token, name, level })?;
+        }
+        Ok(Setup {
+            repos: named_repos,
+            grants: all_grants,
+        })
+    }
+}

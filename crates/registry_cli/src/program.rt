@@ -1,0 +1,132 @@
+ghost use Rattle.std.specs.Prelude.{◌≤◌};
+
+use crate::failure::Failure;
+use crate::options::Setup;
+use crate::stdio::serve_memory;
+use clap::error::ErrorKind;
+use clap::{Arg, ArgAction, ArgMatches, Command, Error};
+use std::alloc::{AllocError, Global};
+use std::convert::AsStr;
+use std::io::{Read, Write};
+
+/// What there is to do, or what the command line was answered.
+#[derive(Drop)]
+enum Told {
+    Failed(Failure),
+    Line(Error),
+}
+
+/// The command line.
+fn command<'a>(alloc: Global) -> Result<Command<'a>, AllocError> {
+    let memory = Arg::new(alloc, "memory")
+        .long("memory")
+        .action(ArgAction::SetTrue)
+        .help("Keep everything in memory");
+    let repo = Arg::new(alloc, "repo")
+        .long("repo")
+        .value_name("NAME=QUOTA")
+        .action(ArgAction::Append)
+        .help("Make a repository with a quota in bytes");
+    let grant = Arg::new(alloc, "grant")
+        .long("grant")
+        .value_name("TOKEN=NAME=LEVEL")
+        .action(ArgAction::Append)
+        .help("Give a token a level on a repository: 1 pull, 2 push, 3 delete");
+    let stdio = Command::new(alloc, "stdio")
+        .about("Serve standard input as one connection")
+        .arg(memory)?
+        .arg(repo)?
+        .arg(grant)?;
+    Command::new(alloc, "registry")
+        .about("An OCI artifact registry")
+        .version("0.1.0")
+        .no_binary_name(true)
+        .subcommand_required(true)
+        .subcommand(stdio)
+}
+
+/// `registry stdio`: without `--memory` there is nothing to serve.
+fn stdio<R: Read, W: Write>(
+    alloc: Global,
+    matches: &ArgMatches,
+    reader: &mut R,
+    out: &mut W,
+) -> Result<(), Failure> {
+    if !matches.get_flag("memory") {
+        return Err(Failure::InvalidOptions);
+    }
+    let repos = matches.get_strs("repo").unwrap_or(&[]);
+    let grants = matches.get_strs("grant").unwrap_or(&[]);
+    let setup = Setup::read(alloc, repos, grants)?;
+    serve_memory(alloc, &setup, reader, out)
+}
+
+/// Does what the words say.
+fn run<S: AsStr, R: Read, W: Write>(
+    alloc: Global,
+    words: &[S],
+    reader: &mut R,
+    out: &mut W,
+) -> Result<(), Told> {
+    let command = match command(alloc) {
+        Ok(command) => command,
+        Err(_) => return Err(Told::Failed(Failure::OutOfMemory)),
+    };
+    let matches = match command.try_get_matches_from(words) {
+        Ok(matches) => matches,
+        Err(error) => return Err(Told::Line(error)),
+    };
+    match matches.subcommand() {
+        Some(("stdio", matches)) => stdio(alloc, matches, reader, out).map_err(Told::Failed),
+        _ => Err(Told::Failed(Failure::InvalidOptions)),
+    }
+}
+
+/// Says why on standard error.
+fn fail<E: Write>(err: &mut E, failure: Failure) -> u8
+    ensures { result ≤ 4 }
+{
+    let _ = writeln!(err, "{}", failure.text());
+    failure.status()
+}
+
+/// Answers a command line that is a mistake, or that asks for help or the version.
+fn tell<W: Write, E: Write>(alloc: Global, error: &Error, out: &mut W, err: &mut E) -> u8
+    ensures { result ≤ 4 }
+{
+    if error.kind() == ErrorKind::OutOfMemory {
+        return fail(err, Failure::OutOfMemory);
+    }
+    let Ok(text) = error.to_string(alloc) else {
+        return fail(err, Failure::OutOfMemory);
+    };
+    if error.use_stderr() {
+        let _ = err.write_all(text.as_bytes());
+        2
+    } else {
+        match out.write_all(text.as_bytes()) {
+            Ok(()) => 0,
+            Err(_) => fail(err, Failure::ConnectionFailure),
+        }
+    }
+}
+
+/// Does what the words behind the program's name say, with these ends for standard input, output
+/// and error, and gives the exit status: 0 done, 1 a refused command, 2 the command line, 3 storage
+/// or memory, 4 reading or writing failed.
+pub fn run_words<T: AllocGlobal, S: AsStr, R: Read, W: Write, E: Write>(
+    rt: &T,
+    words: &[S],
+    reader: &mut R,
+    out: &mut W,
+    err: &mut E,
+) -> u8
+    ensures { result ≤ 4 }
+{
+    let alloc = rt.alloc();
+    match run(alloc, words, reader, out) {
+        Ok(()) => 0,
+        Err(Told::Failed(failure)) => fail(err, failure),
+        Err(Told::Line(error)) => tell(alloc, &error, out, err),
+    }
+}

@@ -1,0 +1,150 @@
+use crate::setting::{ABC, ABC_512, HELLO, ask, created, fetch, found, push, refused, setting};
+use registry_http::End;
+use std::test::Fail;
+
+#[test]
+fn push_then_get_of_a_blob(rt: HostRuntime) -> Result<(), Fail> {
+    let mut registry = setting(rt.alloc())?;
+    let pushed = push(rt.alloc(), &mut registry, ABC, "abc")?;
+    assert_eq!(rt; pushed.end, End::Closed);
+    assert_eq!(rt; pushed.output.len(), 241);
+    assert_eq!(rt;
+        pushed.output.as_slice(),
+        created(rt.alloc(), ABC)?.as_bytes()
+    );
+    let fetched = fetch(rt.alloc(), &mut registry, ABC)?;
+    assert_eq!(rt; fetched.output.len(), 177);
+    assert_eq!(rt;
+        fetched.output.as_slice(),
+        found(rt.alloc(), ABC, "abc")?.as_bytes()
+    );
+    Ok(())
+}
+
+/// The digest of another text, of an algorithm that cannot be verified, and of no form.
+#[test]
+fn digests_that_do_not_verify(rt: HostRuntime) -> Result<(), Fail> {
+    let mut registry = setting(rt.alloc())?;
+    let md5 = "md5:900150983cd24fb0d6963f7d28e17f72";
+    let invalid = refused(
+        rt.alloc(),
+        "400 Bad Request",
+        65,
+        "DIGEST_INVALID",
+        "invalid digest",
+    )?;
+    let other = refused(
+        rt.alloc(),
+        "400 Bad Request",
+        72,
+        "DIGEST_INVALID",
+        "digest does not match",
+    )?;
+    let unknown = refused(
+        rt.alloc(),
+        "404 Not Found",
+        61,
+        "BLOB_UNKNOWN",
+        "blob unknown",
+    )?;
+    let pushed = push(rt.alloc(), &mut registry, md5, "abc")?;
+    assert_eq!(rt; pushed.output.as_slice(), invalid.as_bytes());
+    let fetched = fetch(rt.alloc(), &mut registry, md5)?;
+    assert_eq!(rt; fetched.output.as_slice(), unknown.as_bytes());
+    let wrong = push(rt.alloc(), &mut registry, HELLO, "abc")?;
+    assert_eq!(rt; wrong.output.as_slice(), other.as_bytes());
+    let short = push(rt.alloc(), &mut registry, "sha256:12", "abc")?;
+    assert_eq!(rt; short.output.as_slice(), invalid.as_bytes());
+    let absent = fetch(rt.alloc(), &mut registry, HELLO)?;
+    assert_eq!(rt; absent.output.as_slice(), unknown.as_bytes());
+    Ok(())
+}
+
+#[test]
+fn sha512(rt: HostRuntime) -> Result<(), Fail> {
+    let mut registry = setting(rt.alloc())?;
+    let pushed = push(rt.alloc(), &mut registry, ABC_512, "abc")?;
+    assert_eq!(rt;
+        pushed.output.as_slice(),
+        created(rt.alloc(), ABC_512)?.as_bytes()
+    );
+    let fetched = fetch(rt.alloc(), &mut registry, ABC_512)?;
+    assert_eq!(rt;
+        fetched.output.as_slice(),
+        found(rt.alloc(), ABC_512, "abc")?.as_bytes()
+    );
+    let other = refused(
+        rt.alloc(),
+        "400 Bad Request",
+        72,
+        "DIGEST_INVALID",
+        "digest does not match",
+    )?;
+    let wrong = push(rt.alloc(), &mut registry, ABC_512, "hello")?;
+    assert_eq!(rt; wrong.output.as_slice(), other.as_bytes());
+    Ok(())
+}
+
+/// A blob that is there keeps its bytes, and the empty blob is one.
+#[test]
+fn empty_blob_and_a_second_push(rt: HostRuntime) -> Result<(), Fail> {
+    let mut registry = setting(rt.alloc())?;
+    let empty = "sha256:e3b0c44298fc1c149afbf4c8996fb92427ae41e4649b934ca495991b7852b855";
+    for _ in 0..2 {
+        let pushed = push(rt.alloc(), &mut registry, empty, "")?;
+        assert_eq!(rt;
+            pushed.output.as_slice(),
+            created(rt.alloc(), empty)?.as_bytes()
+        );
+    }
+    let fetched = fetch(rt.alloc(), &mut registry, empty)?;
+    assert_eq!(rt;
+        fetched.output.as_slice(),
+        found(rt.alloc(), empty, "")?.as_bytes()
+    );
+    Ok(())
+}
+
+/// A name without a grant and one without a repository are refused alike, before any look-up; a
+/// path without a form and a name that is none are told before that.
+#[test]
+fn refusals_before_look_up(rt: HostRuntime) -> Result<(), Fail> {
+    let mut registry = setting(rt.alloc())?;
+    let denied = refused(rt.alloc(), "403 Forbidden", 56, "DENIED", "access denied")?;
+    let no_endpoint = refused(
+        rt.alloc(),
+        "404 Not Found",
+        64,
+        "UNSUPPORTED",
+        "no such endpoint",
+    )?;
+    let no_name = refused(
+        rt.alloc(),
+        "400 Bad Request",
+        72,
+        "NAME_INVALID",
+        "invalid repository name",
+    )?;
+    let cases = [
+        ("GET /v2/other/blobs/x", &denied),
+        ("GET /v2/nowhere/blobs/x", &denied),
+        ("POST /v2/other/blobs/uploads/?digest=x", &denied),
+        ("GET /v2/team/app", &no_endpoint),
+        ("DELETE /v2/team/app/blobs/x", &no_endpoint),
+        ("GET /v2/Team/blobs/x", &no_name),
+        ("GET /v2/blobs/x", &no_name),
+    ];
+    for (line, reply) in cases {
+        let served = ask(rt.alloc(), &mut registry, line, "")?;
+        assert_eq!(rt; served.output.as_slice(), reply.as_bytes(), "at {line}");
+    }
+    push(rt.alloc(), &mut registry, ABC, "abc")?;
+    let line =
+        "GET /v2/team%2Fapp/blobs/sha256%3Aba7816bf8f01cfea414140de5dae2223b00361a396177a9cb410ff61f20015ad";
+    let decoded = ask(rt.alloc(), &mut registry, line, "")?;
+    assert_eq!(rt;
+        decoded.output.as_slice(),
+        found(rt.alloc(), ABC, "abc")?.as_bytes()
+    );
+    Ok(())
+}

@@ -1,0 +1,151 @@
+use crate::setting::{ABC, OneByOne, created, found, serve, setting};
+use registry_http::{End, FramingRefusal, serve_connection};
+use std::test::Fail;
+
+/// The push of `abc` (187 bytes) and the fetch of it behind it.
+const PUSH: &[u8] =
+    b"POST /v2/team/app/blobs/uploads/?digest=sha256:ba7816bf8f01cfea414140de5dae2223b00361a396177a9cb410ff61f20015ad HTTP/1.1\r\nHost: r\r\nAuthorization: Bearer t1\r\nContent-Length: 3\r\n\r\nabc";
+
+const PUSH_AND_GET: &[u8] =
+    b"POST /v2/team/app/blobs/uploads/?digest=sha256:ba7816bf8f01cfea414140de5dae2223b00361a396177a9cb410ff61f20015ad HTTP/1.1\r\nHost: r\r\nAuthorization: Bearer t1\r\nContent-Length: 3\r\n\r\nabcGET /v2/team/app/blobs/sha256:ba7816bf8f01cfea414140de5dae2223b00361a396177a9cb410ff61f20015ad HTTP/1.1\r\nHost: r\r\nAuthorization: Bearer t1\r\n\r\n";
+
+/// `Closed` between requests and `Cut` inside one; what was written is nothing, or the first reply,
+/// or both.
+#[test]
+fn input_cut_after_each_byte(rt: HostRuntime) -> Result<(), Fail> {
+    let mut replies = created(rt.alloc(), ABC)?;
+    let first = replies.len();
+    replies.push_str(found(rt.alloc(), ABC, "abc")?.as_str())?;
+    let all = PUSH_AND_GET.len();
+    for kept in 0..all + 1 {
+        let mut registry = setting(rt.alloc())?;
+        let served = serve(rt.alloc(), &mut registry, &PUSH_AND_GET[..kept]);
+        let whole = kept == 0 || kept == PUSH.len() || kept == all;
+        let end = if whole { End::Closed } else { End::Cut };
+        assert_eq!(rt; served.end, end, "at {kept}");
+        let written = if kept < PUSH.len() {
+            0
+        } else if kept < all {
+            first
+        } else {
+            418
+        };
+        assert_eq!(rt; served.output.len(), written, "at {kept}");
+        assert!(rt;
+            replies.as_bytes().starts_with(served.output.as_slice()),
+            "at {kept}"
+        );
+    }
+    Ok(())
+}
+
+#[test]
+fn one_byte_a_read(rt: HostRuntime) -> Result<(), Fail> {
+    let mut registry = setting(rt.alloc())?;
+    let mut output = Vec::new(rt.alloc());
+    let end = serve_connection(
+        rt.alloc(),
+        &mut registry,
+        &mut OneByOne(PUSH_AND_GET),
+        &mut output,
+    );
+    assert_eq!(rt; end, End::Closed);
+    assert_eq!(rt; output.len(), 418);
+    Ok(())
+}
+
+/// What is refused before any request is answered, with the text that is written.
+#[test]
+fn framing_refusals(rt: HostRuntime) -> Result<(), Fail> {
+    let bad: &[u8] = b"HTTP/1.1 400 Bad Request\r\nContent-Length: 0\r\nConnection: close\r\n\r\n";
+    let large: &[u8] =
+        b"HTTP/1.1 413 Payload Too Large\r\nContent-Length: 0\r\nConnection: close\r\n\r\n";
+    let unknown: &[u8] =
+        b"HTTP/1.1 501 Not Implemented\r\nContent-Length: 0\r\nConnection: close\r\n\r\n";
+    let cases: [(&[u8], FramingRefusal, &[u8]); 9] = [
+        // The first bytes of a TLS ClientHello: refused at once.
+        (
+            b"\x16\x03\x01\x00\xa5\x01\x00\x00\xa1\x03\x03",
+            FramingRefusal::UnreadableHead,
+            bad,
+        ),
+        (
+            b"GET / HTTP/1.1\r\na b: c\r\n\r\n",
+            FramingRefusal::UnreadableHead,
+            bad,
+        ),
+        (
+            b"POST / HTTP/1.1\r\nHost: r\r\nContent-Length: +3\r\n\r\nabc",
+            FramingRefusal::InvalidContentLength,
+            bad,
+        ),
+        (
+            b"POST / HTTP/1.1\r\nHost: r\r\nContent-Length: \r\n\r\n",
+            FramingRefusal::InvalidContentLength,
+            bad,
+        ),
+        (
+            b"POST / HTTP/1.1\r\nHost: r\r\nContent-Length: 3\r\nContent-Length: 3\r\n\r\nabc",
+            FramingRefusal::InvalidContentLength,
+            bad,
+        ),
+        (
+            b"POST / HTTP/1.1\r\nHost: r\r\nContent-Length: 00000000000000000003\r\n\r\nabc",
+            FramingRefusal::InvalidContentLength,
+            bad,
+        ),
+        (
+            b"POST / HTTP/1.1\r\nHost: r\r\nContent-Length: 67108865\r\n\r\n",
+            FramingRefusal::LengthTooLarge,
+            large,
+        ),
+        (
+            b"POST / HTTP/1.1\r\nHost: r\r\nContent-Length: 9999999999999999999\r\n\r\n",
+            FramingRefusal::LengthTooLarge,
+            large,
+        ),
+        (
+            b"POST / HTTP/1.1\r\nHost: r\r\nTransfer-Encoding: gzip, chunked\r\n\r\n",
+            FramingRefusal::UnknownTransferEncoding,
+            unknown,
+        ),
+    ];
+    for (input, refusal, text) in cases {
+        let mut registry = setting(rt.alloc())?;
+        let served = serve(rt.alloc(), &mut registry, input);
+        assert_eq!(rt; served.end, End::Refused(refusal));
+        assert_eq!(rt; served.output.as_slice(), text);
+    }
+    Ok(())
+}
+
+/// A head of 64 fields is served, one of 65 is refused; so are heads of 16,384 and 16,385 bytes.
+#[test]
+fn head_limits(rt: HostRuntime) -> Result<(), Fail> {
+    for (fields, padding, is_served) in [
+        (64, 0, true),
+        (65, 0, false),
+        (2, 16384, true),
+        (2, 16385, false),
+    ] {
+        let mut input = "GET /v2/ HTTP/1.1\r\nHost: r\r\n".to_string(rt.alloc())?;
+        for _ in 2..fields {
+            input.push_str("a: b\r\n")?;
+        }
+        input.push_str("c: ")?;
+        for _ in 0..20_000 {
+            if input.len() + 4 < padding {
+                input.push_str("d")?;
+            }
+        }
+        input.push_str("\r\n\r\n")?;
+        let mut registry = setting(rt.alloc())?;
+        let served = serve(rt.alloc(), &mut registry, input.as_bytes());
+        if is_served {
+            assert_eq!(rt; served.end, End::Closed);
+        } else {
+            assert_eq!(rt; served.end, End::Refused(FramingRefusal::UnreadableHead));
+        }
+    }
+    Ok(())
+}
