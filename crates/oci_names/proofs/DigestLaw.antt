@@ -1,8 +1,8 @@
 -- Digests: the test decides the grammar and the registered forms.
-use Rattle.std.proofs.Common.{◌≡◌, ℕ, Bool, true, false, cond, List, [], ◌∷◌, ◌++◌, ◌⊎◌, inl, inr, ◌==◌, ◌||◌, ◌&&◌, sym, refl, ap, ◌∙◌, length, drop}
+use Rattle.std.proofs.Common.{◌≡◌, ℕ, Bool, true, false, cond, [], ◌∷◌, ◌++◌, inl, inr, ◌==◌, ◌||◌, sym, refl, ap, ◌∙◌, length, drop}
 use Rattle.std.specs.Prelude.{◌↔◌}
-use Rattle.std.specs.List.{fold, list_all}
-use Rattle.std.proofs.lemmas.Bool.{and_parts, and_from, or_cases, eqb-true, eq-eqb, false≢true, cond-true, cond-false}
+use Rattle.std.specs.List.{list_all}
+use Rattle.std.proofs.lemmas.Bool.{and_parts, and_from, or_cases, eqb-true, eq-eqb, false≢true}
 use Rattle.oci_names.specs.Text.{Text}
 use Rattle.oci_names.specs.Byte.{is_lowercase_or_digit, is_lowercase_hex}
 use Rattle.oci_names.specs.Language.{Language, IsIn, one, many, both, some, byte}

@@ -1,11 +1,11 @@
 -- Texts put together in a language, and what a scanner finds of them.
-use Rattle.std.proofs.Common.{◌≡◌, ℕ, Bool, true, false, List, [], ◌∷◌, ◌++◌, ◌⊎◌, inl, inr, sym, refl, ap, subst, ◌∙◌, append_assoc}
+use Rattle.std.proofs.Common.{◌≡◌, ℕ, Bool, true, false, List, [], ◌∷◌, ◌++◌, inl, inr, sym, refl, ap, subst, ◌∙◌, append_assoc}
 use Rattle.std.specs.List.{All, fold, list_all}
 use Rattle.std.proofs.lemmas.Bool.{and_parts, false≢true}
 use Rattle.std.proofs.lemmas.List.Elements.{All-nil, All-cons, All-head, All-tail}
 use Rattle.std.proofs.lemmas.List.Sums.{fold-append}
 use Rattle.oci_names.specs.Text.{Text}
-use Rattle.oci_names.specs.Language.{Language, IsIn, joined, one, nothing, both, either, many, some, byte}
+use Rattle.oci_names.specs.Language.{Language, IsIn, joined, one, both, either, many}
 
 -- ---- texts put together
 

@@ -1,5 +1,5 @@
 -- The digests that the hash functions make are digests.
-use Rattle.std.proofs.Common.{◌≡◌, ℕ, zero, suc, cond, ◌<◌, ◌≤◌, ◌+◌, ◌*◌, ◌/◌, ◌%◌, ◌^◌, Bool, true, false, List, [], ◌∷◌, ◌++◌, ◌&&◌, ◌||◌, ◌==◌, nat_lt, nat_le, length, slice_index, sym, refl, ap, ◌∙◌, arith, inl, inr}
+use Rattle.std.proofs.Common.{◌≡◌, ℕ, zero, suc, cond, ◌<◌, ◌≤◌, ◌*◌, ◌/◌, ◌%◌, ◌^◌, Bool, true, List, [], ◌∷◌, ◌++◌, ◌||◌, ◌==◌, nat_lt, nat_le, length, slice_index, refl, ap, ◌∙◌, arith, inl, inr}
 use Rattle.std.specs.List.{list_all, fold}
 use Rattle.std.specs.Int.{to_be_bytes, bytes_high_first, byte_at, w32, w64}
 use Rattle.std.proofs.lemmas.Bool.{and_parts, and_from, or_cases, or_left, or_right, lt-ltb, ltb-true, leb-true, le-leb, eq-eqb, eqb-true, agree_below_at}
@@ -13,7 +13,6 @@ use Rattle.hex.proofs.HexLemmas.{length-encode_with}
 use Rattle.oci_names.specs.Text.{Text}
 use Rattle.oci_names.specs.Byte.{is_between, is_lowercase_hex, is_digit, is_lowercase, is_uppercase, is_alphanumeric}
 use Rattle.oci_names.specs.Digest.{is_digest, is_hex, is_encoded, has_grammar, has_registered_form, is_end, place_after, sha256_digest, sha512_digest, sha256_prefix, sha512_prefix}
-use Rattle.oci_names.specs.declared.digest.Place.{Place}
 use Rattle.oci_names.specs.declared.digest.Place.TheVariants.{EncodedStart, Encoded, Outside}
 
 -- ---- hashes are bytes

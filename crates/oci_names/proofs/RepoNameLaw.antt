@@ -1,7 +1,6 @@
 -- Repository names: the test decides the grammar.
-use Rattle.std.proofs.Common.{◌≡◌, ℕ, Bool, true, false, cond, List, [], ◌∷◌, ◌++◌, ◌⊎◌, inl, inr, ◌||◌, ◌==◌, sym, refl, ap, ◌∙◌, length, nat_le, ◌≤◌}
+use Rattle.std.proofs.Common.{◌≡◌, ℕ, Bool, true, false, cond, [], ◌∷◌, ◌++◌, inl, inr, ◌||◌, ◌==◌, refl, ap, ◌∙◌, length, nat_le}
 use Rattle.std.specs.Prelude.{◌↔◌}
-use Rattle.std.specs.List.{fold}
 use Rattle.std.proofs.lemmas.Bool.{and_parts, and_from, or_cases, leb-true, le-leb, eqb-true, false≢true}
 use Rattle.oci_names.specs.Text.{Text}
 use Rattle.oci_names.specs.Byte.{is_lowercase_or_digit}

@@ -1,5 +1,5 @@
 -- Session numbers: a text writes n exactly where it is the decimal of n, from 1 to 2 ^ 63 - 1.
-use Rattle.std.proofs.Common.{◌≡◌, ℕ, ◌<◌, ◌≤◌, ◌^◌, ◌+◌, Bool, true, false, cond, List, [], ◌∷◌, Option, Some, None, ◌&&◌, ◌⊎◌, inl, inr, nat_lt, nat_le, slice_index, length, sym, refl, ap, subst, ◌∙◌, arith, get_or}
+use Rattle.std.proofs.Common.{◌≡◌, ℕ, ◌<◌, ◌≤◌, ◌^◌, Bool, true, false, cond, [], ◌∷◌, Some, None, ◌&&◌, inl, inr, nat_lt, nat_le, slice_index, length, sym, refl, ap, subst, ◌∙◌, arith, get_or}
 use Rattle.std.specs.Prelude.{◌↔◌}
 use Rattle.std.specs.Str.{all_ascii_digits}
 use Rattle.std.specs.Str.Parse.{digits_value}

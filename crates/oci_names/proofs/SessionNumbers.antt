@@ -1,14 +1,13 @@
 -- What `parse` reads of a text that begins with `1` to `9` is its session number.
-use Rattle.std.proofs.Common.{◌≡◌, ◌≢◌, ℕ, ◌<◌, ◌≤◌, ◌^◌, Bool, true, false, Option, Some, None, Result, Ok, Err, ◌&&◌, nat_lt, cond, slice_index, length, sym, refl, ap, subst, ◌∙◌, arith, get_or, [], ◌∷◌, rules}
+use Rattle.std.proofs.Common.{◌≡◌, ℕ, ◌<◌, ◌≤◌, ◌^◌, true, false, Option, Some, None, Result, Ok, Err, ◌&&◌, nat_lt, cond, slice_index, length, sym, refl, ap, subst, ◌∙◌, arith, [], ◌∷◌, rules}
 use Rattle.std.specs.Str.{all_ascii_digits}
 use Rattle.std.specs.Str.Parse.{ParsesUnsigned, digits_value}
 use Rattle.std.specs.Result.{OkIff}
-use Rattle.std.proofs.lemmas.Bool.Decides.{nat_tests}
 use Rattle.std.proofs.lemmas.Bool.{lt-ltb, le-ltb, ltb-true}
 use Rattle.std.proofs.lemmas.Str.Parse.{IsNumeralModel, numerals_by_value, tells_all_ascii_digits, parse_plain}
 use Rattle.oci_names.specs.Text.{Text}
 use Rattle.oci_names.specs.Byte.{is_between}
-use Rattle.oci_names.specs.SessionNumber.{is_session_number, session_number_of}
+use Rattle.oci_names.specs.SessionNumber.{session_number_of}
 
 own : IsNumeralModel (λ ds. all_ascii_digits ds ≡ true) (digits_value 10)
 own = numerals_by_value (λ ds. all_ascii_digits ds ≡ true) tells_all_ascii_digits

@@ -1,10 +1,10 @@
 -- Tags: the test decides the grammar.
-use Rattle.std.proofs.Common.{◌≡◌, ℕ, Bool, true, false, List, [], ◌∷◌, ◌++◌, sym, refl, ap, ◌∙◌, length, nat_le, ◌≤◌}
+use Rattle.std.proofs.Common.{◌≡◌, true, [], ◌∷◌, ◌++◌, ap, ◌∙◌, length, nat_le}
 use Rattle.std.specs.Prelude.{◌↔◌}
 use Rattle.std.specs.List.{list_all}
 use Rattle.std.proofs.lemmas.Bool.{and_parts, and_from, leb-true, le-leb, false≢true}
 use Rattle.oci_names.specs.Text.{Text}
-use Rattle.oci_names.specs.Language.{IsIn, one, many, both}
+use Rattle.oci_names.specs.Language.{IsIn, one, many}
 use Rattle.oci_names.specs.Tag.{IsTag, is_tag, are_tag_characters, tag_characters, is_tag_start, is_tag_character}
 use Rattle.oci_names.proofs.Languages.{cons, many_one, list_all-many_one}
 

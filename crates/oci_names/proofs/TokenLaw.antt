@@ -1,14 +1,13 @@
 -- Tokens: the test decides the grammar.
-use Rattle.std.proofs.Common.{◌≡◌, ℕ, Bool, true, false, cond, List, [], ◌∷◌, ◌++◌, ◌⊎◌, inl, inr, ◌==◌, sym, refl, ap, ◌∙◌, length, nat_le, ◌≤◌}
+use Rattle.std.proofs.Common.{◌≡◌, ℕ, Bool, true, false, cond, [], ◌∷◌, ◌==◌, refl, ap, ◌∙◌, length, nat_le}
 use Rattle.std.specs.Prelude.{◌↔◌}
-use Rattle.std.specs.List.{fold}
 use Rattle.std.proofs.lemmas.Bool.{and_parts, and_from, leb-true, le-leb, eqb-true, false≢true}
 use Rattle.oci_names.specs.Text.{Text}
 use Rattle.oci_names.specs.Language.{Language, IsIn, one, many, both, some, byte}
 use Rattle.oci_names.specs.Token.{IsToken, is_token, is_b64token, is_end, place_after, b64token, is_token_character}
 use Rattle.oci_names.specs.declared.token.Place.{Place}
 use Rattle.oci_names.specs.declared.token.Place.TheVariants.{Start, Character, Padding, Outside}
-use Rattle.oci_names.proofs.Languages.{none, not_in_none, cons, regroup, many-none, many-more, skip, more, Leads, leads-one, leads-both, leads-many, leads-weaker, is_in_rest}
+use Rattle.oci_names.proofs.Languages.{none, not_in_none, cons, regroup, many-none, many-more, skip, more, Leads, leads-one, leads-both, leads-many, is_in_rest}
 
 -- ---- what the test takes is a token
 

@@ -1,5 +1,5 @@
 -- Digests (OCI Image Specification 1.1, Descriptors, Digests).
-use Rattle.std.specs.Prelude.{◌≡◌, ℕ, List, ◌++◌, Bool, true, false, ◌==◌, ◌||◌, ◌&&◌, length, drop, codes, bytes_eq, if◌then◌else◌, nat_eq, Result, MatchResult, IfOk, IfErr}
+use Rattle.std.specs.Prelude.{◌≡◌, ℕ, ◌++◌, Bool, true, false, ◌==◌, ◌||◌, ◌&&◌, length, drop, codes, bytes_eq, if◌then◌else◌, nat_eq, Result, MatchResult}
 use Rattle.std.specs.List.{starts_with, fold, list_all}
 use Rattle.sha2.specs.Sha256.{sha256}
 use Rattle.sha2.specs.Sha512.{sha512}

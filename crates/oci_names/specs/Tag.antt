@@ -1,5 +1,5 @@
 -- Tags (OCI Distribution Specification 1.1, Pulling manifests): `[a-zA-Z0-9_][a-zA-Z0-9._-]{0,127}`.
-use Rattle.std.specs.Prelude.{ℕ, Bool, false, List, [], ◌∷◌, ◌==◌, ◌||◌, ◌&&◌, nat_le, length, ◌≤◌}
+use Rattle.std.specs.Prelude.{ℕ, Bool, false, [], ◌∷◌, ◌==◌, ◌||◌, ◌&&◌, nat_le, length, ◌≤◌}
 use Rattle.std.specs.List.{list_all}
 use Rattle.oci_names.specs.Text.{Text}
 use Rattle.oci_names.specs.Byte.{is_alphanumeric}

@@ -1,12 +1,14 @@
-//! Laws of the definitions: the tests that contracts cite decide the grammars.
-ghost use Rattle.std.specs.Prelude.{◌≡◌, ◌↔◌, ◌≤◌, ◌<◌, ◌^◌, true, false, List, ℕ};
-ghost use Rattle.oci_names.specs.Digest.{IsDigest, is_digest, sha256_digest, sha512_digest};
+//! Laws of the definitions that contracts cite: their tests decide the grammars, and verdicts are right.
+ghost use Rattle.std.specs.Prelude.{◌⊎◌, ◌≡◌, ◌↔◌, ◌≤◌, ◌<◌, ◌^◌, true, false, List, ℕ};
+ghost use Rattle.oci_names.specs.Digest.{matches, verdict_of, IsDigest, is_digest, sha256_digest, sha512_digest};
 ghost use Rattle.oci_names.specs.Reference.{IsReference, is_reference};
 ghost use Rattle.oci_names.specs.RepoName.{IsRepoName, is_repo_name};
 ghost use Rattle.std.specs.Fmt.{decimal};
 ghost use Rattle.oci_names.specs.SessionNumber.{session_number_of};
 ghost use Rattle.oci_names.specs.Tag.{IsTag, is_tag};
 ghost use Rattle.oci_names.specs.Token.{IsToken, is_token};
+
+use crate::Verdict;
 
 /// `is_digest` decides whether a text is a digest.
 pub fn digest_grammar()
@@ -48,4 +50,11 @@ pub fn session_number_decimal()
 pub fn digests_of_bytes()
     ensures sha256 { (b : List ℕ) → is_digest (sha256_digest b) ≡ true }
     ensures sha512 { (b : List ℕ) → is_digest (sha512_digest b) ≡ true }
+{}
+
+/// A verdict is `Matches` exactly where the digest is one of the two digests of the bytes, and then
+/// `matches` holds.
+pub fn verdicts()
+    ensures decides { (d b : List ℕ) → (verdict_of d b ≡ Verdict.Matches) ↔ ((d ≡ sha256_digest b) ⊎ (d ≡ sha512_digest b)) }
+    ensures matches { (d b : List ℕ) → verdict_of d b ≡ Verdict.Matches → matches d b ≡ true }
 {}

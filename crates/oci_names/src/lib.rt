@@ -1,7 +1,7 @@
 //! The words of a registry: digests, repository names, tags, references, tokens and session numbers.
 //!
-//! A text is read exactly where its grammar has it, and `Digest::verifies` compares bytes with a digest:
-//! crates above rely on these two.
+//! Crates above rely on each `parse`, which reads a text exactly where its grammar has it, and on
+//! `Digest::verifies`. Their definitions cite the tests of `specs/`; `laws` says what those decide.
 #![tactic(auto)]
 
 mod byte;

@@ -1,9 +1,8 @@
-use Rattle.std.proofs.Common.{rules, ◌≡◌, slice_index, ℕ, ◌+◌, ◌-◌, ◌*◌, ◌<◌, ◌≤◌, length, ◌/◌, ◌%◌, Bool, true, false, nat_eq, nat_lt, List, [], ◌∷◌, ◌++◌, slice_index_or, slice_set, bit_and, bit_or, Fits, w8, w32, w64, Bor, MutBor}
+use Rattle.std.proofs.Common.{slice_index}
 use Rattle.oci_names.specs.Byte.{is_between}
 use Rattle.std.proofs.Common.{ap, sym, ◌∙◌, slice_index}
 use Rattle.oci_names.specs.Byte.{is_between}
 use Rattle.oci_names.proofs.SessionNumbers.{session_number_of-read, session_number_of-unread}
-use Rattle.oci_names.specs.SessionNumber.{session_number_of}
 use Rattle.oci_names.proofs.session.session_number.Goals as goal
 
 -- src/session.rt:17:1

@@ -1,10 +1,3 @@
-use Rattle.std.proofs.Common.{rules, ◌≡◌, true, MatchResult, bytes_eq, if◌then◌else◌, ℕ, ◌+◌, ◌-◌, ◌*◌, ◌<◌, ◌≤◌, length, ◌/◌, ◌%◌, Bool, false, nat_eq, nat_lt, List, [], ◌∷◌, ◌++◌, slice_index_or, slice_set, bit_and, bit_or, Fits, w8, w32, w64, Bor, MutBor}
-use Rattle.std.specs.List.{list_all}
-use Rattle.sha2.specs.Sha256.{sha256}
-use Rattle.sha2.specs.Sha512.{sha512}
-use Rattle.hex.specs.Hex.{encode_lower}
-use Rattle.oci_names.specs.Byte.{is_lowercase_hex}
-use Rattle.oci_names.specs.Digest.{is_digest, has_grammar, has_registered_form, is_hex, place_after, is_end, is_algorithm_separator, is_encoded, sha256_digest, sha512_digest, verdict_of, ReadsDigest}
 use Rattle.std.proofs.Common.{sym, ◌∙◌}
 use Rattle.oci_names.proofs.Verdicts.{verdict_by-sha256, verdict_by-sha512}
 use Rattle.oci_names.proofs.digest.Digest.verifies.Goals as goal
