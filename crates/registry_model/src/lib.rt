@@ -12,6 +12,8 @@ pub mod refusal;
 pub mod reply;
 pub mod request;
 pub mod route;
+#[cfg(test)]
+mod tests;
 
 pub use admin::{AdminCommand, AdminFault};
 pub use keeper::Keeper;
