@@ -13,3 +13,5 @@ pub mod Command
 pub mod Keeping
 pub mod Doing
 pub mod Maps
+pub mod Team
+pub mod Runs

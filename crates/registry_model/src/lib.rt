@@ -5,6 +5,7 @@
 
 pub mod admin;
 pub mod keeper;
+pub mod laws;
 pub mod level;
 pub mod maps;
 pub mod quota;

@@ -1,0 +1,60 @@
+-- A team's own requests, answered from what the team sees.
+use Rattle.std.proofs.Common.{◌≡◌, ◌∙◌, ℕ, Bool, true, false, cond, nat_le, List, Option, Some, None, OnSome, refl, sym, ap, subst}
+use Rattle.std.specs.Prelude.{is_some}
+use Rattle.std.specs.FinMap.{get}
+use Rattle.oci_names.specs.Text.{Text}
+use Rattle.oci_names.specs.Token.{is_token}
+use Rattle.registry_model.specs.declared.level.Level.{Level}
+use Rattle.registry_model.specs.declared.refusal.Refusal.TheVariants.{TokenRequired}
+use Rattle.registry_model.specs.World.{Repo, Grants, World, repo_at, level_at, is_known}
+use Rattle.registry_model.specs.Ask.{Ask}
+use Rattle.registry_model.specs.Blobs.{Outcome, refuses}
+use Rattle.registry_model.specs.Verdict.{Target, target_of, rank_of, aimed, verdict, judged, changed, reply_to, after_request}
+use Rattle.registry_model.specs.Team.{Team, IsTeamOf, view, is_own}
+use Rattle.registry_model.proofs.VerdictLaws.{verdict_same, decide_changes, MayPush}
+use Rattle.registry_model.proofs.ViewLaws.{changed_inside, seen_repo, own_grants}
+
+push_some : (o : Option Level) → nat_le 2 (rank_of o) ≡ true → is_some o ≡ true
+push_some None e = absurd (cc)
+push_some (Some level) e = refl
+
+-- a verdict changes where the token may push
+pub verdict_changes : (g : Grants) (f : Text → Option Repo) (q : Ask) (t : Target) → target_of q.verb q.form q.keys ≡ Some t
+    → OnSome (verdict g f q).change (MayPush g t.name)
+verdict_changes g f q t e = rw e (by (is_known g))
+  where
+    by : (b : Bool) → OnSome (cond b (aimed g f (Some t) q.body) (refuses TokenRequired)).change (MayPush g t.name)
+    by true = decide_changes g f t q.body
+    by false = tt
+
+module _ (w : World) (team : Team) (mine : IsTeamOf w team) where
+  judged_as : (token : Text) → team.tokens token ≡ true → (q : Ask) → judged w (Some token) q ≡ judged (view w team) (Some token) q
+  judged_as token h q =
+      ap (λ x. cond (is_token token) x (refuses TokenRequired)) (
+        verdict_same (w.grants token) (repo_at w) (repo_at (view w team)) (λ name some. seen_repo w team name (mine token name h some)) q
+        ∙ ap (λ g. verdict g (repo_at (view w team)) q) (sym (own_grants w team token h)))
+
+  same_judged : (o : Option Text) → is_own team o ≡ true → (q : Ask) → judged w o q ≡ judged (view w team) o q
+  same_judged None h q = absurd (cc)
+  same_judged (Some token) h q = judged_as token h q
+
+  pub own_reply : (q : Ask) → is_own team q.token ≡ true → reply_to w q ≡ reply_to (view w team) q
+  own_reply q h = ap (λ o. o.reply) (same_judged q.token h q)
+
+  inside : (o : Option Text) → is_own team o ≡ true → (q : Ask) (t : Target) → target_of q.verb q.form q.keys ≡ Some t
+      → OnSome (judged w o q).change (team.names t.name ≡ true)
+  inside None h q t e = absurd (cc)
+  inside (Some token) h q t e = by (is_token token)
+    where
+      named : (c : Option Repo) → OnSome c (MayPush (w.grants token) t.name) → OnSome c (team.names t.name ≡ true)
+      named None k = tt
+      named (Some r) k = mine token t.name h (push_some (level_at w token t.name) k)
+
+      by : (b : Bool) → OnSome (cond b (verdict (w.grants token) (repo_at w) q) (refuses TokenRequired)).change (team.names t.name ≡ true)
+      by true = named _ (verdict_changes (w.grants token) (repo_at w) q t e)
+      by false = tt
+
+  pub own_after : (q : Ask) → is_own team q.token ≡ true → view (after_request w q) team ≡ after_request (view w team) q
+  own_after q h =
+      changed_inside w team (target_of q.verb q.form q.keys) (judged w q.token q).change (λ t e. inside q.token h q t e)
+      ∙ ap (λ o. changed (view w team) (target_of q.verb q.form q.keys) o.change) (same_judged q.token h q)

@@ -1,0 +1,164 @@
+-- What a run says: the laws of single steps, over lists of steps.
+use Rattle.std.proofs.Common.{◌≡◌, ◌∙◌, ℕ, ◌+◌, ◌<◌, ◌⊎◌, inl, inr, suc, Bool, true, false, cond, List, [], ◌∷◌, ◌++◌, map, length, take, get_or, All, refl, sym, ap, subst, arith}
+use Rattle.std.proofs.lemmas.List.{take_more}
+use Rattle.std.proofs.lemmas.List.Elements.{All-head, All-tail, All-cons, All-nil}
+use Rattle.oci_names.specs.Text.{Text}
+use Rattle.registry_model.specs.World.{World}
+use Rattle.registry_model.specs.Answer.{Answer}
+use Rattle.registry_model.specs.Ask.{Ask}
+use Rattle.registry_model.specs.Verdict.{reply_to, after_request}
+use Rattle.registry_model.specs.Keeping.{State}
+use Rattle.registry_model.specs.Doing.{Kind, answered, missed, lost, kind_of, outcome_kind, DoesAs, CarriesOutAs}
+use Rattle.registry_model.specs.declared.admin.AdminCommand.{AdminCommand}
+use Rattle.registry_model.specs.declared.admin.AdminFault.{AdminFault}
+use Rattle.std.specs.Prelude.{Result}
+use Rattle.registry_model.specs.Team.{Team, IsTeamOf, view, Step, asks, orders, is_own, addressed, is_reading, GivesNoPush, MayNotPush, IsElsewhere, OwnOrAside}
+use Rattle.registry_model.specs.Runs.{Outcome, told, did, comes_to, after, kind, Takes, TakesAll, kept_as, kept, Follow, after_all, AllLost, LostToTheEnd, own, replies, IsToldAlone, RunSays}
+use Rattle.registry_model.proofs.OwnLaws.{own_reply, own_after}
+use Rattle.registry_model.proofs.AsideLaws.{Since, still_team, since, aside_request, aside_order}
+
+-- ---- what a team is told
+
+-- one step more at the front, of the team's own or aside
+module _ (first : World) (all : List Step) (team : Team) (mine : IsTeamOf first team) where
+  one_alone : (w : World) → Since first all team w → (st : Step) (o : Outcome) (others : List (Step × Outcome))
+      → OwnOrAside first all team st → o ≡ comes_to w st → IsToldAlone (after w st) team others → IsToldAlone w team ((st, o) ∷ others)
+  one_alone w s (asks q) o others h is rest =
+      subst (λ x. IsToldAlone w team ((asks q, x) ∷ others)) (sym is) (request (is_own team q.token) refl)
+    where
+      request : (b : Bool) → is_own team q.token ≡ b → IsToldAlone w team ((asks q, told (reply_to w q)) ∷ others)
+      request true e = rw e (
+          let team_of = still_team first all team w s mine in
+          let tail : map (λ p. p.1) (own team others) ≡ replies (after_request (view w team) q) (map (λ p. p.0) (own team others)) =
+          rest ∙ ap (λ v. replies v (map (λ p. p.0) (own team others))) (own_after w team team_of q e) in
+          λ i. own_reply w team team_of q e i ∷ tail i)
+      request false e = rw e (rest ∙ ap (λ v. replies v (map (λ p. p.0) (own team others))) (aside_request first all team w s q (aside h)))
+        where
+          aside : OwnOrAside first all team (asks q) → IsElsewhere team q.form ⊎ ((is_reading q.verb ≡ true) ⊎ MayNotPush first all q.token (addressed q.form))
+          aside (inl own_request) = absurd (let bad = sym own_request ∙ e in cc)
+          aside (inr other) = other
+  one_alone w s (orders a) o others h is rest = subst (λ x. IsToldAlone w team ((orders a, x) ∷ others)) (sym is)
+      (rest ∙ ap (λ v. replies v (map (λ p. p.0) (own team others))) (aside_order first all team w s a h))
+
+  alone_from : (w : World) → Since first all team w → (steps : List Step) (outcomes : List Outcome)
+      → All (OwnOrAside first all team) steps → ((u n : Text) → All (GivesNoPush u n) all → All (GivesNoPush u n) steps)
+      → Follow w (kept steps outcomes) → IsToldAlone w team (kept steps outcomes)
+  alone_from w s [] outcomes h gives f = refl
+  alone_from w s (st ∷ steps) [] h gives f = refl
+  alone_from w s (st ∷ steps) (o ∷ outcomes) h gives f =
+      let now = All-head (OwnOrAside first all team) st steps h in
+      let others = All-tail (OwnOrAside first all team) st steps h in
+      let later = λ (u n : Text) (x : All (GivesNoPush u n) all). All-tail (GivesNoPush u n) st steps (gives u n x) in
+      by_kind (kind o) f
+      (λ d k. one_alone w s st o (kept steps outcomes) now d
+      (alone_from (after w st) (since first all team w s st now (λ u n x. All-head (GivesNoPush u n) st steps (gives u n x)))
+      steps outcomes others later k))
+      (λ k. alone_from w s steps outcomes others later k)
+    where
+      by_kind : (k : Kind) → Follow w (kept_as k st o (kept steps outcomes))
+          → (o ≡ comes_to w st → Follow (after w st) (kept steps outcomes) → IsToldAlone w team ((st, o) ∷ kept steps outcomes))
+          → (Follow w (kept steps outcomes) → IsToldAlone w team (kept steps outcomes))
+          → IsToldAlone w team (kept_as k st o (kept steps outcomes))
+      by_kind answered f now later = now f.0 f.1
+      by_kind missed f now later = later f
+      by_kind lost f now later = refl
+
+-- ---- what the steps one after the other say
+
+abbrev pub Facts : World → List (Step × Outcome) → State → Type 0
+Facts w pairs s' = Follow w pairs × (s'.spent ≡ false → s'.world ≡ after_all w pairs)
+
+-- a step by its kind: the definitions' outcome and world, nothing changed, or spent
+abbrev pub TakesAs : Kind → State → Step → Outcome → State → Type 0
+TakesAs answered s st o s' = (s.spent ≡ false) × (o ≡ comes_to s.world st) × (s'.world ≡ after s.world st)
+TakesAs missed s st o s' = (s.spent ≡ false) × (s'.world ≡ s.world)
+TakesAs lost s st o s' = s'.spent ≡ true
+
+takes_as : (s : State) (st : Step) (o : Outcome) (s' : State) → Takes s st o s' → TakesAs (kind o) s st o s'
+takes_as s (asks q) (told a) s' d = by (kind_of a) d
+  where
+    by : (k : Kind) → DoesAs k s q a s' → TakesAs k s (asks q) (told a) s'
+    by answered d = (d.0, ap told d.1, ap (λ x. x.world) d.2)
+    by missed d = (d.0, ap (λ x. x.world) d.2)
+    by lost d = d.1
+takes_as s (orders a) (did r) s' d = by (outcome_kind r) d
+  where
+    by : (k : Kind) → CarriesOutAs k s a r s' → TakesAs k s (orders a) (did r) s'
+    by answered d = (d.0, ap did d.1, ap (λ x. x.world) d.2)
+    by missed d = (d.0, ap (λ x. x.world) d.1)
+    by lost d = d
+takes_as s (asks q) (did r) s' d = absurd d
+takes_as s (orders a) (told r) s' d = absurd d
+
+-- from a spent state each step is lost
+spent_as : (k : Kind) (s : State) (st : Step) (o : Outcome) (mid : State) → s.spent ≡ true → TakesAs k s st o mid → (k ≡ lost) × (mid.spent ≡ true)
+spent_as answered s st o mid e d = absurd (let bad = sym e ∙ d.0 in cc)
+spent_as missed s st o mid e d = absurd (let bad = sym e ∙ d.0 in cc)
+spent_as lost s st o mid e d = (refl, d)
+
+spent_runs : (s : State) (steps : List Step) (outcomes : List Outcome) (s' : State) → s.spent ≡ true → TakesAll s steps outcomes s'
+    → AllLost outcomes × (s'.spent ≡ true)
+spent_runs s [] [] s' e r = (All-nil (λ o. kind o ≡ lost), subst (λ x. x.spent ≡ true) (sym r) e)
+spent_runs s [] (o ∷ outcomes) s' e r = absurd r
+spent_runs s (st ∷ steps) [] s' e r = absurd r
+spent_runs s (st ∷ steps) (o ∷ outcomes) s' e r =
+    let now = spent_as (kind o) s st o r.0 e (takes_as s st o r.0 r.1) in
+    let later = spent_runs r.0 steps outcomes s' now.1 r.2 in
+    (All-cons (λ x. kind x ≡ lost) o outcomes now.0 later.0, later.1)
+
+pub run_facts : (s : State) (steps : List Step) (outcomes : List Outcome) (s' : State) → TakesAll s steps outcomes s'
+    → Facts s.world (kept steps outcomes) s' × LostToTheEnd outcomes × (length outcomes ≡ length steps)
+run_facts s [] [] s' r = ((tt, λ e. ap (λ x. x.world) r), tt, refl)
+run_facts s [] (o ∷ outcomes) s' r = absurd r
+run_facts s (st ∷ steps) [] s' r = absurd r
+run_facts s (st ∷ steps) (o ∷ outcomes) s' r =
+    let later = run_facts r.0 steps outcomes s' r.2 in
+    let now = takes_as s st o r.0 r.1 in
+    (by_kind (kind o) now later.0, (λ e. (lost_now (kind o) e now).0, later.1), ap suc later.2)
+  where
+    lost_now : (k : Kind) → k ≡ lost → TakesAs k s st o r.0 → AllLost outcomes × (s'.spent ≡ true)
+    lost_now answered e d = absurd (cc)
+    lost_now missed e d = absurd (cc)
+    lost_now lost e d = spent_runs r.0 steps outcomes s' d r.2
+
+    by_kind : (k : Kind) → TakesAs k s st o r.0 → Facts r.0.world (kept steps outcomes) s' → Facts s.world (kept_as k st o (kept steps outcomes)) s'
+    by_kind answered d later = (
+      (d.1, subst (λ w. Follow w (kept steps outcomes)) d.2 later.0),
+      λ e. later.1 e ∙ ap (λ w. after_all w (kept steps outcomes)) d.2,
+    )
+    by_kind missed d later = (
+      subst (λ w. Follow w (kept steps outcomes)) d.1 later.0,
+      λ e. later.1 e ∙ ap (λ w. after_all w (kept steps outcomes)) d.1,
+    )
+    by_kind lost d later = (tt, λ e. absurd (let bad = sym (spent_runs r.0 steps outcomes s' d r.2).1 ∙ e in cc))
+
+pub run_says : (s : State) (steps : List Step) (outcomes : List Outcome) (s' : State) → TakesAll s steps outcomes s' → RunSays s steps outcomes s'
+run_says s steps outcomes s' r =
+    let facts = run_facts s steps outcomes s' r in
+    record {
+      count = facts.2;
+      lost_to_the_end = facts.1;
+      follow = facts.0.0;
+      ends = facts.0.1;
+      private = λ team mine h. alone_from s.world steps team mine s.world (record { same = λ token t. refl; low = λ u name x. x.0 })
+          steps outcomes h (λ u n x. x) facts.0.0;
+    }
+
+-- two registries that agree on what a team sees, and are asked the same by it
+pub same_told : (s t : State) (steps others : List Step) (outcomes results : List Outcome) (s' t' : State) → TakesAll s steps outcomes s' → TakesAll t others results t'
+    → (team : Team) → IsTeamOf s.world team → IsTeamOf t.world team → view s.world team ≡ view t.world team
+    → All (OwnOrAside s.world steps team) steps → All (OwnOrAside t.world others team) others
+    → map (λ p. p.0) (own team (kept steps outcomes)) ≡ map (λ p. p.0) (own team (kept others results))
+    → map (λ p. p.1) (own team (kept steps outcomes)) ≡ map (λ p. p.1) (own team (kept others results))
+same_told s t steps others outcomes results s' t' r q team mine yours same aside beside asked =
+    (run_says s steps outcomes s' r).private team mine aside
+    ∙ (λ i. replies (same i) (asked i))
+    ∙ sym ((run_says t others results t' q).private team yours beside)
+
+-- one step more at the end
+pub TakesAll-more : (s : State) (steps : List Step) (outcomes : List Outcome) (mid : State) (st : Step) (o : Outcome) (s' : State)
+    → TakesAll s steps outcomes mid → Takes mid st o s' → TakesAll s (steps ++ st ∷ []) (outcomes ++ o ∷ []) s'
+TakesAll-more s [] [] mid st o s' r d = (s', subst (λ x. Takes x st o s') r d, refl)
+TakesAll-more s [] (p ∷ outcomes) mid st o s' r d = absurd r
+TakesAll-more s (x ∷ steps) [] mid st o s' r d = absurd r
+TakesAll-more s (x ∷ steps) (p ∷ outcomes) mid st o s' r d = (r.0, r.1, TakesAll-more r.0 steps outcomes mid st o s' r.2 d)
