@@ -31,8 +31,8 @@ module _ (w : World) (team : Team) (mine : IsTeamOf w team) where
   judged_as : (token : Text) → team.tokens token ≡ true → (q : Ask) → judged w (Some token) q ≡ judged (view w team) (Some token) q
   judged_as token h q =
       ap (λ x. cond (is_token token) x (refuses TokenRequired)) (
-        verdict_same (w.grants token) (repo_at w) (repo_at (view w team)) (λ name some. seen_repo w team name (mine token name h some)) q
-        ∙ ap (λ g. verdict g (repo_at (view w team)) q) (sym (own_grants w team token h)))
+      verdict_same (w.grants token) (repo_at w) (repo_at (view w team)) (λ name some. seen_repo w team name (mine token name h some)) q
+      ∙ ap (λ g. verdict g (repo_at (view w team)) q) (sym (own_grants w team token h)))
 
   same_judged : (o : Option Text) → is_own team o ≡ true → (q : Ask) → judged w o q ≡ judged (view w team) o q
   same_judged None h q = absurd (cc)

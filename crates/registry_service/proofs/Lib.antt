@@ -1,2 +1,3 @@
 pub mod BlobLemmas
 pub mod DoingLemmas
+pub mod RunLemmas

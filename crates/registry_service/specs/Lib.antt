@@ -1,2 +1,3 @@
 pub mod Targets
 pub mod Results
+pub mod Steps

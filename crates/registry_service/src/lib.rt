@@ -6,8 +6,10 @@
 mod blobs;
 mod commands;
 mod judging;
+pub mod run;
 pub mod service;
 mod target;
 
 pub use registry_model::{AdminCommand, AdminFault};
+pub use run::{Outcome, Step};
 pub use service::Service;

@@ -1,0 +1,59 @@
+ghost use Rattle.std.specs.Prelude.{◌≡◌, IfOk, IfErr, map};
+ghost use Rattle.registry_model.specs.Runs.{Takes, RunSays};
+ghost use Rattle.registry_service.specs.Steps.{shown_step, shown_outcome};
+
+use crate::service::Service;
+use oci_names::Fault;
+use registry_model::{AdminCommand, AdminFault, Keeper, Reply, Request};
+use std::alloc::Global;
+
+/// What a registry is asked: a request, or an administrator's command.
+#[derive(Clone, Copy)]
+pub enum Step<'a> {
+    Request(Request<'a>),
+    Admin(AdminCommand<'a>),
+}
+
+/// What came of a step.
+#[derive(Drop)]
+pub enum Outcome {
+    Reply(Reply),
+    Admin(Result<(), AdminFault>),
+}
+
+impl<K: Keeper> Service<K> {
+    /// One step.
+    fn take(&mut self, alloc: Global, step: &Step) -> Outcome
+        ensures takes { K.is_honest self.new → Takes (K.state self.old) (shown_step step.now) (shown_outcome result) (K.state self.new) }
+        ensures honest { K.is_honest self.new → K.is_honest self.old }
+    {
+        match step {
+            Step::Request(request) => Outcome::Reply(self.handle(alloc, request)),
+            Step::Admin(command) => Outcome::Admin(self.admin(command)),
+        }
+    }
+
+    /// Steps one after the other, with an outcome for each.
+    ///
+    /// Up to the first storage failure the outcomes are those of the definitions, those for which
+    /// memory was wanting left out, and after it every outcome is a storage failure. To each team
+    /// (tokens, and names that hold every name on which one of them has a level) for which each step
+    /// is its own or aside, the replies to its requests are those that it would get alone, in a
+    /// registry that holds only what it sees. `Fault::Memory` comes before any step, and nothing has
+    /// changed; no other fault comes.
+    pub fn run(&mut self, alloc: Global, steps: &[Step]) -> Result<Vec<Outcome>, Fault>
+        ensures says { K.is_honest self.new → IfOk result (λ outcomes.
+            RunSays (K.state self.old) (map shown_step steps.now) (map shown_outcome outcomes.items) (K.state self.new)) }
+        ensures err { IfErr result (λ fault. (fault ≡ Fault.Memory) × (self.new ≡ self.old)) }
+        ensures honest { K.is_honest self.new → K.is_honest self.old }
+    {
+        let Ok(mut outcomes) = Vec::with_capacity(alloc, steps.len()) else {
+            return Err(Fault::Memory);
+        };
+        for step in steps {
+            let outcome = self.take(alloc, step);
+            outcomes.push_reserved(outcome);
+        }
+        Ok(outcomes)
+    }
+}
