@@ -1,0 +1,4 @@
+pub mod Order
+pub mod Texts
+pub mod Documents
+pub mod Descriptors
