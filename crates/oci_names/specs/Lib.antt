@@ -1,4 +1,11 @@
 pub mod Text
+pub mod Fault
+pub mod Byte
+pub mod Language
+pub mod Reading
 pub mod Digest
 pub mod RepoName
+pub mod Tag
 pub mod Token
+pub mod Reference
+pub mod SessionNumber

@@ -1,5 +1,6 @@
--- A text is a list of bytes.
+-- Texts.
 use Rattle.std.specs.Prelude.{ℕ, List}
 
+-- a text is the list of its bytes
 abbrev pub Text : Type 0
 Text = List ℕ

@@ -1,11 +1,66 @@
-ghost use Rattle.std.specs.Prelude.{◌≡◌, List, ℕ, true, false, IfOk, MatchResult, ◌⊎◌};
-ghost use Rattle.oci_names.specs.RepoName.{is_repo_name};
+//! Repository names.
+ghost use Rattle.std.specs.Prelude.{◌≡◌, true};
+ghost use Rattle.oci_names.specs.Reading.{Reads};
+ghost use Rattle.oci_names.specs.RepoName.{is_repo_name, is_path, place_after, is_end};
 
-use crate::NameFault;
+use crate::{NameFault, byte};
 use std::alloc::Global;
 use std::marker::Model;
 
-#[derive(Drop)]
+/// The most bytes of a repository name.
+const MAX_LEN: usize = 255;
+
+/// How far a path has been read.
+#[derive(Clone, Copy)]
+enum Place {
+    /// A word has to begin here.
+    Start,
+    Word,
+    /// After one `_`.
+    Underscore,
+    /// After one or more `-`.
+    Dashes,
+    /// What was read begins no path.
+    Outside,
+}
+
+impl Place {
+    fn after(self, byte: u8) -> Place
+        ensures { result ≡ place_after self byte }
+    {
+        match self {
+            Place::Outside => Place::Outside,
+            _ if byte::is_lower_or_digit(byte) => Place::Word,
+            Place::Word => match byte {
+                b'.' | b'/' => Place::Start,
+                b'_' => Place::Underscore,
+                b'-' => Place::Dashes,
+                _ => Place::Outside,
+            },
+            Place::Underscore if byte == b'_' => Place::Start,
+            Place::Dashes if byte == b'-' => Place::Dashes,
+            _ => Place::Outside,
+        }
+    }
+
+    fn is_last(self) -> bool
+        ensures { result ≡ is_end self }
+    {
+        matches!(self, Place::Word)
+    }
+}
+
+fn has_path(text: &str) -> bool
+    ensures { result ≡ is_path text.now }
+{
+    text.bytes()
+        .fold(Place::Start, |place, byte| place.after(byte))
+        .is_last()
+}
+
+/// A repository name (OCI Distribution Specification 1.1, Pulling manifests): words of `[a-z0-9]`
+/// joined by `.`, `_`, `__`, `/` or dashes, at most 255 bytes in all (profile).
+#[derive(Debug, Drop)]
 pub struct RepoName {
     text: String,
 }
@@ -16,24 +71,28 @@ impl Model for RepoName {
 
     ghost Value = { List ℕ };
 
-    ghost view = { λ d. string_bytes d.text };
+    ghost view = { λ name. string_bytes name.text };
 
-    ghost invariant = { λ d. is_repo_name (string_bytes d.text) ≡ true };
+    ghost invariant = { λ name. is_repo_name (string_bytes name.text) ≡ true };
 }
 
 impl RepoName {
-    pub fn parse(_alloc: Global, text: &str) -> Result<RepoName, NameFault>
-        ensures { MatchResult result (λ v. (v ≡ text.now) × (is_repo_name text.now ≡ true)) (λ e. (e ≡ NameFault.Memory) ⊎ ((e ≡ NameFault.Name) × (is_repo_name text.now ≡ false))) }
+    /// The name that the text is. `NameFault::Name` where it is none.
+    pub fn parse(alloc: Global, text: &str) -> Result<RepoName, NameFault>
+        ensures read { Reads result text.now (is_repo_name text.now) NameFault.Name }
     {
-        let _text = text;
-        Err(NameFault::Memory)
+        if text.len() > MAX_LEN || !has_path(text) {
+            return Err(NameFault::Name);
+        }
+        let text = String::from_str(alloc, text)?;
+        Ok(RepoName { text })
     }
 
     pub fn as_str(&self) -> &str
         ensures text { result.now ≡ self.now }
         ensures valid { is_repo_name result.now ≡ true }
     {
-        let inside = &self.text;
-        inside.as_str()
+        let text = &self.text;
+        text.as_str()
     }
 }

@@ -1,11 +1,61 @@
-ghost use Rattle.std.specs.Prelude.{◌≡◌, List, ℕ, true, false, IfOk, MatchResult, ◌⊎◌};
-ghost use Rattle.oci_names.specs.Token.{is_token};
+//! Tokens.
+ghost use Rattle.std.specs.Prelude.{◌≡◌, true};
+ghost use Rattle.oci_names.specs.Reading.{Reads};
+ghost use Rattle.oci_names.specs.Token.{is_token, is_b64token, is_token_character, place_after, is_end};
 
-use crate::NameFault;
+use crate::{NameFault, byte};
 use std::alloc::Global;
 use std::marker::Model;
 
-#[derive(Drop)]
+/// The most bytes of a token.
+const MAX_LEN: usize = 200;
+
+/// How far a token has been read.
+#[derive(Clone, Copy)]
+enum Place {
+    Start,
+    Character,
+    /// After one or more `=`.
+    Padding,
+    /// What was read begins no token.
+    Outside,
+}
+
+impl Place {
+    fn after(self, byte: u8) -> Place
+        ensures { result ≡ place_after self byte }
+    {
+        match self {
+            Place::Start | Place::Character if is_character(byte) => Place::Character,
+            Place::Character | Place::Padding if byte == b'=' => Place::Padding,
+            _ => Place::Outside,
+        }
+    }
+
+    fn is_last(self) -> bool
+        ensures { result ≡ is_end self }
+    {
+        matches!(self, Place::Character | Place::Padding)
+    }
+}
+
+/// `[A-Za-z0-9._~+/-]`
+fn is_character(byte: u8) -> bool
+    ensures { result ≡ is_token_character byte }
+{
+    byte::is_letter_or_digit(byte) || matches!(byte, b'.' | b'_' | b'~' | b'+' | b'/' | b'-')
+}
+
+fn has_b64token(text: &str) -> bool
+    ensures { result ≡ is_b64token text.now }
+{
+    text.bytes()
+        .fold(Place::Start, |place, byte| place.after(byte))
+        .is_last()
+}
+
+/// A bearer token (RFC 6750, section 2.1, `b64token`) of at most 200 bytes (profile).
+#[derive(Debug, Drop)]
 pub struct Token {
     text: String,
 }
@@ -16,24 +66,28 @@ impl Model for Token {
 
     ghost Value = { List ℕ };
 
-    ghost view = { λ d. string_bytes d.text };
+    ghost view = { λ token. string_bytes token.text };
 
-    ghost invariant = { λ d. is_token (string_bytes d.text) ≡ true };
+    ghost invariant = { λ token. is_token (string_bytes token.text) ≡ true };
 }
 
 impl Token {
-    pub fn parse(_alloc: Global, text: &str) -> Result<Token, NameFault>
-        ensures { MatchResult result (λ v. (v ≡ text.now) × (is_token text.now ≡ true)) (λ e. (e ≡ NameFault.Memory) ⊎ ((e ≡ NameFault.Token) × (is_token text.now ≡ false))) }
+    /// The token that the text is. `NameFault::Token` where it is none.
+    pub fn parse(alloc: Global, text: &str) -> Result<Token, NameFault>
+        ensures read { Reads result text.now (is_token text.now) NameFault.Token }
     {
-        let _text = text;
-        Err(NameFault::Memory)
+        if text.len() > MAX_LEN || !has_b64token(text) {
+            return Err(NameFault::Token);
+        }
+        let text = String::from_str(alloc, text)?;
+        Ok(Token { text })
     }
 
     pub fn as_str(&self) -> &str
         ensures text { result.now ≡ self.now }
         ensures valid { is_token result.now ≡ true }
     {
-        let inside = &self.text;
-        inside.as_str()
+        let text = &self.text;
+        text.as_str()
     }
 }

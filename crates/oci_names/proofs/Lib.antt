@@ -1,0 +1,2 @@
+pub mod SessionNumbers
+pub mod Verdicts
