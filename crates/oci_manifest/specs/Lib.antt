@@ -5,3 +5,7 @@ pub mod Kind
 pub mod Member
 pub mod Descriptor
 pub mod Manifest
+pub mod Json
+pub mod Errors
+pub mod Tags
+pub mod Referrers

@@ -74,7 +74,9 @@ fn push_needed(needs: &mut Vec<Digest>, descriptors: Vec<Descriptor>) -> Result<
 {
     for descriptor in descriptors {
         let Descriptor {
-            digest, elsewhere, ..
+            digest,
+            elsewhere,
+            ..
         } = descriptor;
         if !elsewhere {
             needs.push(digest)?;

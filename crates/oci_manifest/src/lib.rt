@@ -6,11 +6,18 @@
 
 mod body;
 mod descriptor;
+mod errors;
 mod fault;
 mod kind;
 mod manifest;
 mod member;
+mod referrers;
+mod reply;
+mod tags;
 
+pub use errors::error_text;
 pub use fault::ManifestFault;
 pub use kind::Kind;
 pub use manifest::{Manifest, read_manifest};
+pub use referrers::{Referrer, referrers_text};
+pub use tags::tags_text;

@@ -92,7 +92,7 @@ fn choose_artifact_type(
 ) -> Result<Option<String>, AllocError>
     ensures { IfOk result (λ o. option_map string_bytes o
         ≡ artifact_type_of (option_map (λ s. s.now) own.entry)
-            (option_map string_bytes config_type)) }
+        (option_map string_bytes config_type)) }
 {
     match own {
         None => Ok(config_type),

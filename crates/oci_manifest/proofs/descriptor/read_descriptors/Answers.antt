@@ -10,8 +10,8 @@ returns-in_err-descriptor c =
     let l = c.loop-value in
     let passed_on = err_from_is_err_and c.from_residual.result c.from_residual.ensures.1 in
     rw (passed_on.1, passed_on.2) (λ other.
-      let found = c.in_err-descriptor.ensures other in
-      (found.0, l.invariant ∙ no_more (descriptors_shown l.found.items) c.args.values.now l.value-index c.value-item.result c.loop-value-test.true c.value-item.is found.1))
+    let found = c.in_err-descriptor.ensures other in
+    (found.0, l.invariant ∙ no_more (descriptors_shown l.found.items) c.args.values.now l.value-index c.value-item.result c.loop-value-test.true c.value-item.is found.1))
 
 pub loop-value-preserved : goal.loop-value-preserved
 loop-value-preserved c =
