@@ -4,3 +4,7 @@ pub mod Documents
 pub mod Descriptors
 pub mod Replies
 pub mod Written
+pub mod Parts
+pub mod DescriptorLaws
+pub mod RuleLaws
+pub mod ManifestLaws

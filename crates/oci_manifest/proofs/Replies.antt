@@ -13,10 +13,10 @@ use Rattle.oci_names.specs.Text.{Text}
 use Rattle.oci_manifest.specs.declared.kind.Kind.{Kind}
 use Rattle.oci_manifest.specs.Json.{with_commas}
 use Rattle.oci_manifest.specs.Kind.{media_type_of}
-use Rattle.oci_manifest.specs.Member.{Pairs}
+use Rattle.oci_manifest.specs.Member.{Pairs, text_items, text_members}
 use Rattle.oci_manifest.specs.Errors.{error_data, error_line}
-use Rattle.oci_manifest.specs.Tags.{text_items, tags_data, tags_line}
-use Rattle.oci_manifest.specs.Referrers.{ReferrerShown, pair_line, artifact_type_line, referrer_line, referrers_line, text_members, referrer_data, referrer_items, referrers_data}
+use Rattle.oci_manifest.specs.Tags.{tags_data, tags_line}
+use Rattle.oci_manifest.specs.Referrers.{ReferrerShown, pair_line, artifact_type_line, referrer_line, referrers_line, referrer_data, referrer_items, referrers_data}
 
 -- ---- what is written
 

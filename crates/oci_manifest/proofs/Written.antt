@@ -8,8 +8,7 @@ use Rattle.serde_json.specs.declared.value.Value.{Value}
 use Rattle.serde_json.specs.View.{view, members_view}
 use Rattle.serde_json.proofs.Views.{Entry}
 use Rattle.oci_names.specs.Text.{Text}
-use Rattle.oci_manifest.specs.Member.{pairs_of}
-use Rattle.oci_manifest.specs.Referrers.{text_members}
+use Rattle.oci_manifest.specs.Member.{pairs_of, text_members}
 use Rattle.oci_manifest.proofs.Order.{names, IsAbove, goes_last, above_front, names-append_one}
 use Rattle.oci_manifest.proofs.Texts.{TextEntry}
 

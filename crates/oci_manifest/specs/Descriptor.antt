@@ -1,5 +1,5 @@
 -- Descriptors (OCI Image Specification 1.1, descriptor.md, Properties).
-use Rattle.std.specs.Prelude.{◌==◌, List, [], ◌∷◌, length, map, filter, not, codes, string_bytes, Bool, if◌then◌else◌, Option, Some, None}
+use Rattle.std.specs.Prelude.{◌==◌, List, [], ◌∷◌, length, map, filter, not, codes, string_bytes, Bool, if◌then◌else◌, Option, Some, None, option_and_then}
 use Rattle.serde_json.specs.Data.{Data, Items, no_items, item}
 use Rattle.oci_names.specs.Text.{Text}
 use Rattle.oci_names.specs.Digest.{is_digest}
@@ -26,12 +26,17 @@ unless_empty text = if length text == 0 then None else Some text
 abbrev pub digest_in : Text → Option Text
 digest_in text = if is_digest text then Some text else None
 
+-- a text that is not empty
+abbrev pub type_at : Data → Option Text
+type_at d = option_and_then unless_empty (text_at (codes "mediaType") d)
+
+abbrev pub digest_at : Data → Option Text
+digest_at d = option_and_then digest_in (text_at (codes "digest") d)
+
 unfoldable pub descriptor_of : Data → Option DescriptorShown
 descriptor_of d = do
-  type_text ← text_at (codes "mediaType") d
-  media_type ← unless_empty type_text
-  digest_text ← text_at (codes "digest") d
-  digest ← digest_in digest_text
+  media_type ← type_at d
+  digest ← digest_at d
   size ← size_at (codes "size") d
   elsewhere ← some_text_at (codes "urls") d
   annotations ← texts_at (codes "annotations") d

@@ -1,5 +1,5 @@
 pub mod Part
-pub mod Rule
+pub mod Rules
 pub mod Fault
 pub mod Kind
 pub mod Member
@@ -9,3 +9,5 @@ pub mod Json
 pub mod Errors
 pub mod Tags
 pub mod Referrers
+pub mod Reads
+pub mod FirstFault

@@ -15,7 +15,7 @@ use Rattle.oci_manifest.specs.declared.body.Body.{Body}
 use Rattle.oci_manifest.specs.declared.body.Body.TheVariants as body
 use Rattle.oci_manifest.specs.declared.body.Contents.{Contents}
 use Rattle.oci_manifest.specs.declared.manifest.Manifest.{Manifest}
-use Rattle.oci_manifest.specs.Rule.{◌>>=◌, or_fault}
+use Rattle.oci_manifest.specs.Rules.{◌>>=◌, or_fault}
 use Rattle.oci_manifest.specs.Kind.{media_type_of}
 use Rattle.oci_manifest.specs.Member.{Pairs, pairs_of, present_at, if_present, list_at, optional_text_at, texts_at}
 use Rattle.oci_manifest.specs.Descriptor.{DescriptorShown, descriptor_of, descriptors_of, needed}

@@ -3,6 +3,7 @@ use Rattle.std.specs.Prelude.{ℕ, ◌^◌, ◌&&◌, List, [], ◌∷◌, map, 
 use Rattle.std.specs.declared.alloc.Global.{Global}
 use Rattle.serde_json.specs.Data.{Data, null, boolean, number, string, array, object, Items, no_items, item, Members, no_members, member}
 use Rattle.serde_json.specs.Find.{get, as_null, as_str, as_array, as_object, as_number, as_u64}
+use Rattle.serde_json.specs.View.{items_of}
 use Rattle.oci_names.specs.Text.{Text}
 use Rattle.oci_manifest.specs.Part.{◌>>=◌}
 
@@ -45,6 +46,9 @@ size_at key d = option_and_then below_limit (option_and_then as_u64 (option_and_
 
 -- ---- lists of texts
 
+abbrev pub text_items : List Text → Items
+text_items texts = items_of (map string texts)
+
 abbrev pub all_texts : Items → Bool
 all_texts no_items = true
 all_texts (item d ds) = is_some (as_str d) && all_texts ds
@@ -72,6 +76,10 @@ Pairs = List (Text × Text)
 
 abbrev pub pairs_of : List (String Global × String Global) → Pairs
 pairs_of es = map (λ e. (string_bytes e.0, string_bytes e.1)) es
+
+abbrev pub text_members : Pairs → Members
+text_members [] = no_members
+text_members (p ∷ ps) = member p.0 (string p.1) (text_members ps)
 
 abbrev pub texts_of : Members → Option Pairs
 texts_of no_members = Some []

@@ -8,7 +8,7 @@ use Rattle.oci_manifest.specs.declared.kind.Kind.{Kind}
 use Rattle.oci_manifest.specs.declared.referrers.Referrer.{Referrer}
 use Rattle.oci_manifest.specs.Json.{quoted, with_commas}
 use Rattle.oci_manifest.specs.Kind.{media_type_of}
-use Rattle.oci_manifest.specs.Member.{Pairs, pairs_of}
+use Rattle.oci_manifest.specs.Member.{Pairs, pairs_of, text_members}
 
 -- what a list of referrers shows of a manifest
 pub record ReferrerShown : Type 0 where
@@ -48,10 +48,6 @@ abbrev pub referrers_line : List ReferrerShown → Text
 referrers_line rs = codes "{\"manifests\":[" ++ (with_commas (map referrer_line rs) ++ codes "],\"mediaType\":\"application/vnd.oci.image.index.v1+json\",\"schemaVersion\":2}")
 
 -- ---- for private clauses: the value that is written
-
-abbrev pub text_members : Pairs → Members
-text_members [] = no_members
-text_members (p ∷ ps) = member p.0 (string p.1) (text_members ps)
 
 -- with a text, where there is one
 abbrev pub put_text : Text → Option Text → Members → Members

@@ -3,7 +3,7 @@
 ghost use Rattle.std.specs.Prelude.{◌≡◌};
 ghost use Rattle.serde_json.specs.View.{view, items_view};
 ghost use Rattle.oci_manifest.specs.Part.{Finds};
-ghost use Rattle.oci_manifest.specs.Descriptor.{digest_in, descriptor_shown, descriptors_shown, descriptor_of, descriptors_of};
+ghost use Rattle.oci_manifest.specs.Descriptor.{type_at, digest_at, descriptor_shown, descriptors_shown, descriptor_of, descriptors_of};
 
 use crate::fault::ManifestFault;
 use crate::member;
@@ -20,9 +20,24 @@ pub(crate) struct Descriptor {
     pub(crate) elsewhere: bool,
 }
 
-fn read_digest(alloc: Global, fault: ManifestFault, text: &str) -> Result<Digest, ManifestFault>
-    ensures { Finds fault (λ d. d) result (digest_in text.now) }
+fn read_media_type<'v>(
+    fault: ManifestFault,
+    value: &'v Value,
+) -> Result<&'v str, ManifestFault>
+    ensures { Finds fault (λ s. s.now) result (type_at (view value.now)) }
 {
+    let text = member::text(fault, value, "mediaType")?;
+    if text.is_empty() {
+        Err(fault)
+    } else {
+        Ok(text)
+    }
+}
+
+fn read_digest(alloc: Global, fault: ManifestFault, value: &Value) -> Result<Digest, ManifestFault>
+    ensures { Finds fault (λ d. d) result (digest_at (view value.now)) }
+{
+    let text = member::text(fault, value, "digest")?;
     match Digest::parse(alloc, text) {
         Ok(digest) => Ok(digest),
         Err(NameFault::Memory) => Err(ManifestFault::Memory),
@@ -39,12 +54,8 @@ pub(crate) fn read_descriptor(
 ) -> Result<Descriptor, ManifestFault>
     ensures { Finds fault descriptor_shown result (descriptor_of (view value.now)) }
 {
-    let media_type = member::text(fault, value, "mediaType")?;
-    if media_type.is_empty() {
-        return Err(fault);
-    }
-    let text = member::text(fault, value, "digest")?;
-    let digest = read_digest(alloc, fault, text)?;
+    let media_type = read_media_type(fault, value)?;
+    let digest = read_digest(alloc, fault, value)?;
     let _size = member::size(fault, value, "size")?;
     let elsewhere = member::some_text(fault, value, "urls")?;
     let _annotations = member::texts(alloc, fault, value, "annotations")?;

@@ -9,6 +9,7 @@ mod descriptor;
 mod errors;
 mod fault;
 mod kind;
+pub mod laws;
 mod manifest;
 mod member;
 mod referrers;

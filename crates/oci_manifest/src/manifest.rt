@@ -3,7 +3,7 @@
 ghost use Rattle.std.specs.Prelude.{◌≡◌, option_map, string_bytes, IfOk};
 ghost use Rattle.serde_json.specs.View.{view};
 ghost use Rattle.oci_manifest.specs.Part.{Finds};
-ghost use Rattle.oci_manifest.specs.Rule.{Gives};
+ghost use Rattle.oci_manifest.specs.Rules.{Gives};
 ghost use Rattle.oci_manifest.specs.Manifest.{document_in, version_of, own_type_of, subject_of, artifact_type_of, shown, manifest_of, manifest_in};
 
 use crate::body::{read_body, read_contents};

@@ -2,7 +2,8 @@
 
 ghost use Rattle.std.specs.Prelude.{◌≡◌, string_bytes, IfOk, IfErr};
 ghost use Rattle.serde_json.specs.View.{view, items_view};
-ghost use Rattle.oci_manifest.specs.Tags.{tags_line, text_items, tags_data};
+ghost use Rattle.oci_manifest.specs.Member.{text_items};
+ghost use Rattle.oci_manifest.specs.Tags.{tags_line, tags_data};
 
 use crate::reply::written;
 use oci_names::{Fault, RepoName, Tag};
