@@ -1,2 +1,10 @@
+pub mod Languages
+pub mod RepoNameLaw
+pub mod TagLaw
+pub mod TokenLaw
 pub mod SessionNumbers
+pub mod SessionNumberLaw
 pub mod Verdicts
+pub mod MadeDigests
+pub mod DigestLaw
+pub mod ReferenceLaw

@@ -107,6 +107,17 @@ IsDigestFault t _ = ⊥
 abbrev pub ReadsDigest : Result Text NameFault → Text → Type 0
 ReadsDigest result t = MatchResult result (λ v. (v ≡ t) × (is_digest t ≡ true)) (IsDigestFault t)
 
+-- why the text is no digest, or want of memory for one
+abbrev pub IsRefusal : Text → NameFault → Type 0
+IsRefusal t DigestGrammar = ¬ IsIn digest t
+IsRefusal t DigestLength = IsIn digest t × ¬ IsDigest t
+IsRefusal t Memory = IsDigest t
+IsRefusal t _ = ⊥
+
+-- It gives one where the text is a digest, and else why it is none.
+abbrev pub ReadsByGrammar : {T : Type 0} → Result T NameFault → Text → Type 0
+ReadsByGrammar result t = MatchResult result (λ _. IsDigest t) (IsRefusal t)
+
 -- ---- digests of bytes
 
 abbrev pub sha256_digest : Text → Text

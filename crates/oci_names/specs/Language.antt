@@ -20,7 +20,7 @@ joined [] = []
 joined (t ∷ ts) = t ++ joined ts
 
 -- the text is in the language
-abbrev pub IsIn : Language → Text → Type 0
+unfoldable pub IsIn : Language → Text → Type 0
 IsIn (one p) t = (b : ℕ) × (p b ≡ true) × (t ≡ b ∷ [])
 IsIn nothing t = t ≡ []
 IsIn (both l m) t = (u : Text) × (v : Text) × (t ≡ u ++ v) × IsIn l u × IsIn m v

@@ -9,3 +9,9 @@ abbrev pub Reads : Result Text NameFault → Text → Bool → NameFault → Typ
 Reads result t test fault = MatchResult result
     (λ v. (v ≡ t) × (test ≡ true))
     (λ e. ((e ≡ Memory) × (test ≡ true)) ⊎ ((e ≡ fault) × (test ≡ false)))
+
+-- It gives one where the grammar has the text, and the fault exactly where it has not.
+abbrev pub ReadsBy : {T : Type 0} → Result T NameFault → Type 0 → NameFault → Type 0
+ReadsBy result grammar fault = MatchResult result
+    (λ _. grammar)
+    (λ e. ((e ≡ Memory) × grammar) ⊎ ((e ≡ fault) × ¬ grammar))

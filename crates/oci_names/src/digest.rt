@@ -5,7 +5,7 @@ ghost use Rattle.sha2.specs.Sha256.{sha256};
 ghost use Rattle.sha2.specs.Sha512.{sha512};
 ghost use Rattle.hex.specs.Hex.{encode_lower};
 ghost use Rattle.oci_names.specs.Byte.{is_lowercase_hex};
-ghost use Rattle.oci_names.specs.Digest.{is_digest, has_grammar, has_registered_form, is_hex, place_after, is_end, is_algorithm_separator, is_encoded, sha256_digest, sha512_digest, verdict_of, ReadsDigest};
+ghost use Rattle.oci_names.specs.Digest.{is_digest, has_grammar, has_registered_form, is_hex, place_after, is_end, is_algorithm_separator, is_encoded, sha256_digest, sha512_digest, verdict_of, ReadsDigest, ReadsByGrammar, IsDigestFault};
 
 use crate::{NameFault, byte};
 use sha2::{Digest as Hash, Sha256, Sha512};
@@ -113,6 +113,20 @@ fn fits_algorithm(text: &[u8]) -> bool
     }
 }
 
+/// Why the text is no digest, if it is none.
+fn check(text: &str) -> Result<(), NameFault>
+    ensures test { MatchResult result (λ _. is_digest text.now ≡ true) (IsDigestFault text.now) }
+    ensures grammar { ReadsByGrammar result text.now }
+{
+    if !fits_grammar(text) {
+        return Err(NameFault::DigestGrammar);
+    }
+    if !fits_algorithm(text.as_bytes()) {
+        return Err(NameFault::DigestLength);
+    }
+    Ok(())
+}
+
 /// The encoded part is that of the bytes under sha256.
 fn encodes_sha256(encoded: &[u8], bytes: &[u8]) -> bool
     ensures { result ≡ bytes_eq encoded.now (encode_lower (sha256 bytes.now)) }
@@ -133,7 +147,7 @@ fn encodes_sha512(encoded: &[u8], bytes: &[u8]) -> bool
 
 /// A digest (OCI Image Specification 1.1, Descriptors, Digests). Those of sha256 and sha512 have the
 /// form of their algorithm; one of any other algorithm need only fit the grammar.
-#[derive(Debug, Drop)]
+#[derive(Clone, Debug, Drop)]
 pub struct Digest {
     text: String,
 }
@@ -154,31 +168,29 @@ impl Digest {
     /// `NameFault::DigestLength` where it has, but not with the form of its algorithm.
     pub fn parse(alloc: Global, text: &str) -> Result<Digest, NameFault>
         ensures read { ReadsDigest result text.now }
+        ensures grammar { ReadsByGrammar result text.now }
     {
-        if !fits_grammar(text) {
-            return Err(NameFault::DigestGrammar);
-        }
-        if !fits_algorithm(text.as_bytes()) {
-            return Err(NameFault::DigestLength);
-        }
+        check(text)?;
         let text = String::from_str(alloc, text)?;
         Ok(Digest { text })
     }
 
     /// The sha256 digest of the bytes. The only fault is `NameFault::Memory`.
-    pub fn of_sha256(_alloc: Global, bytes: &[u8]) -> Result<Digest, NameFault>
+    pub fn of_sha256(alloc: Global, bytes: &[u8]) -> Result<Digest, NameFault>
         ensures { MatchResult result (λ digest. digest ≡ sha256_digest bytes.now) (λ fault. fault ≡ NameFault.Memory) }
     {
-        let _bytes = bytes;
-        Err(NameFault::Memory)
+        let encoded = hex::encode(alloc, Sha256::digest(bytes))?;
+        let text = format!(in alloc; "sha256:{encoded}")?;
+        Ok(Digest { text })
     }
 
     /// The sha512 digest of the bytes. The only fault is `NameFault::Memory`.
-    pub fn of_sha512(_alloc: Global, bytes: &[u8]) -> Result<Digest, NameFault>
+    pub fn of_sha512(alloc: Global, bytes: &[u8]) -> Result<Digest, NameFault>
         ensures { MatchResult result (λ digest. digest ≡ sha512_digest bytes.now) (λ fault. fault ≡ NameFault.Memory) }
     {
-        let _bytes = bytes;
-        Err(NameFault::Memory)
+        let encoded = hex::encode(alloc, Sha512::digest(bytes))?;
+        let text = format!(in alloc; "sha512:{encoded}")?;
+        Ok(Digest { text })
     }
 
     /// Whether the digest is that of the bytes. Takes no memory.

@@ -7,10 +7,13 @@
 mod byte;
 pub mod digest;
 pub mod fault;
+pub mod laws;
 pub mod reference;
 pub mod repo_name;
 pub mod session;
 pub mod tag;
+#[cfg(test)]
+mod tests;
 pub mod token;
 
 pub use digest::{Digest, Verdict};

@@ -1,24 +1,25 @@
 //! References to manifests.
 ghost use Rattle.std.specs.Prelude.{◌≡◌};
-ghost use Rattle.oci_names.specs.Reading.{Reads};
+ghost use Rattle.oci_names.specs.Reading.{ReadsBy};
 
 use crate::{Digest, NameFault, Tag};
 use std::alloc::Global;
 
 /// What names a manifest of a repository (OCI Distribution Specification 1.1, Definitions). No text is
 /// both: a digest has a colon, and a tag has none.
-#[derive(Debug, Drop)]
+#[derive(Clone, Debug, Drop)]
 pub enum Reference {
     Tag(Tag),
     Digest(Digest),
 }
 
 impl Reference {
-    ghost use Rattle.oci_names.specs.Reference.{ReadsReference};
+    ghost use Rattle.oci_names.specs.Reference.{IsReference, ReadsReference};
 
     /// The reference that the text is. `NameFault::Reference` where it is neither a tag nor a digest.
     pub fn parse(alloc: Global, text: &str) -> Result<Reference, NameFault>
         ensures read { ReadsReference result text.now }
+        ensures grammar { ReadsBy result (IsReference text.now) NameFault.Reference }
     {
         match Tag::parse(alloc, text) {
             Ok(tag) => return Ok(Reference::Tag(tag)),

@@ -1,7 +1,7 @@
 //! Repository names.
-ghost use Rattle.std.specs.Prelude.{◌≡◌, true};
-ghost use Rattle.oci_names.specs.Reading.{Reads};
-ghost use Rattle.oci_names.specs.RepoName.{is_repo_name, is_path, place_after, is_end};
+ghost use Rattle.std.specs.Prelude.{◌≡◌, ◌↔◌, true, IsTrue};
+ghost use Rattle.oci_names.specs.Reading.{Reads, ReadsBy};
+ghost use Rattle.oci_names.specs.RepoName.{IsRepoName, is_repo_name, is_path, place_after, is_end};
 
 use crate::{NameFault, byte};
 use std::alloc::Global;
@@ -58,9 +58,16 @@ fn has_path(text: &str) -> bool
         .is_last()
 }
 
+fn is_name(text: &str) -> bool
+    ensures test { result ≡ is_repo_name text.now }
+    ensures grammar { IsTrue result ↔ IsRepoName text.now }
+{
+    text.len() <= MAX_LEN && has_path(text)
+}
+
 /// A repository name (OCI Distribution Specification 1.1, Pulling manifests): words of `[a-z0-9]`
 /// joined by `.`, `_`, `__`, `/` or dashes, at most 255 bytes in all (profile).
-#[derive(Debug, Drop)]
+#[derive(Clone, Debug, Drop)]
 pub struct RepoName {
     text: String,
 }
@@ -80,8 +87,9 @@ impl RepoName {
     /// The name that the text is. `NameFault::Name` where it is none.
     pub fn parse(alloc: Global, text: &str) -> Result<RepoName, NameFault>
         ensures read { Reads result text.now (is_repo_name text.now) NameFault.Name }
+        ensures grammar { ReadsBy result (IsRepoName text.now) NameFault.Name }
     {
-        if text.len() > MAX_LEN || !has_path(text) {
+        if !is_name(text) {
             return Err(NameFault::Name);
         }
         let text = String::from_str(alloc, text)?;

@@ -1,8 +1,8 @@
 //! Tags.
-ghost use Rattle.std.specs.Prelude.{◌≡◌, true};
+ghost use Rattle.std.specs.Prelude.{◌≡◌, ◌↔◌, true, IsTrue};
 ghost use Rattle.std.specs.List.{list_all};
-ghost use Rattle.oci_names.specs.Reading.{Reads};
-ghost use Rattle.oci_names.specs.Tag.{is_tag, are_tag_characters, is_tag_start, is_tag_character};
+ghost use Rattle.oci_names.specs.Reading.{Reads, ReadsBy};
+ghost use Rattle.oci_names.specs.Tag.{IsTag, is_tag, are_tag_characters, is_tag_start, is_tag_character};
 
 use crate::{NameFault, byte};
 use std::alloc::Global;
@@ -40,9 +40,16 @@ fn has_characters(text: &[u8]) -> bool
     }
 }
 
+fn is_tag_text(text: &str) -> bool
+    ensures test { result ≡ is_tag text.now }
+    ensures grammar { IsTrue result ↔ IsTag text.now }
+{
+    text.len() <= MAX_LEN && has_characters(text.as_bytes())
+}
+
 /// A tag (OCI Distribution Specification 1.1, Pulling manifests):
 /// `[a-zA-Z0-9_][a-zA-Z0-9._-]{0,127}`.
-#[derive(Debug, Drop)]
+#[derive(Clone, Debug, Drop)]
 pub struct Tag {
     text: String,
 }
@@ -62,8 +69,9 @@ impl Tag {
     /// The tag that the text is. `NameFault::Tag` where it is none.
     pub fn parse(alloc: Global, text: &str) -> Result<Tag, NameFault>
         ensures read { Reads result text.now (is_tag text.now) NameFault.Tag }
+        ensures grammar { ReadsBy result (IsTag text.now) NameFault.Tag }
     {
-        if text.len() > MAX_LEN || !has_characters(text.as_bytes()) {
+        if !is_tag_text(text) {
             return Err(NameFault::Tag);
         }
         let text = String::from_str(alloc, text)?;

@@ -1,7 +1,7 @@
 //! Tokens.
-ghost use Rattle.std.specs.Prelude.{◌≡◌, true};
-ghost use Rattle.oci_names.specs.Reading.{Reads};
-ghost use Rattle.oci_names.specs.Token.{is_token, is_b64token, is_token_character, place_after, is_end};
+ghost use Rattle.std.specs.Prelude.{◌≡◌, ◌↔◌, true, IsTrue};
+ghost use Rattle.oci_names.specs.Reading.{Reads, ReadsBy};
+ghost use Rattle.oci_names.specs.Token.{IsToken, is_token, is_b64token, is_token_character, place_after, is_end};
 
 use crate::{NameFault, byte};
 use std::alloc::Global;
@@ -54,8 +54,15 @@ fn has_b64token(text: &str) -> bool
         .is_last()
 }
 
+fn is_token_text(text: &str) -> bool
+    ensures test { result ≡ is_token text.now }
+    ensures grammar { IsTrue result ↔ IsToken text.now }
+{
+    text.len() <= MAX_LEN && has_b64token(text)
+}
+
 /// A bearer token (RFC 6750, section 2.1, `b64token`) of at most 200 bytes (profile).
-#[derive(Debug, Drop)]
+#[derive(Clone, Debug, Drop)]
 pub struct Token {
     text: String,
 }
@@ -75,8 +82,9 @@ impl Token {
     /// The token that the text is. `NameFault::Token` where it is none.
     pub fn parse(alloc: Global, text: &str) -> Result<Token, NameFault>
         ensures read { Reads result text.now (is_token text.now) NameFault.Token }
+        ensures grammar { ReadsBy result (IsToken text.now) NameFault.Token }
     {
-        if text.len() > MAX_LEN || !has_b64token(text) {
+        if !is_token_text(text) {
             return Err(NameFault::Token);
         }
         let text = String::from_str(alloc, text)?;
