@@ -8,3 +8,4 @@ pub mod Parts
 pub mod DescriptorLaws
 pub mod RuleLaws
 pub mod ManifestLaws
+pub mod FaultLaws

@@ -1,40 +1,37 @@
--- Manifests are read exactly where `Reads` has them, and else the first rule that fails is named.
+-- Manifests are read exactly where `Reads` has them.
 use Rattle.std.proofs.Common.{◌≡◌, ◌≢◌, ℕ, ◌+◌, ◌<◌, ◌==◌, List, codes, Bool, if◌then◌else◌, Option, Some, None, Result, Ok, Err, refl, sym, ap, ◌∙◌, subst, ◌⊎◌, inl, inr, arith}
 use Rattle.std.specs.Prelude.{⊤, ◌↔◌}
-use Rattle.std.proofs.lemmas.Bool.{cases_order}
 use Rattle.serde_json.specs.Data.{Data, object, Members}
 use Rattle.serde_json.specs.Find.{as_object}
 use Rattle.oci_names.specs.Text.{Text}
 use Rattle.oci_manifest.specs.declared.fault.ManifestFault.{ManifestFault}
 use Rattle.oci_manifest.specs.declared.fault.ManifestFault.TheVariants as fault
 use Rattle.oci_manifest.specs.Rules.{◌>>=◌, or_fault}
-use Rattle.oci_manifest.specs.Fault.{fault_number}
 use Rattle.oci_manifest.specs.Member.{Pairs, optional_text_at, texts_at}
 use Rattle.oci_manifest.specs.Manifest.{document_in, version_of, BodyShown, body_kind, body_of, own_type_of, ContentsShown, contents_of, subject_of, artifact_type_of, ManifestShown, manifest_of, manifest_in}
 use Rattle.oci_manifest.specs.Reads.{HasText, HasTexts, HasBody, Holds, HasOwnType, HasSubject, ShowsType, Says, IsJson, Reads}
-use Rattle.oci_manifest.specs.FirstFault.{Keeps, FirstFault, Refuses}
 use Rattle.oci_manifest.proofs.Parts.{as_object-found, optional_text_found, optional_text_only, texts_found, texts_only}
 use Rattle.oci_manifest.proofs.RuleLaws.{document_found, document_only, version_found, version_only, body_found, body_only, own_type_found, own_type_only, contents_found, contents_only, subject_found, subject_only, type_shown, type_only}
 
 -- ---- one rule, and what follows it
 
-rule_found : {A B : Type 0} (f : ManifestFault) (o : Option A) (k : A → Result B ManifestFault) (y : B) → (or_fault f o >>= k) ≡ Ok y → (x : A) × (o ≡ Some x) × (k x ≡ Ok y)
+pub rule_found : {A B : Type 0} (f : ManifestFault) (o : Option A) (k : A → Result B ManifestFault) (y : B) → (or_fault f o >>= k) ≡ Ok y → (x : A) × (o ≡ Some x) × (k x ≡ Ok y)
 rule_found f None k y h = absurd cc
 rule_found f (Some x) k y h = (x, refl, h)
 
 rule_kept : {A B : Type 0} (f : ManifestFault) (o : Option A) (k : A → Result B ManifestFault) (x : A) (r : Result B ManifestFault) → o ≡ Some x → k x ≡ r → (or_fault f o >>= k) ≡ r
 rule_kept f o k x r is h = ap (λ p. or_fault f p >>= k) is ∙ h
 
-rule_fault : {A B : Type 0} (f : ManifestFault) (o : Option A) (k : A → Result B ManifestFault) (e : ManifestFault) → (or_fault f o >>= k) ≡ Err e → ((e ≡ f) × (o ≡ None)) ⊎ ((x : A) × (o ≡ Some x) × (k x ≡ Err e))
+pub rule_fault : {A B : Type 0} (f : ManifestFault) (o : Option A) (k : A → Result B ManifestFault) (e : ManifestFault) → (or_fault f o >>= k) ≡ Err e → ((e ≡ f) × (o ≡ None)) ⊎ ((x : A) × (o ≡ Some x) × (k x ≡ Err e))
 rule_fault f None k e h = inl (cc, refl)
 rule_fault f (Some x) k e h = inr (x, refl, h)
 
-none_some : {A : Type 0} (o : Option A) (x : A) → o ≡ None → o ≡ Some x → ⊥
+pub none_some : {A : Type 0} (o : Option A) (x : A) → o ≡ None → o ≡ Some x → ⊥
 none_some o x none some = absurd cc
 
 -- ---- the rules from each on
 
-abbrev finished : BodyShown → ContentsShown → Pairs → Option Text → Option Text → ManifestShown
+abbrev pub finished : BodyShown → ContentsShown → Pairs → Option Text → Option Text → ManifestShown
 finished body contents texts subject own = record {
   kind = body_kind body;
   artifact_type = artifact_type_of own contents.config_type;
@@ -43,30 +40,30 @@ finished body contents texts subject own = record {
   annotations = texts;
 }
 
-abbrev from_artifact_type : Data → BodyShown → ContentsShown → Pairs → Option Text → Result ManifestShown ManifestFault
+abbrev pub from_artifact_type : Data → BodyShown → ContentsShown → Pairs → Option Text → Result ManifestShown ManifestFault
 from_artifact_type d body contents texts subject = or_fault fault.ArtifactType (optional_text_at (codes "artifactType") d) >>= λ own. Ok (finished body contents texts subject own)
 
-abbrev from_subject : Data → BodyShown → ContentsShown → Pairs → Result ManifestShown ManifestFault
+abbrev pub from_subject : Data → BodyShown → ContentsShown → Pairs → Result ManifestShown ManifestFault
 from_subject d body contents texts = or_fault fault.Subject (subject_of d) >>= λ subject. from_artifact_type d body contents texts subject
 
-abbrev from_annotations : Data → BodyShown → ContentsShown → Result ManifestShown ManifestFault
+abbrev pub from_annotations : Data → BodyShown → ContentsShown → Result ManifestShown ManifestFault
 from_annotations d body contents = or_fault fault.Annotations (texts_at (codes "annotations") d) >>= λ texts. from_subject d body contents texts
 
-abbrev from_descriptors : Data → BodyShown → Result ManifestShown ManifestFault
+abbrev pub from_descriptors : Data → BodyShown → Result ManifestShown ManifestFault
 from_descriptors d body = or_fault fault.Descriptor (contents_of body) >>= λ contents. from_annotations d body contents
 
-abbrev from_media_type : Data → BodyShown → Result ManifestShown ManifestFault
+abbrev pub from_media_type : Data → BodyShown → Result ManifestShown ManifestFault
 from_media_type d body = or_fault fault.MediaType (own_type_of (body_kind body) d) >>= λ (_ : ⊤). from_descriptors d body
 
-abbrev from_kind : Data → Result ManifestShown ManifestFault
+abbrev pub from_kind : Data → Result ManifestShown ManifestFault
 from_kind d = or_fault fault.Kind (body_of d) >>= λ body. from_media_type d body
 
-abbrev from_version : Data → Result ManifestShown ManifestFault
+abbrev pub from_version : Data → Result ManifestShown ManifestFault
 from_version d = or_fault fault.SchemaVersion (version_of d) >>= λ (_ : ⊤). from_kind d
 
 -- ---- what is read
 
-says_found : (d : Data) (m : ManifestShown) → manifest_of d ≡ Ok m → Says d m
+pub says_found : (d : Data) (m : ManifestShown) → manifest_of d ≡ Ok m → Says d m
 unfolding manifest_of
 says_found d m h =
     let members = rule_found fault.NotObject (as_object d) (λ (_ : Members). from_version d) m h in
@@ -97,7 +94,7 @@ says_found d m h =
 finished_is : (d : Data) (m : ManifestShown) (s : Says d m) → finished s.body s.contents m.annotations m.subject s.artifact_type.0 ≡ m
 finished_is d m s = let typed = type_only s.artifact_type.0 s.contents.config_type m.artifact_type s.artifact_type.2 in rw (← s.kind, ← s.needs, typed) refl
 
-says_only : (d : Data) (m : ManifestShown) → Says d m → manifest_of d ≡ Ok m
+pub says_only : (d : Data) (m : ManifestShown) → Says d m → manifest_of d ≡ Ok m
 unfolding manifest_of
 says_only d m s =
     rule_kept fault.NotObject (as_object d) (λ (_ : Members). from_version d) s.is_object.0 (Ok m) (ap as_object s.is_object.1) (

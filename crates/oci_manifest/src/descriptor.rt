@@ -20,10 +20,7 @@ pub(crate) struct Descriptor {
     pub(crate) elsewhere: bool,
 }
 
-fn read_media_type<'v>(
-    fault: ManifestFault,
-    value: &'v Value,
-) -> Result<&'v str, ManifestFault>
+fn read_media_type<'v>(fault: ManifestFault, value: &'v Value) -> Result<&'v str, ManifestFault>
     ensures { Finds fault (λ s. s.now) result (type_at (view value.now)) }
 {
     let text = member::text(fault, value, "mediaType")?;

@@ -10,11 +10,15 @@ ghost use Rattle.oci_manifest.specs.FirstFault.{Refuses};
 /// What is read of bytes is what they say.
 pub fn found()
     ensures { (bytes : List ℕ) (m : ManifestShown) → manifest_in bytes ≡ Ok m → Reads bytes m }
-{
-}
+{}
 
 /// What bytes say is read: no rule refuses more.
 pub fn only()
     ensures { (bytes : List ℕ) (m : ManifestShown) → Reads bytes m → manifest_in bytes ≡ Ok m }
-{
-}
+{}
+
+/// A fault is named exactly where it is that of the first rule that the bytes break.
+pub fn first_fault()
+    ensures { (bytes : List ℕ) (fault : ManifestFault)
+        → (manifest_in bytes ≡ Err fault) ↔ Refuses bytes fault }
+{}
