@@ -1,5 +1,5 @@
 -- Descriptors are found exactly where `IsDescriptor` has them.
-use Rattle.std.proofs.Common.{◌≡◌, ◌≢◌, ℕ, ◌==◌, List, [], ◌∷◌, length, codes, Bool, true, false, if◌then◌else◌, Option, Some, None, option_and_then, refl, sym, ap, ◌∙◌, subst, arith}
+use Rattle.std.proofs.Common.{◌≡◌, ◌≢◌, ℕ, ◌==◌, List, [], ◌∷◌, length, codes, Bool, true, false, if◌then◌else◌, Option, Some, None, refl, sym, ap, ◌∙◌, subst, arith}
 use Rattle.std.proofs.lemmas.Bool.Decides.{nat_tests}
 use Rattle.serde_json.specs.Data.{Data, Items, no_items, item}
 use Rattle.oci_names.specs.Text.{Text}
@@ -7,7 +7,7 @@ use Rattle.oci_names.specs.Digest.{is_digest}
 use Rattle.oci_manifest.specs.Part.{◌>>=◌}
 use Rattle.oci_manifest.specs.Member.{Pairs, text_at, optional_text_at, size_at, some_text_at, texts_at}
 use Rattle.oci_manifest.specs.Descriptor.{DescriptorShown, unless_empty, digest_in, type_at, digest_at, descriptor_of, descriptors_of}
-use Rattle.oci_manifest.specs.Reads.{Has, IsDescriptor, AreDescriptors, is_filled}
+use Rattle.oci_manifest.specs.Reads.{IsDescriptor, AreDescriptors}
 use Rattle.oci_manifest.proofs.Parts.{then_found, then_only, text_found, text_only, optional_text_found, optional_text_only, some_text_found, some_text_only, texts_found, texts_only, size_found, size_only}
 
 pub some_length : (b : ℕ) (bs : Text) → (length (b ∷ bs) == 0) ≡ false

@@ -1,8 +1,8 @@
 -- The fault that is named is that of the first rule that fails.
-use Rattle.std.proofs.Common.{◌≡◌, ◌≢◌, ℕ, ◌+◌, ◌<◌, ◌==◌, codes, Bool, if◌then◌else◌, Option, Some, None, Result, Ok, Err, refl, sym, ap, ◌∙◌, subst, ◌⊎◌, inl, inr, arith}
-use Rattle.std.specs.Prelude.{⊤, ◌↔◌}
+use Rattle.std.proofs.Common.{◌≡◌, ℕ, ◌+◌, ◌<◌, ◌==◌, codes, if◌then◌else◌, Option, Some, None, Result, Ok, Err, refl, sym, ap, ◌∙◌, subst, inl, inr, arith}
+use Rattle.std.specs.Prelude.{⊤}
 use Rattle.std.proofs.lemmas.Bool.{cases_order}
-use Rattle.serde_json.specs.Data.{Data, object, Members}
+use Rattle.serde_json.specs.Data.{Data, Members}
 use Rattle.serde_json.specs.Find.{as_object}
 use Rattle.oci_names.specs.Text.{Text}
 use Rattle.oci_manifest.specs.declared.fault.ManifestFault.{ManifestFault}
@@ -13,7 +13,7 @@ use Rattle.oci_manifest.specs.Member.{Pairs, optional_text_at, texts_at}
 use Rattle.oci_manifest.specs.Manifest.{document_in, version_of, BodyShown, body_kind, body_of, own_type_of, ContentsShown, contents_of, subject_of, ManifestShown, manifest_of, manifest_in}
 use Rattle.oci_manifest.specs.Reads.{HasBody, Holds, HasOwnType, Says, IsJson}
 use Rattle.oci_manifest.specs.FirstFault.{Keeps, FirstFault, Refuses}
-use Rattle.oci_manifest.proofs.Parts.{as_object-found, optional_text_found, optional_text_only, texts_found, texts_only}
+use Rattle.oci_manifest.proofs.Parts.{as_object-found, optional_text_only, texts_found, texts_only}
 use Rattle.oci_manifest.proofs.RuleLaws.{document_found, document_only, version_found, version_only, body_found, body_only, own_type_found, own_type_only, contents_found, contents_only, subject_found, subject_only}
 use Rattle.oci_manifest.proofs.ManifestLaws.{rule_fault, none_some, finished, from_artifact_type, from_subject, from_annotations, from_descriptors, from_media_type, from_kind, from_version, says_found}
 

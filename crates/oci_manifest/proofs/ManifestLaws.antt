@@ -1,7 +1,7 @@
 -- Manifests are read exactly where `Reads` has them.
-use Rattle.std.proofs.Common.{◌≡◌, ◌≢◌, ℕ, ◌+◌, ◌<◌, ◌==◌, List, codes, Bool, if◌then◌else◌, Option, Some, None, Result, Ok, Err, refl, sym, ap, ◌∙◌, subst, ◌⊎◌, inl, inr, arith}
-use Rattle.std.specs.Prelude.{⊤, ◌↔◌}
-use Rattle.serde_json.specs.Data.{Data, object, Members}
+use Rattle.std.proofs.Common.{◌≡◌, codes, Option, Some, None, Result, Ok, Err, refl, ap, ◌∙◌, subst, ◌⊎◌, inl, inr}
+use Rattle.std.specs.Prelude.{⊤}
+use Rattle.serde_json.specs.Data.{Data, Members}
 use Rattle.serde_json.specs.Find.{as_object}
 use Rattle.oci_names.specs.Text.{Text}
 use Rattle.oci_manifest.specs.declared.fault.ManifestFault.{ManifestFault}
@@ -9,7 +9,7 @@ use Rattle.oci_manifest.specs.declared.fault.ManifestFault.TheVariants as fault
 use Rattle.oci_manifest.specs.Rules.{◌>>=◌, or_fault}
 use Rattle.oci_manifest.specs.Member.{Pairs, optional_text_at, texts_at}
 use Rattle.oci_manifest.specs.Manifest.{document_in, version_of, BodyShown, body_kind, body_of, own_type_of, ContentsShown, contents_of, subject_of, artifact_type_of, ManifestShown, manifest_of, manifest_in}
-use Rattle.oci_manifest.specs.Reads.{HasText, HasTexts, HasBody, Holds, HasOwnType, HasSubject, ShowsType, Says, IsJson, Reads}
+use Rattle.oci_manifest.specs.Reads.{Says, Reads}
 use Rattle.oci_manifest.proofs.Parts.{as_object-found, optional_text_found, optional_text_only, texts_found, texts_only}
 use Rattle.oci_manifest.proofs.RuleLaws.{document_found, document_only, version_found, version_only, body_found, body_only, own_type_found, own_type_only, contents_found, contents_only, subject_found, subject_only, type_shown, type_only}
 

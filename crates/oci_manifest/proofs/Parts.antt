@@ -1,8 +1,8 @@
 -- Members are found in a form exactly where `Reads` has them in it.
-use Rattle.std.proofs.Common.{◌≡◌, ◌≢◌, ℕ, ◌<◌, ◌^◌, List, [], ◌∷◌, Bool, true, false, nat_lt, if◌then◌else◌, Option, Some, None, option_map, option_and_then, is_some, refl, sym, ap, ◌∙◌, subst, ◌⊎◌, inl, inr}
+use Rattle.std.proofs.Common.{◌≡◌, ◌≢◌, ℕ, ◌<◌, ◌^◌, List, [], ◌∷◌, Bool, true, false, nat_lt, if◌then◌else◌, Option, Some, None, option_map, option_and_then, refl, sym, ap, ◌∙◌, subst, ◌⊎◌, inl, inr}
 use Rattle.std.proofs.lemmas.Bool.{ltb-true, lt-ltb}
 use Rattle.serde_json.specs.Data.{Data, Num, unsigned, negative, float, null, boolean, number, string, array, object, Items, no_items, item, Members, no_members, member}
-use Rattle.serde_json.specs.Find.{get, as_null, as_str, as_array, as_object, as_number, as_u64}
+use Rattle.serde_json.specs.Find.{get, as_str, as_array, as_object, as_number, as_u64}
 use Rattle.oci_names.specs.Text.{Text}
 use Rattle.oci_manifest.specs.Part.{◌>>=◌}
 use Rattle.oci_manifest.specs.Member.{unless_null, present_at, if_present, text_at, optional_text_at, list_of, list_at, below_limit, size_at, all_texts, has_items, some_text, some_text_in, some_text_at, Pairs, text_items, text_members, texts_of, texts_in, texts_at}

@@ -1,12 +1,12 @@
 -- Each rule is kept exactly where `Reads` and `FirstFault` say so.
-use Rattle.std.proofs.Common.{◌≡◌, ◌≢◌, ℕ, ◌==◌, ◌||◌, List, [], ◌∷◌, length, codes, bytes_eq, Bool, true, false, if◌then◌else◌, Option, Some, None, option_map, option_and_then, refl, sym, ap, ◌∙◌, subst, ◌⊎◌, inl, inr}
-use Rattle.std.specs.Prelude.{IsUtf8, ⊤}
+use Rattle.std.proofs.Common.{◌≡◌, ◌≢◌, ℕ, ◌==◌, List, [], ◌∷◌, length, codes, bytes_eq, Bool, true, false, if◌then◌else◌, Option, Some, None, option_map, option_and_then, refl, sym, ap, ◌∙◌, subst, ◌⊎◌, inl, inr}
+use Rattle.std.specs.Prelude.{⊤}
 use Rattle.std.specs.Str.{is_utf8}
 use Rattle.std.proofs.lemmas.Str.{IsUtf8-from_is_utf8}
 use Rattle.std.proofs.lemmas.Bool.{eqb-true}
 use Rattle.std.proofs.lemmas.Slice.Eq.{bytes_eq-Decides}
 use Rattle.std.proofs.Math.Bool.{or-true}
-use Rattle.serde_json.specs.Data.{Data, null, number, unsigned, Items}
+use Rattle.serde_json.specs.Data.{Data, null, number, unsigned}
 use Rattle.serde_json.specs.Read.{read}
 use Rattle.serde_json.specs.Find.{get, as_number, as_u64}
 use Rattle.oci_names.specs.Text.{Text}
@@ -15,7 +15,7 @@ use Rattle.oci_manifest.specs.Kind.{media_type_of}
 use Rattle.oci_manifest.specs.Member.{present_at, if_present, list_at, optional_text_at}
 use Rattle.oci_manifest.specs.Descriptor.{DescriptorShown, descriptor_of, descriptors_of, needed}
 use Rattle.oci_manifest.specs.Manifest.{document_in, if_two, version_of, BodyShown, image, index, unless_present, body_from, body_of, fits_kind, if_fits, own_type_of, ContentsShown, image_contents, index_contents, contents_of, subject_of, artifact_type_of}
-use Rattle.oci_manifest.specs.Reads.{Has, Lacks, HasText, HasList, IsDescriptor, AreDescriptors, HasBody, Holds, FitsKind, HasOwnType, HasSubject, ShowsType, IsJson}
+use Rattle.oci_manifest.specs.Reads.{Has, IsDescriptor, HasBody, Holds, FitsKind, HasOwnType, HasSubject, ShowsType, IsJson}
 use Rattle.oci_manifest.proofs.Documents.{document_read}
 use Rattle.oci_manifest.proofs.Parts.{then_found, then_only, map_found, whole_found, whole_only, lacks_found, lacks_only, present_found, present_only, optional_text_found, optional_text_only, list_found, list_only}
 use Rattle.oci_manifest.proofs.DescriptorLaws.{some_length, descriptor_found, descriptor_only, descriptors_found, descriptors_only}

@@ -1,5 +1,5 @@
 -- The first rule that bytes break, in the words of `Reads`.
-use Rattle.std.specs.Prelude.{◌≡◌, ℕ, ◌<◌, codes, Option, ⊤, ◌⊎◌}
+use Rattle.std.specs.Prelude.{◌≡◌, ◌<◌, codes, Option, ⊤, ◌⊎◌}
 use Rattle.serde_json.specs.Data.{Data, number, unsigned, object, Members}
 use Rattle.oci_names.specs.Text.{Text}
 use Rattle.oci_manifest.specs.declared.fault.ManifestFault.{ManifestFault}
