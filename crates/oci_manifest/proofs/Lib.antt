@@ -1,0 +1,11 @@
+pub mod Order
+pub mod Texts
+pub mod Documents
+pub mod Descriptors
+pub mod Replies
+pub mod Written
+pub mod Parts
+pub mod DescriptorLaws
+pub mod RuleLaws
+pub mod ManifestLaws
+pub mod FaultLaws

@@ -1,0 +1,13 @@
+pub mod Part
+pub mod Rules
+pub mod Fault
+pub mod Kind
+pub mod Member
+pub mod Descriptor
+pub mod Manifest
+pub mod Json
+pub mod Errors
+pub mod Tags
+pub mod Referrers
+pub mod Reads
+pub mod FirstFault
