@@ -1,5 +1,11 @@
 -- The exit statuses and the messages of the program (profile).
-use Rattle.std.specs.Prelude.{ℕ, List, codes}
+use Rattle.std.specs.Prelude.{ℕ, List, Bool, Result, Ok, Err, codes, if◌then◌else◌}
+use Rattle.oci_names.specs.declared.fault.NameFault.{NameFault}
+use Rattle.oci_names.specs.declared.fault.NameFault.TheVariants as text
+use Rattle.registry_model.specs.declared.admin.AdminFault.{AdminFault}
+use Rattle.registry_model.specs.declared.admin.AdminFault.TheVariants as command
+use Rattle.registry_http.specs.declared.ending.End.{End}
+use Rattle.registry_http.specs.declared.ending.End.TheVariants as ending
 use Rattle.registry_cli.specs.declared.failure.Failure.{Failure}
 use Rattle.registry_cli.specs.declared.failure.Failure.TheVariants.{NoRepo, RepoThere, InvalidName, InvalidToken, InvalidOptions, OutOfMemory, StorageFailure, ConnectionFailure}
 
@@ -23,3 +29,22 @@ text_of InvalidOptions = codes "registry: invalid options"
 text_of OutOfMemory = codes "registry: out of memory"
 text_of StorageFailure = codes "registry: storage failure"
 text_of ConnectionFailure = codes "registry: connection failure"
+
+-- why a command that sets the registry up is not carried out
+abbrev pub failure_of : AdminFault → Failure
+failure_of command.NoRepo = NoRepo
+failure_of command.NoGrant = InvalidOptions
+failure_of command.RepoThere = RepoThere
+failure_of command.Memory = OutOfMemory
+failure_of command.Storage = StorageFailure
+
+-- why a text is none of its kind, or that memory is wanting
+abbrev pub failure_of_text : NameFault → Failure → Failure
+failure_of_text text.Memory kind = OutOfMemory
+failure_of_text _ kind = kind
+
+-- a failed connection goes before a failed storage; a cut or refused connection is no failure
+abbrev pub ended_as : End → Bool → Result (Unit {0}) Failure
+ended_as ending.ReadFailed spent = Err ConnectionFailure
+ended_as (ending.WriteFailed written) spent = Err ConnectionFailure
+ended_as _ spent = if spent then Err StorageFailure else Ok tt

@@ -1,5 +1,5 @@
 ghost use Rattle.std.specs.Prelude.{◌≡◌};
-ghost use Rattle.registry_cli.specs.Failures.{status_of, text_of};
+ghost use Rattle.registry_cli.specs.Failures.{status_of, text_of, failure_of, failure_of_text};
 
 use oci_names::NameFault;
 use registry_service::AdminFault;
@@ -66,7 +66,9 @@ impl<T: Drop> From<std::alloc::AllocFailed<T>> for Failure {
 }
 
 /// Why a command that sets the registry up was not carried out. `NoGrant` comes of no such command.
-pub fn of_command(fault: AdminFault) -> Failure {
+pub fn of_command(fault: AdminFault) -> Failure
+    ensures { result ≡ failure_of fault }
+{
     match fault {
         AdminFault::NoRepo => Failure::NoRepo,
         AdminFault::NoGrant => Failure::InvalidOptions,
@@ -77,7 +79,9 @@ pub fn of_command(fault: AdminFault) -> Failure {
 }
 
 /// Why a text is no name or no token, or that memory is wanting.
-pub fn of_text(fault: NameFault, kind: Failure) -> Failure {
+pub fn of_text(fault: NameFault, kind: Failure) -> Failure
+    ensures { result ≡ failure_of_text fault kind }
+{
     match fault {
         NameFault::Memory => Failure::OutOfMemory,
         _ => kind,

@@ -1,3 +1,6 @@
+ghost use Rattle.std.specs.Prelude.{◌≡◌};
+ghost use Rattle.registry_cli.specs.Failures.{ended_as};
+
 use crate::failure::{Failure, of_command};
 use crate::options::Setup;
 use registry_http::{End, serve_connection};
@@ -28,7 +31,9 @@ fn set_up<K: Keeper>(service: &mut Service<K>, setup: &Setup) -> Result<(), Fail
 
 /// What the end of the one connection says of the program: a failed connection goes before a failed
 /// storage; a cut or refused connection is no failure.
-fn ended(end: End, spent: bool) -> Result<(), Failure> {
+fn ended(end: End, spent: bool) -> Result<(), Failure>
+    ensures { result ≡ ended_as end spent }
+{
     match end {
         End::ReadFailed => Err(Failure::ConnectionFailure),
         End::WriteFailed { .. } => Err(Failure::ConnectionFailure),

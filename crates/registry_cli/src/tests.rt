@@ -29,8 +29,11 @@ fn run(rt: &HostRuntime, words: &[&str], input: &[u8]) -> Outcome {
 }
 
 /// The push of the blob `abc`, the fetch of it, and the two replies (241 and 177 bytes).
-const PUSH: &[u8] = b"POST /v2/team/app/blobs/uploads/?digest=sha256:ba7816bf8f01cfea414140de5dae2223b00361a396177a9cb410ff61f20015ad HTTP/1.1\r\nHost: r\r\nAuthorization: Bearer t1\r\nContent-Length: 3\r\n\r\nabcGET /v2/team/app/blobs/sha256:ba7816bf8f01cfea414140de5dae2223b00361a396177a9cb410ff61f20015ad HTTP/1.1\r\nHost: r\r\nAuthorization: Bearer t1\r\n\r\n";
-const REPLIES: &[u8] = b"HTTP/1.1 201 Created\r\nContent-Length: 0\r\nDocker-Content-Digest: sha256:ba7816bf8f01cfea414140de5dae2223b00361a396177a9cb410ff61f20015ad\r\nLocation: /v2/team/app/blobs/sha256:ba7816bf8f01cfea414140de5dae2223b00361a396177a9cb410ff61f20015ad\r\n\r\nHTTP/1.1 200 OK\r\nContent-Length: 3\r\nContent-Type: application/octet-stream\r\nDocker-Content-Digest: sha256:ba7816bf8f01cfea414140de5dae2223b00361a396177a9cb410ff61f20015ad\r\n\r\nabc";
+const PUSH: &[u8] =
+    b"POST /v2/team/app/blobs/uploads/?digest=sha256:ba7816bf8f01cfea414140de5dae2223b00361a396177a9cb410ff61f20015ad HTTP/1.1\r\nHost: r\r\nAuthorization: Bearer t1\r\nContent-Length: 3\r\n\r\nabcGET /v2/team/app/blobs/sha256:ba7816bf8f01cfea414140de5dae2223b00361a396177a9cb410ff61f20015ad HTTP/1.1\r\nHost: r\r\nAuthorization: Bearer t1\r\n\r\n";
+
+const REPLIES: &[u8] =
+    b"HTTP/1.1 201 Created\r\nContent-Length: 0\r\nDocker-Content-Digest: sha256:ba7816bf8f01cfea414140de5dae2223b00361a396177a9cb410ff61f20015ad\r\nLocation: /v2/team/app/blobs/sha256:ba7816bf8f01cfea414140de5dae2223b00361a396177a9cb410ff61f20015ad\r\n\r\nHTTP/1.1 200 OK\r\nContent-Length: 3\r\nContent-Type: application/octet-stream\r\nDocker-Content-Digest: sha256:ba7816bf8f01cfea414140de5dae2223b00361a396177a9cb410ff61f20015ad\r\n\r\nabc";
 
 #[test]
 fn first_run(rt: HostRuntime) -> Result<(), Fail> {
@@ -50,18 +53,73 @@ fn first_run(rt: HostRuntime) -> Result<(), Fail> {
 fn refused_options(rt: HostRuntime) -> Result<(), Fail> {
     let cases: [(&[&str], u8, &[u8]); 13] = [
         (&["stdio"], 2, b"registry: invalid options\n"),
-        (&["stdio", "--memory", "--repo", "team/app"], 2, b"registry: invalid options\n"),
-        (&["stdio", "--memory", "--repo", "a="], 2, b"registry: invalid options\n"),
-        (&["stdio", "--memory", "--repo", "a=+1"], 2, b"registry: invalid options\n"),
-        (&["stdio", "--memory", "--repo", "a=9223372036854775808"], 2, b"registry: invalid options\n"),
-        (&["stdio", "--memory", "--repo", "a=1", "--grant", "t=a"], 2, b"registry: invalid options\n"),
-        (&["stdio", "--memory", "--repo", "a=1", "--grant", "t=a=4"], 2, b"registry: invalid options\n"),
-        (&["stdio", "--memory", "--repo", "A=1", "--grant", "t=a=4"], 2, b"registry: invalid options\n"),
-        (&["stdio", "--memory", "--repo", "a=1", "--grant", "t,=A=3"], 2, b"registry: invalid name\n"),
-        (&["stdio", "--memory", "--repo", "a=1", "--grant", "t,=a=3"], 2, b"registry: invalid token\n"),
-        (&["stdio", "--memory", "--repo", "a=1", "--repo", "a=1"], 1, b"registry: repository already there\n"),
-        (&["stdio", "--memory", "--repo", "a=1", "--grant", "t=b=3"], 1, b"registry: no such repository\n"),
-        (&["stdio", "--memory", "--repo", "a=0009223372036854775807", "--grant", "t===a=03"], 0, b""),
+        (
+            &["stdio", "--memory", "--repo", "team/app"],
+            2,
+            b"registry: invalid options\n",
+        ),
+        (
+            &["stdio", "--memory", "--repo", "a="],
+            2,
+            b"registry: invalid options\n",
+        ),
+        (
+            &["stdio", "--memory", "--repo", "a=+1"],
+            2,
+            b"registry: invalid options\n",
+        ),
+        (
+            &["stdio", "--memory", "--repo", "a=9223372036854775808"],
+            2,
+            b"registry: invalid options\n",
+        ),
+        (
+            &["stdio", "--memory", "--repo", "a=1", "--grant", "t=a"],
+            2,
+            b"registry: invalid options\n",
+        ),
+        (
+            &["stdio", "--memory", "--repo", "a=1", "--grant", "t=a=4"],
+            2,
+            b"registry: invalid options\n",
+        ),
+        (
+            &["stdio", "--memory", "--repo", "A=1", "--grant", "t=a=4"],
+            2,
+            b"registry: invalid options\n",
+        ),
+        (
+            &["stdio", "--memory", "--repo", "a=1", "--grant", "t,=A=3"],
+            2,
+            b"registry: invalid name\n",
+        ),
+        (
+            &["stdio", "--memory", "--repo", "a=1", "--grant", "t,=a=3"],
+            2,
+            b"registry: invalid token\n",
+        ),
+        (
+            &["stdio", "--memory", "--repo", "a=1", "--repo", "a=1"],
+            1,
+            b"registry: repository already there\n",
+        ),
+        (
+            &["stdio", "--memory", "--repo", "a=1", "--grant", "t=b=3"],
+            1,
+            b"registry: no such repository\n",
+        ),
+        (
+            &[
+                "stdio",
+                "--memory",
+                "--repo",
+                "a=0009223372036854775807",
+                "--grant",
+                "t===a=03",
+            ],
+            0,
+            b"",
+        ),
     ];
     for (words, status, line) in cases {
         let ran = run(&rt, words, b"");
@@ -112,6 +170,9 @@ fn a_failed_writer_is_a_failed_connection(rt: HostRuntime) -> Result<(), Fail> {
     let mut err = Vec::new(rt.alloc());
     let status = run_words(&rt, MEMORY.as_slice(), &mut reader, &mut out, &mut err);
     assert_eq!(rt; status, 4);
-    assert_eq!(rt; err.as_slice(), b"registry: connection failure\n".as_slice());
+    assert_eq!(rt;
+        err.as_slice(),
+        b"registry: connection failure\n".as_slice()
+    );
     Ok(())
 }
