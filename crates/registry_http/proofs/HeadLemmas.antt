@@ -19,7 +19,7 @@ pub take_whole : {A : Type 0} (n : ℕ) (xs : List A) → length xs ≤ n → ta
 take_whole n xs h = grind (arith, common_steps)
 
 -- the first n bytes of a text that goes on
-take_on : (n : ℕ) (xs ys : Text) → (more : Text) × (take n (xs ++ ys) ≡ take n xs ++ more)
+pub take_on : (n : ℕ) (xs ys : Text) → (more : Text) × (take n (xs ++ ys) ≡ take n xs ++ more)
 take_on n [] ys = (take n ys, grind (arith, common_steps))
 take_on zero (x ∷ xs) ys = ([], refl)
 take_on (suc n) (x ∷ xs) ys = let others = take_on n xs ys in (others.0, ap (λ l. x ∷ l) others.1)
@@ -36,7 +36,7 @@ field_long f =
     let tail = length-append f.raw (print_end f.end) in
     grind (arith, common_steps, end_long f.end)
 
-fields_long : (fields : List Field) → 2 * length fields ≤ length (flat_map print_field fields)
+pub fields_long : (fields : List Field) → 2 * length fields ≤ length (flat_map print_field fields)
 fields_long [] = omega arith
 fields_long (f ∷ fields) =
     omega (arith, field_long f, fields_long fields, length-append (print_field f) (flat_map print_field fields))

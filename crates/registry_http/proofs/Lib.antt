@@ -7,3 +7,9 @@ pub mod QueryLemmas
 pub mod SendingLemmas
 pub mod ServingLemmas
 pub mod OneSpelling
+pub mod TakingLemmas
+pub mod ChunkLemmas
+pub mod ChunksLemmas
+pub mod TrailerLemmas
+pub mod BodyLemmas
+pub mod OneBody

@@ -13,34 +13,7 @@ use Rattle.registry_http.specs.declared.ending.End.{End}
 use Rattle.registry_http.specs.declared.ending.End.TheVariants.{Closed, Cut, Refused, ReadFailed, WriteFailed}
 use Rattle.registry_http.specs.Spelling.{Item, IsBody, BodyIsCut, BodyIsRefused, IsRequest, BeginsWithHead, HeadIsRefused, closes, print_item, Ends, Then, Spells}
 use Rattle.registry_http.proofs.HeadLemmas.{request_some}
-
-same_front : (a b x y : Text) → length a ≡ length b → a ++ x ≡ b ++ y → (a ≡ b) × (x ≡ y)
-same_front [] [] x y n e = (refl, e)
-same_front [] (c ∷ b) x y n e = absurd (omega arith)
-same_front (c ∷ a) [] x y n e = absurd (omega arith)
-same_front (c ∷ a) (d ∷ b) x y n e =
-    let tails : a ++ x ≡ b ++ y = cc in
-    let heads : c ≡ d = cc in
-    let short : length a ≡ length b = omega arith in
-    let others = same_front a b x y short tails in
-    ((λ i. heads i ∷ others.0 i), others.1)
-
--- ---- bodies framed alike
-
-body_unique : (f : Framing) (a b c d x y : Text) → IsBody f a b → IsBody f c d → a ++ x ≡ c ++ y → (a ≡ c) × (b ≡ d) × (x ≡ y)
-body_unique (framed.Length n) a b c d x y p q e =
-    let size : length a ≡ length c = ap length p.0 ∙ p.1 ∙ sym q.1 ∙ sym (ap length q.0) in
-    let same = same_front a c x y size e in
-    (same.0, sym p.0 ∙ same.0 ∙ q.0, same.1)
-body_unique (framed.Refused r) a b c d x y p q e = absurd p
-
-body_whole : (f : Framing) (a b x : Text) → IsBody f a b → BodyIsCut f (a ++ x) → ⊥
-body_whole (framed.Length n) a b x p short = omega (arith, p.1, ap length p.0, length-append a x)
-body_whole (framed.Refused r) a b x p short = p
-
-body_served : (f : Framing) (a b x : Text) (r : FramingRefusal) → IsBody f a b → BodyIsRefused f (a ++ x) r → ⊥
-body_served (framed.Length n) a b x r p refused = refused
-body_served (framed.Refused s) a b x r p refused = p
+use Rattle.registry_http.proofs.OneBody.{body_unique, body_whole, body_served}
 
 -- ---- where a request stands, nothing has ended
 

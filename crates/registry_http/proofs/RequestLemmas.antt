@@ -1,9 +1,8 @@
 -- A whole request at the front of the buffer.
-use Rattle.std.proofs.Common.{◌≡◌, ℕ, ◌+◌, ◌-◌, ◌<◌, ◌≤◌, ◌⊎◌, inl, inr, Option, List, [], ◌∷◌, ◌++◌, length, take, drop, map, slice_range, refl, sym, ap, subst, ◌∙◌, append_assoc, arith, length-append, length-take, length-drop}
-use Rattle.std.proofs.lemmas.List.{length-map, take-append-le, drop-append-le}
+use Rattle.std.proofs.Common.{Bool, ◌≡◌, ℕ, ◌+◌, ◌-◌, ◌<◌, ◌≤◌, ◌⊎◌, inl, inr, Option, List, [], ◌∷◌, ◌++◌, length, take, drop, map, slice_range, refl, sym, ap, subst, ◌∙◌, append_assoc, arith, length-append, length-take, length-drop}
+use Rattle.std.proofs.lemmas.List.{drop-append-le, take-append-drop, take_at, drop_at}
 use Rattle.httparse.specs.Grammar.{RequestHead, print_request}
 use Rattle.httparse.specs.Spans.{header_bytes, name_and_value, span_bytes}
-use Rattle.httparse.proofs.RunLemmas.{drop_split, length-slice_range}
 use Rattle.httparse.specs.declared.spans.HeaderSpan.{HeaderSpan}
 use Rattle.httparse.specs.declared.spans.RequestSpans.{RequestSpans}
 use Rattle.std.proofs.KnownBytes.{Consumes-trans}
@@ -11,7 +10,8 @@ use Rattle.oci_names.specs.Text.{Text}
 use Rattle.registry_http.specs.Fields.{fields_of, closes_by}
 use Rattle.registry_http.specs.Framing.{framing, framing_by}
 use Rattle.registry_http.specs.Spelling.{Item, IsBody, BodyIsCut, BodyIsRefused, IsCut, IsRefused, BeginsWithHead}
-use Rattle.registry_http.specs.Reading.{HeadIsRead, IsHeadAt, IsReady, Pulls, Leaves, UntilStops, NextStops}
+use Rattle.registry_http.specs.Reading.{HeadIsRead, IsHeadAt, IsReady, Pulls, NextStops}
+use Rattle.registry_http.specs.Taking.{Takes, EndsFrom}
 use Rattle.registry_http.specs.declared.framing.Framing.{Framing}
 use Rattle.registry_http.specs.declared.framing.Framing.TheVariants as framed
 use Rattle.registry_http.specs.declared.ending.FramingRefusal.{FramingRefusal}
@@ -20,15 +20,6 @@ use Rattle.registry_http.specs.declared.ending.Stop.{Stop}
 use Rattle.registry_http.specs.declared.ending.Stop.TheVariants.{Between, AtEnd, Broken, Refuse}
 use Rattle.registry_http.proofs.HeadLemmas.{request_some, front_on}
 use Rattle.registry_http.proofs.ReadingLemmas.{leaves-on}
-
--- a body that is not whole ends the input inside the request
-pub body_stops : (stop : Stop) (need : ℕ) (old mid : Text) (l l' l'' : Option Text) → Pulls old mid l l'
-    → UntilStops need stop mid l' l'' → ((more : Text) → length (mid ++ more) < need → IsCut (mid ++ more)) → NextStops stop old l l''
-body_stops Between need old mid l l' l'' p s cut = absurd s
-body_stops AtEnd need old mid l l' l'' p s cut = (leaves-on (λ b. length b < need) IsCut p s.0 cut, s.1)
-body_stops Broken need old mid l l' l'' p s cut =
-    leaves-on (λ b. length b < need) (λ b. (b ≡ []) ⊎ IsCut b) p s (λ more short. inr (cut more short))
-body_stops (Refuse r) need old mid l l' l'' p s cut = inl s
 
 module _ (b : Text) (headers : List HeaderSpan) (spans : RequestSpans) (h : RequestHead) (read : HeadIsRead b headers spans h) where
   -- the head stands there whatever bytes follow
@@ -55,47 +46,62 @@ module _ (b : Text) (headers : List HeaderSpan) (spans : RequestSpans) (h : Requ
   crowded many tail = inr (h, drop spans.len (b ++ tail), begins tail, inl (omega (arith, read.count), refl))
 
   module _ (few : spans.headers ≤ 64) where
-    pub refused : (r : FramingRefusal) → framing h ≡ framed.Refused r → (tail : Text) → IsRefused (b ++ tail) r
-    refused r e tail =
-        inr (h, drop spans.len (b ++ tail), begins tail, inr (omega (arith, read.count), subst (λ f. BodyIsRefused f (drop spans.len (b ++ tail)) r) (sym e) refl))
+    -- what stands behind the head, whatever bytes came
+    behind_head : (bytes : Text) → BeginsWithHead (b ++ bytes) h (drop spans.len b ++ bytes)
+    behind_head bytes = subst (λ x. BeginsWithHead (b ++ bytes) h x) (drop-append-le spans.len b bytes read.within) (begins bytes)
 
-    pub cuts : (more : Text) (n : ℕ) → framing h ≡ framed.Length n → length (b ++ more) < spans.len + n → IsCut (b ++ more)
-    cuts more n e short =
-        let rest = drop spans.len (b ++ more) in
-        let less : length rest < n = omega (arith, length-drop spans.len (b ++ more), length-append b more, read.within) in
-        inr (h, rest, begins more, omega (arith, read.count), subst (λ f. BodyIsCut f rest) (sym e) less)
+    cut_there : (bytes : Text) → BodyIsCut (framing h) (drop spans.len b ++ bytes) → IsCut (b ++ bytes)
+    cut_there bytes cut = inr (h, drop spans.len b ++ bytes, behind_head bytes, omega (arith, read.count), cut)
 
-    pub readies : (old new : Text) (l l' l'' : Option Text) (n : ℕ) (closes : _) → framing h ≡ framed.Length n
-        → closes ≡ closes_by h.minor (fields_of h) → Pulls old b l l' → (more : Pulls b new l' l'') → spans.len + n ≤ length new
-        → (i : Item) × IsReady old new l l'' headers (record { spans = spans; end = spans.len + n; closes = closes }) i
-    readies old new l l' l'' n closes e same before more enough =
-        let body = slice_range new spans.len (spans.len + n) in
-        let size : length body ≡ n = length-slice_range new spans.len (spans.len + n) (omega arith) enough ∙ omega arith in
-        let whole : new ≡ print_request h ++ drop spans.len new =
-        subst (λ x. x ≡ print_request h ++ drop spans.len x) (sym more.grown) (begins more.bytes).reads.1 in
-        let front : take spans.len new ≡ take spans.len b =
-        ap (take spans.len) more.grown ∙ take-append-le spans.len b more.bytes read.within in
-        let item : Item = record { head = h; coded = body; body = body } in (
+    refused_there : (bytes tail : Text) (r : FramingRefusal) → BodyIsRefused (framing h) ((drop spans.len b ++ bytes) ++ tail) r → IsRefused ((b ++ bytes) ++ tail) r
+    refused_there bytes tail r bad =
+        let on = append_assoc b bytes tail in
+        let behind = append_assoc (drop spans.len b) bytes tail in
+        subst (λ x. IsRefused x r) (sym on)
+        (inr (h, drop spans.len b ++ (bytes ++ tail), behind_head (bytes ++ tail), inr (omega (arith, read.count), subst (λ x. BodyIsRefused (framing h) x r) behind bad)))
+
+    -- what ends inside the body ends the request
+    pub body_ends : (old : Text) (l l' l'' : Option Text) (stop : Stop) → Pulls old b l l'
+        → EndsFrom (BodyIsCut (framing h)) (BodyIsRefused (framing h)) stop spans.len b l' l'' → NextStops stop old l l''
+    body_ends old l l' l'' Between p x = absurd x
+    body_ends old l l' l'' AtEnd p x =
+        (leaves-on IsCut IsCut p (record { bytes = x.0.bytes; taken = x.0.taken; here = cut_there x.0.bytes x.0.here }) (λ more cut. cut), x.1)
+    body_ends old l l' l'' Broken p x =
+        leaves-on IsCut (λ y. (y ≡ []) ⊎ IsCut y) p (record { bytes = x.bytes; taken = x.taken; here = cut_there x.bytes x.here }) (λ more cut. inr cut)
+    body_ends old l l' l'' (Refuse r) p (inl e) = inl e
+    body_ends old l l' l'' (Refuse r) p (inr x) =
+        let refused = λ (y : Text). (tail : Text) → IsRefused (y ++ tail) r in
+        inr (leaves-on refused refused p (record { bytes = x.bytes; taken = x.taken; here = λ tail. refused_there x.bytes tail r (x.here tail) }) (λ more holds. holds))
+
+    pub readies : (old new coded body : Text) (l l' l'' : Option Text) (end : ℕ) (closes : Bool) → closes ≡ closes_by h.minor (fields_of h)
+        → Pulls old b l l' → IsBody (framing h) coded body → Takes spans.len b new l' l'' coded body end
+        → (i : Item) × IsReady old new l l'' headers (record { spans = spans; end = end; closes = closes }) i
+    readies old new coded body l l' l'' end closes same before is taken =
+        let front = take spans.len b in
+        let size : length front ≡ spans.len = omega (arith, length-take spans.len b, read.within) in
+        let ends : end ≡ spans.len + length body = omega (arith, ap length taken.front, length-append front body, length-take end new, taken.within, size) in
+        let split : new ≡ front ++ (body ++ drop end new) =
+        sym (take-append-drop end new) ∙ ap (λ x. x ++ drop end new) taken.front ∙ append_assoc front body (drop end new) in
+        let head : take spans.len new ≡ front = ap (take spans.len) split ∙ take_at front (body ++ drop end new) spans.len size in
+        let rest : drop spans.len new ≡ body ++ drop end new = ap (drop spans.len) split ∙ drop_at front (body ++ drop end new) spans.len size in
+        let carried : slice_range new spans.len end ≡ body =
+        ap (take (end - spans.len)) rest ∙ take_at body (drop end new) (end - spans.len) (omega (arith, ends)) in
+        let item : Item = record { head = h; coded = coded; body = body } in (
           item,
           record {
-            bytes = before.bytes ++ more.bytes;
-            taken = Consumes-trans l l' l'' before.bytes more.bytes before.taken more.taken;
-            unread = sym (append_assoc old before.bytes more.bytes) ∙ ap (λ x. x ++ more.bytes) (sym before.grown) ∙ sym more.grown
-                ∙ whole ∙ ap (λ x. print_request h ++ x) (drop_split new spans.len (spans.len + n) (omega arith))
-                ∙ sym (append_assoc (print_request h) body (drop (spans.len + n) new));
-            request = record {
-              head = read.head;
-              short = omega (arith, read.len, read.short);
-              few = omega (arith, read.count);
-              body = subst (λ f. IsBody f body body) (sym e) (refl, size);
-            };
-            order = omega arith;
-            within = enough;
-            some = omega (arith, read.len, request_some h);
+            bytes = before.bytes ++ taken.bytes;
+            taken = Consumes-trans l l' l'' before.bytes taken.bytes before.taken taken.taken;
+            unread = sym (append_assoc old before.bytes taken.bytes) ∙ ap (λ x. x ++ taken.bytes) (sym before.grown)
+                ∙ ap (λ x. x ++ taken.bytes) read.begins ∙ append_assoc (print_request h) (drop spans.len b) taken.bytes
+                ∙ ap (λ x. print_request h ++ x) taken.unread ∙ sym (append_assoc (print_request h) coded (drop end new));
+            request = record { head = read.head; short = omega (arith, read.len, read.short); few = omega (arith, read.count); body = is };
+            order = omega (arith, ends);
+            within = taken.within;
+            some = omega (arith, ends, read.len, request_some h);
             room = read.room;
             fits = read.fits;
-            at = subst (λ t. IsHeadAt t (take spans.headers headers) spans h) (sym front) read.at;
-            body = refl;
+            at = subst (λ t. IsHeadAt t (take spans.headers headers) spans h) (sym head) read.at;
+            body = carried;
             closes = same;
           },
         )

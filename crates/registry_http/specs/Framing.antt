@@ -1,6 +1,7 @@
 -- How a request's body is framed, by its head (RFC 9112, sections 3.2 and 6; the limit is the profile's).
-use Rattle.std.specs.Prelude.{ℕ, ◌==◌, List, [], ◌∷◌, ◌++◌, Bool, not, ◌&&◌, ◌||◌, if◌then◌else◌, nat_le, nat_lt, length, take, Option, Some, None, codes, bytes_eq}
+use Rattle.std.specs.Prelude.{ℕ, ◌≤◌, ◌==◌, List, [], ◌∷◌, ◌++◌, Bool, not, ◌&&◌, ◌||◌, if◌then◌else◌, nat_le, nat_lt, length, take, Option, Some, None, codes, bytes_eq}
 use Rattle.std.specs.List.{list_all}
+use Rattle.std.specs.Str.{str_eq_ignore_ascii_case}
 use Rattle.std.specs.Char.{is_ascii_digit}
 use Rattle.std.specs.Str.Parse.{digits_value}
 use Rattle.oci_names.specs.Text.{Text}
@@ -8,7 +9,7 @@ use Rattle.httparse.specs.Grammar.{RequestHead}
 use Rattle.registry_http.specs.Fields.{NamedValue, fields_of, values, first}
 use Rattle.registry_http.specs.declared.ending.FramingRefusal.TheVariants.{HostCount, TargetForm, TransferEncodingConflict, UnknownTransferEncoding, InvalidContentLength, LengthTooLarge}
 use Rattle.registry_http.specs.declared.framing.Framing.{Framing}
-use Rattle.registry_http.specs.declared.framing.Framing.TheVariants.{Length, Refused}
+use Rattle.registry_http.specs.declared.framing.Framing.TheVariants.{Length, Chunked, Refused}
 
 -- one length: one to nineteen digits, and no more than the limit
 abbrev pub length_of : Text → Framing
@@ -25,13 +26,19 @@ length_if (Some digits) = length_of digits
 abbrev pub length_in : List Text → Framing
 length_in lengths = if nat_lt 1 (length lengths) then Refused InvalidContentLength else length_if (first lengths)
 
--- a Transfer-Encoding stands
-abbrev pub coding_in : ℕ → List Text → Framing
-coding_in minor lengths =
-    if minor == 0 || nat_lt 0 (length lengths) then Refused TransferEncodingConflict else Refused UnknownTransferEncoding
+-- "chunked", in any case
+abbrev pub chunked_if : Option Text → Framing
+chunked_if None = Refused UnknownTransferEncoding
+chunked_if (Some coding) = if str_eq_ignore_ascii_case coding (codes "chunked") then Chunked else Refused UnknownTransferEncoding
+
+-- so many Transfer-Encoding lines stand, with the first of them, beside so many Content-Length lines
+abbrev pub coding_by : ℕ → ℕ → Option Text → ℕ → Framing
+coding_by minor count coding lengths =
+    if minor == 0 || nat_lt 0 lengths then Refused TransferEncodingConflict
+    else (if count == 1 then chunked_if coding else Refused UnknownTransferEncoding)
 
 abbrev pub body_in : ℕ → List Text → List Text → Framing
-body_in minor codings lengths = if nat_lt 0 (length codings) then coding_in minor lengths else length_in lengths
+body_in minor codings lengths = if nat_lt 0 (length codings) then coding_by minor (length codings) (first codings) (length lengths) else length_in lengths
 
 -- one Host; HTTP/1.0 may leave it out
 abbrev pub hosts_fit : ℕ → ℕ → Bool
@@ -49,3 +56,9 @@ framing_by minor target fields =
 
 abbrev pub framing : RequestHead → Framing
 framing h = framing_by h.minor h.target (fields_of h)
+
+-- a stated length is within the limit
+abbrev pub IsSmall : Framing → Type 0
+IsSmall (Length n) = n ≤ 67108864
+IsSmall Chunked = Unit {0}
+IsSmall (Refused r) = Unit {0}

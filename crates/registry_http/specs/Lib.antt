@@ -3,6 +3,7 @@ pub mod Refusals
 pub mod Fields
 pub mod Framing
 pub mod Asking
+pub mod Chunks
 pub mod Spelling
 pub mod ReplyText
 pub mod Decoding
@@ -10,3 +11,4 @@ pub mod Sending
 pub mod Serving
 pub mod Reading
 pub mod Ending
+pub mod Taking

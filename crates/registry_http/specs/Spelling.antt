@@ -5,6 +5,7 @@ use Rattle.httparse.specs.Grammar.{RequestHead, print_request, IsRequestHead, Re
 use Rattle.oci_names.specs.Text.{Text}
 use Rattle.registry_http.specs.Fields.{fields_of, closes_by}
 use Rattle.registry_http.specs.Framing.{framing}
+use Rattle.registry_http.specs.Chunks.{ChunkedBody, IsChunkedBody, print_body, data_of, ChunksAreCut, ChunksAreRefused}
 use Rattle.registry_http.specs.declared.framing.Framing.{Framing}
 use Rattle.registry_http.specs.declared.framing.Framing.TheVariants as framed
 use Rattle.registry_http.specs.declared.ending.FramingRefusal.{FramingRefusal}
@@ -23,6 +24,7 @@ pub record Item : Type 0 where
 -- a body framed so is spelled by these bytes and carries those
 abbrev pub IsBody : Framing → Text → Text → Type 0
 IsBody (framed.Length n) coded body = (coded ≡ body) × (length body ≡ n)
+IsBody framed.Chunked coded body = (b : ChunkedBody) × IsChunkedBody b × (coded ≡ print_body b) × (body ≡ data_of b.chunks)
 IsBody (framed.Refused r) coded body = ⊥
 
 -- the head is in the grammar and within the limits, and the body is framed as the head says
@@ -49,10 +51,12 @@ pub record BeginsWithHead (b : Text) (h : RequestHead) (rest : Text) : Type 0 wh
 
 abbrev pub BodyIsCut : Framing → Text → Type 0
 BodyIsCut (framed.Length n) b = length b < n
+BodyIsCut framed.Chunked b = ChunksAreCut b
 BodyIsCut (framed.Refused r) b = ⊥
 
 abbrev pub BodyIsRefused : Framing → Text → FramingRefusal → Type 0
 BodyIsRefused (framed.Length n) b r = ⊥
+BodyIsRefused framed.Chunked b r = ChunksAreRefused b r
 BodyIsRefused (framed.Refused s) b r = r ≡ s
 
 -- the input ends inside a request that is not refused

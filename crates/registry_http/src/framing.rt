@@ -1,10 +1,10 @@
-ghost use Rattle.std.specs.Prelude.{◌≡◌, ◌≤◌, ℕ, length, map, All, Option, Some, None};
+ghost use Rattle.std.specs.Prelude.{◌≡◌, length, map, All};
 ghost use Rattle.httparse.specs.Spans.{header_bytes, IsHeaderWithin};
 ghost use Rattle.registry_model.specs.Ask.{text_in};
-ghost use Rattle.registry_http.specs.Framing.{framing_by, length_of, length_if};
+ghost use Rattle.registry_http.specs.Framing.{framing_by, length_of, length_if, coding_by, IsSmall};
 
 use crate::ending::FramingRefusal;
-use crate::fields::values_of;
+use crate::fields::{same_name, values_of};
 use httparse::spans::HeaderSpan;
 
 /// How a request's body is framed.
@@ -12,6 +12,8 @@ use httparse::spans::HeaderSpan;
 pub enum Framing {
     /// So many bytes.
     Length(usize),
+    /// Chunks.
+    Chunked,
     Refused(FramingRefusal),
 }
 
@@ -19,7 +21,7 @@ pub enum Framing {
 /// most 67,108,864.
 fn length_by(digits: &[u8]) -> Framing
     ensures value { result ≡ length_of digits.now }
-    ensures bound { (n : ℕ) → result ≡ Framing.Length n → n ≤ 67108864 }
+    ensures small { IsSmall result }
 {
     if digits.is_empty() || digits.len() > 19 {
         return Framing::Refused(FramingRefusal::InvalidContentLength);
@@ -41,11 +43,35 @@ fn length_by(digits: &[u8]) -> Framing
 /// The body's length where at most one field states it.
 fn length_if_any(digits: Option<&[u8]>) -> Framing
     ensures value { result ≡ length_if (text_in digits.entry) }
-    ensures bound { (n : ℕ) → result ≡ Framing.Length n → n ≤ 67108864 }
+    ensures small { IsSmall result }
 {
     match digits {
         None => Framing::Length(0),
         Some(digits) => length_by(digits),
+    }
+}
+
+/// How the body is framed where `Transfer-Encoding` stands (RFC 9112, section 6.1): in chunks, where
+/// it is one line `chunked`, in any case.
+fn coding_of(version: u8, codings: usize, first: Option<&[u8]>, lengths: usize) -> Framing
+    ensures value { result ≡ coding_by version codings (text_in first.entry) lengths }
+    ensures small { IsSmall result }
+{
+    if version == 0 || lengths > 0 {
+        return Framing::Refused(FramingRefusal::TransferEncodingConflict);
+    }
+    if codings != 1 {
+        return Framing::Refused(FramingRefusal::UnknownTransferEncoding);
+    }
+    match first {
+        None => Framing::Refused(FramingRefusal::UnknownTransferEncoding),
+        Some(coding) => {
+            if same_name(coding, b"chunked") {
+                Framing::Chunked
+            } else {
+                Framing::Refused(FramingRefusal::UnknownTransferEncoding)
+            }
+        }
     }
 }
 
@@ -54,7 +80,7 @@ fn length_if_any(digits: Option<&[u8]>) -> Framing
 pub fn framing_of(head: &[u8], fields: &[HeaderSpan], version: u8, target: &[u8]) -> Framing
     requires { All (IsHeaderWithin (length head.now)) fields.now }
     ensures value { result ≡ framing_by version target.now (map (header_bytes head.now) fields.now) }
-    ensures bound { (n : ℕ) → result ≡ Framing.Length n → n ≤ 67108864 }
+    ensures small { IsSmall result }
 {
     let hosts = values_of(head, fields, b"host").count;
     let may_lack_host = version == 0;
@@ -65,11 +91,9 @@ pub fn framing_of(head: &[u8], fields: &[HeaderSpan], version: u8, target: &[u8]
         return Framing::Refused(FramingRefusal::TargetForm);
     }
     let lengths = values_of(head, fields, b"content-length");
-    if values_of(head, fields, b"transfer-encoding").count > 0 {
-        if version == 0 || lengths.count > 0 {
-            return Framing::Refused(FramingRefusal::TransferEncodingConflict);
-        }
-        return Framing::Refused(FramingRefusal::UnknownTransferEncoding);
+    let codings = values_of(head, fields, b"transfer-encoding");
+    if codings.count > 0 {
+        return coding_of(version, codings.count, codings.first, lengths.count);
     }
     if lengths.count > 1 {
         return Framing::Refused(FramingRefusal::InvalidContentLength);

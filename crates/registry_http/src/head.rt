@@ -15,7 +15,7 @@ pub enum Parsed {
 }
 
 /// The bytes in which a head must stand: the first 16,384 (profile).
-fn head_bytes(buffer: &[u8]) -> &[u8]
+pub fn head_bytes(buffer: &[u8]) -> &[u8]
     ensures { result.now ≡ take 16384 buffer.now }
 {
     if buffer.len() < 16384 {

@@ -2,7 +2,7 @@ ghost use Rattle.std.specs.Prelude.{◌≡◌, ◌≤◌, ◌<◌, ◌+◌, ◌*
 
 use crate::closing::closes;
 use crate::ending::{FramingRefusal, Stop};
-use crate::framing::{Framing, framing_of};
+use crate::framing::framing_of;
 use crate::head::{Parsed, parse_head};
 use httparse::spans::{EMPTY_HEADER_SPAN, HeaderSpan, RequestSpans};
 use std::alloc::{AllocError, Global};
@@ -26,9 +26,12 @@ pub struct Intake {
     pub buffer: Vec<u8>,
     /// Where the fields of the head are.
     pub headers: Vec<HeaderSpan>,
+    /// Room for the fields of a trailer.
+    pub trailer: Vec<HeaderSpan>,
     scratch: Vec<u8>,
-    reads: u64,
+    pub reads: u64,
     ghost headers_room: { vec_len headers ≡ 8192 },
+    ghost trailer_room: { vec_len trailer ≡ 8192 },
     ghost scratch_room: { vec_len scratch ≡ 65536 },
 }
 
@@ -42,17 +45,19 @@ impl Intake {
         ensures { IfOk result (λ i. i.buffer.items ≡ []) }
     {
         let headers = vec![in alloc; EMPTY_HEADER_SPAN; 8192]?;
+        let trailer = vec![in alloc; EMPTY_HEADER_SPAN; 8192]?;
         let scratch = vec![in alloc; 0u8; 65536]?;
         Ok(Intake {
             buffer: Vec::new(alloc),
             headers,
+            trailer,
             scratch,
             reads: 9_223_372_036_854_775_807,
         })
     }
 
     /// Takes some bytes from the reader.
-    fn fill<R: Read>(&mut self, reader: &mut R) -> Result<(), Stop>
+    pub fn fill<R: Read>(&mut self, reader: &mut R) -> Result<(), Stop>
         ensures cases { MatchResult result
             (λ _. Pulls self.old.buffer.items self.new.buffer.items (R.remaining reader.old) (R.remaining reader.new))
             (λ stop. FillStops stop self.old.buffer.items (R.remaining reader.old) (R.remaining reader.new)) }
@@ -75,7 +80,7 @@ impl Intake {
     }
 
     /// Reads until the buffer has so many bytes.
-    fn read_until<R: Read>(&mut self, reader: &mut R, need: usize) -> Result<(), Stop>
+    pub fn read_until<R: Read>(&mut self, reader: &mut R, need: usize) -> Result<(), Stop>
         ensures cases { MatchResult result
             (λ _. Pulls self.old.buffer.items self.new.buffer.items (R.remaining reader.old) (R.remaining reader.new))
             (λ stop. UntilStops need stop self.old.buffer.items (R.remaining reader.old) (R.remaining reader.new)) }
@@ -129,13 +134,9 @@ impl Intake {
         let head = &self.buffer[..spans.len];
         let fields = &self.headers[..spans.headers];
         let closes = closes(head, fields, spans.version);
-        let length = match framing_of(head, fields, spans.version, spans.path.of(head)) {
-            Framing::Length(length) => length,
-            Framing::Refused(refusal) => return Err(Stop::Refuse(refusal)),
-        };
-        let end = spans.len + length;
-        match self.read_until(reader, end) {
-            Ok(()) => Ok(Ready { spans, end, closes }),
+        let framing = framing_of(head, fields, spans.version, spans.path.of(head));
+        match self.read_body(reader, spans.len, framing) {
+            Ok(end) => Ok(Ready { spans, end, closes }),
             Err(stop) => Err(stop),
         }
     }

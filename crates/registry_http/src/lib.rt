@@ -5,6 +5,8 @@
 #![tactic(auto)]
 
 pub mod answering;
+pub mod body;
+pub mod chunk;
 pub mod closing;
 pub mod connection;
 pub mod ending;
@@ -17,6 +19,7 @@ pub mod query;
 pub mod reply_text;
 pub mod target;
 pub mod token;
+pub mod trailer;
 
 pub use connection::{serve_connection, spelling_is_unique};
 pub use ending::{End, FramingRefusal};

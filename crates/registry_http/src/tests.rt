@@ -122,3 +122,20 @@ fn reply_to_head_that_closes(rt: HostRuntime) -> Result<(), Fail> {
     );
     Ok(())
 }
+
+#[test]
+fn chunked_body_byte_by_byte(rt: HostRuntime) -> Result<(), Fail> {
+    let mut service = Service::new(MapKeeper::new(rt.alloc()));
+    let mut output = Vec::new(rt.alloc());
+    let mut reader = OneByOne(
+        b"POST /v2/ HTTP/1.1\r\nHost: r\r\nTransfer-Encoding: Chunked\r\n\r\n3\r\nabc\r\n0\r\nX: y\r\n\r\nGET / HTTP/1.1\r\nHost: r\r\n\r\n",
+    );
+    let end = serve_connection(rt.alloc(), &mut service, &mut reader, &mut output);
+    assert_eq!(rt; end, End::ReadFailed);
+    assert_eq!(rt; output.len(), 2 * TOKEN_REQUIRED.len());
+    let mut output = Vec::new(rt.alloc());
+    let head = b"POST /v2/ HTTP/1.1\r\nHost: r\r\nTransfer-Encoding: chunked\r\n\r\n3\r\nabcd";
+    let end = serve(rt.alloc(), head, &mut output);
+    assert_eq!(rt; end, End::Refused(FramingRefusal::UnreadableChunk));
+    Ok(())
+}

@@ -1,0 +1,114 @@
+-- Trailers at the front of the unread bytes, whatever bytes follow.
+use Rattle.std.proofs.Common.{◌≡◌, ℕ, ◌+◌, ◌*◌, ◌<◌, ◌≤◌, ◌≢◌, inl, inr, List, [], ◌∷◌, ◌++◌, length, take, drop, Option, refl, sym, ap, ◌∙◌, subst, append_assoc, append-nil, arith, length-append, length-take, length-drop}
+use Rattle.std.proofs.lemmas.List.{take-append-le, take-append-drop, length-map, take_at}
+use Rattle.std.specs.List.{flat_map}
+use Rattle.httparse.specs.Grammar.{Field, LineEnd, print_end, print_field, print_section, ReadsSection, HasNoSection, NeverHasSection, print_chunk_line}
+use Rattle.httparse.specs.Spans.{SectionOverflows, IsSectionWithin, IsSectionAt, header_bytes, name_and_value}
+use Rattle.httparse.specs.declared.spans.HeaderSpan.{HeaderSpan}
+use Rattle.httparse.proofs.GrammarLemmas.{ReadsSection-append}
+use Rattle.oci_names.specs.Text.{Text}
+use Rattle.registry_http.specs.declared.ending.FramingRefusal.{FramingRefusal}
+use Rattle.registry_http.specs.declared.ending.Stop.{Stop}
+use Rattle.registry_http.specs.Reading.{Pulls}
+use Rattle.registry_http.specs.Chunks.{BeginsWithTrailer, HoldsNoTrailer, TrailerIsCut, TrailerIsRefused, print_chunks, data_of, ChunkedBody, IsChunkedBody, print_body, BehindChunks, BehindLast, ChunkIsCut, ChunkIsRefused, ChunksAreCut, ChunksAreRefused}
+use Rattle.registry_http.specs.Taking.{Takes, EndsFrom, TrailerIsRead, ChunksAreRead}
+use Rattle.registry_http.proofs.HeadLemmas.{take_whole, take_on, fields_long}
+use Rattle.registry_http.proofs.TakingLemmas.{nothing_taken, takes-on, cut_out, ends_behind, ends_as}
+use Rattle.registry_http.proofs.ChunkLemmas.{drop_front}
+
+-- no trailer of so few bytes has so many fields
+pub section_overflow_none : (s : Text) → length s ≤ 16384 → SectionOverflows 8192 s → HasNoSection s
+section_overflow_none s short over fields last rest reads =
+    let many : 8192 < length fields = over [] fields last rest (rw append-nil reads) in
+    let size = ap length reads.1 in
+    absurd (omega (arith, fields_long fields, length-append (flat_map print_field fields) (print_end last), length-append (print_section fields last) rest))
+
+never_on : (s more : Text) → NeverHasSection s → NeverHasSection (s ++ more)
+never_on s more never behind fields last rest reads = never (more ++ behind) fields last rest (rw (← append_assoc s more behind) reads)
+
+pub trailer_never : (b : Text) → NeverHasSection (take 16384 b) → (tail : Text) → HoldsNoTrailer (b ++ tail)
+trailer_never b never tail =
+    let on = take_on 16384 b tail in
+    inl (inr (rw on.1 (never_on (take 16384 b) on.0 never)))
+
+pub trailer_full : (b : Text) → HasNoSection (take 16384 b) → length (take 16384 b) ≡ 16384 → (tail : Text) → HoldsNoTrailer (b ++ tail)
+trailer_full b none full tail =
+    let long : 16384 ≤ length b = omega (arith, length-take 16384 b) in
+    inl (inl (omega (arith, length-append b tail), rw take-append-le none))
+
+pub trailer_not_yet : (b : Text) → HasNoSection (take 16384 b) → length (take 16384 b) ≢ 16384 → TrailerIsCut b
+trailer_not_yet b none short =
+    let few : length b < 16384 = omega (arith, length-take 16384 b) in
+    let fits : length b ≤ 16384 = omega arith in
+    let all = take_whole 16384 b fits in
+    (few, rw all at none)
+
+module _ (b : Text) (headers : List HeaderSpan) (len count : ℕ) (fields : List Field) (last : LineEnd)
+    (within : IsSectionWithin (take 16384 b) headers len count) (at : IsSectionAt (take 16384 b) 0 headers len count fields last) where
+  fields_count : length fields ≡ count
+  fields_count =
+      omega (arith, ap length at.fields_are, length-map (take count headers) (header_bytes (take 16384 b)), length-map fields name_and_value, length-take count headers, within.count_fits)
+
+  begins : BeginsWithTrailer b fields last (drop len b)
+  begins =
+      let seen = take-append-drop 16384 b in
+      let on : ReadsSection b fields last (drop len (take 16384 b) ++ drop 16384 b) =
+      rw seen at (ReadsSection-append (take 16384 b) fields last (drop len (take 16384 b)) (drop 16384 b) at.reads) in
+      let there : drop len (take 16384 b) ++ drop 16384 b ≡ drop len b = drop_front len (print_section fields last) _ b on.1 (omega (arith, at.len_is)) in
+      record {
+        reads = rw there at on;
+        short = omega (arith, length-take 16384 b, ap length at.reads.1, length-append (print_section fields last) (drop len (take 16384 b)));
+      }
+
+  pub trailer_read : count ≤ 64 → TrailerIsRead b len
+  trailer_read few = record { fields = fields; last = last; begins = begins; few = omega (arith, fields_count); len_is = omega (arith, at.len_is) }
+
+  pub trailer_crowded : 64 < count → (tail : Text) → HoldsNoTrailer (b ++ tail)
+  trailer_crowded many tail = inr (
+    fields,
+    last,
+    drop len b ++ tail,
+    record { reads = ReadsSection-append b fields last (drop len b) tail begins.reads; short = begins.short },
+    omega (arith, fields_count),
+  )
+
+-- ---- the whole body
+
+pub chunks_end : (stop : Stop) (start : ℕ) (a : Text) (l l' : Option Text)
+    → EndsFrom (BehindChunks ChunkIsCut) (λ y r. BehindChunks (λ total rest. ChunkIsRefused total rest r) y) stop start a l l'
+    → EndsFrom ChunksAreCut ChunksAreRefused stop start a l l'
+chunks_end stop start a l l' h =
+    ends_as stop start a l l' (BehindChunks ChunkIsCut) ChunksAreCut (λ y r. BehindChunks (λ total rest. ChunkIsRefused total rest r) y) ChunksAreRefused
+    (λ y cut. inl cut) (λ y r bad. inl bad) h
+
+behind_last : (start end : ℕ) (a b : Text) (l l' : Option Text) (p : ChunksAreRead start end a b l l') (P : Text → Type 0) (y : Text) → P y
+    → BehindLast P ((print_chunks p.chunks ++ print_chunk_line p.last) ++ y)
+behind_last start end a b l l' p P y h =
+    record { chunks = p.chunks; zero = p.last; rest = y; whole = refl; each = p.each; within = p.within; is_last = p.is_last; here = h }
+
+pub trailer_ends : (stop : Stop) (start end : ℕ) (a b : Text) (l l' l'' : Option Text) → ChunksAreRead start end a b l l'
+    → EndsFrom TrailerIsCut TrailerIsRefused stop end b l' l'' → EndsFrom ChunksAreCut ChunksAreRefused stop start a l l''
+trailer_ends stop start end a b l l' l'' p h =
+    ends_behind stop start end a b l l' l'' (print_chunks p.chunks ++ print_chunk_line p.last) (data_of p.chunks) TrailerIsCut ChunksAreCut TrailerIsRefused ChunksAreRefused p.takes
+    (λ y cut. inr (behind_last start end a b l l' p TrailerIsCut y cut))
+    (λ y r bad. inr (behind_last start end a b l l' p (λ rest. TrailerIsRefused rest r) y bad)) h
+
+pub chunked_read : (start end len : ℕ) (a b c d : Text) (l l' l'' : Option Text) → ChunksAreRead start end a b l l' → Pulls b c l' l'' → TrailerIsRead (drop end c) len
+    → d ≡ take end c ++ drop (end + len) c
+    → (coded : Text) × (body : Text) × ((x : ChunkedBody) × IsChunkedBody x × (coded ≡ print_body x) × (body ≡ data_of x.chunks)) × Takes start a d l l'' coded body end
+chunked_read start end len a b c d l l' l'' p q t e =
+    let carried = data_of p.chunks in
+    let before = print_chunks p.chunks ++ print_chunk_line p.last in
+    let section = print_section t.fields t.last in
+    let fits : end + len ≤ length c =
+    omega (arith, p.takes.within, ap length q.grown, length-append b q.bytes, ap length t.begins.reads.1, length-append section (drop len (drop end c)), length-drop end c, t.len_is) in
+    let text : take len (drop end c) ≡ section = ap (take len) t.begins.reads.1 ∙ take_at section (drop len (drop end c)) len (sym t.len_is) in
+    let both = takes-on end end end b c d l' l'' l'' [] [] (take len (drop end c)) [] (nothing_taken end b c l' l'' p.takes.within q) (cut_out end len c d l'' fits e) in
+    let trailer = subst (λ (x : Text). Takes end b d l' l'' x [] end) text both in
+    let all = takes-on start end end a b d l l' l'' before carried section [] p.takes trailer in
+    let body : ChunkedBody = record { chunks = p.chunks; zero = p.last; fields = t.fields; last = t.last } in (
+      before ++ section,
+      carried,
+      (body, record { each = p.each; within = p.within; zero = p.is_last; fields = t.begins.reads.0; few = t.few; short = t.begins.short }, refl, refl),
+      subst (λ (x : Text). Takes start a d l l'' (before ++ section) x end) (append-nil carried) all,
+    )

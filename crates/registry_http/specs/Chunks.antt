@@ -1,0 +1,169 @@
+-- Bodies in chunks: how they are spelled, and where they cannot be read (RFC 9112, section 7.1; the limits are the
+-- profile's).
+use Rattle.std.specs.Prelude.{◌≡◌, ◌≢◌, ℕ, ◌+◌, ◌<◌, ◌≤◌, ◌⊎◌, List, [], ◌∷◌, ◌++◌, length, take, slice_index, All}
+use Rattle.std.specs.List.{flat_map}
+use Rattle.httparse.specs.Grammar.{ChunkLine, print_chunk_line, IsChunkLine, ReadsChunkLine, HasNoChunkLine, NeverHasChunkLine, chunk_size, Field, IsField, LineEnd, print_section, ReadsSection, HasNoSection, NeverHasSection}
+use Rattle.oci_names.specs.Text.{Text}
+use Rattle.registry_http.specs.declared.ending.FramingRefusal.{FramingRefusal}
+use Rattle.registry_http.specs.declared.ending.FramingRefusal.TheVariants.{UnreadableChunk, ChunksTooLarge}
+
+-- the most bytes of a body
+abbrev pub limit : ℕ
+limit = 67108864
+
+-- ---- the line of a chunk
+
+-- b begins with a chunk line of at most 1,024 bytes
+pub record BeginsWithLine (b : Text) (l : ChunkLine) (rest : Text) : Type 0 where
+  pub reads : ReadsChunkLine b l rest
+  pub short : length (print_chunk_line l) ≤ 1024
+
+-- the first 1,024 bytes hold no chunk line, or never will
+abbrev pub HoldsNoLine : Text → Type 0
+HoldsNoLine b = ((1024 ≤ length b) × HasNoChunkLine (take 1024 b)) ⊎ NeverHasChunkLine (take 1024 b)
+
+abbrev pub LineIsCut : Text → Type 0
+LineIsCut b = (length b < 1024) × HasNoChunkLine b
+
+abbrev pub LineIsRefused : Text → FramingRefusal → Type 0
+LineIsRefused b r = (r ≡ UnreadableChunk) × HoldsNoLine b
+
+-- ---- the data of a chunk, and the line end behind it
+
+-- behind so many bytes stands something else than CR LF
+abbrev pub HasBadEnd : ℕ → Text → Type 0
+HasBadEnd size b =
+    ((size < length b) × (slice_index b size ≢ 13))
+    ⊎ ((size + 1 < length b) × (slice_index b size ≡ 13) × (slice_index b (size + 1) ≢ 10))
+
+-- behind so many bytes stands CR LF
+abbrev pub HasGoodEnd : ℕ → Text → Type 0
+HasGoodEnd size b = (size + 2 ≤ length b) × (slice_index b size ≡ 13) × (slice_index b (size + 1) ≡ 10)
+
+-- the data and CR LF are not whole, and what has come of CR LF is right
+abbrev pub DataIsCut : ℕ → Text → Type 0
+DataIsCut size b = (length b < size + 2) × (size < length b → slice_index b size ≡ 13)
+
+abbrev pub DataIsRefused : ℕ → Text → FramingRefusal → Type 0
+DataIsRefused size b r = (r ≡ UnreadableChunk) × HasBadEnd size b
+
+-- ---- chunks
+
+pub record Chunk : Type 0 where
+  pub line : ChunkLine
+  pub carried : Text
+
+abbrev pub chunk_end : Text
+chunk_end = 13 ∷ 10 ∷ []
+
+abbrev pub print_chunk : Chunk → Text
+print_chunk c = print_chunk_line c.line ++ (c.carried ++ chunk_end)
+
+abbrev pub print_chunks : List Chunk → Text
+print_chunks cs = flat_map print_chunk cs
+
+-- the bytes that the chunks carry
+abbrev pub data_of : List Chunk → Text
+data_of cs = flat_map (λ c. c.carried) cs
+
+pub record IsChunk (c : Chunk) : Type 0 where
+  pub line : IsChunkLine c.line
+  pub short : length (print_chunk_line c.line) ≤ 1024
+  pub some : 0 < length c.carried
+  pub sized : chunk_size c.line ≡ length c.carried
+
+-- the line that ends the chunks
+pub record IsLast (l : ChunkLine) : Type 0 where
+  pub line : IsChunkLine l
+  pub short : length (print_chunk_line l) ≤ 1024
+  pub zero : chunk_size l ≡ 0
+
+-- ---- where a chunk cannot be read, behind chunks of so many bytes
+
+-- a chunk's line that the limit allows, and then rest
+pub record BeginsWithSize (total : ℕ) (b : Text) (l : ChunkLine) (rest : Text) : Type 0 where
+  pub begins : BeginsWithLine b l rest
+  pub some : 0 < chunk_size l
+  pub within : total + chunk_size l ≤ limit
+
+abbrev pub ChunkIsCut : ℕ → Text → Type 0
+ChunkIsCut total b =
+    LineIsCut b ⊎ ((l : ChunkLine) × (rest : Text) × BeginsWithSize total b l rest × DataIsCut (chunk_size l) rest)
+
+-- the line comes first, then the limit, then the line end behind the data
+abbrev pub ChunkIsRefused : ℕ → Text → FramingRefusal → Type 0
+ChunkIsRefused total b r =
+    LineIsRefused b r
+    ⊎ (((l : ChunkLine) × (rest : Text) × BeginsWithLine b l rest × (limit < total + chunk_size l) × (r ≡ ChunksTooLarge))
+    ⊎ ((l : ChunkLine) × (rest : Text) × BeginsWithSize total b l rest × DataIsRefused (chunk_size l) rest r))
+
+-- chunks, within the limit, and then a rest of which P holds
+pub record BehindChunks (P : ℕ → Text → Type 0) (b : Text) : Type 0 where
+  pub chunks : List Chunk
+  pub rest : Text
+  pub whole : b ≡ print_chunks chunks ++ rest
+  pub each : All IsChunk chunks
+  pub within : length (data_of chunks) ≤ limit
+  pub here : P (length (data_of chunks)) rest
+
+-- ---- the trailer
+
+-- b begins with a trailer of at most 16,384 bytes
+pub record BeginsWithTrailer (b : Text) (fields : List Field) (last : LineEnd) (rest : Text) : Type 0 where
+  pub reads : ReadsSection b fields last rest
+  pub short : length (print_section fields last) ≤ 16384
+
+-- the first 16,384 bytes hold no trailer, or never will, or one of more than 64 fields
+abbrev pub HoldsNoTrailer : Text → Type 0
+HoldsNoTrailer b =
+    (((16384 ≤ length b) × HasNoSection (take 16384 b)) ⊎ NeverHasSection (take 16384 b))
+    ⊎ ((fields : List Field) × (last : LineEnd) × (rest : Text) × BeginsWithTrailer b fields last rest × (64 < length fields))
+
+abbrev pub TrailerIsCut : Text → Type 0
+TrailerIsCut b = (length b < 16384) × HasNoSection b
+
+abbrev pub TrailerIsRefused : Text → FramingRefusal → Type 0
+TrailerIsRefused b r = (r ≡ UnreadableChunk) × HoldsNoTrailer b
+
+-- ---- a body in chunks
+
+pub record ChunkedBody : Type 0 where
+  pub chunks : List Chunk
+  pub zero : ChunkLine
+  pub fields : List Field
+  pub last : LineEnd
+
+-- the chunks and the line that ends them
+abbrev pub print_data : ChunkedBody → Text
+print_data b = print_chunks b.chunks ++ print_chunk_line b.zero
+
+abbrev pub print_body : ChunkedBody → Text
+print_body b = print_data b ++ print_section b.fields b.last
+
+pub record IsChunkedBody (b : ChunkedBody) : Type 0 where
+  pub each : All IsChunk b.chunks
+  pub within : length (data_of b.chunks) ≤ limit
+  pub zero : IsLast b.zero
+  pub fields : All IsField b.fields
+  pub few : length b.fields ≤ 64
+  pub short : length (print_section b.fields b.last) ≤ 16384
+
+-- chunks, within the limit, the line that ends them, and a rest of which P holds
+pub record BehindLast (P : Text → Type 0) (b : Text) : Type 0 where
+  pub chunks : List Chunk
+  pub zero : ChunkLine
+  pub rest : Text
+  pub whole : b ≡ (print_chunks chunks ++ print_chunk_line zero) ++ rest
+  pub each : All IsChunk chunks
+  pub within : length (data_of chunks) ≤ limit
+  pub is_last : IsLast zero
+  pub here : P rest
+
+-- the input ends inside a body that is not refused
+abbrev pub ChunksAreCut : Text → Type 0
+ChunksAreCut b = BehindChunks ChunkIsCut b ⊎ BehindLast TrailerIsCut b
+
+-- the first chunk that cannot be read, or the trailer
+abbrev pub ChunksAreRefused : Text → FramingRefusal → Type 0
+ChunksAreRefused b r =
+    BehindChunks (λ total rest. ChunkIsRefused total rest r) b ⊎ BehindLast (λ rest. TrailerIsRefused rest r) b

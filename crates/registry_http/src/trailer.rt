@@ -1,0 +1,52 @@
+ghost use Rattle.std.specs.Prelude.{◌≡◌, length};
+ghost use Rattle.registry_http.specs.Taking.{FindsTrailer};
+
+use crate::head::head_bytes;
+use httparse::spans::{HeaderSpan, parse_headers};
+use httparse::{Error, Status};
+
+/// What the unread bytes begin with.
+pub enum FoundTrailer {
+    /// A trailer of so many bytes.
+    Whole(usize),
+    /// No whole trailer yet.
+    NotYet,
+    /// No trailer, whatever bytes follow.
+    Never,
+}
+
+/// Looks for a trailer at the front of the unread bytes, within 16,384 bytes and 64 fields (RFC
+/// 9112, section 7.1.2; the limits are the profile's).
+pub fn find_trailer(unread: &[u8], fields: &mut [HeaderSpan]) -> FoundTrailer
+    requires { length fields.old ≡ 8192 }
+    ensures { FindsTrailer result unread.now }
+{
+    let seen = head_bytes(unread);
+    match parse_headers(seen, fields) {
+        Ok(Status::Complete((len, count))) => {
+            if count > 64 {
+                FoundTrailer::Never
+            } else {
+                FoundTrailer::Whole(len)
+            }
+        }
+        Ok(Status::Partial) => {
+            if seen.len() == 16384 {
+                FoundTrailer::Never
+            } else {
+                FoundTrailer::NotYet
+            }
+        }
+        Err(error) => match error {
+            // No trailer of so few bytes has so many fields.
+            Error::TooManyHeaders => {
+                if seen.len() == 16384 {
+                    FoundTrailer::Never
+                } else {
+                    FoundTrailer::NotYet
+                }
+            }
+            _ => FoundTrailer::Never,
+        },
+    }
+}
