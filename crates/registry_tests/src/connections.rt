@@ -1,4 +1,4 @@
-use crate::setting::{ABC, OneByOne, created, found, serve, setting};
+use crate::setting::{ABC, OneByOne, created, fetch, found, refused, serve, setting};
 use registry_http::{End, FramingRefusal, serve_connection};
 use std::test::Fail;
 
@@ -62,7 +62,7 @@ fn framing_refusals(rt: HostRuntime) -> Result<(), Fail> {
         b"HTTP/1.1 413 Payload Too Large\r\nContent-Length: 0\r\nConnection: close\r\n\r\n";
     let unknown: &[u8] =
         b"HTTP/1.1 501 Not Implemented\r\nContent-Length: 0\r\nConnection: close\r\n\r\n";
-    let cases: [(&[u8], FramingRefusal, &[u8]); 9] = [
+    let cases: [(&[u8], FramingRefusal, &[u8]); 17] = [
         // The first bytes of a TLS ClientHello: refused at once.
         (
             b"\x16\x03\x01\x00\xa5\x01\x00\x00\xa1\x03\x03",
@@ -147,5 +147,54 @@ fn head_limits(rt: HostRuntime) -> Result<(), Fail> {
             assert_eq!(rt; served.end, End::Refused(FramingRefusal::UnreadableHead));
         }
     }
+    Ok(())
+}
+
+/// A body in chunks, handed over one byte a read; and the input ending inside a chunk.
+#[test]
+fn chunked_body_byte_by_byte(rt: HostRuntime) -> Result<(), Fail> {
+    let whole: &[u8] =
+        b"POST /v2/team/app/blobs/uploads/?digest=sha256:ba7816bf8f01cfea414140de5dae2223b00361a396177a9cb410ff61f20015ad HTTP/1.1\r\nHost: r\r\nAuthorization: Bearer t1\r\nTransfer-Encoding: chunked\r\n\r\n3\r\nabc\r\n0\r\n\r\n";
+    let mut registry = setting(rt.alloc())?;
+    let mut output = Vec::new(rt.alloc());
+    let end = serve_connection(rt.alloc(), &mut registry, &mut OneByOne(whole), &mut output);
+    assert_eq!(rt; end, End::Closed);
+    assert_eq!(rt; output.as_slice(), created(rt.alloc(), ABC)?.as_bytes());
+    let mut registry = setting(rt.alloc())?;
+    let cut = serve(rt.alloc(), &mut registry, &whole[..whole.len() - 8]);
+    assert_eq!(rt; cut.end, End::Cut);
+    assert_eq!(rt; cut.output.len(), 0);
+    let absent = fetch(rt.alloc(), &mut registry, ABC)?;
+    assert!(rt; absent.output.starts_with(b"HTTP/1.1 404 Not Found\r\n"));
+    Ok(())
+}
+
+/// Two requests in one read; a closing one is the last.
+#[test]
+fn pipelined_requests_and_close(rt: HostRuntime) -> Result<(), Fail> {
+    let mut registry = setting(rt.alloc())?;
+    let two =
+        b"GET /v2/team/app/blobs/x HTTP/1.1\r\nHost: r\r\nAuthorization: Bearer t1\r\n\r\nGET /v2/team/app/blobs/x HTTP/1.1\r\nHost: r\r\nAuthorization: Bearer t2\r\n\r\n";
+    let unknown = refused(
+        rt.alloc(),
+        "404 Not Found",
+        61,
+        "BLOB_UNKNOWN",
+        "blob unknown",
+    )?;
+    let denied = refused(rt.alloc(), "403 Forbidden", 56, "DENIED", "access denied")?;
+    let served = serve(rt.alloc(), &mut registry, two);
+    assert_eq!(rt; served.end, End::Closed);
+    assert_eq!(rt; served.output.len(), unknown.len() + denied.len());
+    assert!(rt; served.output.starts_with(unknown.as_bytes()));
+    assert!(rt; served.output.ends_with(denied.as_bytes()));
+    let closing =
+        b"GET /v2/ HTTP/1.1\r\nHost: r\r\nConnection: keep-alive, Close\r\n\r\nGET /v2/ HTTP/1.1\r\nHost: r\r\n\r\n";
+    let one = serve(rt.alloc(), &mut registry, closing);
+    assert_eq!(rt; one.end, End::Closed);
+    assert_eq!(rt;
+        one.output.as_slice(),
+        b"HTTP/1.1 401 Unauthorized\r\nContent-Length: 63\r\nContent-Type: application/json\r\nWWW-Authenticate: Bearer realm=\"registry\"\r\nConnection: close\r\n\r\n{\"errors\":[{\"code\":\"UNAUTHORIZED\",\"message\":\"token required\"}]}".as_slice()
+    );
     Ok(())
 }
