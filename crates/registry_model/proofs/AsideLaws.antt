@@ -15,7 +15,7 @@ use Rattle.registry_model.specs.World.{text_cmp, Repo, Grants, World, repo_at, h
 use Rattle.registry_model.specs.Ask.{Ask}
 use Rattle.registry_model.specs.Blobs.{refuses}
 use Rattle.registry_model.specs.Command.{set_repo, with_quota, grant}
-use Rattle.registry_model.specs.Verdict.{Target, target_of, rank, rank_of, aimed, verdict, judged, changed, after_request}
+use Rattle.registry_model.specs.Verdict.{Target, target_of, rank, rank_of, aimed, is_base, base_outcome, verdict, judged, changed, after_request}
 use Rattle.registry_model.specs.Team.{Team, IsTeamOf, view, Step, asks, orders, is_own, addressed, is_reading, GivesNoPush, NeverPushes, MayNotPush, IsElsewhere, OwnOrAside}
 use Rattle.registry_model.specs.Runs.{after}
 use Rattle.registry_model.proofs.MapLemmas.{text_total, bytes_same}
@@ -87,12 +87,13 @@ module _ (first : World) (all : List Step) (team : Team) (w : World) (s : Since 
 
   none_of_reading : (o : Option Text) (q : Ask) → is_reading q.verb ≡ true → (judged w o q).change ≡ None
   none_of_reading None q r = refl
-  none_of_reading (Some token) q r = by (is_token token) (is_known (w.grants token))
+  none_of_reading (Some token) q r = by (is_token token) (is_known (w.grants token)) (is_base q.verb q.form)
     where
-      by : (b k : Bool) → (cond b (cond k (aimed (w.grants token) (repo_at w) (target_of q.verb q.form q.keys) q.body) (refuses TokenRequired)) (refuses TokenRequired)).change ≡ None
-      by true true = reading_changes (w.grants token) (repo_at w) q.verb q.form q.keys q.body r
-      by true false = refl
-      by false k = refl
+      by : (b k i : Bool) → (cond b (cond k (cond i base_outcome (aimed (w.grants token) (repo_at w) (target_of q.verb q.form q.keys) q.body)) (refuses TokenRequired)) (refuses TokenRequired)).change ≡ None
+      by true true true = refl
+      by true true false = reading_changes (w.grants token) (repo_at w) q.verb q.form q.keys q.body r
+      by true false i = refl
+      by false k i = refl
 
   no_change : (c : Option Repo) (n : ℕ) → OnSome c (nat_le 2 n ≡ true) → n ≤ 1 → c ≡ None
   no_change None n h low = refl

@@ -9,7 +9,7 @@ use Rattle.registry_model.specs.declared.refusal.Refusal.TheVariants.{TokenRequi
 use Rattle.registry_model.specs.World.{Repo, Grants, World, repo_at, level_at, is_known}
 use Rattle.registry_model.specs.Ask.{Ask}
 use Rattle.registry_model.specs.Blobs.{Outcome, refuses}
-use Rattle.registry_model.specs.Verdict.{Target, target_of, rank_of, aimed, verdict, judged, changed, reply_to, after_request}
+use Rattle.registry_model.specs.Verdict.{Target, target_of, rank_of, aimed, is_base, base_outcome, verdict, judged, changed, reply_to, after_request}
 use Rattle.registry_model.specs.Team.{Team, IsTeamOf, view, is_own}
 use Rattle.registry_model.proofs.VerdictLaws.{verdict_same, decide_changes, MayPush}
 use Rattle.registry_model.proofs.ViewLaws.{changed_inside, seen_repo, own_grants}
@@ -21,11 +21,12 @@ push_some (Some level) e = refl
 -- a verdict changes where the token may push
 pub verdict_changes : (g : Grants) (f : Text → Option Repo) (q : Ask) (t : Target) → target_of q.verb q.form q.keys ≡ Some t
     → OnSome (verdict g f q).change (MayPush g t.name)
-verdict_changes g f q t e = rw e (by (is_known g))
+verdict_changes g f q t e = rw e (by (is_known g) (is_base q.verb q.form))
   where
-    by : (b : Bool) → OnSome (cond b (aimed g f (Some t) q.body) (refuses TokenRequired)).change (MayPush g t.name)
-    by true = decide_changes g f t q.body
-    by false = tt
+    by : (b i : Bool) → OnSome (cond b (cond i base_outcome (aimed g f (Some t) q.body)) (refuses TokenRequired)).change (MayPush g t.name)
+    by true true = tt
+    by true false = decide_changes g f t q.body
+    by false i = tt
 
 module _ (w : World) (team : Team) (mine : IsTeamOf w team) where
   judged_as : (token : Text) → team.tokens token ≡ true → (q : Ask) → judged w (Some token) q ≡ judged (view w team) (Some token) q

@@ -1,6 +1,6 @@
 -- What a verdict looks at, and when it changes something.
 use Rattle.std.proofs.Common.{◌≡◌, ◌∙◌, ℕ, ◌≤◌, Bool, true, false, cond, not, nat_le, if◌then◌else◌, List, Option, Some, None, IfSome, OnSome, refl, sym, ap, subst, arith}
-use Rattle.std.specs.Prelude.{is_some}
+use Rattle.std.specs.Prelude.{is_some, option_map, length}
 use Rattle.std.specs.FinMap.{get}
 use Rattle.oci_names.specs.Text.{Text}
 use Rattle.oci_names.specs.Digest.{is_digest}
@@ -13,13 +13,14 @@ use Rattle.registry_model.specs.declared.request.Verb.TheVariants.{Get, Head, Po
 use Rattle.registry_model.specs.World.{Repo, Grants, is_known}
 use Rattle.registry_model.specs.Form.{Form, no_form, base, blob, uploads, session, manifest, tags, referrers}
 use Rattle.registry_model.specs.Ask.{Keys, Ask}
-use Rattle.registry_model.specs.Blobs.{Outcome, refuses, found_blob, read_blob}
-use Rattle.registry_model.specs.Verdict.{Operation, Target, reads_blob, pushes_blob, post_target, target_of, rank, rank_of, needed, operate, operate_in, allows, decide, aimed, verdict}
+use Rattle.registry_model.specs.Blobs.{Outcome, refuses, found_blob, read_blob, found_size, size_blob}
+use Rattle.registry_model.specs.Verdict.{Operation, Target, reads_blob, sizes_blob, pushes_blob, post_target, target_of, rank, rank_of, needed, operate, operate_in, allows, decide, aimed, is_base, base_outcome, served, verdict}
 use Rattle.registry_model.specs.Team.{addressed, is_reading}
 
 -- what is allowed needs a level
 allowed_some : (op : Operation) (o : Option Level) → nat_le (rank (needed op)) (rank_of o) ≡ true → is_some o ≡ true
 allowed_some (reads_blob digest) None e = absurd (cc)
+allowed_some (sizes_blob digest) None e = absurd (cc)
 allowed_some (pushes_blob digest) None e = absurd (cc)
 allowed_some op (Some level) e = refl
 
@@ -39,7 +40,7 @@ module _ (g : Grants) (f f' : Text → Option Repo) (agree : (name : Text) → i
   aimed_same (Some target) body = decide_same target body
 
   pub verdict_same : (q : Ask) → verdict g f q ≡ verdict g f' q
-  verdict_same q = ap (λ x. if is_known g then x else refuses TokenRequired) (aimed_same (target_of q.verb q.form q.keys) q.body)
+  verdict_same q = ap (λ x. if is_known g then (if is_base q.verb q.form then base_outcome else x) else refuses TokenRequired) (aimed_same (target_of q.verb q.form q.keys) q.body)
 
 -- ---- changes
 
@@ -55,6 +56,18 @@ read_changes (Some r) name digest body = by (is_digest digest)
     by true = found_changes digest (get r.blobs digest)
     by false = refl
 
+size_found_changes : (digest : Text) (o : Option ℕ) → (found_size digest o).change ≡ None
+size_found_changes digest None = refl
+size_found_changes digest (Some size) = refl
+
+size_changes : (r : Option Repo) (name digest body : Text) → (operate_in r name (sizes_blob digest) body).change ≡ None
+size_changes None name digest body = refl
+size_changes (Some r) name digest body = by (is_digest digest)
+  where
+    by : (b : Bool) → (if b then found_size digest (option_map length (get r.blobs digest)) else refuses BlobUnknown).change ≡ None
+    by true = size_found_changes digest (option_map length (get r.blobs digest))
+    by false = refl
+
 -- the token may push where an operation changes something
 abbrev pub MayPush : Grants → Text → Type 0
 MayPush g name = nat_le 2 (rank_of (get g name)) ≡ true
@@ -63,6 +76,7 @@ module _ (g : Grants) (f : Text → Option Repo) where
   operation_changes : (name : Text) (op : Operation) (body : Text) → nat_le (rank (needed op)) (rank_of (get g name)) ≡ true
       → OnSome (operate_in (f name) name op body).change (MayPush g name)
   operation_changes name (reads_blob digest) body e = rw (read_changes (f name) name digest body) tt
+  operation_changes name (sizes_blob digest) body e = rw (size_changes (f name) name digest body) tt
   operation_changes name (pushes_blob digest) body e = always (operate_in (f name) name (pushes_blob digest) body).change e
     where
       always : (c : Option Repo) → MayPush g name → OnSome c (MayPush g name)
@@ -90,6 +104,7 @@ post_name name (Some mount) digest = tt
 -- the target's name is the one that the path addresses
 pub target_name : (v : Verb) (form : Form) (keys : Keys) → IfSome (target_of v form keys) (λ t. addressed form ≡ Some t.name)
 target_name Get (blob name digest) keys = refl
+target_name Head (blob name digest) keys = refl
 target_name Post (uploads name) keys = post_name name keys.mount keys.digest
 target_name _ _ _ = tt
 
@@ -100,6 +115,12 @@ reading_changes g f Get (blob name digest) keys body r = named (is_repo_name nam
   where
     named : (n b : Bool) → (if not n then refuses InvalidName else (if b then operate_in (f name) name (reads_blob digest) body else refuses AccessDenied)).change ≡ None
     named true true = read_changes (f name) name digest body
+    named true false = refl
+    named false b = refl
+reading_changes g f Head (blob name digest) keys body r = named (is_repo_name name) (allows g (record { name = name; operation = sizes_blob digest }))
+  where
+    named : (n b : Bool) → (if not n then refuses InvalidName else (if b then operate_in (f name) name (sizes_blob digest) body else refuses AccessDenied)).change ≡ None
+    named true true = size_changes (f name) name digest body
     named true false = refl
     named false b = refl
 reading_changes g f Post form keys body r = absurd (cc)

@@ -1,5 +1,5 @@
 -- Blobs: look-up and whole push (OCI Distribution Specification 1.1, Pulling blobs and Pushing a blob monolithically).
-use Rattle.std.specs.Prelude.{ℕ, List, ◌++◌, Bool, true, not, ◌&&◌, nat_lt, length, Option, Some, None, is_some, codes, if◌then◌else◌}
+use Rattle.std.specs.Prelude.{ℕ, List, ◌++◌, Bool, true, not, ◌&&◌, nat_lt, length, Option, Some, None, is_some, option_map, codes, if◌then◌else◌}
 use Rattle.std.specs.FinMap.{get, insert}
 use Rattle.oci_names.specs.Text.{Text}
 use Rattle.oci_names.specs.Digest.{is_digest, is_verified, matches}
@@ -8,7 +8,7 @@ use Rattle.registry_model.specs.declared.refusal.Refusal.TheVariants.{BlobUnknow
 use Rattle.registry_model.specs.declared.reply.Status.TheVariants.{OK, Created}
 use Rattle.registry_model.specs.World.{Repo}
 use Rattle.registry_model.specs.Soundness.{largest_blob}
-use Rattle.registry_model.specs.Answer.{Answer, bare_answer, refused, sent}
+use Rattle.registry_model.specs.Answer.{Answer, bare_answer, refused, sent, unsent}
 
 -- a reply, and what the path's repository becomes, where it changes
 pub record Outcome : Type 0 where
@@ -28,6 +28,17 @@ found_blob digest (Some bytes) = record {
 
 abbrev pub read_blob : Repo → Text → Outcome
 read_blob r digest = if is_digest digest then found_blob digest (get r.blobs digest) else refuses BlobUnknown
+
+-- the same for HEAD, which asks for the length alone (RFC 9110, section 9.3.2)
+abbrev pub found_size : Text → Option ℕ → Outcome
+found_size digest None = refuses BlobUnknown
+found_size digest (Some size) = record {
+  reply = record (bare_answer OK) { digest = Some digest; content_type = Some (codes "application/octet-stream"); body = unsent size };
+  change = None;
+}
+
+abbrev pub size_blob : Repo → Text → Outcome
+size_blob r digest = if is_digest digest then found_size digest (option_map length (get r.blobs digest)) else refuses BlobUnknown
 
 -- a digest that is there keeps its bytes
 abbrev pub with_blob : Repo → Text → Text → Repo

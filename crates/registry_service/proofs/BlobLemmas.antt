@@ -1,6 +1,6 @@
 -- Look-ups and pushes in a repository that is there.
 use Rattle.std.proofs.Common.{◌≡◌, ◌∙◌, ℕ, List, [], ◌++◌, Bool, true, false, cond, not, ◌&&◌, None, Some, refl, sym, ap, subst, append_assoc}
-use Rattle.std.specs.Prelude.{Option, is_some, nat_lt, length}
+use Rattle.std.specs.Prelude.{Option, option_map, is_some, nat_lt, length}
 use Rattle.std.specs.Option.{option_and_then}
 use Rattle.std.specs.FinMap.{get}
 use Rattle.std.proofs.Math.Bool.{and-false}
@@ -11,9 +11,9 @@ use Rattle.oci_names.specs.declared.digest.Verdict.TheVariants.{Matches, Differs
 use Rattle.registry_model.specs.declared.refusal.Refusal.TheVariants.{InvalidDigest, BlobUnknown, DigestMismatch, ContentTooLarge}
 use Rattle.registry_model.specs.World.{Repo, World, repo_at, has_repo}
 use Rattle.registry_model.specs.Answer.{Answer, refused}
-use Rattle.registry_model.specs.Blobs.{Outcome, refuses, found_blob, read_blob, push_blob, with_blob, created_blob}
-use Rattle.registry_model.specs.Lookups.{blob_at}
-use Rattle.registry_model.specs.Verdict.{operate_in, reads_blob, pushes_blob, changed}
+use Rattle.registry_model.specs.Blobs.{Outcome, refuses, found_blob, found_size, read_blob, push_blob, with_blob, created_blob}
+use Rattle.registry_model.specs.Lookups.{blob_at, blob_size_at}
+use Rattle.registry_model.specs.Verdict.{operate_in, reads_blob, sizes_blob, pushes_blob, changed}
 use Rattle.registry_model.specs.Keeping.{State}
 use Rattle.registry_model.specs.Soundness.{largest_blob}
 
@@ -40,6 +40,31 @@ module _ (s s' : State) (name text digest : Text) (there : has_repo s.world name
         e ∙ sym (ap (λ o. o.reply) out),
         stays ∙ (λ i. record { world = s.world; spent = unspent i })
             ∙ ap (λ c. record { world = changed s.world (Some (record { name = name; operation = reads_blob text })) c; spent = false }) (sym none),
+      )
+
+sizes_in : (o : Option Repo) → is_some o ≡ true → (name text body : Text) → is_digest text ≡ true
+    → operate_in o name (sizes_blob text) body ≡ found_size text (option_map length (option_and_then (λ r. get r.blobs text) o))
+sizes_in None h name text body d = absurd (cc)
+sizes_in (Some r) h name text body d = ap (λ b. cond b (found_size text (option_map length (get r.blobs text))) (refuses BlobUnknown)) d
+
+size_changes_nothing : (text : Text) (o : Option ℕ) → (found_size text o).change ≡ None
+size_changes_nothing text None = refl
+size_changes_nothing text (Some n) = refl
+
+module _ (s s' : State) (name text digest : Text) (there : has_repo s.world name ≡ true) (unspent : s.spent ≡ false)
+    (same : digest ≡ text) (valid : is_digest text ≡ true) (stays : s' ≡ s) where
+  -- the reply of the length that was found, and nothing changed
+  pub sizes : (found : Option ℕ) → found ≡ blob_size_at s.world name digest → (a : Answer) → a ≡ (found_size text found).reply
+      → (a ≡ (operate_in (repo_at s.world name) name (sizes_blob text) []).reply)
+      × (s' ≡ record { world = changed s.world (Some (record { name = name; operation = sizes_blob text })) (operate_in (repo_at s.world name) name (sizes_blob text) []).change; spent = false })
+  sizes found at a e =
+      let here : found ≡ blob_size_at s.world name text = at ∙ ap (blob_size_at s.world name) same in
+      let out : operate_in (repo_at s.world name) name (sizes_blob text) [] ≡ found_size text found =
+      sizes_in (repo_at s.world name) there name text [] valid ∙ ap (found_size text) (sym here) in
+      let none : (operate_in (repo_at s.world name) name (sizes_blob text) []).change ≡ None = ap (λ o. o.change) out ∙ size_changes_nothing text found in (
+        e ∙ sym (ap (λ o. o.reply) out),
+        stays ∙ (λ i. record { world = s.world; spent = unspent i })
+            ∙ ap (λ c. record { world = changed s.world (Some (record { name = name; operation = sizes_blob text })) c; spent = false }) (sym none),
       )
 
 unsupported : (v m : Bool) → cond v (cond m Matches Differs) Unsupported ≡ Unsupported → v ≡ false

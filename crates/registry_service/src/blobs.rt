@@ -1,7 +1,7 @@
 ghost use Rattle.std.specs.Prelude.{◌≡◌, true, false, [], IfOk, string_bytes};
 ghost use Rattle.registry_model.specs.World.{has_repo, repo_at};
 ghost use Rattle.registry_model.specs.Blobs.{blob_location};
-ghost use Rattle.registry_model.specs.Verdict.{operate_in, reads_blob, pushes_blob};
+ghost use Rattle.registry_model.specs.Verdict.{operate_in, reads_blob, sizes_blob, pushes_blob};
 ghost use Rattle.registry_model.specs.Answer.{answer_of};
 ghost use Rattle.registry_model.specs.Doing.{kind_of, answered};
 ghost use Rattle.registry_model.specs.Keeping.{Spends};
@@ -53,6 +53,39 @@ pub fn read_blob<K: Keeper>(
             digest: Some(digest),
             content_type: Some("application/octet-stream"),
             body: Body::Owned(bytes),
+            ..Reply::bare(Status::OK)
+        }),
+    }
+}
+
+/// HEAD of a blob in a repository that is there: its length, and none of its bytes.
+pub fn size_blob<K: Keeper>(
+    keeper: &mut K,
+    alloc: Global,
+    name: &RepoName,
+    text: &str,
+) -> Result<Reply, Fault>
+    requires unspent { (K.state keeper.old).spent ≡ false }
+    requires there { K.is_honest keeper.old → has_repo (K.state keeper.old).world name.now ≡ true }
+    ensures comes { K.is_honest keeper.new → Comes result (record { name = name.now; operation = sizes_blob text.now })
+        (operate_in (repo_at (K.state keeper.old).world name.now) name.now (sizes_blob text.now) []) (K.state keeper.old) (K.state keeper.new) }
+    ensures answers { IfOk result (λ reply. kind_of (answer_of reply) ≡ answered) }
+    ensures spends { Spends result (K.state keeper.old) (K.state keeper.new) }
+    ensures honest { K.is_honest keeper.new → K.is_honest keeper.old }
+{
+    let digest = match Digest::parse(alloc, text) {
+        Ok(digest) => digest,
+        Err(fault) => match fault {
+            NameFault::Memory => return Err(Fault::Memory),
+            _ => return Ok(Reply::refusal(Refusal::BlobUnknown)),
+        },
+    };
+    match keeper.blob_size(name, &digest)? {
+        None => Ok(Reply::refusal(Refusal::BlobUnknown)),
+        Some(size) => Ok(Reply {
+            digest: Some(digest),
+            content_type: Some("application/octet-stream"),
+            body: Body::Unsent(size),
             ..Reply::bare(Status::OK)
         }),
     }

@@ -3,16 +3,16 @@ ghost use Rattle.registry_model.specs.declared.refusal.Refusal.TheVariants.{Toke
 ghost use Rattle.registry_model.specs.World.{repo_at};
 ghost use Rattle.registry_model.specs.Answer.{answer_of, refused};
 ghost use Rattle.registry_model.specs.Ask.{ask_of};
-ghost use Rattle.registry_model.specs.Verdict.{decide, operate_in, reply_to, after_request};
+ghost use Rattle.registry_model.specs.Verdict.{base_outcome, decide, operate_in, reply_to, after_request};
 ghost use Rattle.registry_model.specs.Doing.{kind_of, answered};
 ghost use Rattle.registry_model.specs.Keeping.{Spends, WritesBy};
 ghost use Rattle.registry_service.specs.Results.{Comes};
 ghost use Rattle.registry_service.specs.Targets.{shown_operation, shown_target};
 
-use crate::blobs::{push_blob, read_blob};
-use crate::target::{Operation, Target, allows, find_target};
+use crate::blobs::{push_blob, read_blob, size_blob};
+use crate::target::{Operation, Target, allows, asks_for_base, find_target};
 use oci_names::{Fault, NameFault, RepoName, Token};
-use registry_model::{Keeper, Refusal, Reply, Request};
+use registry_model::{Body, Keeper, Refusal, Reply, Request, Status};
 use std::alloc::Global;
 
 /// The reply to an operation that the token may do.
@@ -34,6 +34,7 @@ fn operate<K: Keeper>(
     }
     match operation {
         Operation::ReadBlob(digest) => read_blob(keeper, alloc, name, digest),
+        Operation::SizeBlob(digest) => size_blob(keeper, alloc, name, digest),
         Operation::PushBlob(digest) => push_blob(keeper, alloc, name, digest, body),
     }
 }
@@ -67,6 +68,17 @@ fn decide<K: Keeper>(
     operate(keeper, alloc, &name, target.operation, body)
 }
 
+/// The reply to a known token that asks for the base.
+fn base_reply() -> Reply
+    ensures { answer_of result ≡ base_outcome.reply }
+{
+    Reply {
+        content_type: Some("application/json"),
+        body: Body::Constant("{}"),
+        ..Reply::bare(Status::OK)
+    }
+}
+
 /// The reply to a request, or why there is none.
 pub fn judge<K: Keeper>(keeper: &mut K, alloc: Global, request: &Request) -> Result<Reply, Fault>
     ensures comes { K.is_honest keeper.new → WritesBy answer_of result (reply_to (K.state keeper.old).world (ask_of request.now))
@@ -91,6 +103,9 @@ pub fn judge<K: Keeper>(keeper: &mut K, alloc: Global, request: &Request) -> Res
     };
     if !keeper.known(&token)? {
         return Ok(Reply::refusal(Refusal::TokenRequired));
+    }
+    if asks_for_base(request) {
+        return Ok(base_reply());
     }
     let Some(target) = find_target(request) else {
         return Ok(Reply::refusal(Refusal::NoEndpoint));

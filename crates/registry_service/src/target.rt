@@ -1,7 +1,7 @@
 ghost use Rattle.std.specs.Prelude.{◌≡◌, option_map};
 ghost use Rattle.registry_model.specs.Form.{form_of};
 ghost use Rattle.registry_model.specs.Ask.{keys_of};
-ghost use Rattle.registry_model.specs.Verdict.{target_of, needed, rank, rank_of};
+ghost use Rattle.registry_model.specs.Verdict.{target_of, needed, rank, rank_of, is_base};
 ghost use Rattle.registry_service.specs.Targets.{shown_operation, shown_target};
 ghost use Rattle.std.specs.Prelude.{nat_le};
 
@@ -11,6 +11,7 @@ use registry_model::{Level, Request, Route, Verb};
 #[derive(Clone, Copy)]
 pub enum Operation<'a> {
     ReadBlob(&'a str),
+    SizeBlob(&'a str),
     PushBlob(&'a str),
 }
 
@@ -30,6 +31,10 @@ pub fn find_target<'a>(request: &Request<'a>) -> Option<Target<'a>>
             let operation = Operation::ReadBlob(digest);
             Some(Target { name, operation })
         }
+        (Verb::Head, Route::Blob { name, digest }) => {
+            let operation = Operation::SizeBlob(digest);
+            Some(Target { name, operation })
+        }
         (Verb::Post, Route::Uploads { name }) => match (request.query.mount, request.query.digest) {
             (None, Some(digest)) => {
                 let operation = Operation::PushBlob(digest);
@@ -38,6 +43,17 @@ pub fn find_target<'a>(request: &Request<'a>) -> Option<Target<'a>>
             _ => None,
         },
         _ => None,
+    }
+}
+
+/// Whether the request asks for the base.
+pub fn asks_for_base(request: &Request) -> bool
+    ensures { result ≡ is_base request.now.method (form_of request.now.route) }
+{
+    match (request.method, request.route) {
+        (Verb::Get, Route::Base) => true,
+        (Verb::Head, Route::Base) => true,
+        _ => false,
     }
 }
 
@@ -50,6 +66,7 @@ pub fn allows(level: Option<Level>, operation: &Operation) -> bool
     };
     match operation {
         Operation::ReadBlob(_) => true,
+        Operation::SizeBlob(_) => true,
         Operation::PushBlob(_) => match level {
             Level::Pull => false,
             Level::Push => true,
