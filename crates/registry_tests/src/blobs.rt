@@ -1,4 +1,6 @@
-use crate::setting::{ABC, ABC_512, HELLO, ask, created, fetch, found, push, refused, setting};
+use crate::setting::{
+    ABC, ABC_512, HELLO, ask, created, fetch, found, push, refused, serve, setting,
+};
 use registry_http::End;
 use std::test::Fail;
 
@@ -14,6 +16,12 @@ fn push_then_get_of_a_blob(rt: HostRuntime) -> Result<(), Fail> {
     );
     let fetched = fetch(rt.alloc(), &mut registry, ABC)?;
     assert_eq!(rt; fetched.output.len(), 177);
+    let line = format!(in rt.alloc(); "HEAD /v2/team/app/blobs/{ABC}")?;
+    let head = ask(rt.alloc(), &mut registry, line.as_str(), "")?;
+    assert_eq!(rt;
+        head.output.as_slice(),
+        &found(rt.alloc(), ABC, "abc")?.as_bytes()[..174]
+    );
     assert_eq!(rt;
         fetched.output.as_slice(),
         found(rt.alloc(), ABC, "abc")?.as_bytes()
@@ -57,6 +65,11 @@ fn digests_that_do_not_verify(rt: HostRuntime) -> Result<(), Fail> {
     assert_eq!(rt; short.output.as_slice(), invalid.as_bytes());
     let absent = fetch(rt.alloc(), &mut registry, HELLO)?;
     assert_eq!(rt; absent.output.as_slice(), unknown.as_bytes());
+    let line = format!(in rt.alloc(); "HEAD /v2/team/app/blobs/{HELLO}")?;
+    let head = ask(rt.alloc(), &mut registry, line.as_str(), "")?;
+    let length = unknown.len() - 61;
+    assert_eq!(rt; head.output.len(), length);
+    assert!(rt; unknown.as_bytes().starts_with(head.output.as_slice()));
     Ok(())
 }
 
@@ -146,5 +159,49 @@ fn refusals_before_look_up(rt: HostRuntime) -> Result<(), Fail> {
         decoded.output.as_slice(),
         found(rt.alloc(), ABC, "abc")?.as_bytes()
     );
+    Ok(())
+}
+
+/// With a known token 200; without one, and under one that has no grant, 401.
+#[test]
+fn base_needs_a_known_token(rt: HostRuntime) -> Result<(), Fail> {
+    let mut registry = setting(rt.alloc())?;
+    let known: &[u8] =
+        b"HTTP/1.1 200 OK\r\nContent-Length: 2\r\nContent-Type: application/json\r\n\r\n{}";
+    let unknown: &[u8] =
+        b"HTTP/1.1 401 Unauthorized\r\nContent-Length: 63\r\nContent-Type: application/json\r\nWWW-Authenticate: Bearer realm=\"registry\"\r\n\r\n{\"errors\":[{\"code\":\"UNAUTHORIZED\",\"message\":\"token required\"}]}";
+    let cases: [(&[u8], &[u8]); 6] = [
+        (
+            b"GET /v2/ HTTP/1.1\r\nHost: r\r\nAuthorization: Bearer t1\r\n\r\n",
+            known,
+        ),
+        (
+            b"GET /v2 HTTP/1.1\r\nHost: r\r\nAuthorization: bEARER   t2\r\n\r\n",
+            known,
+        ),
+        (b"GET /v2/ HTTP/1.1\r\nHost: r\r\n\r\n", unknown),
+        (
+            b"GET /v2/ HTTP/1.1\r\nHost: r\r\nAuthorization: Bearer t9\r\n\r\n",
+            unknown,
+        ),
+        (
+            b"GET /v2/ HTTP/1.1\r\nHost: r\r\nAuthorization: Bearer t1\r\nAuthorization: Bearer t1\r\n\r\n",
+            unknown,
+        ),
+        (
+            b"GET /v2/ HTTP/1.1\r\nHost: r\r\nAuthorization: Bearer\tt1\r\n\r\n",
+            unknown,
+        ),
+    ];
+    for (input, reply) in cases {
+        let served = serve(rt.alloc(), &mut registry, input);
+        assert_eq!(rt; served.output.as_slice(), reply);
+    }
+    let head = serve(
+        rt.alloc(),
+        &mut registry,
+        b"HEAD /v2/ HTTP/1.1\r\nHost: r\r\nAuthorization: Bearer t1\r\n\r\n",
+    );
+    assert_eq!(rt; head.output.as_slice(), &known[..70]);
     Ok(())
 }

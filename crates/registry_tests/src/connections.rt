@@ -1,5 +1,7 @@
 use crate::setting::{ABC, OneByOne, created, fetch, found, refused, serve, setting};
 use registry_http::{End, FramingRefusal, serve_connection};
+use std::io;
+use std::io::{Read, Write};
 use std::test::Fail;
 
 /// The push of `abc` (187 bytes) and the fetch of it behind it.
@@ -196,5 +198,111 @@ fn pipelined_requests_and_close(rt: HostRuntime) -> Result<(), Fail> {
         one.output.as_slice(),
         b"HTTP/1.1 401 Unauthorized\r\nContent-Length: 63\r\nContent-Type: application/json\r\nWWW-Authenticate: Bearer realm=\"registry\"\r\nConnection: close\r\n\r\n{\"errors\":[{\"code\":\"UNAUTHORIZED\",\"message\":\"token required\"}]}".as_slice()
     );
+    Ok(())
+}
+
+/// Takes one byte a call, and fails where it has taken so many.
+#[derive(Drop)]
+struct Failing {
+    room: usize,
+    taken: Vec<u8>,
+}
+
+impl Write for Failing {
+    fn write(&mut self, buf: &[u8]) -> io::Result<usize> {
+        let Some(first) = buf.first() else {
+            return Ok(0);
+        };
+        if self.room == 0 {
+            return Err(io::Error::from(io::ErrorKind::BrokenPipe));
+        }
+        self.room -= 1;
+        self.taken.push(*first)?;
+        Ok(1)
+    }
+
+    fn flush(&mut self) -> io::Result<()> {
+        Ok(())
+    }
+}
+
+/// The request for the base twice, whose reply is 72 bytes: after a failed write what went out is
+/// told exactly; and the blob whose reply could not be written is there.
+#[test]
+fn writer_fails_midway(rt: HostRuntime) -> Result<(), Fail> {
+    let twice =
+        b"GET /v2/ HTTP/1.1\r\nHost: r\r\nAuthorization: Bearer t1\r\n\r\nGET /v2/ HTTP/1.1\r\nHost: r\r\nAuthorization: Bearer t1\r\n\r\n";
+    for (room, written) in [(82, 10), (0, 0), (72, 0), (71, 71)] {
+        let mut registry = setting(rt.alloc())?;
+        let mut reader = twice.as_slice();
+        let taken = Vec::new(rt.alloc());
+        let mut writer = Failing { room, taken };
+        let end = serve_connection(rt.alloc(), &mut registry, &mut reader, &mut writer);
+        assert_eq!(rt; end, End::WriteFailed { written }, "at {room}");
+        assert_eq!(rt; writer.taken.len(), room);
+        if room == 82 {
+            assert_eq!(rt; &writer.taken.as_slice()[72..], b"HTTP/1.1 2".as_slice());
+        }
+    }
+    let mut registry = setting(rt.alloc())?;
+    let mut reader = PUSH;
+    let taken = Vec::new(rt.alloc());
+    let mut writer = Failing { room: 0, taken };
+    let end = serve_connection(rt.alloc(), &mut registry, &mut reader, &mut writer);
+    assert_eq!(rt; end, End::WriteFailed { written: 0 });
+    let fetched = fetch(rt.alloc(), &mut registry, ABC)?;
+    assert_eq!(rt;
+        fetched.output.as_slice(),
+        found(rt.alloc(), ABC, "abc")?.as_bytes()
+    );
+    Ok(())
+}
+
+/// Gives one byte a read, and fails where it has given so many.
+#[derive(Drop)]
+struct FailingReader<'a> {
+    left: &'a [u8],
+    room: usize,
+}
+
+impl Read for FailingReader<'_> {
+    fn read(&mut self, buf: &mut [u8]) -> io::Result<usize> {
+        if self.room == 0 {
+            return Err(io::Error::from(io::ErrorKind::BrokenPipe));
+        }
+        self.room -= 1;
+        match (self.left.split_first(), buf.first_mut()) {
+            (Some((first, others)), Some(place)) => {
+                *place = *first;
+                self.left = others;
+                Ok(1)
+            }
+            _ => Ok(0),
+        }
+    }
+}
+
+/// The replies of the whole requests before the failed read, and nothing else.
+#[test]
+fn reader_fails_at_each_read(rt: HostRuntime) -> Result<(), Fail> {
+    let first = created(rt.alloc(), ABC)?.len();
+    for room in 0..PUSH_AND_GET.len() + 1 {
+        let mut registry = setting(rt.alloc())?;
+        let mut reader = FailingReader {
+            left: PUSH_AND_GET,
+            room,
+        };
+        let mut output = Vec::new(rt.alloc());
+        let end = serve_connection(rt.alloc(), &mut registry, &mut reader, &mut output);
+        assert_eq!(rt; end, End::ReadFailed, "at {room}");
+        let written = if room < PUSH.len() {
+            0
+        } else if room < PUSH_AND_GET.len() {
+            first
+        } else {
+            418
+        };
+        assert_eq!(rt; output.len(), written, "at {room}");
+    }
     Ok(())
 }

@@ -6,4 +6,6 @@ mod blobs;
 #[cfg(test)]
 mod connections;
 #[cfg(test)]
+mod runs;
+#[cfg(test)]
 mod setting;
