@@ -11,7 +11,7 @@ use Rattle.registry_http.specs.declared.framing.Framing.TheVariants as framed
 use Rattle.registry_http.specs.declared.ending.FramingRefusal.{FramingRefusal}
 use Rattle.registry_http.specs.declared.ending.End.{End}
 use Rattle.registry_http.specs.declared.ending.End.TheVariants.{Closed, Cut, Refused, ReadFailed, WriteFailed}
-use Rattle.registry_http.specs.Spelling.{Item, IsBody, BodyIsCut, BodyIsRefused, IsRequest, BeginsWithHead, HeadIsRefused, closes, print_item, Ends, Then, Spells}
+use Rattle.registry_http.specs.Spelling.{Item, IsBody, BodyIsCut, BodyIsRefused, IsRequest, BeginsWithHead, closes, print_item, Ends, Then, Spells}
 use Rattle.registry_http.proofs.HeadLemmas.{request_some}
 use Rattle.registry_http.proofs.OneBody.{body_unique, body_whole, body_served}
 
@@ -30,12 +30,6 @@ module _ (b : Text) (j : Item) (more : Text) (r : IsRequest j) (whole : b ≡ pr
       let n : 16384 ≡ length p + (16384 - length p) = omega (arith, r.short) in
       (r.head, ap (take 16384) reads.1 ∙ ap (λ k. take k (p ++ (j.coded ++ more))) n ∙ take-append-add p (j.coded ++ more) (16384 - length p))
 
-  not_refused : (h : RequestHead) (rest : Text) (q : FramingRefusal) → (h ≡ j.head) × (rest ≡ j.coded ++ more) → HeadIsRefused h rest q → ⊥
-  not_refused h rest q same (inl many) = omega (arith, many.0, ap (λ x. length x.fields) same.0, r.few)
-  not_refused h rest q same (inr bad) =
-      body_served (framing j.head) j.coded j.body more q r.body
-      (subst (λ x. BodyIsRefused (framing j.head) x q) same.1 (subst (λ x. BodyIsRefused (framing x) rest q) same.0 bad.1))
-
   not_ended : (e : End) → Ends b e → ⊥
   not_ended Closed h =
       let size = ap length (sym h ∙ reads.1) in
@@ -45,9 +39,14 @@ module _ (b : Text) (j : Item) (more : Text) (r : IsRequest j) (whole : b ≡ pr
       let same = same_head h rest begins in
       body_whole (framing j.head) j.coded j.body more r.body
       (subst (λ x. BodyIsCut (framing j.head) x) same.1 (subst (λ x. BodyIsCut (framing x) rest) same.0 short))
-  not_ended (Refused q) (inl (e, inl (long, none))) = none j.head _ in_front
-  not_ended (Refused q) (inl (e, inr never)) = never (drop 16384 b) j.head (j.coded ++ more) (rw take-append-drop reads)
-  not_ended (Refused q) (inr (h, rest, begins, bad)) = not_refused h rest q (same_head h rest begins) bad
+  not_ended (Refused q) (inl (e, inl (inl x))) = x.1 j.head _ in_front
+  not_ended (Refused q) (inl (e, inl (inr never))) = never (drop 16384 b) j.head (j.coded ++ more) (rw take-append-drop reads)
+  not_ended (Refused q) (inl (e, inr (h, rest, begins, many))) =
+      omega (arith, many, ap (λ (x : RequestHead). length x.fields) (same_head h rest begins).0, r.few)
+  not_ended (Refused q) (inr (h, rest, begins, few, bad)) =
+      let same = same_head h rest begins in
+      body_served (framing j.head) j.coded j.body more q r.body
+      (subst (λ x. BodyIsRefused (framing j.head) x q) same.1 (subst (λ x. BodyIsRefused (framing x) rest q) same.0 bad))
   not_ended ReadFailed h = h
   not_ended (WriteFailed n) h = h
 

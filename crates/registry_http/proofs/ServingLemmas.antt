@@ -1,17 +1,29 @@
 -- What a connection has done so far, and what follows at its end.
-use Rattle.std.proofs.Common.{◌≡◌, ℕ, ◌<◌, ◌⊎◌, inl, inr, Bool, List, [], ◌∷◌, ◌++◌, length, take, drop, Option, Some, None, IfSome, true, false, refl, sym, ap, subst, ◌∙◌, append_assoc, append-nil}
+use Rattle.std.proofs.Common.{◌≡◌, ℕ, ◌<◌, ◌≤◌, ◌⊎◌, inl, inr, Bool, List, [], ◌∷◌, ◌++◌, length, take, drop, Option, Some, None, IfSome, true, false, refl, sym, ap, subst, ◌∙◌, append_assoc, append-nil}
 use Rattle.std.proofs.lemmas.List.Concat.{flat_map-append}
 use Rattle.std.specs.Io.KnownBytes.{Consumes, Appends, IsAtEnd}
 use Rattle.std.proofs.KnownBytes.{Consumes-nil, Consumes-trans, Appends-nil, Appends-trans}
 use Rattle.oci_names.specs.Text.{Text}
 use Rattle.registry_model.specs.Keeping.{State}
-use Rattle.registry_http.specs.Spelling.{Item, IsRequest, IsRefused, IsCut, closes, print_item, Ends, Then, Spells, Front}
+use Rattle.std.specs.Bool.{MatchBool}
+use Rattle.httparse.specs.Grammar.{RequestHead}
+use Rattle.httparse.specs.declared.spans.HeaderSpan.{HeaderSpan}
+use Rattle.httparse.specs.declared.spans.RequestSpans.{RequestSpans}
+use Rattle.registry_model.specs.Answer.{Answer}
+use Rattle.registry_model.specs.Doing.{Does}
+use Rattle.registry_http.specs.Asking.{ask_in}
+use Rattle.registry_http.specs.Framing.{framing}
+use Rattle.registry_http.specs.Expecting.{continue_if, text_before, IsBefore}
+use Rattle.registry_http.specs.Spelling.{Item, IsRequest, IsRefused, IsCut, HeadIsCut, HeadIsUnreadable, BodyIsCut, BodyIsRefused, closes, print_item, Ends, Then, Spells, Front}
 use Rattle.registry_http.specs.ReplyText.{refusal_text}
-use Rattle.registry_http.specs.Serving.{Replies, Run, joined, end_text, Traffic, Answers, StopsForMemory, StopsAtWrite, StopsAtRead, Serves}
-use Rattle.registry_http.specs.Reading.{Leaves, NextStops}
+use Rattle.registry_http.specs.Serving.{reply_for, Replies, Run, joined, end_text, Traffic, Leftover, Answers, StopsForMemory, InHand, StopsAtWrite, StopsAtRead, Serves}
+use Rattle.registry_http.specs.Reading.{Pulls, HeadIsRead, HeadIsReady, HeadStops}
+use Rattle.registry_http.specs.declared.intake.Ready.{Ready}
+use Rattle.registry_http.specs.Taking.{EndsFrom}
+use Rattle.registry_http.proofs.RequestLemmas.{stands_before, cut_there, refused_there, before_empty, before_cut, before_unreadable}
 use Rattle.registry_http.specs.Ending.{SendsRefusal, StopsWith}
 use Rattle.registry_http.specs.declared.ending.FramingRefusal.{FramingRefusal}
-use Rattle.registry_http.specs.declared.ending.FramingRefusal.TheVariants.{NoBufferMemory}
+use Rattle.registry_http.specs.declared.ending.FramingRefusal.TheVariants.{UnreadableHead, NoBufferMemory}
 use Rattle.registry_http.specs.declared.ending.End.{End}
 use Rattle.registry_http.specs.declared.ending.End.TheVariants.{Closed, Cut, Refused, ReadFailed, WriteFailed}
 use Rattle.registry_http.specs.declared.ending.Stop.{Stop}
@@ -46,6 +58,20 @@ Front-closes b (x ∷ items) rest i behind f r e last = (
   subst (λ c. Then c (items ++ i ∷ []) Closed (Spells f.0 (items ++ i ∷ []) Closed)) (sym f.3) (Front-closes f.0 items rest i behind f.4 r e last),
 )
 
+Front-leftover : (b : Text) (items : List Item) (rest text : Text) → Front b items rest → IsBefore rest text → Leftover b items text
+Front-leftover b [] rest text f h = subst (λ x. IsBefore x text) (sym f) h
+Front-leftover b (x ∷ items) rest text f h =
+    (f.0, f.2, subst (λ c. MatchBool c (text ≡ []) (Leftover f.0 items text)) (sym f.3) (Front-leftover f.0 items rest text f.4 h))
+
+abbrev nothing : Text
+nothing = []
+
+Front-none : (b : Text) (items : List Item) (rest : Text) (i : Item) (behind : Text) → Front b items rest → rest ≡ print_item i ++ behind → closes i ≡ true
+    → Leftover b (items ++ i ∷ []) nothing
+Front-none b [] rest i behind f e last = (behind, f ∙ e, subst (λ c. MatchBool c (nothing ≡ nothing) (Leftover behind [] nothing)) (sym last) refl)
+Front-none b (x ∷ items) rest i behind f e last =
+    (f.0, f.2, subst (λ c. MatchBool c (nothing ≡ nothing) (Leftover f.0 (items ++ i ∷ []) nothing)) (sym f.3) (Front-none f.0 items rest i behind f.4 e last))
+
 Run-more : (a : State) (items : List Item) (texts : List Text) (b : State) (i : Item) (text : Text) (c : State)
     → Run a items texts b → Replies b i text c → Run a (items ++ i ∷ []) (texts ++ text ∷ []) c
 Run-more a [] [] b i text c r s = (c, subst (λ x. Replies x i text c) r s, refl)
@@ -58,17 +84,18 @@ joined-more texts text = flat_map-append (λ t. t) texts (text ∷ []) ∙ ap (�
 
 -- ---- what was done so far
 
-pub record Progress (buffer : Text) (t : Traffic) : Type 0 where
+-- the requests so far are answered, and this is written of the next
+pub record Progress (buffer before : Text) (t : Traffic) : Type 0 where
   pub read : Text
   pub items : List Item
   pub texts : List Text
   pub front : Front read items buffer
   pub consumed : Consumes t.left t.left' read
   pub run : Run t.state items texts t.state'
-  pub written : Appends t.held t.held' (joined texts)
+  pub written : Appends t.held t.held' (joined texts ++ before)
 
 pub starts : (l h : Option Text) (s : State)
-    → Progress [] (record { left = l; left' = l; held = h; held' = h; state = s; state' = s })
+    → Progress [] [] (record { left = l; left' = l; held = h; held' = h; state = s; state' = s })
 starts l h s = record {
   read = [];
   items = [];
@@ -80,8 +107,9 @@ starts l h s = record {
 }
 
 -- bytes came
-pub came : (b : Text) (t : Traffic) (bytes : Text) (l : Option Text) → Progress b t → Consumes t.left' l bytes → Progress (b ++ bytes) (record t { left' = l })
-came b t bytes l p c = record {
+pub came : (b before : Text) (t : Traffic) (bytes : Text) (l : Option Text) → Progress b before t → Consumes t.left' l bytes
+    → Progress (b ++ bytes) before (record t { left' = l })
+came b before t bytes l p c = record {
   read = p.read ++ bytes;
   items = p.items;
   texts = p.texts;
@@ -91,7 +119,19 @@ came b t bytes l p c = record {
   written = p.written;
 }
 
-module _ (b : Text) (t : Traffic) (p : Progress b t) where
+-- the next text went out whole, before the body
+pub continued : (b : Text) (t : Traffic) (text : Text) (w : Option Text) → Progress b [] t → Appends t.held' w text → Progress b text (record t { held' = w })
+continued b t text w p sent = record {
+  read = p.read;
+  items = p.items;
+  texts = p.texts;
+  front = p.front;
+  consumed = p.consumed;
+  run = p.run;
+  written = subst (λ (x : Text). Appends t.held w (x ++ text)) (append-nil (joined p.texts)) (Appends-trans _ _ _ _ _ p.written sent);
+}
+
+module _ (b before : Text) (t : Traffic) (p : Progress b before t) where
   -- with the bytes that the reader has left, the bytes so far are all
   some_of : (P : Text → Type 0) (l l' : Option Text) → Consumes l l' p.read → ((x rest : Text) → x ≡ p.read ++ rest → P x) → IfSome l P
   some_of P None l' c f = tt
@@ -106,38 +146,47 @@ module _ (b : Text) (t : Traffic) (p : Progress b t) where
   on : (x rest : Text) → x ≡ p.read ++ rest → Front x p.items (b ++ rest)
   on x rest e = subst (λ y. Front y p.items (b ++ rest)) (sym e) (Front-on p.read p.items b rest p.front)
 
+  -- one more text
+  and_then : (w : Option Text) (text : Text) → Appends t.held' w text → Appends t.held w (joined p.texts ++ (before ++ text))
+  and_then w text sent =
+      subst (λ (x : Text). Appends t.held w x) (append_assoc (joined p.texts) before text) (Appends-trans _ _ _ _ _ p.written sent)
+
   -- all that was read, and how it ends
-  here : (e : End) → Ends b e → end_text e ≡ [] → Answers p.read e t
-  here e h none = record {
+  here : (e : End) → Ends b e → IsBefore b before → end_text e ≡ [] → Answers p.read e t
+  here e h is none = record {
     items = p.items;
     texts = p.texts;
     spells = Front-spells p.read p.items b e p.front h;
+    before = before;
+    leftover = Front-leftover p.read p.items b before p.front is;
     run = p.run;
     written = rw (none, append-nil) p.written;
   }
 
-  pub at_end : (e : End) → IsAtEnd t.left' → Ends b e → end_text e ≡ [] → IfSome t.left (λ x. Answers x e t)
-  at_end e done h none = all_of (λ x. Answers x e t) t.left t.left' p.consumed done (here e h none)
+  pub at_end : (e : End) → IsAtEnd t.left' → Ends b e → IsBefore b before → end_text e ≡ [] → IfSome t.left (λ x. Answers x e t)
+  at_end e done h is none = all_of (λ x. Answers x e t) t.left t.left' p.consumed done (here e h is none)
 
-  pub broken : (b ≡ []) ⊎ IsCut b → StopsAtRead t
-  broken (inl h) = record { read = p.read; consumed = p.consumed; answers = inl (here Closed h refl) }
-  broken (inr h) = record { read = p.read; consumed = p.consumed; answers = inr (here Cut h refl) }
+  pub broken : (b ≡ []) ⊎ IsCut b → IsBefore b before → StopsAtRead t
+  broken (inl h) is = record { read = p.read; consumed = p.consumed; answers = inl (here Closed h is refl) }
+  broken (inr h) is = record { read = p.read; consumed = p.consumed; answers = inr (here Cut h is refl) }
 
-  pub refused : (r : FramingRefusal) (w : Option Text) → ((tail : Text) → IsRefused (b ++ tail) r) → Appends t.held' w (refusal_text r)
+  pub refused : (r : FramingRefusal) (w : Option Text) → ((tail : Text) → IsRefused (b ++ tail) r × IsBefore (b ++ tail) before) → Appends t.held' w (refusal_text r)
       → Serves (Refused r) (record t { held' = w })
   refused r w h sent =
       some_of (λ x. Answers x (Refused r) (record t { held' = w }) ⊎ ((r ≡ NoBufferMemory) × StopsForMemory x (record t { held' = w }))) t.left t.left' p.consumed
       (λ x rest e. inl (record {
         items = p.items;
         texts = p.texts;
-        spells = Front-spells x p.items (b ++ rest) (Refused r) (on x rest e) (h rest);
+        spells = Front-spells x p.items (b ++ rest) (Refused r) (on x rest e) (h rest).0;
+        before = before;
+        leftover = Front-leftover x p.items (b ++ rest) before (on x rest e) (h rest).1;
         run = p.run;
-        written = Appends-trans _ _ _ _ _ p.written sent;
+        written = and_then w (refusal_text r) sent;
       }))
 
-  pub no_memory : (r : FramingRefusal) (l w : Option Text) → r ≡ NoBufferMemory → Appends t.held' w (refusal_text r)
-      → Serves (Refused r) (record t { left' = l; held' = w })
-  no_memory r l w none sent =
+  pub no_memory : (r : FramingRefusal) (l w : Option Text) → ((tail : Text) → (before ≡ []) ⊎ IsBefore (b ++ tail) before) → r ≡ NoBufferMemory
+      → Appends t.held' w (refusal_text r) → Serves (Refused r) (record t { left' = l; held' = w })
+  no_memory r l w is none sent =
       some_of (λ x. Answers x (Refused r) (record t { left' = l; held' = w }) ⊎ ((r ≡ NoBufferMemory) × StopsForMemory x (record t { left' = l; held' = w }))) t.left t.left' p.consumed
       (λ x rest e. inr (
         none,
@@ -146,102 +195,167 @@ module _ (b : Text) (t : Traffic) (p : Progress b t) where
           texts = p.texts;
           rest = b ++ rest;
           front = on x rest e;
+          before = before;
+          is_before = is rest;
           run = p.run;
-          written = subst (λ q. Appends t.held w (joined p.texts ++ refusal_text q)) none (Appends-trans _ _ _ _ _ p.written sent);
+          written = subst (λ q. Appends t.held w (joined p.texts ++ (before ++ refusal_text q))) none (and_then w (refusal_text r) sent);
         },
       ))
 
-  -- the refusal goes out in part
-  pub refusal_cut : (r : FramingRefusal) (n : ℕ) (l w : Option Text) → ((r ≡ NoBufferMemory) ⊎ ((tail : Text) → IsRefused (b ++ tail) r))
-      → n < length (refusal_text r) → Appends t.held' w (take n (refusal_text r)) → Serves (WriteFailed n) (record t { left' = l; held' = w })
-  refusal_cut r n l w h short sent =
-      some_of (λ x. StopsAtWrite x n (record t { left' = l; held' = w })) t.left t.left' p.consumed (λ x rest e. record {
+  -- a text goes out in part
+  stops : (text : Text) (n : ℕ) (l w : Option Text) (s : State) → ((tail : Text) → InHand (b ++ tail) before text (record t { left' = l; held' = w; state' = s }) p.items p.texts)
+      → n < length text → Appends t.held' w (take n text) → Serves (WriteFailed n) (record t { left' = l; held' = w; state' = s })
+  stops text n l w s hand short sent =
+      some_of (λ x. StopsAtWrite x n (record t { left' = l; held' = w; state' = s })) t.left t.left' p.consumed (λ x rest e. record {
         items = p.items;
         texts = p.texts;
         rest = b ++ rest;
         front = on x rest e;
-        text = refusal_text r;
+        before = before;
+        text = text;
         short = short;
-        written = Appends-trans _ _ _ _ _ p.written sent;
-        in_hand = inr (r, refl, elim h [ inl none ↦ inr none | inr holds ↦ inl (holds rest) ], p.run);
+        written = and_then w (take n text) sent;
+        in_hand = hand rest;
       })
 
   -- a refusal for want of memory was sent, whole or in part
-  pub memory_serves : (e : End) (r : FramingRefusal) (l w : Option Text) → r ≡ NoBufferMemory → SendsRefusal e r t.held' w → Serves e (record t { left' = l; held' = w })
-  memory_serves Closed r l w none s = absurd s
-  memory_serves Cut r l w none s = absurd s
-  memory_serves ReadFailed r l w none s = absurd s
-  memory_serves (WriteFailed n) r l w none s = refusal_cut r n l w (inl none) s.0 s.1
-  memory_serves (Refused q) r l w none s = no_memory q l w (s.0 ∙ none) (subst (λ k. Appends t.held' w (refusal_text k)) (sym s.0) s.1)
+  pub memory_serves : (e : End) (r : FramingRefusal) (l w : Option Text) → ((tail : Text) → (before ≡ []) ⊎ IsBefore (b ++ tail) before) → r ≡ NoBufferMemory
+      → SendsRefusal e r t.held' w → Serves e (record t { left' = l; held' = w })
+  memory_serves Closed r l w is none s = absurd s
+  memory_serves Cut r l w is none s = absurd s
+  memory_serves ReadFailed r l w is none s = absurd s
+  memory_serves (WriteFailed n) r l w is none s =
+      stops (refusal_text r) n l w t.state' (λ tail. inr (inl (r, refl, inr (none, is tail), p.run))) s.0 s.1
+  memory_serves (Refused q) r l w is none s = no_memory q l w is (s.0 ∙ none) (subst (λ k. Appends t.held' w (refusal_text k)) (sym s.0) s.1)
 
   -- a refusal was sent, whole or in part
-  pub refuse_serves : (e : End) (r : FramingRefusal) (w : Option Text) → ((tail : Text) → IsRefused (b ++ tail) r) → SendsRefusal e r t.held' w → Serves e (record t { held' = w })
+  pub refuse_serves : (e : End) (r : FramingRefusal) (w : Option Text) → ((tail : Text) → IsRefused (b ++ tail) r × IsBefore (b ++ tail) before)
+      → SendsRefusal e r t.held' w → Serves e (record t { held' = w })
   refuse_serves Closed r w h s = absurd s
   refuse_serves Cut r w h s = absurd s
   refuse_serves ReadFailed r w h s = absurd s
-  refuse_serves (WriteFailed n) r w h s = refusal_cut r n t.left' w (inr h) s.0 s.1
+  refuse_serves (WriteFailed n) r w h s =
+      stops (refusal_text r) n t.left' w t.state' (λ tail. inr (inl (r, refl, inl (h tail), p.run))) s.0 s.1
   refuse_serves (Refused q) r w h s =
-      refused q w (subst (λ k. (tail : Text) → IsRefused (b ++ tail) k) (sym s.0) h) (subst (λ k. Appends t.held' w (refusal_text k)) (sym s.0) s.1)
+      refused q w (subst (λ k. (tail : Text) → IsRefused (b ++ tail) k × IsBefore (b ++ tail) before) (sym s.0) h) (subst (λ k. Appends t.held' w (refusal_text k)) (sym s.0) s.1)
 
-  module _ (i : Item) (behind : Text) (begins : b ≡ print_item i ++ behind) (request : IsRequest i) (text : Text) (s : State) (replies : Replies t.state' i text s) (w : Option Text) where
+  module _ (i : Item) (behind : Text) (begins : b ≡ print_item i ++ behind) (request : IsRequest i) (same : before ≡ text_before i.head)
+      (a : Answer) (s : State) (does : Does t.state' (ask_in i.head i.body) a s) (w : Option Text) where
+    replies : Replies t.state' i (before ++ reply_for i a) s
+    replies = (a, does, ap (λ (x : Text). x ++ reply_for i a) same)
+
     -- the reply goes out whole, and the connection stays open
-    pub answered : closes i ≡ false → Appends t.held' w text → Progress behind (record t { held' = w; state' = s })
+    pub answered : closes i ≡ false → Appends t.held' w (reply_for i a) → Progress behind [] (record t { held' = w; state' = s })
     answered stays sent = record {
       read = p.read;
       items = p.items ++ i ∷ [];
-      texts = p.texts ++ text ∷ [];
+      texts = p.texts ++ (before ++ reply_for i a) ∷ [];
       front = Front-more p.read p.items b i behind p.front request begins stays;
       consumed = p.consumed;
-      run = Run-more _ p.items p.texts _ i text s p.run replies;
-      written = rw joined-more (Appends-trans _ _ _ _ _ p.written sent);
+      run = Run-more _ p.items p.texts _ i (before ++ reply_for i a) s p.run replies;
+      written = rw (append-nil, joined-more) (and_then w (reply_for i a) sent);
     }
 
     -- the reply goes out whole, and the request was the last
-    pub closed : closes i ≡ true → Appends t.held' w text → Serves Closed (record t { held' = w; state' = s })
+    pub closed : closes i ≡ true → Appends t.held' w (reply_for i a) → Serves Closed (record t { held' = w; state' = s })
     closed last sent = some_of (λ x. Answers x Closed (record t { held' = w; state' = s })) t.left t.left' p.consumed (λ x rest e. record {
       items = p.items ++ i ∷ [];
-      texts = p.texts ++ text ∷ [];
+      texts = p.texts ++ (before ++ reply_for i a) ∷ [];
       spells = Front-closes x p.items (b ++ rest) i (behind ++ rest) (on x rest e) request
           (ap (λ y. y ++ rest) begins ∙ append_assoc (print_item i) behind rest) last;
-      run = Run-more _ p.items p.texts _ i text s p.run replies;
-      written = rw (append-nil, joined-more) (Appends-trans _ _ _ _ _ p.written sent);
+      before = [];
+      leftover = Front-none x p.items (b ++ rest) i (behind ++ rest) (on x rest e) (ap (λ y. y ++ rest) begins ∙ append_assoc (print_item i) behind rest) last;
+      run = Run-more _ p.items p.texts _ i (before ++ reply_for i a) s p.run replies;
+      written = rw (append-nil, joined-more) (and_then w (reply_for i a) sent);
     })
 
     -- the reply goes out in part
-    pub reply_cut : (n : ℕ) → n < length text → Appends t.held' w (take n text) → Serves (WriteFailed n) (record t { held' = w; state' = s })
-    reply_cut n short sent = some_of (λ x. StopsAtWrite x n (record t { held' = w; state' = s })) t.left t.left' p.consumed (λ x rest e. record {
-      items = p.items;
-      texts = p.texts;
-      rest = b ++ rest;
-      front = on x rest e;
-      text = text;
-      short = short;
-      written = Appends-trans _ _ _ _ _ p.written sent;
-      in_hand = inl (
-        i,
-        behind ++ rest,
-        ap (λ y. y ++ rest) begins ∙ append_assoc (print_item i) behind rest,
-        request,
-        Run-more _ p.items p.texts _ i text s p.run replies,
-      );
-    })
+    pub reply_cut : (n : ℕ) → n < length (reply_for i a) → Appends t.held' w (take n (reply_for i a)) → Serves (WriteFailed n) (record t { held' = w; state' = s })
+    reply_cut n short sent =
+        stops (reply_for i a) n t.left' w s
+        (λ tail. inl (
+          i,
+          behind ++ tail,
+          ap (λ y. y ++ tail) begins ∙ append_assoc (print_item i) behind tail,
+          request,
+          same,
+          Run-more _ p.items p.texts _ i (before ++ reply_for i a) s p.run replies,
+        )) short sent
 
--- there is no further request
-pub stop_serves : (b : Text) (t : Traffic) (p : Progress b t) (stop : Stop) (e : End) (l w : Option Text)
-    → NextStops stop b t.left' l → StopsWith e stop t.held' w → Serves e (record t { left' = l; held' = w })
-stop_serves b t p Between e l w n s =
+-- what stands before the body goes out in part
+pub continue_cut : (b : Text) (t : Traffic) (p : Progress b [] t) (text : Text) (w : Option Text) (n : ℕ) → ((tail : Text) → IsBefore (b ++ tail) text)
+    → n < length text → Appends t.held' w (take n text) → Serves (WriteFailed n) (record t { held' = w })
+continue_cut b t p text w n is short sent =
+    stops b [] t p text n t.left' w t.state' (λ tail. inr (inr (refl, is tail, p.run))) short sent
+
+-- ---- there is no further request
+
+unread_head : (b : Text) (r : FramingRefusal) → r ≡ UnreadableHead → HeadIsUnreadable b → IsRefused b r × IsBefore b []
+unread_head b r e bad = (inl (e, bad), before_unreadable b bad)
+
+-- there is no further head
+pub head_serves : (b : Text) (t : Traffic) (p : Progress b [] t) (stop : Stop) (e : End) (l w : Option Text)
+    → HeadStops stop b t.left' l → StopsWith e stop t.held' w → Serves e (record t { left' = l; held' = w })
+head_serves b t p Between e l w n s =
     subst (λ h. Serves e (record t { left' = l; held' = h })) (sym s.1)
     (subst (λ f. Serves f (record t { left' = l })) (sym s.0)
-    (at_end (b ++ n.0.bytes) (record t { left' = l }) (came b t n.0.bytes l p n.0.taken) Closed n.1 n.0.here refl))
-stop_serves b t p AtEnd e l w n s =
+    (at_end (b ++ n.0.bytes) [] (record t { left' = l }) (came b [] t n.0.bytes l p n.0.taken) Closed n.1 n.0.here (before_empty _ n.0.here) refl))
+head_serves b t p AtEnd e l w n s =
     subst (λ h. Serves e (record t { left' = l; held' = h })) (sym s.1)
     (subst (λ f. Serves f (record t { left' = l })) (sym s.0)
-    (at_end (b ++ n.0.bytes) (record t { left' = l }) (came b t n.0.bytes l p n.0.taken) Cut n.1 n.0.here refl))
-stop_serves b t p Broken e l w n s =
+    (at_end (b ++ n.0.bytes) [] (record t { left' = l }) (came b [] t n.0.bytes l p n.0.taken) Cut n.1 (inl n.0.here) (before_cut _ n.0.here) refl))
+head_serves b t p Broken e l w n s =
     subst (λ h. Serves e (record t { left' = l; held' = h })) (sym s.1)
-    (subst (λ f. Serves f (record t { left' = l })) (sym s.0)
-    (broken (b ++ n.bytes) (record t { left' = l }) (came b t n.bytes l p n.taken) n.here))
-stop_serves b t p (Refuse r) e l w n s = elim n [
-  | inl none ↦ memory_serves b t p e r l w none s
-  | inr holds ↦ refuse_serves (b ++ holds.bytes) (record t { left' = l }) (came b t holds.bytes l p holds.taken) e r w holds.here s
+    (subst (λ f. Serves f (record t { left' = l })) (sym s.0) (by_here n.here))
+  where
+    now : Progress (b ++ n.bytes) [] (record t { left' = l })
+    now = came b [] t n.bytes l p n.taken
+
+    by_here : (b ++ n.bytes ≡ []) ⊎ HeadIsCut (b ++ n.bytes) → Serves ReadFailed (record t { left' = l })
+    by_here (inl h) = broken (b ++ n.bytes) [] (record t { left' = l }) now (inl h) (before_empty _ h)
+    by_here (inr h) = broken (b ++ n.bytes) [] (record t { left' = l }) now (inr (inl h)) (before_cut _ h)
+head_serves b t p (Refuse r) e l w n s = elim n [
+  | inl none ↦ memory_serves b [] t p e r l w (λ tail. inl refl) none s
+  | inr bad ↦ refuse_serves (b ++ bad.1.bytes) [] (record t { left' = l }) (came b [] t bad.1.bytes l p bad.1.taken) e r w
+      (λ tail. unread_head ((b ++ bad.1.bytes) ++ tail) r bad.0 (bad.1.here tail)) s
 ]
+
+-- the body behind a head is not whole, or refused
+module _ (b : Text) (headers : List HeaderSpan) (spans : RequestSpans) (h : RequestHead) (read : HeadIsRead b headers spans h) (few : spans.headers ≤ 64)
+    (t : Traffic) (p : Progress b (text_before h) t) where
+  stands : (bytes tail : Text) → IsBefore ((b ++ bytes) ++ tail) (text_before h)
+  stands bytes tail = subst (λ x. IsBefore x (text_before h)) (sym (append_assoc b bytes tail)) (stands_before b headers spans h read few (bytes ++ tail))
+
+  pub body_serves : (stop : Stop) (e : End) (l w : Option Text) → EndsFrom (BodyIsCut (framing h)) (BodyIsRefused (framing h)) stop spans.len b t.left' l
+      → StopsWith e stop t.held' w → Serves e (record t { left' = l; held' = w })
+  body_serves Between e l w n s = absurd n
+  body_serves AtEnd e l w n s =
+      subst (λ k. Serves e (record t { left' = l; held' = k })) (sym s.1)
+      (subst (λ f. Serves f (record t { left' = l })) (sym s.0)
+      (at_end (b ++ n.0.bytes) (text_before h) (record t { left' = l }) (came b (text_before h) t n.0.bytes l p n.0.taken) Cut n.1
+      (cut_there b headers spans h read few n.0.bytes n.0.here) (stands_before b headers spans h read few n.0.bytes) refl))
+  body_serves Broken e l w n s =
+      subst (λ k. Serves e (record t { left' = l; held' = k })) (sym s.1)
+      (subst (λ f. Serves f (record t { left' = l })) (sym s.0)
+      (broken (b ++ n.bytes) (text_before h) (record t { left' = l }) (came b (text_before h) t n.bytes l p n.taken)
+      (inr (cut_there b headers spans h read few n.bytes n.here)) (stands_before b headers spans h read few n.bytes)))
+  body_serves (Refuse r) e l w n s = elim n [
+    | inl none ↦ memory_serves b (text_before h) t p e r l w (λ tail. inr (stands_before b headers spans h read few tail)) none s
+    | inr bad ↦ refuse_serves (b ++ bad.bytes) (text_before h) (record t { left' = l }) (came b (text_before h) t bad.bytes l p bad.taken) e r w
+        (λ tail. (refused_there b headers spans h read few bad.bytes tail r (bad.here tail), stands bad.bytes tail)) s
+  ]
+
+-- a head came, and what stands before its body went out
+pub pulled : (b b' before : Text) (t : Traffic) (l : Option Text) → Pulls b b' t.left' l → Progress b before t → Progress b' before (record t { left' = l })
+pulled b b' before t l q p = subst (λ x. Progress x before (record t { left' = l })) (sym q.grown) (came b before t q.bytes l p q.taken)
+
+pub headed : (b b' : Text) (t : Traffic) (l w : Option Text) (headers : List HeaderSpan) (ready : Ready) (h : RequestHead) → HeadIsReady b b' t.left' l headers ready h
+    → Progress b [] t → Appends t.held' w (continue_if ready.awaits) → Progress b' (text_before h) (record t { left' = l; held' = w })
+headed b b' t l w headers ready h x p sent =
+    continued b' (record t { left' = l }) (text_before h) w (pulled b b' [] t l x.pulls p) (subst (Appends t.held' w) (ap continue_if x.awaits) sent)
+
+pub head_cut : (b b' : Text) (t : Traffic) (l w : Option Text) (headers : List HeaderSpan) (ready : Ready) (h : RequestHead) (n : ℕ) → HeadIsReady b b' t.left' l headers ready h
+    → Progress b [] t → n < length (continue_if ready.awaits) → Appends t.held' w (take n (continue_if ready.awaits)) → Serves (WriteFailed n) (record t { left' = l; held' = w })
+head_cut b b' t l w headers ready h n x p short sent =
+    continue_cut b' (record t { left' = l }) (pulled b b' [] t l x.pulls p) (continue_if ready.awaits) w n
+    (λ tail. subst (λ y. IsBefore (b' ++ tail) y) (sym (ap continue_if x.awaits)) (stands_before b' headers ready.spans h x.read x.few tail)) short sent

@@ -5,6 +5,7 @@ pub mod Framing
 pub mod Asking
 pub mod Chunks
 pub mod Spelling
+pub mod Expecting
 pub mod ReplyText
 pub mod Decoding
 pub mod Sending

@@ -6,9 +6,12 @@ use Rattle.httparse.specs.Spans.{span_bytes, IsWithin, IsHeaderWithin, header_by
 use Rattle.httparse.specs.declared.spans.HeaderSpan.{HeaderSpan}
 use Rattle.httparse.specs.declared.spans.RequestSpans.{RequestSpans}
 use Rattle.oci_names.specs.Text.{Text}
-use Rattle.registry_http.specs.Spelling.{Item, IsRequest, IsRefused, print_item, closes, HoldsNoHead, IsCut}
+use Rattle.registry_http.specs.Fields.{fields_of, closes_by}
+use Rattle.registry_http.specs.Framing.{framing}
+use Rattle.registry_http.specs.Spelling.{Item, IsRequest, closes, HoldsNoHead, HeadIsCut, HeadIsUnreadable}
+use Rattle.registry_http.specs.Expecting.{awaits_by}
 use Rattle.registry_http.specs.declared.ending.FramingRefusal.{FramingRefusal}
-use Rattle.registry_http.specs.declared.ending.FramingRefusal.TheVariants.{NoBufferMemory}
+use Rattle.registry_http.specs.declared.ending.FramingRefusal.TheVariants.{UnreadableHead, NoBufferMemory}
 use Rattle.registry_http.specs.declared.ending.Stop.{Stop}
 use Rattle.registry_http.specs.declared.ending.Stop.TheVariants.{Between, AtEnd, Broken, Refuse}
 use Rattle.registry_http.specs.declared.head.Parsed.{Parsed}
@@ -77,26 +80,32 @@ FillStops stop old left left' = StopsInside (λ b. b ≡ old) stop old left left
 abbrev pub UntilStops : ℕ → Stop → Text → Option Text → Option Text → Type 0
 UntilStops need stop old left left' = StopsInside (λ b. length b < need) stop old left left'
 
--- why there is no further request; one that is refused is, whatever bytes follow
-abbrev pub NextStops : Stop → Text → Option Text → Option Text → Type 0
-NextStops Between old left left' = Leaves old left left' (λ b. b ≡ []) × IsAtEnd left'
-NextStops AtEnd old left left' = Leaves old left left' IsCut × IsAtEnd left'
-NextStops Broken old left left' = Leaves old left left' (λ b. (b ≡ []) ⊎ IsCut b)
-NextStops (Refuse r) old left left' =
-    (r ≡ NoBufferMemory) ⊎ Leaves old left left' (λ b. (tail : Text) → IsRefused (b ++ tail) r)
+-- why there is no further head; one that is refused is, whatever bytes follow
+abbrev pub HeadStops : Stop → Text → Option Text → Option Text → Type 0
+HeadStops Between old left left' = Leaves old left left' (λ b. b ≡ []) × IsAtEnd left'
+HeadStops AtEnd old left left' = Leaves old left left' HeadIsCut × IsAtEnd left'
+HeadStops Broken old left left' = Leaves old left left' (λ b. (b ≡ []) ⊎ HeadIsCut b)
+HeadStops (Refuse r) old left left' =
+    (r ≡ NoBufferMemory) ⊎ ((r ≡ UnreadableHead) × Leaves old left left' (λ b. (tail : Text) → HeadIsUnreadable (b ++ tail)))
+
+-- the buffer begins with the head h, which is framed so
+pub record HeadIsReady (old new : Text) (left left' : Option Text) (headers : List HeaderSpan) (ready : Ready) (h : RequestHead) : Type 0 where
+  pub pulls : Pulls old new left left'
+  pub read : HeadIsRead new headers ready.spans h
+  pub few : ready.spans.headers ≤ 64
+  pub framed : ready.framing ≡ framing h
+  pub closes : ready.closes ≡ closes_by h.minor (fields_of h)
+  pub awaits : ready.awaits ≡ awaits_by h.minor (fields_of h) (framing h)
 
 -- the request i was taken off the unread bytes: its head and what its body carries stand at the front of the
--- buffer, and what is unread now behind them
-pub record IsReady (old new : Text) (left left' : Option Text) (headers : List HeaderSpan) (ready : Ready) (i : Item) : Type 0 where
-  pub bytes : Text
-  pub taken : Consumes left left' bytes
-  pub unread : old ++ bytes ≡ print_item i ++ drop ready.end new
+-- buffer, up to the offset, and what is unread now behind them
+pub record RequestIsReady (new : Text) (headers : List HeaderSpan) (ready : Ready) (end : ℕ) (i : Item) : Type 0 where
   pub request : IsRequest i
-  pub order : ready.spans.len ≤ ready.end
-  pub within : ready.end ≤ length new
-  pub some : 0 < ready.end
+  pub order : ready.spans.len ≤ end
+  pub within : end ≤ length new
+  pub some : 0 < end
   pub room : ready.spans.headers ≤ length headers
   pub fits : HeadFits ready.spans.len (take ready.spans.headers headers) ready.spans
   pub at : IsHeadAt (take ready.spans.len new) (take ready.spans.headers headers) ready.spans i.head
-  pub body : slice_range new ready.spans.len ready.end ≡ i.body
+  pub body : slice_range new ready.spans.len end ≡ i.body
   pub closes : ready.closes ≡ closes i

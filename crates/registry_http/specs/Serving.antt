@@ -1,5 +1,6 @@
 -- What a connection does, by its end.
 use Rattle.std.specs.Prelude.{◌≡◌, ℕ, ◌<◌, ◌⊎◌, List, [], ◌∷◌, ◌++◌, length, take, Option, IfSome}
+use Rattle.std.specs.Bool.{MatchBool}
 use Rattle.std.specs.List.{flat_map}
 use Rattle.std.specs.Io.KnownBytes.{Consumes, Appends}
 use Rattle.oci_names.specs.Text.{Text}
@@ -8,6 +9,7 @@ use Rattle.registry_model.specs.Keeping.{State}
 use Rattle.registry_model.specs.Doing.{Does}
 use Rattle.registry_http.specs.Asking.{ask_in, verb_of, is_head}
 use Rattle.registry_http.specs.Spelling.{Item, IsRequest, IsRefused, print_item, closes, Spells, Front}
+use Rattle.registry_http.specs.Expecting.{text_before, IsBefore}
 use Rattle.registry_http.specs.ReplyText.{reply_text, refusal_text}
 use Rattle.registry_http.specs.declared.ending.FramingRefusal.{FramingRefusal}
 use Rattle.registry_http.specs.declared.ending.FramingRefusal.TheVariants.{NoBufferMemory}
@@ -15,8 +17,12 @@ use Rattle.registry_http.specs.declared.ending.End.{End}
 use Rattle.registry_http.specs.declared.ending.End.TheVariants.{Closed, Cut, Refused, ReadFailed, WriteFailed}
 
 -- the text of the reply to a request
+abbrev pub reply_for : Item → Answer → Text
+reply_for i a = reply_text (is_head (verb_of i.head.method)) (closes i) a
+
+-- what is written for a request that is answered
 abbrev pub text_for : Item → Answer → Text
-text_for i a = reply_text (is_head (verb_of i.head.method)) (closes i) a
+text_for i a = text_before i.head ++ reply_for i a
 
 -- a request is answered as the definitions say, and the text is that of the answer
 abbrev pub Replies : State → Item → Text → State → Type 0
@@ -49,13 +55,21 @@ pub record Traffic : Type 0 where
   pub state : State
   pub state' : State
 
--- b spells requests and this end, and what was written are the replies to them and the end's own text
+-- behind these requests, which b begins with, stands a request of which this is written, or none does
+abbrev pub Leftover : Text → List Item → Text → Type 0
+Leftover b [] text = IsBefore b text
+Leftover b (i ∷ items) text = (rest : Text) × (b ≡ print_item i ++ rest) × MatchBool (closes i) (text ≡ []) (Leftover rest items text)
+
+-- b spells requests and this end, and what was written are the replies to them, what stands before the body of a
+-- request that is cut or refused there, and the end's own text
 pub record Answers (b : Text) (end : End) (t : Traffic) : Type 0 where
   pub items : List Item
   pub texts : List Text
   pub spells : Spells b items end
+  pub before : Text
+  pub leftover : Leftover b items before
   pub run : Run t.state items texts t.state'
-  pub written : Appends t.held t.held' (joined texts ++ end_text end)
+  pub written : Appends t.held t.held' (joined texts ++ (before ++ end_text end))
 
 -- no memory for the connection's buffer: the requests before are answered, and nothing else is done
 pub record StopsForMemory (b : Text) (t : Traffic) : Type 0 where
@@ -63,28 +77,33 @@ pub record StopsForMemory (b : Text) (t : Traffic) : Type 0 where
   pub texts : List Text
   pub rest : Text
   pub front : Front b items rest
+  pub before : Text
+  pub is_before : (before ≡ []) ⊎ IsBefore rest before
   pub run : Run t.state items texts t.state'
-  pub written : Appends t.held t.held' (joined texts ++ refusal_text NoBufferMemory)
+  pub written : Appends t.held t.held' (joined texts ++ (before ++ refusal_text NoBufferMemory))
 
--- what stood behind the answered requests where a write failed: a request that was answered by this text, or a
--- refusal of this text
-abbrev pub InHand : Text → Text → Traffic → List Item → List Text → Type 0
-InHand rest text t items texts =
-    ((i : Item) × (rest' : Text) × (rest ≡ print_item i ++ rest') × IsRequest i
-    × Run t.state (items ++ i ∷ []) (texts ++ text ∷ []) t.state')
-    ⊎ ((r : FramingRefusal) × (text ≡ refusal_text r) × (IsRefused rest r ⊎ (r ≡ NoBufferMemory))
+-- the text in hand, with what was written before it of the same request: of a request that was answered by it; of
+-- a refusal; or that before a body, which was not read then
+abbrev pub InHand : Text → Text → Text → Traffic → List Item → List Text → Type 0
+InHand rest before text t items texts =
+    ((i : Item) × (rest' : Text) × (rest ≡ print_item i ++ rest') × IsRequest i × (before ≡ text_before i.head)
+    × Run t.state (items ++ i ∷ []) (texts ++ (before ++ text) ∷ []) t.state')
+    ⊎ (((r : FramingRefusal) × (text ≡ refusal_text r)
+    × ((IsRefused rest r × IsBefore rest before) ⊎ ((r ≡ NoBufferMemory) × ((before ≡ []) ⊎ IsBefore rest before)))
     × Run t.state items texts t.state')
+    ⊎ ((before ≡ []) × IsBefore rest text × Run t.state items texts t.state'))
 
--- a write failed: the replies before went out whole, and of the text in hand the first n bytes
+-- a write failed: the texts before went out whole, and of the text in hand the first n bytes
 pub record StopsAtWrite (b : Text) (n : ℕ) (t : Traffic) : Type 0 where
   pub items : List Item
   pub texts : List Text
   pub rest : Text
   pub front : Front b items rest
+  pub before : Text
   pub text : Text
   pub short : n < length text
-  pub written : Appends t.held t.held' (joined texts ++ take n text)
-  pub in_hand : InHand rest text t items texts
+  pub written : Appends t.held t.held' (joined texts ++ (before ++ take n text))
+  pub in_hand : InHand rest before text t items texts
 
 -- a read failed: the bytes before it are answered as if they were all
 pub record StopsAtRead (t : Traffic) : Type 0 where

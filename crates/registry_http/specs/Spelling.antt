@@ -59,26 +59,28 @@ BodyIsRefused (framed.Length n) b r = ⊥
 BodyIsRefused framed.Chunked b r = ChunksAreRefused b r
 BodyIsRefused (framed.Refused s) b r = r ≡ s
 
--- the input ends inside a request that is not refused
-abbrev pub IsCut : Text → Type 0
-IsCut b =
-    ((0 < length b) × (length b < 16384) × HasNoRequest b)
-    ⊎ ((h : RequestHead) × (rest : Text) × BeginsWithHead b h rest × (length h.fields ≤ 64) × BodyIsCut (framing h) rest)
-
 -- the first 16,384 bytes hold no whole head, or never will
 abbrev pub HoldsNoHead : Text → Type 0
 HoldsNoHead b = ((16384 ≤ length b) × HasNoRequest (take 16384 b)) ⊎ NeverHasRequest (take 16384 b)
 
--- the head has too many fields, or it or its body is refused
-abbrev pub HeadIsRefused : RequestHead → Text → FramingRefusal → Type 0
-HeadIsRefused h rest r =
-    ((64 < length h.fields) × (r ≡ UnreadableHead)) ⊎ ((length h.fields ≤ 64) × BodyIsRefused (framing h) rest r)
+-- no head, or one of more than 64 fields
+abbrev pub HeadIsUnreadable : Text → Type 0
+HeadIsUnreadable b = HoldsNoHead b ⊎ ((h : RequestHead) × (rest : Text) × BeginsWithHead b h rest × (64 < length h.fields))
+
+abbrev pub HeadIsCut : Text → Type 0
+HeadIsCut b = (0 < length b) × (length b < 16384) × HasNoRequest b
+
+-- the input ends inside a request that is not refused
+abbrev pub IsCut : Text → Type 0
+IsCut b =
+    HeadIsCut b
+    ⊎ ((h : RequestHead) × (rest : Text) × BeginsWithHead b h rest × (length h.fields ≤ 64) × BodyIsCut (framing h) rest)
 
 -- a request stands there that is refused, whatever bytes follow
 abbrev pub IsRefused : Text → FramingRefusal → Type 0
 IsRefused b r =
-    ((r ≡ UnreadableHead) × HoldsNoHead b)
-    ⊎ ((h : RequestHead) × (rest : Text) × BeginsWithHead b h rest × HeadIsRefused h rest r)
+    ((r ≡ UnreadableHead) × HeadIsUnreadable b)
+    ⊎ ((h : RequestHead) × (rest : Text) × BeginsWithHead b h rest × (length h.fields ≤ 64) × BodyIsRefused (framing h) rest r)
 
 -- no further request is read, and why
 abbrev pub Ends : Text → End → Type 0

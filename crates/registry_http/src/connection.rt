@@ -1,44 +1,48 @@
 ghost use Rattle.std.specs.Prelude.{◌≡◌, ◌≤◌, List, Option, length, take, map};
 ghost use Rattle.oci_names.specs.Text.{Text};
+ghost use Rattle.registry_model.specs.Answer.{Answer};
+ghost use Rattle.registry_model.specs.Doing.{Does};
+ghost use Rattle.registry_http.specs.Asking.{ask_in};
 ghost use Rattle.registry_http.specs.Spelling.{Item, Spells};
-ghost use Rattle.registry_http.specs.Serving.{Replies, Serves};
+ghost use Rattle.registry_http.specs.Serving.{reply_for, Serves};
 ghost use Rattle.registry_http.specs.Sending.{SendsReply};
-ghost use Rattle.registry_http.specs.Reading.{HeadFits, IsReady};
+ghost use Rattle.registry_http.specs.Reading.{HeadFits, RequestIsReady};
 ghost use Rattle.registry_http.specs.Ending.{SendsRefusal, StopsWith};
 
 use crate::answering::answer;
 use crate::ending::{End, FramingRefusal, Stop};
 use crate::intake::{Intake, Ready};
 use crate::outgoing::WriteFault;
-use crate::reply_text::{write_refusal, write_reply};
+use crate::reply_text::{write_continue, write_refusal, write_reply};
 use crate::target::is_head;
 use registry_model::Keeper;
 use registry_service::Service;
 use std::alloc::Global;
 use std::io::{Read, Write};
 
-/// Answers the request at the front of the buffer, and writes the reply.
+/// Answers the request at the front of the buffer, which ends at the offset, and writes the reply.
 fn reply_to<W: Write, K: Keeper>(
     alloc: Global,
     service: &mut Service<K>,
     intake: &Intake,
     ready: &Ready,
+    end: usize,
     writer: &mut W,
 ) -> Result<(), WriteFault>
-    requires order { ready.now.spans.len ≤ ready.now.end }
-    requires within { ready.now.end ≤ length intake.now.buffer.items }
+    requires order { ready.now.spans.len ≤ end }
+    requires within { end ≤ length intake.now.buffer.items }
     requires room { ready.now.spans.headers ≤ length intake.now.headers.items }
     requires fits { HeadFits ready.now.spans.len (take ready.now.spans.headers intake.now.headers.items) ready.now.spans }
     ensures honest { K.is_honest service.new → K.is_honest service.old }
-    ensures replies { K.is_honest service.new → (old : Text) (left left' : Option Text) (i : Item)
-        → IsReady old intake.now.buffer.items left left' intake.now.headers.items ready.now i
-        → (text : Text) × Replies (K.state service.old) i text (K.state service.new)
-        × SendsReply result (W.contents writer.old) (W.contents writer.new) text }
+    ensures replies { K.is_honest service.new → (i : Item)
+        → RequestIsReady intake.now.buffer.items intake.now.headers.items ready.now end i
+        → (a : Answer) × Does (K.state service.old) (ask_in i.head i.body) a (K.state service.new)
+        × SendsReply result (W.contents writer.old) (W.contents writer.new) (reply_for i a) }
 {
     let spans = &ready.spans;
     let head = &intake.buffer[..spans.len];
     let fields = &intake.headers[..spans.headers];
-    let body = &intake.buffer[spans.len..ready.end];
+    let body = &intake.buffer[spans.len..end];
     let reply = answer(alloc, service, head, fields, spans, body);
     write_reply(&reply, is_head(spans.method.of(head)), ready.closes, writer)
 }
@@ -98,16 +102,27 @@ pub fn serve_connection<R: Read, W: Write, K: Keeper>(
         Err(_) => return refuse(writer, FramingRefusal::NoBufferMemory),
     };
     'requests: loop {
-        let ready = match intake.next_request(reader) {
+        let ready = match intake.next_head(reader) {
             Ok(ready) => ready,
             Err(stop) => return finish(writer, stop),
         };
-        if let Err(fault) = reply_to(alloc, service, &intake, &ready, writer) {
-            return End::WriteFailed {
+        match write_continue(ready.awaits, writer) {
+            Ok(()) => {}
+            Err(fault) => return End::WriteFailed {
                 written: fault.written,
-            };
+            },
         }
-        intake.discard(ready.end);
+        let end = match intake.read_body(reader, ready.spans.len, ready.framing) {
+            Ok(end) => end,
+            Err(stop) => return finish(writer, stop),
+        };
+        match reply_to(alloc, service, &intake, &ready, end, writer) {
+            Ok(()) => {}
+            Err(fault) => return End::WriteFailed {
+                written: fault.written,
+            },
+        }
+        intake.discard(end);
         if ready.closes {
             return End::Closed;
         }

@@ -2,7 +2,8 @@ ghost use Rattle.std.specs.Prelude.{◌≡◌, ◌≤◌, ◌<◌, ◌+◌, ◌*
 
 use crate::closing::closes;
 use crate::ending::{FramingRefusal, Stop};
-use crate::framing::framing_of;
+use crate::expecting::awaits;
+use crate::framing::{Framing, framing_of};
 use crate::head::{Parsed, parse_head};
 use httparse::spans::{EMPTY_HEADER_SPAN, HeaderSpan, RequestSpans};
 use std::alloc::{AllocError, Global};
@@ -11,12 +12,15 @@ use std::io::Read;
 /// The most fields of a head (profile).
 const MOST_FIELDS: usize = 64;
 
-/// Where the parts of a request are in the buffer: the head, what its body carries, and the end.
+/// A head at the front of the buffer: where its parts are, and what follows from its fields.
 #[derive(Clone, Copy)]
 pub struct Ready {
     pub spans: RequestSpans,
-    pub end: usize,
+    pub framing: Framing,
+    /// After the reply the connection is closed.
     pub closes: bool,
+    /// The client waits for a 100 before it sends the body.
+    pub awaits: bool,
 }
 
 /// What a connection has read and not answered yet, with its room to read more.
@@ -36,8 +40,8 @@ pub struct Intake {
 }
 
 impl Intake {
-    ghost use Rattle.registry_http.specs.Spelling.{Item};
-    ghost use Rattle.registry_http.specs.Reading.{Pulls, FillStops, UntilStops, NextStops, HeadIsRead, IsReady};
+    ghost use Rattle.registry_http.specs.Reading.{Pulls, FillStops, UntilStops, HeadStops, HeadIsRead, HeadIsReady};
+    ghost use Rattle.registry_http.specs.Framing.{IsSmall};
     ghost use Rattle.httparse.specs.Grammar.{RequestHead};
 
     /// Room for a connection: 8,192 fields, and reads of up to 65,536 bytes.
@@ -101,7 +105,7 @@ impl Intake {
         ensures cases { MatchResult result
             (λ spans. Pulls self.old.buffer.items self.new.buffer.items (R.remaining reader.old) (R.remaining reader.new)
             × (h : RequestHead) × HeadIsRead self.new.buffer.items self.new.headers.items spans h)
-            (λ stop. NextStops stop self.old.buffer.items (R.remaining reader.old) (R.remaining reader.new)) }
+            (λ stop. HeadStops stop self.old.buffer.items (R.remaining reader.old) (R.remaining reader.new)) }
         ensures weight { OnOk result (self.new.reads * 65536 + length self.new.buffer.items ≤ self.old.reads * 65536 + length self.old.buffer.items) }
     {
         loop {
@@ -117,11 +121,12 @@ impl Intake {
         }
     }
 
-    /// Reads until the buffer begins with a whole request.
-    pub fn next_request<R: Read>(&mut self, reader: &mut R) -> Result<Ready, Stop>
+    /// Reads until the buffer begins with the head of a request.
+    pub fn next_head<R: Read>(&mut self, reader: &mut R) -> Result<Ready, Stop>
         ensures cases { MatchResult result
-            (λ ready. (i : Item) × IsReady self.old.buffer.items self.new.buffer.items (R.remaining reader.old) (R.remaining reader.new) self.new.headers.items ready i)
-            (λ stop. NextStops stop self.old.buffer.items (R.remaining reader.old) (R.remaining reader.new)) }
+            (λ ready. (h : RequestHead) × HeadIsReady self.old.buffer.items self.new.buffer.items (R.remaining reader.old) (R.remaining reader.new) self.new.headers.items ready h)
+            (λ stop. HeadStops stop self.old.buffer.items (R.remaining reader.old) (R.remaining reader.new)) }
+        ensures small { IfOk result (λ ready. IsSmall ready.framing) }
         ensures weight { OnOk result (self.new.reads * 65536 + length self.new.buffer.items ≤ self.old.reads * 65536 + length self.old.buffer.items) }
     {
         let spans = match self.read_head(reader) {
@@ -133,12 +138,13 @@ impl Intake {
         }
         let head = &self.buffer[..spans.len];
         let fields = &self.headers[..spans.headers];
-        let closes = closes(head, fields, spans.version);
         let framing = framing_of(head, fields, spans.version, spans.path.of(head));
-        match self.read_body(reader, spans.len, framing) {
-            Ok(end) => Ok(Ready { spans, end, closes }),
-            Err(stop) => Err(stop),
-        }
+        Ok(Ready {
+            spans,
+            framing,
+            closes: closes(head, fields, spans.version),
+            awaits: awaits(head, fields, spans.version, framing),
+        })
     }
 
     /// Lets go the first bytes of the buffer.

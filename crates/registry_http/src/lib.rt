@@ -10,6 +10,7 @@ pub mod chunk;
 pub mod closing;
 pub mod connection;
 pub mod ending;
+pub mod expecting;
 pub mod fields;
 pub mod framing;
 pub mod head;

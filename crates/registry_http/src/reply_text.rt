@@ -4,6 +4,7 @@ ghost use Rattle.oci_names.specs.Text.{Text};
 ghost use Rattle.registry_model.specs.Answer.{answer_of, content_of, code_of, owned};
 ghost use Rattle.registry_model.specs.Ask.{text_in};
 ghost use Rattle.registry_http.specs.ReplyText.{status_line, field, field_if, length_of, length_field, close_field, sent_text, body_text, reply_text, refusal_text};
+ghost use Rattle.registry_http.specs.Expecting.{continue_if};
 ghost use Rattle.registry_http.specs.Sending.{Carries, SendsReply};
 
 use crate::ending::FramingRefusal;
@@ -103,6 +104,16 @@ impl Outgoing {
         }
     }
 
+    /// Goes on with the text that a client waits for before it sends the body.
+    fn put_continue<W: Write>(&mut self, writer: &mut W, awaits: bool)
+        ensures { (held : Option Text) (text : Text) → Carries self.old held (W.contents writer.old) text
+            → Carries self.new held (W.contents writer.new) (text ++ continue_if awaits) }
+    {
+        if awaits {
+            self.put(writer, b"HTTP/1.1 100 Continue\r\n\r\n");
+        }
+    }
+
     /// Goes on with the body, which a reply to HEAD leaves out.
     fn put_body<W: Write>(&mut self, writer: &mut W, head: bool, body: &Body)
         ensures { (held : Option Text) (text : Text) → Carries self.old held (W.contents writer.old) text
@@ -174,5 +185,14 @@ pub fn write_refusal<W: Write>(refusal: FramingRefusal, writer: &mut W) -> Resul
     let mut out = Outgoing::new();
     out.put_status(writer, refusal.code());
     out.put(writer, b"Content-Length: 0\r\nConnection: close\r\n\r\n");
+    out.finish(writer)
+}
+
+/// Writes, where a client waits for it, that it may send the body (RFC 9110, section 10.1.1).
+pub fn write_continue<W: Write>(awaits: bool, writer: &mut W) -> Result<(), WriteFault>
+    ensures { SendsReply result (W.contents writer.old) (W.contents writer.new) (continue_if awaits) }
+{
+    let mut out = Outgoing::new();
+    out.put_continue(writer, awaits);
     out.finish(writer)
 }

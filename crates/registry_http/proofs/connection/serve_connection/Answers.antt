@@ -1,39 +1,87 @@
-use Rattle.std.proofs.Common.{sym, refl, ◌∙◌, []}
-use Rattle.registry_http.proofs.ServingLemmas.{starts, came, answered, closed, reply_cut, stop_serves, memory_serves}
+use Rattle.std.proofs.Common.{◌≡◌, inl, sym, ap, refl, ◌∙◌, [], arith, length, length-drop}
+use Rattle.registry_http.specs.Spelling.{Item}
+use Rattle.registry_http.proofs.RequestLemmas.{readies}
+use Rattle.registry_http.proofs.ServingLemmas.{starts, came, headed, head_cut, head_serves, body_serves, memory_serves, answered, closed, reply_cut}
 use Rattle.registry_http.proofs.connection.serve_connection.Goals as goal
 
 pub returns-in-Err-clause-serves : goal.returns-in-Err-clause-serves
-returns-in-Err-clause-serves g c = λ honest. memory_serves [] _ (starts _ _ _) _ _ _ _ refl c.refuse.ensures
+returns-in-Err-clause-serves g c = λ honest. memory_serves [] [] _ (starts _ _ _) _ _ _ _ (λ tail. inl refl) refl c.refuse.ensures
 
 pub requests-init : goal.requests-init
 requests-init g c = record { honest = λ h. h; progress = λ h. rw c.in-Ok.ensures (starts _ _ _) }
 
-pub returns-in-Err-next_request-clause-serves : goal.returns-in-Err-next_request-clause-serves
-returns-in-Err-next_request-clause-serves g c = λ honest.
-    stop_serves _ _ (c.requests.invariant.progress honest) _ _ _ _ c.in-Err-next_request.ensures.cases c.finish.ensures
+pub returns-in-Err-next_head-clause-serves : goal.returns-in-Err-next_head-clause-serves
+returns-in-Err-next_head-clause-serves g c = λ honest.
+    head_serves _ _ (c.requests.invariant.progress honest) _ _ _ _ c.in-Err-next_head.ensures.cases c.finish.ensures
+
+pub returns-in-Err-write_continue-clause-serves : goal.returns-in-Err-write_continue-clause-serves
+returns-in-Err-write_continue-clause-serves g c = λ honest.
+    let head = c.in-Ok-next_head.ensures.cases in
+    let sent = c.in-Err-write_continue.ensures in
+    head_cut _ _ _ _ _ _ _ _ _ head.1 (c.requests.invariant.progress honest) sent.0 sent.1
+
+pub read_body-requires : goal.read_body-requires
+read_body-requires g c = record { within = c.in-Ok-next_head.ensures.cases.1.read.within; small = c.in-Ok-next_head.ensures.small }
+
+pub returns-in-Err-read_body-clause-serves : goal.returns-in-Err-read_body-clause-serves
+returns-in-Err-read_body-clause-serves g c = λ honest.
+    let head = c.in-Ok-next_head.ensures.cases in
+    let ends = rw head.1.framed at c.in-Err-read_body.ensures.cases in
+    body_serves _ _ _ _ head.1.read head.1.few _ (headed _ _ _ _ _ _ _ _ head.1 (c.requests.invariant.progress honest) c.in-Ok-write_continue.ensures)
+    _ _ _ _ ends c.finish-in-Err-read_body.ensures
+
+pub reply_to-requires : goal.reply_to-requires
+reply_to-requires g c =
+    let head = c.in-Ok-next_head.ensures.cases in
+    let body = rw head.1.framed at c.in-Ok-read_body.ensures.cases in
+    let made = readies _ _ _ _ head.1.read head.1.few _ body.0 body.1 _ _ _ c.in-Ok-next_head.ready refl head.1.closes body.2 body.3 in
+    rw c.in-Ok-read_body.ensures.headers (record { order = made.0.order; within = made.0.within; room = made.0.room; fits = made.0.fits })
 
 pub returns-in-Err-reply_to-clause-serves : goal.returns-in-Err-reply_to-clause-serves
 returns-in-Err-reply_to-clause-serves g c = λ honest.
-    let ready = c.in-Ok-next_request.ensures.cases in
-    let sent = c.in-Err-reply_to.ensures.replies honest _ _ _ ready.0 ready.1 in
-    let progress = c.requests.invariant.progress (c.reply_to.ensures.honest honest) in
-    reply_cut _ _ (came _ _ ready.1.bytes _ progress ready.1.taken) ready.0 _ ready.1.unread ready.1.request sent.0 _ sent.1 _ _ sent.2.0 sent.2.1
+    let head = c.in-Ok-next_head.ensures.cases in
+    let body = rw head.1.framed at c.in-Ok-read_body.ensures.cases in
+    let made = readies _ _ _ _ head.1.read head.1.few _ body.0 body.1 _ _ _ c.in-Ok-next_head.ready refl head.1.closes body.2 body.3 in
+    let item : Item = record { head = head.0; coded = body.0; body = body.1 } in
+    let sent = c.in-Err-reply_to.ensures.replies honest item (rw c.in-Ok-read_body.ensures.headers made.0) in
+    let progress = headed _ _ _ _ _ _ _ _ head.1 (c.requests.invariant.progress (c.reply_to.ensures.honest honest)) c.in-Ok-write_continue.ensures in
+    reply_cut _ _ _ (came _ _ _ body.3.bytes _ progress body.3.taken) item _ made.1 made.0.request refl sent.0 _ sent.1 _ _ sent.2.0 sent.2.1
+
+pub discard-requires : goal.discard-requires
+discard-requires g c =
+    let head = c.in-Ok-next_head.ensures.cases in
+    let body = rw head.1.framed at c.in-Ok-read_body.ensures.cases in
+    body.3.within
 
 pub returns-then-ready-clause-serves : goal.returns-then-ready-clause-serves
 returns-then-ready-clause-serves g c = λ honest.
-    let ready = c.in-Ok-next_request.ensures.cases in
-    let sent = c.in_default.ensures.replies honest _ _ _ ready.0 ready.1 in
-    let progress = c.requests.invariant.progress (c.reply_to.ensures.honest honest) in
-    closed _ _ (came _ _ ready.1.bytes _ progress ready.1.taken) ready.0 _ ready.1.unread ready.1.request sent.0 _ sent.1 _ (sym ready.1.closes ∙ c.if-ready.true) sent.2
+    let head = c.in-Ok-next_head.ensures.cases in
+    let body = rw head.1.framed at c.in-Ok-read_body.ensures.cases in
+    let made = readies _ _ _ _ head.1.read head.1.few _ body.0 body.1 _ _ _ c.in-Ok-next_head.ready refl head.1.closes body.2 body.3 in
+    let item : Item = record { head = head.0; coded = body.0; body = body.1 } in
+    let sent = c.in-Ok-reply_to.ensures.replies honest item (rw c.in-Ok-read_body.ensures.headers made.0) in
+    let progress = headed _ _ _ _ _ _ _ _ head.1 (c.requests.invariant.progress (c.reply_to.ensures.honest honest)) c.in-Ok-write_continue.ensures in
+    closed _ _ _ (came _ _ _ body.3.bytes _ progress body.3.taken) item _ made.1 made.0.request refl sent.0 _ sent.1 _ (sym made.0.closes ∙ c.if-ready.true) sent.2
 
 pub requests-preserved : goal.requests-preserved
 requests-preserved g c =
-    let ready = c.in-Ok-next_request.ensures.cases in
+    let head = c.in-Ok-next_head.ensures.cases in
+    let body = rw head.1.framed at c.in-Ok-read_body.ensures.cases in
+    let made = readies _ _ _ _ head.1.read head.1.few _ body.0 body.1 _ _ _ c.in-Ok-next_head.ready refl head.1.closes body.2 body.3 in
+    let item : Item = record { head = head.0; coded = body.0; body = body.1 } in
     record {
       honest = λ h. c.requests.invariant.honest (c.reply_to.ensures.honest h);
       progress = λ honest.
-          let sent = c.in_default.ensures.replies honest _ _ _ ready.0 ready.1 in
-          let progress = c.requests.invariant.progress (c.reply_to.ensures.honest honest) in
+          let sent = c.in-Ok-reply_to.ensures.replies honest item (rw c.in-Ok-read_body.ensures.headers made.0) in
+          let progress = headed _ _ _ _ _ _ _ _ head.1 (c.requests.invariant.progress (c.reply_to.ensures.honest honest)) c.in-Ok-write_continue.ensures in
           rw c.discard.ensures.buffer
-          (answered _ _ (came _ _ ready.1.bytes _ progress ready.1.taken) ready.0 _ ready.1.unread ready.1.request sent.0 _ sent.1 _ (sym ready.1.closes ∙ c.if-ready.false) sent.2);
+          (answered _ _ _ (came _ _ _ body.3.bytes _ progress body.3.taken) item _ made.1 made.0.request refl sent.0 _ sent.1 _ (sym made.0.closes ∙ c.if-ready.false) sent.2);
     }
+
+pub requests-smaller : goal.requests-smaller
+requests-smaller g c =
+    let head = c.in-Ok-next_head.ensures.cases in
+    let body = rw head.1.framed at c.in-Ok-read_body.ensures.cases in
+    let made = readies _ _ _ _ head.1.read head.1.few _ body.0 body.1 _ _ _ c.in-Ok-next_head.ready refl head.1.closes body.2 body.3 in
+    let kept = ap length c.discard.ensures.buffer ∙ length-drop c.in-Ok-read_body.end c.read_body.new.self.buffer.items in
+    omega (arith, made.0.some, made.0.within, kept, c.discard.ensures.reads, c.in-Ok-next_head.ensures.weight, c.in-Ok-read_body.ensures.weight)

@@ -1,4 +1,4 @@
-use Rattle.std.proofs.Common.{◌≡◌, ◌+◌, ◌*◌, length}
+use Rattle.std.proofs.Common.{◌≡◌, ◌+◌, ◌*◌, [], length}
 use Rattle.registry_http.proofs.ServingLemmas.{Progress}
 use Rattle.registry_http.proofs.connection.serve_connection.Given as goal
 
@@ -6,7 +6,7 @@ use Rattle.registry_http.proofs.connection.serve_connection.Given as goal
 abbrev pub invariant-requests : goal.invariant-requests
 invariant-requests g l = record {
   honest : g.K.Keeper.is_honest l.service → g.K.Keeper.is_honest l.fn.service;
-  progress : g.K.Keeper.is_honest l.service → Progress l.intake.buffer.items (record {
+  progress : g.K.Keeper.is_honest l.service → Progress l.intake.buffer.items [] (record {
     left = g.R.Read.remaining l.fn.reader;
     left' = g.R.Read.remaining l.reader;
     held = g.W.Write.contents l.fn.writer;

@@ -1,11 +1,9 @@
 use Rattle.std.proofs.Common.{inl, inr, refl, ◌++◌}
 use Rattle.oci_names.specs.Text.{Text}
-use Rattle.registry_http.specs.Spelling.{IsRefused}
-use Rattle.registry_http.specs.declared.ending.FramingRefusal.TheVariants.{UnreadableHead}
+use Rattle.registry_http.specs.Spelling.{HeadIsUnreadable}
 use Rattle.registry_http.proofs.ReadingLemmas.{leaves}
 use Rattle.registry_http.proofs.intake.Intake.read_head.Goals as goal
 
 pub returns-in-Never-clause-cases : goal.returns-in-Never-clause-cases
 returns-in-Never-clause-cases g c =
-    inr (leaves (λ b. (tail : Text) → IsRefused (b ++ tail) UnreadableHead) c.loop-spans.invariant.pulls
-    (λ tail. inl (refl, rw c.deref.ensures.value at (c.in-Never.ensures tail))))
+    inr (refl, leaves (λ b. (tail : Text) → HeadIsUnreadable (b ++ tail)) c.loop-spans.invariant.pulls (λ tail. inl (rw c.deref.ensures.value at (c.in-Never.ensures tail))))
