@@ -3,7 +3,7 @@ DEMO = registry stdio --memory --repo team/app=1000 --grant t1=team/app=3
 A = sha256:ba7816bf8f01cfea414140de5dae2223b00361a396177a9cb410ff61f20015ad
 REQUEST_FIELDS = Host: r\r\nAuthorization: Bearer t1\r\n
 
-.PHONY: demo build test fmt clean
+.PHONY: demo build test fmt clean bench-http
 
 # Builds, then pushes the blob `abc` and fetches it: both replies, byte for byte.
 demo: build
@@ -20,6 +20,10 @@ build:
 # The merge gate: every proof from nothing, the must-fail edits, the tests and the stored run.
 test:
 	rt ci
+
+# Requests a second and MB/s over standard input, beside `cat` of the same bytes (python3).
+bench-http: build
+	python3 bench/http.py
 
 fmt:
 	for crate in crates/*/; do (cd $$crate && rt fmt) || exit 1; done

@@ -171,6 +171,40 @@ fn chunked_body_byte_by_byte(rt: HostRuntime) -> Result<(), Fail> {
     Ok(())
 }
 
+/// A client that waits is told to go on before its body is read, and then gets its reply; one that
+/// sends no body is not.
+#[test]
+fn expect_continue(rt: HostRuntime) -> Result<(), Fail> {
+    let waiting: &[u8] =
+        b"POST /v2/team/app/blobs/uploads/?digest=sha256:ba7816bf8f01cfea414140de5dae2223b00361a396177a9cb410ff61f20015ad HTTP/1.1\r\nHost: r\r\nAuthorization: Bearer t1\r\nExpect: 100-Continue\r\nContent-Length: 3\r\n\r\nabc";
+    let go_on = b"HTTP/1.1 100 Continue\r\n\r\n";
+    let mut registry = setting(rt.alloc())?;
+    let served = serve(rt.alloc(), &mut registry, waiting);
+    assert_eq!(rt; served.end, End::Closed);
+    assert_eq!(rt; served.output.len(), go_on.len() + 241);
+    assert!(rt; served.output.starts_with(go_on));
+    assert!(rt;
+        served
+            .output
+            .ends_with(created(rt.alloc(), ABC)?.as_bytes())
+    );
+    let cut = serve(rt.alloc(), &mut registry, &waiting[..waiting.len() - 1]);
+    assert_eq!(rt; cut.end, End::Cut);
+    assert_eq!(rt; cut.output.as_slice(), go_on.as_slice());
+    let nothing: &[u8] =
+        b"GET /v2/team/app/blobs/x HTTP/1.1\r\nHost: r\r\nAuthorization: Bearer t1\r\nExpect: 100-continue\r\n\r\n";
+    let unknown = refused(
+        rt.alloc(),
+        "404 Not Found",
+        61,
+        "BLOB_UNKNOWN",
+        "blob unknown",
+    )?;
+    let bare = serve(rt.alloc(), &mut registry, nothing);
+    assert_eq!(rt; bare.output.as_slice(), unknown.as_bytes());
+    Ok(())
+}
+
 /// Two requests in one read; a closing one is the last.
 #[test]
 fn pipelined_requests_and_close(rt: HostRuntime) -> Result<(), Fail> {
