@@ -1,5 +1,5 @@
 -- A body of a stated length, and one that is refused.
-use Rattle.std.proofs.Common.{◌≡◌, ℕ, ◌+◌, ◌<◌, ◌≤◌, inl, inr, List, [], ◌++◌, length, take, drop, Option, refl, ap, arith, length-append, length-take, length-drop}
+use Rattle.std.proofs.Common.{ℕ, ◌+◌, ◌≤◌, inr, [], ◌++◌, length, take, drop, Option, refl, arith, length-append, length-take, length-drop}
 use Rattle.std.proofs.KnownBytes.{Consumes-nil}
 use Rattle.oci_names.specs.Text.{Text}
 use Rattle.registry_http.specs.declared.ending.FramingRefusal.{FramingRefusal}

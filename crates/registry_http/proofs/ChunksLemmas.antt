@@ -7,7 +7,6 @@ use Rattle.std.proofs.lemmas.List.Elements.{All-append, All-nil, All-from_recurs
 use Rattle.std.proofs.KnownBytes.{Consumes-nil}
 use Rattle.httparse.specs.Grammar.{print_chunk_line}
 use Rattle.oci_names.specs.Text.{Text}
-use Rattle.registry_http.specs.declared.ending.FramingRefusal.{FramingRefusal}
 use Rattle.registry_http.specs.declared.ending.Stop.{Stop}
 use Rattle.registry_http.specs.declared.body.Next.TheVariants.{Data, Last}
 use Rattle.registry_http.specs.Chunks.{Chunk, IsChunk, print_chunk, print_chunks, data_of, BehindChunks, ChunkIsCut, ChunkIsRefused}

@@ -1,14 +1,11 @@
 -- The bytes on a connection spell one list of requests.
-use Rattle.std.proofs.Common.{◌≡◌, ℕ, ◌+◌, ◌-◌, ◌≤◌, ◌⊎◌, inl, inr, Bool, true, false, List, [], ◌∷◌, ◌++◌, length, take, drop, refl, sym, ap, subst, ◌∙◌, append_assoc, arith, length-append}
+use Rattle.std.proofs.Common.{◌≡◌, ◌+◌, ◌-◌, inl, inr, Bool, true, false, List, [], ◌∷◌, ◌++◌, length, take, drop, refl, sym, ap, subst, ◌∙◌, append_assoc, arith, length-append}
 use Rattle.std.proofs.lemmas.List.{take-append-drop}
 use Rattle.std.proofs.Math.Seq.{take-append-add}
 use Rattle.httparse.specs.Grammar.{RequestHead, print_request, ReadsRequest}
 use Rattle.httparse.proofs.GrammarLemmas.{request_unique}
 use Rattle.oci_names.specs.Text.{Text}
 use Rattle.registry_http.specs.Framing.{framing}
-use Rattle.registry_http.specs.declared.framing.Framing.{Framing}
-use Rattle.registry_http.specs.declared.framing.Framing.TheVariants as framed
-use Rattle.registry_http.specs.declared.ending.FramingRefusal.{FramingRefusal}
 use Rattle.registry_http.specs.declared.ending.End.{End}
 use Rattle.registry_http.specs.declared.ending.End.TheVariants.{Closed, Cut, Refused, ReadFailed, WriteFailed}
 use Rattle.registry_http.specs.Spelling.{Item, IsBody, BodyIsCut, BodyIsRefused, IsRequest, BeginsWithHead, closes, print_item, Ends, Then, Spells}

@@ -1,5 +1,5 @@
 -- The first pair of a key.
-use Rattle.std.proofs.Common.{◌≡◌, ℕ, true, false, List, ◌∷◌, Option, Some, sym, ap, ◌∙◌}
+use Rattle.std.proofs.Common.{◌≡◌, true, false, List, ◌∷◌, Some, sym, ap, ◌∙◌}
 use Rattle.std.specs.Prelude.{bytes_eq}
 use Rattle.oci_names.specs.Text.{Text}
 use Rattle.registry_http.specs.Asking.{decoded, value_among}

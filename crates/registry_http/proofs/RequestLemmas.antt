@@ -1,8 +1,8 @@
 -- A whole request at the front of the buffer.
-use Rattle.std.proofs.Common.{Bool, ◌≡◌, ℕ, ◌+◌, ◌-◌, ◌<◌, ◌≤◌, ◌⊎◌, inl, inr, Option, List, [], ◌∷◌, ◌++◌, length, take, drop, map, slice_range, refl, sym, ap, subst, ◌∙◌, append_assoc, arith, length-append, length-take, length-drop}
+use Rattle.std.proofs.Common.{◌≡◌, ℕ, ◌+◌, ◌-◌, ◌<◌, ◌≤◌, inl, inr, Option, List, [], ◌++◌, length, take, drop, map, slice_range, refl, sym, ap, subst, ◌∙◌, append_assoc, arith, length-append, length-take}
 use Rattle.std.proofs.lemmas.List.{drop-append-le, take-append-drop, take_at, drop_at}
 use Rattle.httparse.specs.Grammar.{RequestHead, print_request}
-use Rattle.httparse.specs.Spans.{header_bytes, name_and_value, span_bytes}
+use Rattle.httparse.specs.Spans.{header_bytes, span_bytes}
 use Rattle.httparse.specs.declared.spans.HeaderSpan.{HeaderSpan}
 use Rattle.httparse.specs.declared.spans.RequestSpans.{RequestSpans}
 use Rattle.std.proofs.Math.Seq.{take-append-add}
@@ -10,7 +10,7 @@ use Rattle.httparse.proofs.GrammarLemmas.{request_unique}
 use Rattle.oci_names.specs.Text.{Text}
 use Rattle.registry_http.specs.Fields.{fields_of, closes_by}
 use Rattle.registry_http.specs.Framing.{framing, framing_by}
-use Rattle.registry_http.specs.Spelling.{Item, IsBody, BodyIsCut, BodyIsRefused, HeadIsCut, HeadIsUnreadable, IsCut, IsRefused, BeginsWithHead}
+use Rattle.registry_http.specs.Spelling.{IsBody, BodyIsCut, BodyIsRefused, HeadIsCut, HeadIsUnreadable, IsCut, IsRefused, BeginsWithHead}
 use Rattle.registry_http.specs.Expecting.{awaits_by, text_before, IsBefore}
 use Rattle.registry_http.specs.Reading.{HeadFits, HeadIsRead, IsHeadAt, RequestIsReady}
 use Rattle.registry_http.specs.declared.intake.Ready.{Ready}

@@ -1,5 +1,5 @@
 -- Trailers at the front of the unread bytes, whatever bytes follow.
-use Rattle.std.proofs.Common.{◌≡◌, ℕ, ◌+◌, ◌*◌, ◌<◌, ◌≤◌, ◌≢◌, inl, inr, List, [], ◌∷◌, ◌++◌, length, take, drop, Option, refl, sym, ap, ◌∙◌, subst, append_assoc, append-nil, arith, length-append, length-take, length-drop}
+use Rattle.std.proofs.Common.{◌≡◌, ℕ, ◌+◌, ◌<◌, ◌≤◌, ◌≢◌, inl, inr, List, [], ◌++◌, length, take, drop, Option, refl, sym, ap, ◌∙◌, subst, append_assoc, append-nil, arith, length-append, length-take, length-drop}
 use Rattle.std.proofs.lemmas.List.{take-append-le, take-append-drop, length-map, take_at}
 use Rattle.std.specs.List.{flat_map}
 use Rattle.httparse.specs.Grammar.{Field, LineEnd, print_end, print_field, print_section, ReadsSection, HasNoSection, NeverHasSection, print_chunk_line}
@@ -7,7 +7,6 @@ use Rattle.httparse.specs.Spans.{SectionOverflows, IsSectionWithin, IsSectionAt,
 use Rattle.httparse.specs.declared.spans.HeaderSpan.{HeaderSpan}
 use Rattle.httparse.proofs.GrammarLemmas.{ReadsSection-append}
 use Rattle.oci_names.specs.Text.{Text}
-use Rattle.registry_http.specs.declared.ending.FramingRefusal.{FramingRefusal}
 use Rattle.registry_http.specs.declared.ending.Stop.{Stop}
 use Rattle.registry_http.specs.Reading.{Pulls}
 use Rattle.registry_http.specs.Chunks.{BeginsWithTrailer, HoldsNoTrailer, TrailerIsCut, TrailerIsRefused, print_chunks, data_of, ChunkedBody, IsChunkedBody, print_body, BehindChunks, BehindLast, ChunkIsCut, ChunkIsRefused, ChunksAreCut, ChunksAreRefused}

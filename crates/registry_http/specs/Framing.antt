@@ -1,5 +1,5 @@
 -- How a request's body is framed, by its head (RFC 9112, sections 3.2 and 6; the limit is the profile's).
-use Rattle.std.specs.Prelude.{ℕ, ◌≤◌, ◌==◌, List, [], ◌∷◌, ◌++◌, Bool, not, ◌&&◌, ◌||◌, if◌then◌else◌, nat_le, nat_lt, length, take, Option, Some, None, codes, bytes_eq}
+use Rattle.std.specs.Prelude.{ℕ, ◌≤◌, ◌==◌, List, Bool, not, ◌&&◌, ◌||◌, if◌then◌else◌, nat_le, nat_lt, length, take, Option, Some, None, codes, bytes_eq}
 use Rattle.std.specs.List.{list_all}
 use Rattle.std.specs.Str.{str_eq_ignore_ascii_case}
 use Rattle.std.specs.Char.{is_ascii_digit}

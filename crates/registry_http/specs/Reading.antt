@@ -10,7 +10,6 @@ use Rattle.registry_http.specs.Fields.{fields_of, closes_by}
 use Rattle.registry_http.specs.Framing.{framing}
 use Rattle.registry_http.specs.Spelling.{Item, IsRequest, closes, HoldsNoHead, HeadIsCut, HeadIsUnreadable}
 use Rattle.registry_http.specs.Expecting.{awaits_by}
-use Rattle.registry_http.specs.declared.ending.FramingRefusal.{FramingRefusal}
 use Rattle.registry_http.specs.declared.ending.FramingRefusal.TheVariants.{UnreadableHead, NoBufferMemory}
 use Rattle.registry_http.specs.declared.ending.Stop.{Stop}
 use Rattle.registry_http.specs.declared.ending.Stop.TheVariants.{Between, AtEnd, Broken, Refuse}

@@ -139,24 +139,3 @@ fn chunked_body_byte_by_byte(rt: HostRuntime) -> Result<(), Fail> {
     assert_eq!(rt; end, End::Refused(FramingRefusal::UnreadableChunk));
     Ok(())
 }
-
-#[test]
-fn expect_continue(rt: HostRuntime) -> Result<(), Fail> {
-    let mut output = Vec::new(rt.alloc());
-    let request =
-        b"POST /v2/ HTTP/1.1\r\nHost: r\r\nExpect: 100-Continue\r\nContent-Length: 3\r\n\r\nabc";
-    let end = serve(rt.alloc(), request, &mut output);
-    assert_eq!(rt; end, End::Closed);
-    let text = b"HTTP/1.1 100 Continue\r\n\r\n".as_slice();
-    assert!(rt; output.as_slice().starts_with(text));
-    assert_eq!(rt; output.len(), text.len() + TOKEN_REQUIRED.len());
-    let mut output = Vec::new(rt.alloc());
-    let end = serve(
-        rt.alloc(),
-        b"POST /v2/ HTTP/1.1\r\nHost: r\r\nExpect: 100-continue\r\nContent-Length: 0\r\n\r\n",
-        &mut output,
-    );
-    assert_eq!(rt; end, End::Closed);
-    assert_eq!(rt; output.as_slice(), TOKEN_REQUIRED);
-    Ok(())
-}

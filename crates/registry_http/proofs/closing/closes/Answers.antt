@@ -1,7 +1,7 @@
 use Rattle.std.proofs.Common.{sym, ap, ◌∙◌, codes, ◌≡◌, refl, ◌||◌, Bool, true, false}
 use Rattle.std.specs.Str.{str_eq_ignore_ascii_case}
 use Rattle.httparse.specs.Spans.{header_bytes}
-use Rattle.registry_http.specs.Fields.{lists_close, closes_by}
+use Rattle.registry_http.specs.Fields.{lists_close}
 use Rattle.registry_http.proofs.FieldLemmas.{keeps, any-found, any-passed}
 use Rattle.registry_http.proofs.closing.closes.Goals.{else-same_name-via-then-same_name+else-lists_close, else-same_name-via-else-same_name}
 use Rattle.registry_http.proofs.closing.closes.Goals as goal

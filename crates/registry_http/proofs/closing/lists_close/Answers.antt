@@ -1,4 +1,4 @@
-use Rattle.std.proofs.Common.{rules, tests, List, ℕ, Bool, refl, sym, ap, ◌∙◌, codes, ◌==◌}
+use Rattle.std.proofs.Common.{rules, tests, codes, ◌==◌}
 use Rattle.std.specs.Str.{str_eq_ignore_ascii_case}
 use Rattle.std.proofs.lemmas.Iterator.Search.{any_from_yields_List}
 use Rattle.std.proofs.lemmas.Iterator.Splits.{YieldsList-from_slice_split}

@@ -1,4 +1,4 @@
-use Rattle.std.proofs.Common.{◌≡◌, inl, sym, ap, refl, ◌∙◌, [], arith, length, length-drop}
+use Rattle.std.proofs.Common.{inl, sym, ap, refl, ◌∙◌, [], arith, length, length-drop}
 use Rattle.registry_http.specs.Spelling.{Item}
 use Rattle.registry_http.proofs.RequestLemmas.{readies}
 use Rattle.registry_http.proofs.ServingLemmas.{starts, came, headed, head_cut, head_serves, body_serves, memory_serves, answered, closed, reply_cut}

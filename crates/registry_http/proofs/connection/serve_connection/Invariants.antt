@@ -1,4 +1,4 @@
-use Rattle.std.proofs.Common.{◌≡◌, ◌+◌, ◌*◌, [], length}
+use Rattle.std.proofs.Common.{◌+◌, ◌*◌, [], length}
 use Rattle.registry_http.proofs.ServingLemmas.{Progress}
 use Rattle.registry_http.proofs.connection.serve_connection.Given as goal
 

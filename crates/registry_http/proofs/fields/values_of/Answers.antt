@@ -1,9 +1,8 @@
-use Rattle.std.proofs.Common.{sym, ap, refl, ◌∙◌, arith, length, ◌≡◌, true, Option}
+use Rattle.std.proofs.Common.{sym, ap, refl, ◌∙◌, arith, length}
 use Rattle.std.specs.Str.{str_eq_ignore_ascii_case}
 use Rattle.httparse.specs.Spans.{header_bytes}
-use Rattle.registry_model.specs.Ask.{text_in}
 use Rattle.registry_http.proofs.FieldLemmas.{keeps, count-adds, first-adds, first-stays}
-use Rattle.registry_http.specs.Fields.{first, values}
+use Rattle.registry_http.specs.Fields.{first}
 use Rattle.registry_http.proofs.fields.values_of.Goals.{then-same_name, then-count-eq0, else-count-eq0, else-same_name}
 use Rattle.registry_http.proofs.fields.values_of.Goals as goal
 

@@ -1,4 +1,4 @@
-use Rattle.std.proofs.Common.{sym, ap, ◌∙◌}
+use Rattle.std.proofs.Common.{sym, ◌∙◌}
 use Rattle.registry_http.proofs.QueryLemmas.{pair_found, pair_passed}
 use Rattle.registry_http.proofs.query.value_of.Goals as goal
 

@@ -1,4 +1,3 @@
-use Rattle.std.proofs.Common.{◌≡◌, ℕ, List, sym, ap, ◌∙◌, Some, Option}
 use Rattle.percent_encoding.specs.Percent.{percent_decode}
 use Rattle.registry_http.specs.Asking.{path_in}
 use Rattle.registry_http.proofs.TextLemmas.{text_valid, text_invalid}

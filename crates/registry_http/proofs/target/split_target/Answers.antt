@@ -1,4 +1,4 @@
-use Rattle.std.proofs.Common.{sym, ap, ◌∙◌, ◌+◌, ◌≡◌, List, ℕ, [], take, drop, length, refl, arith}
+use Rattle.std.proofs.Common.{sym, ap, ◌∙◌, ◌+◌, take, drop, arith}
 use Rattle.std.proofs.lemmas.List.{drop_all}
 use Rattle.registry_http.specs.Asking.{is_question_mark}
 use Rattle.registry_http.proofs.HeadLemmas.{take_whole}

@@ -1,5 +1,3 @@
-use Rattle.std.proofs.Common.{sym, ap, ◌∙◌, Some, Option, ◌≡◌}
-use Rattle.oci_names.specs.Text.{Text}
 use Rattle.registry_http.proofs.TextLemmas.{text_valid, text_invalid}
 use Rattle.registry_http.proofs.token.text_if_valid.Goals as goal
 

@@ -1,4 +1,4 @@
-use Rattle.std.proofs.Common.{[], inr, refl, arith, length-append}
+use Rattle.std.proofs.Common.{[], refl, arith, length-append}
 use Rattle.registry_http.specs.Chunks.{DataIsCut, DataIsRefused}
 use Rattle.registry_http.specs.declared.ending.FramingRefusal.TheVariants.{UnreadableChunk}
 use Rattle.registry_http.proofs.ReadingLemmas.{pulls-on}

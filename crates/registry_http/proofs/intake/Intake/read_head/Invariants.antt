@@ -1,4 +1,4 @@
-use Rattle.std.proofs.Common.{◌≡◌, length, ◌+◌, ◌*◌, ◌≤◌}
+use Rattle.std.proofs.Common.{length, ◌+◌, ◌*◌, ◌≤◌}
 use Rattle.registry_http.specs.Reading.{Pulls}
 use Rattle.registry_http.proofs.intake.Intake.read_head.Given as goal
 

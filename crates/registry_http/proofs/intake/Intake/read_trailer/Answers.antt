@@ -1,4 +1,4 @@
-use Rattle.std.proofs.Common.{inr, refl, ◌≡◌, ◌-◌, take, drop, length}
+use Rattle.std.proofs.Common.{refl}
 use Rattle.registry_http.specs.Chunks.{TrailerIsCut, TrailerIsRefused}
 use Rattle.registry_http.specs.declared.ending.FramingRefusal.TheVariants.{UnreadableChunk}
 use Rattle.registry_http.proofs.TakingLemmas.{refused_from, fill_ends}
