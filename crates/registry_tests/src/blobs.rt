@@ -18,14 +18,10 @@ fn push_then_get_of_a_blob(rt: HostRuntime) -> Result<(), Fail> {
     assert_eq!(rt; fetched.output.len(), 177);
     let line = format!(in rt.alloc(); "HEAD /v2/team/app/blobs/{ABC}")?;
     let head = ask(rt.alloc(), &mut registry, line.as_str(), "")?;
-    assert_eq!(rt;
-        head.output.as_slice(),
-        &found(rt.alloc(), ABC, "abc")?.as_bytes()[..174]
-    );
-    assert_eq!(rt;
-        fetched.output.as_slice(),
-        found(rt.alloc(), ABC, "abc")?.as_bytes()
-    );
+    let whole = found(rt.alloc(), ABC, "abc")?;
+    assert_eq!(rt; head.output.len(), 174);
+    assert!(rt; whole.as_bytes().starts_with(head.output.as_slice()));
+    assert_eq!(rt; fetched.output.as_slice(), whole.as_bytes());
     Ok(())
 }
 
@@ -67,8 +63,7 @@ fn digests_that_do_not_verify(rt: HostRuntime) -> Result<(), Fail> {
     assert_eq!(rt; absent.output.as_slice(), unknown.as_bytes());
     let line = format!(in rt.alloc(); "HEAD /v2/team/app/blobs/{HELLO}")?;
     let head = ask(rt.alloc(), &mut registry, line.as_str(), "")?;
-    let length = unknown.len() - 61;
-    assert_eq!(rt; head.output.len(), length);
+    assert_eq!(rt; head.output.len(), unknown.len().saturating_sub(61));
     assert!(rt; unknown.as_bytes().starts_with(head.output.as_slice()));
     Ok(())
 }

@@ -111,6 +111,42 @@ fn framing_refusals(rt: HostRuntime) -> Result<(), Fail> {
             FramingRefusal::UnknownTransferEncoding,
             unknown,
         ),
+        (b"GET /v2/ HTTP/1.1\r\n\r\n", FramingRefusal::HostCount, bad),
+        (
+            b"GET /v2/ HTTP/1.0\r\nHost: r\r\nHost: r\r\n\r\n",
+            FramingRefusal::HostCount,
+            bad,
+        ),
+        (
+            b"OPTIONS * HTTP/1.1\r\nHost: r\r\n\r\n",
+            FramingRefusal::TargetForm,
+            bad,
+        ),
+        (
+            b"POST / HTTP/1.0\r\nTransfer-Encoding: chunked\r\n\r\n0\r\n\r\n",
+            FramingRefusal::TransferEncodingConflict,
+            bad,
+        ),
+        (
+            b"POST / HTTP/1.1\r\nHost: r\r\nContent-Length: 3\r\nTransfer-Encoding: chunked\r\n\r\n",
+            FramingRefusal::TransferEncodingConflict,
+            bad,
+        ),
+        (
+            b"POST / HTTP/1.1\r\nHost: r\r\nTransfer-Encoding: chunked\r\n\r\nxyz\r\nabc\r\n0\r\n\r\n",
+            FramingRefusal::UnreadableChunk,
+            bad,
+        ),
+        (
+            b"POST / HTTP/1.1\r\nHost: r\r\nTransfer-Encoding: chunked\r\n\r\n3\r\nabcd\r\n0\r\n\r\n",
+            FramingRefusal::UnreadableChunk,
+            bad,
+        ),
+        (
+            b"POST / HTTP/1.1\r\nHost: r\r\nTransfer-Encoding: chunked\r\n\r\n4000001\r\n",
+            FramingRefusal::ChunksTooLarge,
+            large,
+        ),
     ];
     for (input, refusal, text) in cases {
         let mut registry = setting(rt.alloc())?;
