@@ -9,3 +9,4 @@ pub mod DescriptorLaws
 pub mod RuleLaws
 pub mod ManifestLaws
 pub mod FaultLaws
+pub mod Answering

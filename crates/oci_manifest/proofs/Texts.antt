@@ -1,6 +1,8 @@
 -- Lists of texts, and objects of texts, member by member.
-use Rattle.std.proofs.Common.{◌≡◌, ◌≤◌, List, [], ◌∷◌, ◌++◌, length, true, Option, Some, None, string_cmp, string_bytes, String, Global, refl, sym, ap, ◌∙◌, subst, append_assoc, arith, option_map}
+use Rattle.std.proofs.Common.{◌≡◌, ◌≤◌, List, [], ◌∷◌, ◌++◌, length, map, Less, nat_cmp, true, Option, Some, None, string_cmp, string_bytes, String, Global, refl, sym, ap, ◌∙◌, subst, append_assoc, arith, option_map}
 use Rattle.std.specs.BTreeMap.{insert_entry}
+use Rattle.std.specs.Cmp.Lexicographic.{slice_cmp}
+use Rattle.std.specs.List.{AllByRecursion}
 use Rattle.std.specs.List.Sorted.{IsStrictlySortedBy}
 use Rattle.std.specs.Map.{keys_of}
 use Rattle.serde_json.specs.declared.value.Value.{Value}
@@ -9,7 +11,7 @@ use Rattle.serde_json.specs.View.{view, items_view, members_view}
 use Rattle.serde_json.proofs.Views.{Entry}
 use Rattle.oci_names.specs.Text.{Text}
 use Rattle.oci_manifest.specs.Part.{◌>>=◌}
-use Rattle.oci_manifest.specs.Member.{Pairs, pairs_of, has_items, texts_of}
+use Rattle.oci_manifest.specs.Member.{Pairs, pairs_of, IsInByteOrder, has_items, texts_of}
 use Rattle.oci_manifest.proofs.Order.{names, IsAbove, goes_last, above_front, names-append_one}
 
 pub filled : (vs : List Value) → 1 ≤ length vs → true ≡ has_items (items_view vs)
@@ -72,3 +74,14 @@ copies_one all e left texts after k v so_far ordered is text made =
       named = ap (λ (es : List TextEntry). names es) last ∙ names-append_one texts (k, v) ∙ rw (is, so_far.named) refl ∙ sym (names-append_one so_far.done e);
       reads = so_far.reads ∙ ap (behind (pairs_of texts)) read ∙ behind-one_more (pairs_of texts) (string_bytes e.0, string_bytes v) (texts_of (members_view left)) ∙ ap (λ (ps : Pairs). behind ps (texts_of (members_view left))) (sym shown);
     }
+
+-- ---- the order of a map
+
+above_first : (e : TextEntry) (es : List TextEntry) → AllByRecursion (λ y. string_cmp e.0 y ≡ Less) (keys_of es) → AllByRecursion (λ k. slice_cmp nat_cmp (string_bytes e.0) k ≡ Less) (map (λ p. p.0) (pairs_of es))
+above_first e [] h = tt
+above_first e (x ∷ es) h = (h.0, above_first e es h.1)
+
+pub in_byte_order : (es : List TextEntry) → IsStrictlySortedBy string_cmp (keys_of es) → IsInByteOrder (pairs_of es)
+unfolding IsStrictlySortedBy
+in_byte_order [] h = tt
+in_byte_order (e ∷ es) h = (above_first e es h.0, in_byte_order es h.1)

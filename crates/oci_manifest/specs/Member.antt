@@ -1,4 +1,7 @@
 -- Members of an object, in the form that is asked for. A member that is null counts as absent where it is optional (profile).
+use Rattle.std.specs.Cmp.Lexicographic.{slice_cmp}
+use Rattle.std.specs.Ordering.{nat_cmp}
+use Rattle.std.specs.List.Sorted.{IsStrictlySortedBy}
 use Rattle.std.specs.Prelude.{ℕ, ◌^◌, ◌&&◌, List, [], ◌∷◌, map, String, string_bytes, Bool, true, false, nat_lt, if◌then◌else◌, Option, Some, None, option_and_then, option_map, is_some}
 use Rattle.std.specs.declared.alloc.Global.{Global}
 use Rattle.serde_json.specs.Data.{Data, null, boolean, number, string, array, object, Items, no_items, item, Members, no_members, member}
@@ -76,6 +79,10 @@ Pairs = List (Text × Text)
 
 abbrev pub pairs_of : List (String Global × String Global) → Pairs
 pairs_of es = map (λ e. (string_bytes e.0, string_bytes e.1)) es
+
+-- each key is below those after it, byte by byte
+abbrev pub IsInByteOrder : Pairs → Type 0
+IsInByteOrder ps = IsStrictlySortedBy (slice_cmp nat_cmp) (map (λ p. p.0) ps)
 
 abbrev pub text_members : Pairs → Members
 text_members [] = no_members

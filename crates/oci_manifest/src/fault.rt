@@ -54,6 +54,11 @@ impl ManifestFault {
 }
 
 impl fmt::Display for ManifestFault {
+    ghost use Rattle.std.specs.Prelude.{Some};
+    ghost use Rattle.oci_manifest.specs.Fault.{fault_text};
+
+    ghost output = { λ fault. Some (fault_text fault) };
+
     fn fmt<W: fmt::Write>(&self, f: &mut fmt::Formatter<W>) -> fmt::Result {
         f.write_str(match self {
             ManifestFault::NotJson => "not a JSON text",

@@ -1,10 +1,12 @@
 //! The manifest that bytes spell.
 
-ghost use Rattle.std.specs.Prelude.{◌≡◌, option_map, string_bytes, IfOk};
+ghost use Rattle.std.specs.Prelude.{◌≡◌, ◌≢◌, option_map, string_bytes, IfOk, IfErr, MatchResult};
 ghost use Rattle.serde_json.specs.View.{view};
 ghost use Rattle.oci_manifest.specs.Part.{Finds};
 ghost use Rattle.oci_manifest.specs.Rules.{Gives};
-ghost use Rattle.oci_manifest.specs.Manifest.{document_in, version_of, own_type_of, subject_of, artifact_type_of, shown, manifest_of, manifest_in};
+ghost use Rattle.oci_manifest.specs.Manifest.{document_in, version_of, own_type_of, subject_of, artifact_type_of, ManifestShown, shown, manifest_of, manifest_in};
+ghost use Rattle.oci_manifest.specs.Reads.{Reads};
+ghost use Rattle.oci_manifest.specs.FirstFault.{Refuses};
 
 use crate::body::{read_body, read_contents};
 use crate::descriptor::read_descriptor;
@@ -137,7 +139,11 @@ fn read_rules(alloc: Global, value: &Value) -> Result<Manifest, ManifestFault>
 /// forms. Members that no rule names are ignored.
 #[tactic(auto, unfolding(crate::specs::Manifest::manifest_in))]
 pub fn read_manifest(alloc: Global, bytes: &[u8]) -> Result<Manifest, ManifestFault>
-    ensures { Gives shown result (manifest_in bytes.now) }
+    ensures exact { Gives shown result (manifest_in bytes.now) }
+    ensures found { IfOk result (λ m. Reads bytes.now (shown m)) }
+    ensures only { (said : ManifestShown) → Reads bytes.now said
+        → MatchResult result (λ m. shown m ≡ said) (λ fault. fault ≡ ManifestFault.Memory) }
+    ensures first_fault { IfErr result (λ fault. fault ≢ ManifestFault.Memory → Refuses bytes.now fault) }
 {
     let value = read_document(alloc, bytes)?;
     read_rules(alloc, &value)

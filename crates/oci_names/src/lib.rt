@@ -8,6 +8,7 @@ mod byte;
 pub mod digest;
 pub mod fault;
 pub mod laws;
+mod order;
 pub mod reference;
 pub mod repo_name;
 pub mod session;

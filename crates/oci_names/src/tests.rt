@@ -223,7 +223,11 @@ fn references(rt: HostRuntime) -> Result<(), Fail> {
         Reference::Tag(_) => assert!(rt; false, "a digest"),
         Reference::Digest(digest) => assert_eq!(rt; digest.as_str(), ABC),
     }
-    for text in ["", "sha256:abc", "a b", ".a", "sha256:"] {
+    match Reference::parse(rt.alloc(), "md5:900150983cd24fb0d6963f7d28e17f72")? {
+        Reference::Tag(_) => assert!(rt; false, "a digest"),
+        Reference::Digest(digest) => assert_eq!(rt; digest.verifies(b"abc"), Verdict::Unsupported),
+    }
+    for text in ["", "sha256:abc", "a b", ".a", "-x", "sha256:"] {
         match Reference::parse(rt.alloc(), text) {
             Ok(_) => assert!(rt; false, "{text}"),
             Err(fault) => assert_eq!(rt; fault, NameFault::Reference, "{text}"),

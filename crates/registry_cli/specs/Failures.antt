@@ -48,3 +48,11 @@ abbrev pub ended_as : End → Bool → Result (Unit {0}) Failure
 ended_as ending.ReadFailed spent = Err ConnectionFailure
 ended_as (ending.WriteFailed written) spent = Err ConnectionFailure
 ended_as _ spent = if spent then Err StorageFailure else Ok tt
+
+abbrev pub status_if : Result (Unit {0}) Failure → ℕ
+status_if (Ok v) = 0
+status_if (Err failure) = status_of failure
+
+-- the status of a program that served one connection
+abbrev pub status_after : End → Bool → ℕ
+status_after end spent = status_if (ended_as end spent)

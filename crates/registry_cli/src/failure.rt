@@ -4,6 +4,7 @@ ghost use Rattle.registry_cli.specs.Failures.{status_of, text_of, failure_of, fa
 use oci_names::NameFault;
 use registry_service::AdminFault;
 use std::alloc::AllocError;
+use std::io::Write;
 
 /// Why the program ends with another status than 0.
 #[derive(Clone, Copy, Debug, PartialEq, Eq)]
@@ -63,6 +64,14 @@ impl<T: Drop> From<std::alloc::AllocFailed<T>> for Failure {
     fn from(_: std::alloc::AllocFailed<T>) -> Failure {
         Failure::OutOfMemory
     }
+}
+
+/// Says why on standard error, and gives the exit status.
+pub fn say<E: Write>(err: &mut E, failure: Failure) -> u8
+    ensures { result ≡ status_of failure }
+{
+    let _ = writeln!(err, "{}", failure.text());
+    failure.status()
 }
 
 /// Why a command that sets the registry up was not carried out. `NoGrant` comes of no such command.

@@ -1,6 +1,6 @@
-ghost use Rattle.std.specs.Prelude.{◌≤◌};
+ghost use Rattle.std.specs.Prelude.{◌≤◌, IfOk};
 
-use crate::failure::Failure;
+use crate::failure::{Failure, say};
 use crate::options::Setup;
 use crate::stdio::serve_memory;
 use clap::error::ErrorKind;
@@ -46,28 +46,34 @@ fn command<'a>(alloc: Global) -> Result<Command<'a>, AllocError> {
 }
 
 /// `registry stdio`: without `--memory` there is nothing to serve.
-fn stdio<R: Read, W: Write>(
+fn stdio<R: Read, W: Write, E: Write>(
     alloc: Global,
     matches: &ArgMatches,
     reader: &mut R,
     out: &mut W,
-) -> Result<(), Failure> {
+    err: &mut E,
+) -> Result<u8, Failure>
+    ensures { IfOk result (λ status. status ≤ 4) }
+{
     if !matches.get_flag("memory") {
         return Err(Failure::InvalidOptions);
     }
     let repos = matches.get_strs("repo").unwrap_or(&[]);
     let grants = matches.get_strs("grant").unwrap_or(&[]);
     let setup = Setup::read(alloc, repos, grants)?;
-    serve_memory(alloc, &setup, reader, out)
+    serve_memory(alloc, &setup, reader, out, err)
 }
 
 /// Does what the words say.
-fn run<S: AsStr, R: Read, W: Write>(
+fn run<S: AsStr, R: Read, W: Write, E: Write>(
     alloc: Global,
     words: &[S],
     reader: &mut R,
     out: &mut W,
-) -> Result<(), Told> {
+    err: &mut E,
+) -> Result<u8, Told>
+    ensures { IfOk result (λ status. status ≤ 4) }
+{
     let command = match command(alloc) {
         Ok(command) => command,
         Err(_) => return Err(Told::Failed(Failure::OutOfMemory)),
@@ -77,17 +83,11 @@ fn run<S: AsStr, R: Read, W: Write>(
         Err(error) => return Err(Told::Line(error)),
     };
     match matches.subcommand() {
-        Some(("stdio", matches)) => stdio(alloc, matches, reader, out).map_err(Told::Failed),
+        Some(("stdio", matches)) => {
+            stdio(alloc, matches, reader, out, err).map_err(Told::Failed)
+        }
         _ => Err(Told::Failed(Failure::InvalidOptions)),
     }
-}
-
-/// Says why on standard error.
-fn fail<E: Write>(err: &mut E, failure: Failure) -> u8
-    ensures { result ≤ 4 }
-{
-    let _ = writeln!(err, "{}", failure.text());
-    failure.status()
 }
 
 /// Answers a command line that is a mistake, or that asks for help or the version.
@@ -95,10 +95,10 @@ fn tell<W: Write, E: Write>(alloc: Global, error: &Error, out: &mut W, err: &mut
     ensures { result ≤ 4 }
 {
     if error.kind() == ErrorKind::OutOfMemory {
-        return fail(err, Failure::OutOfMemory);
+        return say(err, Failure::OutOfMemory);
     }
     let Ok(text) = error.to_string(alloc) else {
-        return fail(err, Failure::OutOfMemory);
+        return say(err, Failure::OutOfMemory);
     };
     if error.use_stderr() {
         let _ = err.write_all(text.as_bytes());
@@ -106,7 +106,7 @@ fn tell<W: Write, E: Write>(alloc: Global, error: &Error, out: &mut W, err: &mut
     } else {
         match out.write_all(text.as_bytes()) {
             Ok(()) => 0,
-            Err(_) => fail(err, Failure::ConnectionFailure),
+            Err(_) => say(err, Failure::ConnectionFailure),
         }
     }
 }
@@ -124,9 +124,9 @@ pub fn run_words<T: AllocGlobal, S: AsStr, R: Read, W: Write, E: Write>(
     ensures { result ≤ 4 }
 {
     let alloc = rt.alloc();
-    match run(alloc, words, reader, out) {
-        Ok(()) => 0,
-        Err(Told::Failed(failure)) => fail(err, failure),
+    match run(alloc, words, reader, out, err) {
+        Ok(status) => status,
+        Err(Told::Failed(failure)) => say(err, failure),
         Err(Told::Line(error)) => tell(alloc, &error, out, err),
     }
 }

@@ -1,5 +1,5 @@
 -- A body of a stated length, and one that is refused.
-use Rattle.std.proofs.Common.{ℕ, ◌+◌, ◌≤◌, inr, [], ◌++◌, length, take, drop, Option, refl, arith, length-append, length-take, length-drop}
+use Rattle.std.proofs.Common.{◌≡◌, ℕ, ◌≤◌, inr, [], ◌++◌, length, take, drop, Option, refl, arith, length-take}
 use Rattle.std.proofs.KnownBytes.{Consumes-nil}
 use Rattle.oci_names.specs.Text.{Text}
 use Rattle.registry_http.specs.declared.ending.FramingRefusal.{FramingRefusal}
@@ -9,24 +9,22 @@ use Rattle.registry_http.specs.declared.framing.Framing.TheVariants as framed
 use Rattle.registry_http.specs.Spelling.{IsBody, BodyIsCut, BodyIsRefused}
 use Rattle.registry_http.specs.Reading.{Pulls, UntilStops}
 use Rattle.registry_http.specs.Taking.{Takes, EndsFrom}
-use Rattle.registry_http.proofs.TakingLemmas.{nothing_taken, takes-on, passed_by, until_ends}
+use Rattle.registry_http.proofs.TakingLemmas.{nothing_taken, takes-on, passed, until_ends}
 
-pub length_read : (start n : ℕ) (a b : Text) (l l' : Option Text) → start ≤ length a → Pulls a b l l' → start + n ≤ length b
-    → (coded : Text) × (body : Text) × IsBody (framed.Length n) coded body × Takes start a b l l' coded body (start + n)
-length_read start n a b l l' within p fits =
-    let some = take n (drop start b) in (
-      some,
-      some,
-      (refl, omega (arith, length-take n (drop start b), length-drop start b)),
-      takes-on start start (start + n) a b b l l' l' [] [] some some (nothing_taken start a b l l' within p) (passed_by start n b l' fits),
-    )
+pub length_read : (n : ℕ) (f a g b h c : Text) (l l' : Option Text) → g ≡ f → Pulls a b l l' → n ≤ length b → h ≡ g ++ take n b → c ≡ drop n b
+    → (coded : Text) × (body : Text) × IsBody (framed.Length n) coded body × Takes f a h c l l' coded body
+length_read n f a g b h c l l' same p fits kept rest = (
+  take n b,
+  take n b,
+  (refl, omega (arith, length-take n b)),
+  takes-on f a g b h c l l' l' [] [] (take n b) (take n b) (nothing_taken f a g b l l' same p) (passed n g b h c l' kept rest),
+)
 
-pub length_ends : (stop : Stop) (start n : ℕ) (a : Text) (l l' : Option Text) → start ≤ length a → UntilStops (start + n) stop a l l'
-    → EndsFrom (BodyIsCut (framed.Length n)) (BodyIsRefused (framed.Length n)) stop start a l l'
-length_ends stop start n a l l' within h =
-    until_ends stop (start + n) start a l l' (BodyIsCut (framed.Length n)) (BodyIsRefused (framed.Length n)) within h
-    (λ more short. omega (arith, short, length-drop start (a ++ more), length-append a more))
+pub length_ends : (stop : Stop) (n : ℕ) (a : Text) (l l' : Option Text) → UntilStops n stop a l l'
+    → EndsFrom (BodyIsCut (framed.Length n)) (BodyIsRefused (framed.Length n)) stop a l l'
+length_ends stop n a l l' h =
+    until_ends stop n a l l' (BodyIsCut (framed.Length n)) (BodyIsRefused (framed.Length n)) h (λ more short. short)
 
-pub refused_here : (start : ℕ) (a : Text) (l : Option Text) (r : FramingRefusal)
-    → EndsFrom (BodyIsCut (framed.Refused r)) (BodyIsRefused (framed.Refused r)) (Refuse r) start a l l
-refused_here start a l r = inr (record { bytes = []; taken = Consumes-nil l; here = λ tail. refl })
+pub refused_here : (a : Text) (l : Option Text) (r : FramingRefusal)
+    → EndsFrom (BodyIsCut (framed.Refused r)) (BodyIsRefused (framed.Refused r)) (Refuse r) a l l
+refused_here a l r = inr (record { bytes = []; taken = Consumes-nil l; here = λ tail. refl })

@@ -1,11 +1,10 @@
 -- One chunk: its line, its data and the line end behind them.
-use Rattle.std.proofs.Common.{◌≡◌, ◌≢◌, ℕ, ◌+◌, ◌-◌, ◌<◌, ◌≤◌, inl, inr, [], ◌∷◌, ◌++◌, length, take, drop, get_or, Option, refl, sym, ap, ◌∙◌, subst, append_assoc, append-nil, arith, add-one, drop-cons, length-append, length-take, length-drop}
-use Rattle.std.proofs.lemmas.List.{get_or_default, get_or_append_left, drop-drop, take_at, take-append-le, take-append-drop}
+use Rattle.std.proofs.Common.{◌≡◌, ◌≢◌, ℕ, ◌+◌, ◌-◌, ◌<◌, ◌≤◌, inl, inr, [], ◌∷◌, ◌++◌, length, take, drop, get_or, slice_index, Option, refl, sym, ap, ◌∙◌, subst, append_assoc, append-nil, arith, add-one, drop-cons, length-append, length-take}
+use Rattle.std.proofs.lemmas.List.{get_or_append_left, take_at, take-append-le, take-append-drop}
 use Rattle.std.proofs.lemmas.Grind.{common_steps}
 use Rattle.httparse.specs.Grammar.{ChunkLine, print_chunk_line, HasNoChunkLine, NeverHasChunkLine, ReadsChunkLine}
 use Rattle.httparse.specs.Spans.{IsChunkLineAt}
 use Rattle.httparse.proofs.ChunkLemmas.{ReadsChunkLine-append}
-use Rattle.httparse.proofs.RunLemmas.{get_or-drop-append}
 use Rattle.oci_names.specs.Text.{Text}
 use Rattle.registry_http.specs.declared.ending.FramingRefusal.TheVariants.{ChunksTooLarge}
 use Rattle.registry_http.specs.declared.ending.Stop.{Stop}
@@ -15,7 +14,7 @@ use Rattle.registry_http.specs.Reading.{Pulls}
 use Rattle.registry_http.specs.Chunks.{limit, chunk_end, BeginsWithLine, BeginsWithSize, HoldsNoLine, LineIsCut, HasBadEnd, HasGoodEnd, DataIsCut, DataIsRefused, Chunk, IsChunk, print_chunk, ChunkIsCut, ChunkIsRefused}
 use Rattle.registry_http.specs.Taking.{Takes, EndsFrom, LineIsRead}
 use Rattle.registry_http.proofs.HeadLemmas.{take_whole, take_on}
-use Rattle.registry_http.proofs.TakingLemmas.{nothing_taken, takes-on, cut_out, passed_by, refused_from, ends_behind}
+use Rattle.registry_http.proofs.TakingLemmas.{nothing_taken, takes-on, skipped, passed, refused_from, ends_behind}
 
 -- ---- a line at the front, whatever bytes follow
 
@@ -59,50 +58,37 @@ line_read b len size l x =
 
 -- ---- the bytes behind the data
 
-seen_at : (at k i : ℕ) (b more : Text) (x : ℕ) → at + k ≡ i → i < length b → x ≡ get_or b i x → get_or (drop at b ++ more) k 0 ≡ x
-seen_at at k i b more x e lt is = get_or-drop-append b more at k (omega arith) ∙ ap (λ (n : ℕ). get_or b n 0) e ∙ get_or_default b i 0 x lt ∙ sym is
+-- a byte stays where more bytes come
+stays : (b more : Text) (i : ℕ) → i < length b → slice_index (b ++ more) i ≡ slice_index b i
+stays b more i within = get_or_append_left b more 0 i within
 
-pub bad_first : (at size : ℕ) (b tail : Text) (x : ℕ) → at + size + 1 ≤ length b → x ≡ get_or b (at + size) x → x ≢ 13 → HasBadEnd size (drop at b ++ tail)
-bad_first at size b tail x enough is other =
-    inl (omega (arith, length-append (drop at b) tail, length-drop at b), λ e. other (sym (seen_at at size (at + size) b tail x refl (omega arith) is) ∙ e))
+pub bad_first : (size : ℕ) (b tail : Text) → size + 1 ≤ length b → slice_index b size ≢ 13 → HasBadEnd size (b ++ tail)
+bad_first size b tail enough other =
+    inl (omega (arith, length-append b tail), λ is. other (sym (stays b tail size (omega arith)) ∙ is))
 
--- the byte behind the data stays where more bytes come
-pub first_stays : (at size : ℕ) (a b bytes tail : Text) (x : ℕ) → b ≡ a ++ bytes → at + size + 1 ≤ length a → x ≡ get_or a (at + size) x → get_or (drop at b ++ tail) size 0 ≡ x
-first_stays at size a b bytes tail x grown enough is =
-    let inside : at + size < length a = omega arith in
-    let long : at + size < length b = omega (arith, ap length grown, length-append a bytes) in
-    let same : get_or b (at + size) 0 ≡ get_or a (at + size) 0 = ap (λ (l : Text). get_or l (at + size) 0) grown ∙ get_or_append_left a bytes 0 (at + size) inside in
-    get_or-drop-append b tail at size long ∙ same ∙ get_or_default a (at + size) 0 x inside ∙ sym is
+-- the byte behind the data, where more bytes came
+first_there : (size : ℕ) (a b bytes : Text) → b ≡ a ++ bytes → size + 1 ≤ length a → slice_index a size ≡ 13 → slice_index b size ≡ 13
+first_there size a b bytes grown enough cr = ap (λ (x : Text). slice_index x size) grown ∙ stays a bytes size (omega arith) ∙ cr
 
-pub bad_second : (at size : ℕ) (a b bytes tail : Text) (x y : ℕ) → b ≡ a ++ bytes → at + size + 1 ≤ length a → x ≡ get_or a (at + size) x → x ≡ 13
-    → at + size + 2 ≤ length b → y ≡ get_or b (at + size + 1) y → y ≢ 10 → HasBadEnd size (drop at b ++ tail)
-bad_second at size a b bytes tail x y grown one first cr two second other =
+pub bad_second : (size : ℕ) (a b bytes tail : Text) → b ≡ a ++ bytes → size + 1 ≤ length a → slice_index a size ≡ 13 → size + 2 ≤ length b
+    → slice_index b (size + 1) ≢ 10 → HasBadEnd size (b ++ tail)
+bad_second size a b bytes tail grown one cr two other =
     inr (
-      omega (arith, length-append (drop at b) tail, length-drop at b),
-      first_stays at size a b bytes tail x grown one first ∙ cr,
-      λ is. other (sym (seen_at at (size + 1) (at + size + 1) b tail y (omega arith) (omega arith) second) ∙ is),
+      omega (arith, length-append b tail),
+      stays b tail size (omega arith) ∙ first_there size a b bytes grown one cr,
+      λ is. other (sym (stays b tail (size + 1) (omega arith)) ∙ is),
     )
 
-pub good_end : (at size : ℕ) (a b bytes : Text) (x y : ℕ) → b ≡ a ++ bytes → at + size + 1 ≤ length a → x ≡ get_or a (at + size) x → x ≡ 13
-    → at + size + 2 ≤ length b → y ≡ get_or b (at + size + 1) y → y ≡ 10 → HasGoodEnd size (drop at b)
-good_end at size a b bytes x y grown one first cr two second lf =
-    let whole = append-nil (drop at b) in (
-      omega (arith, length-drop at b),
-      rw whole at (first_stays at size a b bytes [] x grown one first ∙ cr),
-      rw whole at (seen_at at (size + 1) (at + size + 1) b [] y (omega arith) (omega arith) second ∙ lf),
-    )
+pub good_end : (size : ℕ) (a b bytes : Text) → b ≡ a ++ bytes → size + 1 ≤ length a → slice_index a size ≡ 13 → size + 2 ≤ length b
+    → slice_index b (size + 1) ≡ 10 → HasGoodEnd size b
+good_end size a b bytes grown one cr two lf = (two, first_there size a b bytes grown one cr, lf)
 
 -- the input ends before the byte behind the data, or right behind it
-pub cut_before : (at size : ℕ) (b : Text) → at ≤ length b → length b < at + size + 1 → DataIsCut size (drop at b)
-cut_before at size b within short = (omega (arith, length-drop at b), λ long. absurd (omega (arith, long, length-drop at b)))
+pub cut_before : (size : ℕ) (b : Text) → length b < size + 1 → DataIsCut size b
+cut_before size b short = (omega arith, λ long. absurd (omega (arith, long)))
 
-pub cut_behind : (at size : ℕ) (a more : Text) (x : ℕ) → at ≤ length a → at + size + 1 ≤ length a → x ≡ get_or a (at + size) x → x ≡ 13
-    → length (a ++ more) < at + size + 2 → DataIsCut size (drop at (a ++ more))
-cut_behind at size a more x within one first cr short =
-    let whole = append-nil (drop at (a ++ more)) in (
-      omega (arith, length-drop at (a ++ more), length-append a more),
-      λ long. rw whole at (first_stays at size a (a ++ more) more [] x refl one first ∙ cr),
-    )
+pub cut_behind : (size : ℕ) (a more : Text) → size + 1 ≤ length a → slice_index a size ≡ 13 → length (a ++ more) < size + 2 → DataIsCut size (a ++ more)
+cut_behind size a more one cr short = (short, λ long. stays a more size (omega arith) ∙ cr)
 
 data_and_end : (size : ℕ) (b : Text) → HasGoodEnd size b → take 2 (drop size b) ≡ chunk_end
 data_and_end size b h =
@@ -119,22 +105,25 @@ begins_on : (b : Text) (l : ChunkLine) (rest tail : Text) → BeginsWithLine b l
 begins_on b l rest tail h = record { reads = ReadsChunkLine-append b l rest tail h.reads; short = h.short }
 
 -- the chunk would go over the limit
-pub too_large : (total at : ℕ) (a b : Text) (l l' : Option Text) (line : Line) → at ≤ length a → Pulls a b l l' → LineIsRead (drop at b) line → total ≤ limit
-    → limit - total < line.size → EndsFrom (ChunkIsCut total) (ChunkIsRefused total) (Refuse ChunksTooLarge) at a l l'
-too_large total at a b l l' line within p h small over =
-    refused_from at a b l l' (ChunkIsCut total) (ChunkIsRefused total) ChunksTooLarge within p
-    (λ tail. inr (inl (h.text, drop line.len (drop at b) ++ tail, begins_on (drop at b) h.text _ tail h.begins, omega (arith, h.size), refl)))
+pub too_large : (total : ℕ) (a b : Text) (l l' : Option Text) (line : Line) → Pulls a b l l' → LineIsRead b line → total ≤ limit
+    → limit - total < line.size → EndsFrom (ChunkIsCut total) (ChunkIsRefused total) (Refuse ChunksTooLarge) a l l'
+too_large total a b l l' line p h small over =
+    refused_from a b l l' (ChunkIsCut total) (ChunkIsRefused total) ChunksTooLarge p
+    (λ tail. inr (inl (h.text, drop line.len b ++ tail, begins_on b h.text _ tail h.begins, omega (arith, h.size), refl)))
+
+pub line_fits : (b : Text) (line : Line) → LineIsRead b line → line.len ≤ length b
+line_fits b line h =
+    let size = ap length h.begins.reads.1 in
+    omega (arith, length-append (print_chunk_line h.text) (drop line.len b), h.len)
 
 -- the line was taken off
-pub line_taken : (at : ℕ) (a b c : Text) (l l' : Option Text) (line : Line) → at ≤ length a → Pulls a b l l' → (h : LineIsRead (drop at b) line)
-    → c ≡ take at b ++ drop (at + line.len) b → Takes at a c l l' (print_chunk_line h.text) [] at
-line_taken at a b c l l' line within p h e =
-    let fits : at + line.len ≤ length b =
-    omega (arith, ap length h.begins.reads.1, length-append (print_chunk_line h.text) (drop line.len (drop at b)), length-drop at b, h.len, ap length p.grown, length-append a p.bytes) in
-    let text : take line.len (drop at b) ≡ print_chunk_line h.text =
-    ap (take line.len) h.begins.reads.1 ∙ take_at (print_chunk_line h.text) (drop line.len (drop at b)) line.len (sym h.len) in
-    subst (λ (x : Text). Takes at a c l l' x [] at) text
-    (takes-on at at at a b c l l' l' [] [] (take line.len (drop at b)) [] (nothing_taken at a b l l' within p) (cut_out at line.len b c l' fits e))
+pub line_taken : (f g h a b c : Text) (l l' : Option Text) (line : Line) → g ≡ f → Pulls a b l l' → (x : LineIsRead b line) → h ≡ g → c ≡ drop line.len b
+    → Takes f a h c l l' (print_chunk_line x.text) []
+line_taken f g h a b c l l' line same p x kept rest =
+    let text : take line.len b ≡ print_chunk_line x.text =
+    ap (take line.len) x.begins.reads.1 ∙ take_at (print_chunk_line x.text) (drop line.len b) line.len (sym x.len) in
+    subst (λ (t : Text). Takes f a h c l l' t []) text
+    (takes-on f a g b h c l l' l' [] [] (take line.len b) [] (nothing_taken f a g b l l' same p) (skipped line.len g b h c l' kept rest))
 
 sized : (total : ℕ) (b : Text) (line : Line) (h : LineIsRead b line) → 0 < line.size → total ≤ limit → line.size ≤ limit - total → (y : Text)
     → BeginsWithSize total (print_chunk_line h.text ++ y) h.text y
@@ -145,36 +134,33 @@ sized total b line h some small fits y = record {
 }
 
 -- what ends inside the data, or behind it, ends the chunk
-pub data_ends : (total : ℕ) (stop : Stop) (at : ℕ) (a b c : Text) (l l' l'' : Option Text) (line : Line) (h : LineIsRead b line) → Takes at a c l l' (print_chunk_line h.text) [] at
-    → 0 < line.size → total ≤ limit → line.size ≤ limit - total → EndsFrom (DataIsCut line.size) (DataIsRefused line.size) stop at c l' l'' → EndsFrom (ChunkIsCut total) (ChunkIsRefused total) stop at a l l''
-data_ends total stop at a b c l l' l'' line h t some small fits x =
-    ends_behind stop at at a c l l' l'' (print_chunk_line h.text) [] (DataIsCut line.size) (ChunkIsCut total) (DataIsRefused line.size) (ChunkIsRefused total) t
+pub data_ends : (total : ℕ) (stop : Stop) (f a g b c : Text) (l l' l'' : Option Text) (line : Line) (h : LineIsRead b line) → Takes f a g c l l' (print_chunk_line h.text) []
+    → 0 < line.size → total ≤ limit → line.size ≤ limit - total → EndsFrom (DataIsCut line.size) (DataIsRefused line.size) stop c l' l'' → EndsFrom (ChunkIsCut total) (ChunkIsRefused total) stop a l l''
+data_ends total stop f a g b c l l' l'' line h t some small fits x =
+    ends_behind stop f a g c l l' l'' (print_chunk_line h.text) [] (DataIsCut line.size) (ChunkIsCut total) (DataIsRefused line.size) (ChunkIsRefused total) t
     (λ y cut. inr (h.text, y, sized total b line h some small fits y, subst (λ (n : ℕ). DataIsCut n y) h.size cut))
     (λ y r bad. inr (inr (h.text, y, sized total b line h some small fits y, subst (λ (n : ℕ). DataIsRefused n y r) h.size bad))) x
 
--- the data and CR LF were taken off behind the line
-chunk_taken : (at n : ℕ) (a c d e : Text) (l l' l'' : Option Text) (text : Text) → Takes at a c l l' text [] at → Pulls c d l' l'' → HasGoodEnd n (drop at d)
-    → at + n + 2 ≤ length d → e ≡ take (at + n) d ++ drop (at + n + 2) d → Takes at a e l l'' (text ++ (take n (drop at d) ++ chunk_end)) (take n (drop at d)) (at + n)
-chunk_taken at n a c d e l l' l'' text t p good fits cut =
-    let some = take n (drop at d) in
-    let more = takes-on at at at a c d l l' l'' text [] [] [] t (nothing_taken at c d l' l'' t.within p) in
-    let two : take 2 (drop (at + n) d) ≡ chunk_end = ap (take 2) (sym (drop-drop n at d)) ∙ data_and_end n (drop at d) good in
-    let behind = subst (λ (x : Text). Takes (at + n) d e l'' l'' x [] (at + n)) two (cut_out (at + n) 2 d e l'' fits cut) in
-    let tail = takes-on at (at + n) (at + n) d d e l'' l'' l'' _ _ _ _ (passed_by at n d l'' (omega arith)) behind in
-    let all = takes-on at at (at + n) a d e l l'' l'' _ _ _ _ more tail in
-    subst (λ (x : Text). Takes at a e l l'' (x ++ (some ++ chunk_end)) some (at + n)) (append-nil text)
-    (subst (λ (x : Text). Takes at a e l l'' ((text ++ []) ++ (some ++ chunk_end)) x (at + n)) (append-nil some) all)
+-- the data and CR LF were taken off
+data_taken : (n : ℕ) (f g h k a b c d : Text) (l l' : Option Text) → g ≡ f → Pulls a b l l' → HasGoodEnd n b → h ≡ g ++ take n b → c ≡ drop n b → k ≡ h → d ≡ drop 2 c
+    → Takes f a k d l l' (take n b ++ chunk_end) (take n b)
+data_taken n f g h k a b c d l l' same p good kept rest left last =
+    let two : take 2 c ≡ chunk_end = ap (take 2) rest ∙ data_and_end n b good in
+    let carried : take n b ++ [] ≡ take n b = append-nil (take n b) in
+    let carries = takes-on f a g b h c l l' l' [] [] (take n b) (take n b) (nothing_taken f a g b l l' same p) (passed n g b h c l' kept rest) in
+    let all = takes-on f a h c k d l l' l' (take n b) (take n b) (take 2 c) [] carries (skipped 2 h c k d l' left last) in
+    subst (λ (x : Text). Takes f a k d l l' (take n b ++ x) (take n b)) two
+    (subst (λ (x : Text). Takes f a k d l l' (take n b ++ take 2 c) x) carried all)
 
-pub chunk_read : (total at : ℕ) (a c d e b : Text) (l l' l'' : Option Text) (line : Line) (h : LineIsRead b line) → Takes at a c l l' (print_chunk_line h.text) [] at
-    → 0 < line.size → total ≤ limit → line.size ≤ limit - total → Pulls c d l' l'' → HasGoodEnd line.size (drop at d) → e ≡ take (at + line.size) d ++ drop (at + line.size + 2) d
-    → (x : Chunk) × IsChunk x × (total + length x.carried ≤ limit) × (at + line.size ≡ at + length x.carried) × Takes at a e l l'' (print_chunk x) x.carried (at + line.size)
-chunk_read total at a c d e b l l' l'' line h t some small fits p good cut =
+pub chunk_read : (total : ℕ) (f a g b c e h k m d i : Text) (l l' l'' : Option Text) (line : Line) (x : LineIsRead b line) → Takes f a g c l l' (print_chunk_line x.text) []
+    → 0 < line.size → total ≤ limit → line.size ≤ limit - total → h ≡ g → Pulls c e l' l'' → HasGoodEnd line.size e → k ≡ h ++ take line.size e → d ≡ drop line.size e → m ≡ k → i ≡ drop 2 d
+    → (y : Chunk) × IsChunk y × (total + line.size ≤ limit) × (total + line.size ≡ total + length y.carried) × Takes f a m i l l'' (print_chunk y) y.carried
+chunk_read total f a g b c e h k m d i l l' l'' line x t some small fits same p good kept rest left last =
     let n = line.size in
-    let len : length (take n (drop at d)) ≡ n = omega (arith, length-take n (drop at d), good.0) in
-    let room : at + n + 2 ≤ length d = omega (arith, length-drop at d, good.0, some) in (
-      record { line = h.text; carried = take n (drop at d) },
-      record { line = h.begins.reads.0; short = h.begins.short; some = omega arith; sized = sym h.size ∙ sym len },
+    let len : length (take n e) ≡ n = omega (arith, length-take n e, good.0) in (
+      record { line = x.text; carried = take n e },
+      record { line = x.begins.reads.0; short = x.begins.short; some = omega arith; sized = sym x.size ∙ sym len },
       omega arith,
       omega arith,
-      chunk_taken at n a c d e l l' l'' (print_chunk_line h.text) t p good room cut,
+      takes-on f a g c m i l l' l'' (print_chunk_line x.text) [] (take n e ++ chunk_end) (take n e) t (data_taken n g h k m c e d i l' l'' same p good kept rest left last),
     )

@@ -13,3 +13,5 @@ pub mod ChunksLemmas
 pub mod TrailerLemmas
 pub mod BodyLemmas
 pub mod OneBody
+pub mod PrivacyLemmas
+pub mod BufferLemmas

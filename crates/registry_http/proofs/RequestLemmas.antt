@@ -1,5 +1,5 @@
 -- A whole request at the front of the buffer.
-use Rattle.std.proofs.Common.{◌≡◌, ℕ, ◌+◌, ◌-◌, ◌<◌, ◌≤◌, inl, inr, Option, List, [], ◌++◌, length, take, drop, map, slice_range, refl, sym, ap, subst, ◌∙◌, append_assoc, arith, length-append, length-take}
+use Rattle.std.proofs.Common.{◌≡◌, ◌+◌, ◌-◌, ◌<◌, ◌≤◌, inl, inr, Option, List, [], ◌++◌, length, take, drop, map, refl, sym, ap, subst, ◌∙◌, append_assoc, arith, length-append, length-take}
 use Rattle.std.proofs.lemmas.List.{drop-append-le, take-append-drop, take_at, drop_at}
 use Rattle.httparse.specs.Grammar.{RequestHead, print_request}
 use Rattle.httparse.specs.Spans.{header_bytes, span_bytes}
@@ -66,33 +66,28 @@ module _ (b : Text) (headers : List HeaderSpan) (spans : RequestSpans) (h : Requ
         subst (λ x. IsRefused x r) (sym on)
         (inr (h, drop spans.len b ++ (bytes ++ tail), behind_head (bytes ++ tail), omega (arith, read.count), subst (λ x. BodyIsRefused (framing h) x r) behind bad))
 
-    pub readies : (new coded body : Text) (l' l'' : Option Text) (end : ℕ) (ready : Ready) → ready.spans ≡ spans → ready.closes ≡ closes_by h.minor (fields_of h)
-        → IsBody (framing h) coded body → (taken : Takes spans.len b new l' l'' coded body end)
-        → RequestIsReady new headers ready end (record { head = h; coded = coded; body = body }) × (b ++ taken.bytes ≡ (print_request h ++ coded) ++ drop end new)
-    readies new coded body l' l'' end ready same closing is taken =
-        let front = take spans.len b in
-        let size : length front ≡ spans.len = omega (arith, length-take spans.len b, read.within) in
-        let ends : end ≡ spans.len + length body = omega (arith, ap length taken.front, length-append front body, length-take end new, taken.within, size) in
-        let split : new ≡ front ++ (body ++ drop end new) =
-        sym (take-append-drop end new) ∙ ap (λ x. x ++ drop end new) taken.front ∙ append_assoc front body (drop end new) in
-        let head : take spans.len new ≡ front = ap (take spans.len) split ∙ take_at front (body ++ drop end new) spans.len size in
-        let rest : drop spans.len new ≡ body ++ drop end new = ap (drop spans.len) split ∙ drop_at front (body ++ drop end new) spans.len size in
-        let carried : slice_range new spans.len end ≡ body =
-        ap (take (end - spans.len)) rest ∙ take_at body (drop end new) (end - spans.len) (omega (arith, ends)) in (
+    pub readies : (front rest coded body : Text) (l' l'' : Option Text) (ready : Ready) → ready.spans ≡ spans → ready.closes ≡ closes_by h.minor (fields_of h)
+        → IsBody (framing h) coded body → (takes : Takes (take spans.len b) (drop spans.len b) front rest l' l'' coded body)
+        → RequestIsReady front headers ready (record { head = h; coded = coded; body = body }) × (b ++ takes.bytes ≡ (print_request h ++ coded) ++ rest)
+    readies front rest coded body l' l'' ready same closing is takes =
+        let first = take spans.len b in
+        let size : length first ≡ spans.len = omega (arith, length-take spans.len b, read.within) in
+        let head : take spans.len front ≡ first = ap (take spans.len) takes.front ∙ take_at first body spans.len size in
+        let carried : drop spans.len front ≡ body = ap (drop spans.len) takes.front ∙ drop_at first body spans.len size in
+        let long : spans.len ≤ length front = omega (arith, ap length takes.front, length-append first body, size) in (
           record {
             request = record { head = read.head; short = omega (arith, read.len, read.short); few = omega (arith, read.count); body = is };
-            order = subst (λ (s : RequestSpans). s.len ≤ end) (sym same) (omega (arith, ends));
-            within = taken.within;
-            some = omega (arith, ends, read.len, request_some h);
+            order = subst (λ (s : RequestSpans). s.len ≤ length front) (sym same) long;
+            some = subst (λ (s : RequestSpans). 0 < s.len) (sym same) (omega (arith, read.len, request_some h));
             room = subst (λ (s : RequestSpans). s.headers ≤ length headers) (sym same) read.room;
             fits = subst (λ (s : RequestSpans). HeadFits s.len (take s.headers headers) s) (sym same) read.fits;
-            at = subst (λ (s : RequestSpans). IsHeadAt (take s.len new) (take s.headers headers) s h) (sym same)
+            at = subst (λ (s : RequestSpans). IsHeadAt (take s.len front) (take s.headers headers) s h) (sym same)
                 (subst (λ t. IsHeadAt t (take spans.headers headers) spans h) (sym head) read.at);
-            body = subst (λ (s : RequestSpans). slice_range new s.len end ≡ body) (sym same) carried;
+            body = subst (λ (s : RequestSpans). drop s.len front ≡ body) (sym same) carried;
             closes = closing;
           },
-          ap (λ x. x ++ taken.bytes) read.begins ∙ append_assoc (print_request h) (drop spans.len b) taken.bytes
-              ∙ ap (λ x. print_request h ++ x) taken.unread ∙ sym (append_assoc (print_request h) coded (drop end new)),
+          ap (λ x. x ++ takes.bytes) read.begins ∙ append_assoc (print_request h) (drop spans.len b) takes.bytes
+              ∙ ap (λ x. print_request h ++ x) takes.rest ∙ sym (append_assoc (print_request h) coded rest),
         )
 
 -- ---- where no head stands

@@ -1,5 +1,5 @@
 -- What a connection has done so far, and what follows at its end.
-use Rattle.std.proofs.Common.{◌≡◌, ℕ, ◌<◌, ◌≤◌, ◌⊎◌, inl, inr, List, [], ◌∷◌, ◌++◌, length, take, Option, Some, None, IfSome, true, false, refl, sym, ap, subst, ◌∙◌, append_assoc, append-nil}
+use Rattle.std.proofs.Common.{◌≡◌, ℕ, ◌<◌, ◌≤◌, ◌⊎◌, inl, inr, List, [], ◌∷◌, ◌++◌, length, take, drop, Option, Some, None, IfSome, true, false, refl, sym, ap, subst, ◌∙◌, append_assoc, append-nil}
 use Rattle.std.proofs.lemmas.List.Concat.{flat_map-append}
 use Rattle.std.specs.Io.KnownBytes.{Consumes, Appends, IsAtEnd}
 use Rattle.std.proofs.KnownBytes.{Consumes-nil, Consumes-trans, Appends-nil, Appends-trans}
@@ -326,7 +326,7 @@ module _ (b : Text) (headers : List HeaderSpan) (spans : RequestSpans) (h : Requ
   stands : (bytes tail : Text) → IsBefore ((b ++ bytes) ++ tail) (text_before h)
   stands bytes tail = subst (λ x. IsBefore x (text_before h)) (sym (append_assoc b bytes tail)) (stands_before b headers spans h read few (bytes ++ tail))
 
-  pub body_serves : (stop : Stop) (e : End) (l w : Option Text) → EndsFrom (BodyIsCut (framing h)) (BodyIsRefused (framing h)) stop spans.len b t.left' l
+  pub body_serves : (stop : Stop) (e : End) (l w : Option Text) → EndsFrom (BodyIsCut (framing h)) (BodyIsRefused (framing h)) stop (drop spans.len b) t.left' l
       → StopsWith e stop t.held' w → Serves e (record t { left' = l; held' = w })
   body_serves Between e l w n s = absurd n
   body_serves AtEnd e l w n s =

@@ -1,5 +1,5 @@
 -- Trailers at the front of the unread bytes, whatever bytes follow.
-use Rattle.std.proofs.Common.{◌≡◌, ℕ, ◌+◌, ◌<◌, ◌≤◌, ◌≢◌, inl, inr, List, [], ◌++◌, length, take, drop, Option, refl, sym, ap, ◌∙◌, subst, append_assoc, append-nil, arith, length-append, length-take, length-drop}
+use Rattle.std.proofs.Common.{◌≡◌, ℕ, ◌<◌, ◌≤◌, ◌≢◌, inl, inr, List, [], ◌++◌, length, take, drop, Option, refl, sym, ap, ◌∙◌, subst, append_assoc, append-nil, arith, length-append, length-take}
 use Rattle.std.proofs.lemmas.List.{take-append-le, take-append-drop, length-map, take_at}
 use Rattle.std.specs.List.{flat_map}
 use Rattle.httparse.specs.Grammar.{Field, LineEnd, print_end, print_field, print_section, ReadsSection, HasNoSection, NeverHasSection, print_chunk_line}
@@ -12,7 +12,7 @@ use Rattle.registry_http.specs.Reading.{Pulls}
 use Rattle.registry_http.specs.Chunks.{BeginsWithTrailer, HoldsNoTrailer, TrailerIsCut, TrailerIsRefused, print_chunks, data_of, ChunkedBody, IsChunkedBody, print_body, BehindChunks, BehindLast, ChunkIsCut, ChunkIsRefused, ChunksAreCut, ChunksAreRefused}
 use Rattle.registry_http.specs.Taking.{Takes, EndsFrom, TrailerIsRead, ChunksAreRead}
 use Rattle.registry_http.proofs.HeadLemmas.{take_whole, take_on, fields_long}
-use Rattle.registry_http.proofs.TakingLemmas.{nothing_taken, takes-on, cut_out, ends_behind, ends_as}
+use Rattle.registry_http.proofs.TakingLemmas.{nothing_taken, takes-on, skipped, ends_behind, ends_as}
 use Rattle.registry_http.proofs.ChunkLemmas.{drop_front}
 
 -- no trailer of so few bytes has so many fields
@@ -71,43 +71,46 @@ module _ (b : Text) (headers : List HeaderSpan) (len count : ℕ) (fields : List
     omega (arith, fields_count),
   )
 
+pub trailer_fits : (b : Text) (len : ℕ) → TrailerIsRead b len → len ≤ length b
+trailer_fits b len t =
+    let size = ap length t.begins.reads.1 in
+    omega (arith, length-append (print_section t.fields t.last) (drop len b), t.len_is)
+
 -- ---- the whole body
 
-pub chunks_end : (stop : Stop) (start : ℕ) (a : Text) (l l' : Option Text)
-    → EndsFrom (BehindChunks ChunkIsCut) (λ y r. BehindChunks (λ total rest. ChunkIsRefused total rest r) y) stop start a l l'
-    → EndsFrom ChunksAreCut ChunksAreRefused stop start a l l'
-chunks_end stop start a l l' h =
-    ends_as stop start a l l' (BehindChunks ChunkIsCut) ChunksAreCut (λ y r. BehindChunks (λ total rest. ChunkIsRefused total rest r) y) ChunksAreRefused
+pub chunks_end : (stop : Stop) (a : Text) (l l' : Option Text)
+    → EndsFrom (BehindChunks ChunkIsCut) (λ y r. BehindChunks (λ total rest. ChunkIsRefused total rest r) y) stop a l l'
+    → EndsFrom ChunksAreCut ChunksAreRefused stop a l l'
+chunks_end stop a l l' h =
+    ends_as stop a l l' (BehindChunks ChunkIsCut) ChunksAreCut (λ y r. BehindChunks (λ total rest. ChunkIsRefused total rest r) y) ChunksAreRefused
     (λ y cut. inl cut) (λ y r bad. inl bad) h
 
-behind_last : (start end : ℕ) (a b : Text) (l l' : Option Text) (p : ChunksAreRead start end a b l l') (P : Text → Type 0) (y : Text) → P y
+behind_last : (f a g b : Text) (l l' : Option Text) (p : ChunksAreRead f a g b l l') (P : Text → Type 0) (y : Text) → P y
     → BehindLast P ((print_chunks p.chunks ++ print_chunk_line p.last) ++ y)
-behind_last start end a b l l' p P y h =
+behind_last f a g b l l' p P y h =
     record { chunks = p.chunks; zero = p.last; rest = y; whole = refl; each = p.each; within = p.within; is_last = p.is_last; here = h }
 
-pub trailer_ends : (stop : Stop) (start end : ℕ) (a b : Text) (l l' l'' : Option Text) → ChunksAreRead start end a b l l'
-    → EndsFrom TrailerIsCut TrailerIsRefused stop end b l' l'' → EndsFrom ChunksAreCut ChunksAreRefused stop start a l l''
-trailer_ends stop start end a b l l' l'' p h =
-    ends_behind stop start end a b l l' l'' (print_chunks p.chunks ++ print_chunk_line p.last) (data_of p.chunks) TrailerIsCut ChunksAreCut TrailerIsRefused ChunksAreRefused p.takes
-    (λ y cut. inr (behind_last start end a b l l' p TrailerIsCut y cut))
-    (λ y r bad. inr (behind_last start end a b l l' p (λ rest. TrailerIsRefused rest r) y bad)) h
+pub trailer_ends : (stop : Stop) (f a g b : Text) (l l' l'' : Option Text) → ChunksAreRead f a g b l l'
+    → EndsFrom TrailerIsCut TrailerIsRefused stop b l' l'' → EndsFrom ChunksAreCut ChunksAreRefused stop a l l''
+trailer_ends stop f a g b l l' l'' p h =
+    ends_behind stop f a g b l l' l'' (print_chunks p.chunks ++ print_chunk_line p.last) (data_of p.chunks) TrailerIsCut ChunksAreCut TrailerIsRefused ChunksAreRefused p.takes
+    (λ y cut. inr (behind_last f a g b l l' p TrailerIsCut y cut))
+    (λ y r bad. inr (behind_last f a g b l l' p (λ rest. TrailerIsRefused rest r) y bad)) h
 
-pub chunked_read : (start end len : ℕ) (a b c d : Text) (l l' l'' : Option Text) → ChunksAreRead start end a b l l' → Pulls b c l' l'' → TrailerIsRead (drop end c) len
-    → d ≡ take end c ++ drop (end + len) c
-    → (coded : Text) × (body : Text) × ((x : ChunkedBody) × IsChunkedBody x × (coded ≡ print_body x) × (body ≡ data_of x.chunks)) × Takes start a d l l'' coded body end
-chunked_read start end len a b c d l l' l'' p q t e =
+pub chunked_read : (len : ℕ) (f a g b h c k d : Text) (l l' l'' : Option Text) → ChunksAreRead f a g b l l' → h ≡ g → Pulls b c l' l'' → TrailerIsRead c len
+    → k ≡ h → d ≡ drop len c
+    → (coded : Text) × (body : Text) × ((x : ChunkedBody) × IsChunkedBody x × (coded ≡ print_body x) × (body ≡ data_of x.chunks)) × Takes f a k d l l'' coded body
+chunked_read len f a g b h c k d l l' l'' p same q t kept rest =
     let carried = data_of p.chunks in
     let before = print_chunks p.chunks ++ print_chunk_line p.last in
     let section = print_section t.fields t.last in
-    let fits : end + len ≤ length c =
-    omega (arith, p.takes.within, ap length q.grown, length-append b q.bytes, ap length t.begins.reads.1, length-append section (drop len (drop end c)), length-drop end c, t.len_is) in
-    let text : take len (drop end c) ≡ section = ap (take len) t.begins.reads.1 ∙ take_at section (drop len (drop end c)) len (sym t.len_is) in
-    let both = takes-on end end end b c d l' l'' l'' [] [] (take len (drop end c)) [] (nothing_taken end b c l' l'' p.takes.within q) (cut_out end len c d l'' fits e) in
-    let trailer = subst (λ (x : Text). Takes end b d l' l'' x [] end) text both in
-    let all = takes-on start end end a b d l l' l'' before carried section [] p.takes trailer in
+    let text : take len c ≡ section = ap (take len) t.begins.reads.1 ∙ take_at section (drop len c) len (sym t.len_is) in
+    let both = takes-on g b h c k d l' l'' l'' [] [] (take len c) [] (nothing_taken g b h c l' l'' same q) (skipped len h c k d l'' kept rest) in
+    let trailer = subst (λ (x : Text). Takes g b k d l' l'' x []) text both in
+    let all = takes-on f a g b k d l l' l'' before carried section [] p.takes trailer in
     let body : ChunkedBody = record { chunks = p.chunks; zero = p.last; fields = t.fields; last = t.last } in (
       before ++ section,
       carried,
       (body, record { each = p.each; within = p.within; zero = p.is_last; fields = t.begins.reads.0; few = t.few; short = t.begins.short }, refl, refl),
-      subst (λ (x : Text). Takes start a d l l'' (before ++ section) x end) (append-nil carried) all,
+      subst (λ (x : Text). Takes f a k d l l'' (before ++ section) x) (append-nil carried) all,
     )

@@ -13,3 +13,6 @@ pub mod Serving
 pub mod Reading
 pub mod Ending
 pub mod Taking
+pub mod Privacy
+pub mod Buffering
+pub mod Intaking

@@ -1,5 +1,5 @@
 -- What the buffer takes from the reader, and what it then begins with.
-use Rattle.std.specs.Prelude.{◌≡◌, ℕ, ◌<◌, ◌≤◌, ◌⊎◌, List, [], ◌++◌, length, take, drop, map, All, Option, slice_range}
+use Rattle.std.specs.Prelude.{◌≡◌, ℕ, ◌<◌, ◌≤◌, ◌⊎◌, List, [], ◌++◌, length, take, drop, map, All, Option}
 use Rattle.std.specs.Io.KnownBytes.{Consumes, IsAtEnd}
 use Rattle.httparse.specs.Grammar.{RequestHead, print_request, IsRequestHead, HasNoRequest}
 use Rattle.httparse.specs.Spans.{span_bytes, IsWithin, IsHeaderWithin, header_bytes, name_and_value}
@@ -96,15 +96,13 @@ pub record HeadIsReady (old new : Text) (left left' : Option Text) (headers : Li
   pub closes : ready.closes ≡ closes_by h.minor (fields_of h)
   pub awaits : ready.awaits ≡ awaits_by h.minor (fields_of h) (framing h)
 
--- the request i was taken off the unread bytes: its head and what its body carries stand at the front of the
--- buffer, up to the offset, and what is unread now behind them
-pub record RequestIsReady (new : Text) (headers : List HeaderSpan) (ready : Ready) (end : ℕ) (i : Item) : Type 0 where
+-- the request i was taken off the unread bytes: its head and what its body carries are these
+pub record RequestIsReady (taken : Text) (headers : List HeaderSpan) (ready : Ready) (i : Item) : Type 0 where
   pub request : IsRequest i
-  pub order : ready.spans.len ≤ end
-  pub within : end ≤ length new
-  pub some : 0 < end
+  pub order : ready.spans.len ≤ length taken
+  pub some : 0 < ready.spans.len
   pub room : ready.spans.headers ≤ length headers
   pub fits : HeadFits ready.spans.len (take ready.spans.headers headers) ready.spans
-  pub at : IsHeadAt (take ready.spans.len new) (take ready.spans.headers headers) ready.spans i.head
-  pub body : slice_range new ready.spans.len end ≡ i.body
+  pub at : IsHeadAt (take ready.spans.len taken) (take ready.spans.headers headers) ready.spans i.head
+  pub body : drop ready.spans.len taken ≡ i.body
   pub closes : ready.closes ≡ closes i

@@ -1,5 +1,5 @@
--- What is taken off the unread bytes, which begin somewhere in the buffer.
-use Rattle.std.specs.Prelude.{◌≡◌, ℕ, ◌+◌, ◌≤◌, ◌⊎◌, List, [], ◌++◌, length, take, drop, All, Option}
+-- What is taken off the unread bytes.
+use Rattle.std.specs.Prelude.{◌≡◌, ℕ, ◌+◌, ◌≤◌, ◌⊎◌, List, [], ◌++◌, length, drop, All, Option}
 use Rattle.std.specs.Io.KnownBytes.{Consumes, IsAtEnd}
 use Rattle.httparse.specs.Grammar.{ChunkLine, print_chunk_line, chunk_size, Field, LineEnd, print_section}
 use Rattle.oci_names.specs.Text.{Text}
@@ -13,31 +13,24 @@ use Rattle.registry_http.specs.declared.chunk.FoundLine.{FoundLine}
 use Rattle.registry_http.specs.declared.chunk.FoundLine.TheVariants as line
 use Rattle.registry_http.specs.declared.trailer.FoundTrailer.{FoundTrailer}
 use Rattle.registry_http.specs.declared.trailer.FoundTrailer.TheVariants as trailer
+use Rattle.registry_http.specs.Reading.{Leaves}
 use Rattle.registry_http.specs.declared.body.Next.{Next}
 use Rattle.registry_http.specs.declared.body.Next.TheVariants.{Data, Last}
 
--- text was taken off the unread bytes: from start on they were text and what is unread now, from end on; what
--- they carry stays between
-pub record Takes (start : ℕ) (old new : Text) (left left' : Option Text) (text carried : Text) (end : ℕ) : Type 0 where
+-- text was taken off the unread bytes, and what it carries stands behind what was taken before
+pub record Takes (taken unread taken' unread' : Text) (left left' : Option Text) (text carried : Text) : Type 0 where
   pub bytes : Text
-  pub taken : Consumes left left' bytes
-  pub unread : drop start old ++ bytes ≡ text ++ drop end new
-  pub front : take end new ≡ take start old ++ carried
-  pub within : end ≤ length new
-
--- of the bytes that were unread from start on and those that came P holds
-pub record LeavesFrom (start : ℕ) (old : Text) (left left' : Option Text) (P : Text → Type 0) : Type 0 where
-  pub bytes : Text
-  pub taken : Consumes left left' bytes
-  pub here : P (drop start old ++ bytes)
+  pub came : Consumes left left' bytes
+  pub rest : unread ++ bytes ≡ text ++ unread'
+  pub front : taken' ≡ taken ++ carried
 
 -- why nothing more is read: the input is cut there, or what stands there is refused, whatever bytes follow
-abbrev pub EndsFrom : (Text → Type 0) → (Text → FramingRefusal → Type 0) → Stop → ℕ → Text → Option Text → Option Text → Type 0
-EndsFrom IsCut IsRefused Between start old left left' = ⊥
-EndsFrom IsCut IsRefused AtEnd start old left left' = LeavesFrom start old left left' IsCut × IsAtEnd left'
-EndsFrom IsCut IsRefused Broken start old left left' = LeavesFrom start old left left' IsCut
-EndsFrom IsCut IsRefused (Refuse r) start old left left' =
-    (r ≡ NoBufferMemory) ⊎ LeavesFrom start old left left' (λ b. (tail : Text) → IsRefused (b ++ tail) r)
+abbrev pub EndsFrom : (Text → Type 0) → (Text → FramingRefusal → Type 0) → Stop → Text → Option Text → Option Text → Type 0
+EndsFrom IsCut IsRefused Between unread left left' = ⊥
+EndsFrom IsCut IsRefused AtEnd unread left left' = Leaves unread left left' IsCut × IsAtEnd left'
+EndsFrom IsCut IsRefused Broken unread left left' = Leaves unread left left' IsCut
+EndsFrom IsCut IsRefused (Refuse r) unread left left' =
+    (r ≡ NoBufferMemory) ⊎ Leaves unread left left' (λ b. (tail : Text) → IsRefused (b ++ tail) r)
 
 -- ---- lines
 
@@ -55,28 +48,28 @@ FindsLine line.Never b = (tail : Text) → HoldsNoLine (b ++ tail)
 
 -- ---- chunks
 
-abbrev pub ChunkIsRead : Next → ℕ → ℕ → Text → Text → Option Text → Option Text → Type 0
-ChunkIsRead (Data end) at total old new left left' =
-    (c : Chunk) × IsChunk c × (total + length c.carried ≤ limit) × (end ≡ at + length c.carried) × Takes at old new left left' (print_chunk c) c.carried end
-ChunkIsRead Last at total old new left left' =
-    (l : ChunkLine) × IsLast l × Takes at old new left left' (print_chunk_line l) [] at
+abbrev pub ChunkIsRead : Next → ℕ → Text → Text → Text → Text → Option Text → Option Text → Type 0
+ChunkIsRead (Data more) total taken unread taken' unread' left left' =
+    (c : Chunk) × IsChunk c × (more ≤ limit) × (more ≡ total + length c.carried) × Takes taken unread taken' unread' left left' (print_chunk c) c.carried
+ChunkIsRead Last total taken unread taken' unread' left left' =
+    (l : ChunkLine) × IsLast l × Takes taken unread taken' unread' left left' (print_chunk_line l) []
 
--- chunks were taken off
-pub record ChunksSoFar (start : ℕ) (old new : Text) (left left' : Option Text) (at : ℕ) : Type 0 where
+-- chunks were taken off, which carry total bytes
+pub record ChunksSoFar (total : ℕ) (taken unread taken' unread' : Text) (left left' : Option Text) : Type 0 where
   pub chunks : List Chunk
   pub each : All IsChunk chunks
-  pub within : length (data_of chunks) ≤ limit
-  pub carried : at ≡ start + length (data_of chunks)
-  pub takes : Takes start old new left left' (print_chunks chunks) (data_of chunks) at
+  pub within : total ≤ limit
+  pub carried : total ≡ length (data_of chunks)
+  pub takes : Takes taken unread taken' unread' left left' (print_chunks chunks) (data_of chunks)
 
 -- all chunks were taken off, and the line behind them
-pub record ChunksAreRead (start end : ℕ) (old new : Text) (left left' : Option Text) : Type 0 where
+pub record ChunksAreRead (taken unread taken' unread' : Text) (left left' : Option Text) : Type 0 where
   pub chunks : List Chunk
   pub last : ChunkLine
   pub each : All IsChunk chunks
   pub within : length (data_of chunks) ≤ limit
   pub is_last : IsLast last
-  pub takes : Takes start old new left left' (print_chunks chunks ++ print_chunk_line last) (data_of chunks) end
+  pub takes : Takes taken unread taken' unread' left left' (print_chunks chunks ++ print_chunk_line last) (data_of chunks)
 
 -- ---- the trailer
 

@@ -6,6 +6,7 @@ ghost use Rattle.registry_http.specs.Asking.{ask_in};
 ghost use Rattle.registry_http.specs.Spelling.{Item, Spells};
 ghost use Rattle.registry_http.specs.Serving.{reply_for, Serves};
 ghost use Rattle.registry_http.specs.Sending.{SendsReply};
+ghost use Rattle.registry_http.specs.Intaking.{taken};
 ghost use Rattle.registry_http.specs.Reading.{HeadFits, RequestIsReady};
 ghost use Rattle.registry_http.specs.Ending.{SendsRefusal, StopsWith};
 
@@ -20,29 +21,28 @@ use registry_service::Service;
 use std::alloc::Global;
 use std::io::{Read, Write};
 
-/// Answers the request at the front of the buffer, which ends at the offset, and writes the reply.
+/// Answers the request that was taken, and writes the reply.
 fn reply_to<W: Write, K: Keeper>(
     alloc: Global,
     service: &mut Service<K>,
     intake: &Intake,
     ready: &Ready,
-    end: usize,
     writer: &mut W,
 ) -> Result<(), WriteFault>
-    requires order { ready.now.spans.len ≤ end }
-    requires within { end ≤ length intake.now.buffer.items }
+    requires order { ready.now.spans.len ≤ length (taken intake.now) }
     requires room { ready.now.spans.headers ≤ length intake.now.headers.items }
     requires fits { HeadFits ready.now.spans.len (take ready.now.spans.headers intake.now.headers.items) ready.now.spans }
     ensures honest { K.is_honest service.new → K.is_honest service.old }
     ensures replies { K.is_honest service.new → (i : Item)
-        → RequestIsReady intake.now.buffer.items intake.now.headers.items ready.now end i
+        → RequestIsReady (taken intake.now) intake.now.headers.items ready.now i
         → (a : Answer) × Does (K.state service.old) (ask_in i.head i.body) a (K.state service.new)
         × SendsReply result (W.contents writer.old) (W.contents writer.new) (reply_for i a) }
 {
     let spans = &ready.spans;
-    let head = &intake.buffer[..spans.len];
+    let taken = intake.buffer.before();
+    let head = &taken[..spans.len];
     let fields = &intake.headers[..spans.headers];
-    let body = &intake.buffer[spans.len..end];
+    let body = &taken[spans.len..];
     let reply = answer(alloc, service, head, fields, spans, body);
     write_reply(&reply, is_head(spans.method.of(head)), ready.closes, writer)
 }
@@ -112,17 +112,17 @@ pub fn serve_connection<R: Read, W: Write, K: Keeper>(
                 written: fault.written,
             },
         }
-        let end = match intake.read_body(reader, ready.spans.len, ready.framing) {
-            Ok(end) => end,
+        match intake.read_body(reader, ready.spans.len, ready.framing) {
+            Ok(()) => {}
             Err(stop) => return finish(writer, stop),
-        };
-        match reply_to(alloc, service, &intake, &ready, end, writer) {
+        }
+        match reply_to(alloc, service, &intake, &ready, writer) {
             Ok(()) => {}
             Err(fault) => return End::WriteFailed {
                 written: fault.written,
             },
         }
-        intake.discard(end);
+        intake.discard();
         if ready.closes {
             return End::Closed;
         }

@@ -1,5 +1,6 @@
-ghost use Rattle.std.specs.Prelude.{◌≡◌, ◌≤◌, ◌<◌, ◌+◌, ◌*◌, [], List, length, drop, IfOk, OnOk, MatchResult, vec_len};
+ghost use Rattle.std.specs.Prelude.{◌≡◌, ◌≤◌, ◌<◌, [], length, IfOk, OnOk, MatchResult, vec_len};
 
+use crate::buffer::Buffer;
 use crate::closing::closes;
 use crate::ending::{FramingRefusal, Stop};
 use crate::expecting::awaits;
@@ -11,6 +12,9 @@ use std::io::Read;
 
 /// The most fields of a head (profile).
 const MOST_FIELDS: usize = 64;
+
+/// How many bytes are missing, for all that is known, of a head, a line or a trailer.
+pub const LINES: usize = 65536;
 
 /// A head at the front of the buffer: where its parts are, and what follows from its fields.
 #[derive(Clone, Copy)]
@@ -26,108 +30,107 @@ pub struct Ready {
 /// What a connection has read and not answered yet, with its room to read more.
 #[derive(Drop)]
 pub struct Intake {
-    /// What was read and not answered yet.
-    pub buffer: Vec<u8>,
+    pub buffer: Buffer,
     /// Where the fields of the head are.
     pub headers: Vec<HeaderSpan>,
     /// Room for the fields of a trailer.
     pub trailer: Vec<HeaderSpan>,
-    scratch: Vec<u8>,
     pub reads: u64,
     ghost headers_room: { vec_len headers ≡ 8192 },
     ghost trailer_room: { vec_len trailer ≡ 8192 },
-    ghost scratch_room: { vec_len scratch ≡ 65536 },
 }
 
 impl Intake {
+    ghost use Rattle.registry_http.specs.Intaking.{taken, unread, weight};
     ghost use Rattle.registry_http.specs.Reading.{Pulls, FillStops, UntilStops, HeadStops, HeadIsRead, HeadIsReady};
     ghost use Rattle.registry_http.specs.Framing.{IsSmall};
     ghost use Rattle.httparse.specs.Grammar.{RequestHead};
 
-    /// Room for a connection: 8,192 fields, and reads of up to 65,536 bytes.
+    /// Room for the fields of a head and of a trailer, 8,192 each, and no bytes.
     pub fn new(alloc: Global) -> Result<Intake, AllocError>
-        ensures { IfOk result (λ i. i.buffer.items ≡ []) }
+        ensures unread { IfOk result (λ i. unread i ≡ []) }
+        ensures taken { IfOk result (λ i. taken i ≡ []) }
     {
         let headers = vec![in alloc; EMPTY_HEADER_SPAN; 8192]?;
         let trailer = vec![in alloc; EMPTY_HEADER_SPAN; 8192]?;
-        let scratch = vec![in alloc; 0u8; 65536]?;
         Ok(Intake {
-            buffer: Vec::new(alloc),
+            buffer: Buffer::new(alloc),
             headers,
             trailer,
-            scratch,
             reads: 9_223_372_036_854_775_807,
         })
     }
 
-    /// Takes some bytes from the reader.
-    pub fn fill<R: Read>(&mut self, reader: &mut R) -> Result<(), Stop>
+    /// Takes some bytes from the reader, where so many are missing.
+    pub fn fill<R: Read>(&mut self, reader: &mut R, missing: usize) -> Result<(), Stop>
+        requires { 0 < missing }
         ensures cases { MatchResult result
-            (λ _. Pulls self.old.buffer.items self.new.buffer.items (R.remaining reader.old) (R.remaining reader.new))
-            (λ stop. FillStops stop self.old.buffer.items (R.remaining reader.old) (R.remaining reader.new)) }
-        ensures weight { OnOk result (self.new.reads * 65536 + length self.new.buffer.items ≤ self.old.reads * 65536 + length self.old.buffer.items) }
+            (λ _. Pulls (unread self.old) (unread self.new) (R.remaining reader.old) (R.remaining reader.new))
+            (λ stop. FillStops stop (unread self.old) (R.remaining reader.old) (R.remaining reader.new)) }
+        ensures taken { taken self.new ≡ taken self.old }
         ensures headers { self.new.headers.items ≡ self.old.headers.items }
+        ensures weight { OnOk result (weight self.new ≤ weight self.old) }
         ensures fewer { OnOk result (self.new.reads < self.old.reads) }
     {
         if self.reads == 0 {
             return Err(Stop::Broken);
         }
         self.reads -= 1;
-        match reader.read(&mut self.scratch) {
-            Ok(0) => Err(Stop::AtEnd),
-            Ok(n) => match self.buffer.extend_from_slice(&self.scratch[..n]) {
-                Ok(()) => Ok(()),
-                Err(_) => Err(Stop::Refuse(FramingRefusal::NoBufferMemory)),
-            },
-            Err(_) => Err(Stop::Broken),
-        }
+        self.buffer.read_more(reader, missing)
     }
 
-    /// Reads until the buffer has so many bytes.
+    /// Reads until so many bytes are unread.
     pub fn read_until<R: Read>(&mut self, reader: &mut R, need: usize) -> Result<(), Stop>
         ensures cases { MatchResult result
-            (λ _. Pulls self.old.buffer.items self.new.buffer.items (R.remaining reader.old) (R.remaining reader.new))
-            (λ stop. UntilStops need stop self.old.buffer.items (R.remaining reader.old) (R.remaining reader.new)) }
-        ensures enough { OnOk result (need ≤ length self.new.buffer.items) }
+            (λ _. Pulls (unread self.old) (unread self.new) (R.remaining reader.old) (R.remaining reader.new))
+            (λ stop. UntilStops need stop (unread self.old) (R.remaining reader.old) (R.remaining reader.new)) }
+        ensures enough { OnOk result (need ≤ length (unread self.new)) }
+        ensures taken { taken self.new ≡ taken self.old }
         ensures headers { self.new.headers.items ≡ self.old.headers.items }
-        ensures weight { OnOk result (self.new.reads * 65536 + length self.new.buffer.items ≤ self.old.reads * 65536 + length self.old.buffer.items) }
+        ensures weight { OnOk result (weight self.new ≤ weight self.old) }
     {
-        while self.buffer.len() < need {
-            if let Err(stop) = self.fill(reader) {
+        loop {
+            let here = self.buffer.behind().len();
+            if need <= here {
+                return Ok(());
+            }
+            if let Err(stop) = self.fill(reader, need - here) {
                 return Err(stop);
             }
         }
-        Ok(())
     }
 
-    /// Reads until the buffer begins with a whole head.
+    /// Reads until a whole head is unread.
     fn read_head<R: Read>(&mut self, reader: &mut R) -> Result<RequestSpans, Stop>
         ensures cases { MatchResult result
-            (λ spans. Pulls self.old.buffer.items self.new.buffer.items (R.remaining reader.old) (R.remaining reader.new)
-            × (h : RequestHead) × HeadIsRead self.new.buffer.items self.new.headers.items spans h)
-            (λ stop. HeadStops stop self.old.buffer.items (R.remaining reader.old) (R.remaining reader.new)) }
-        ensures weight { OnOk result (self.new.reads * 65536 + length self.new.buffer.items ≤ self.old.reads * 65536 + length self.old.buffer.items) }
+            (λ spans. Pulls (unread self.old) (unread self.new) (R.remaining reader.old) (R.remaining reader.new)
+            × (h : RequestHead) × HeadIsRead (unread self.new) self.new.headers.items spans h)
+            (λ stop. HeadStops stop (unread self.old) (R.remaining reader.old) (R.remaining reader.new)) }
+        ensures taken { taken self.new ≡ taken self.old }
+        ensures weight { OnOk result (weight self.new ≤ weight self.old) }
     {
         loop {
-            match parse_head(&self.buffer, &mut self.headers) {
+            let unread = self.buffer.behind();
+            let is_empty = unread.is_empty();
+            match parse_head(unread, &mut self.headers) {
                 Parsed::Whole(spans) => return Ok(spans),
                 Parsed::NotYet => {}
                 Parsed::Never => return Err(Stop::Refuse(FramingRefusal::UnreadableHead)),
             }
-            let is_empty = self.buffer.is_empty();
-            if let Err(stop) = self.fill(reader) {
+            if let Err(stop) = self.fill(reader, LINES) {
                 return Err(stop.at_head(is_empty));
             }
         }
     }
 
-    /// Reads until the buffer begins with the head of a request.
+    /// Reads until the head of a request is unread.
     pub fn next_head<R: Read>(&mut self, reader: &mut R) -> Result<Ready, Stop>
         ensures cases { MatchResult result
-            (λ ready. (h : RequestHead) × HeadIsReady self.old.buffer.items self.new.buffer.items (R.remaining reader.old) (R.remaining reader.new) self.new.headers.items ready h)
-            (λ stop. HeadStops stop self.old.buffer.items (R.remaining reader.old) (R.remaining reader.new)) }
+            (λ ready. (h : RequestHead) × HeadIsReady (unread self.old) (unread self.new) (R.remaining reader.old) (R.remaining reader.new) self.new.headers.items ready h)
+            (λ stop. HeadStops stop (unread self.old) (R.remaining reader.old) (R.remaining reader.new)) }
         ensures small { IfOk result (λ ready. IsSmall ready.framing) }
-        ensures weight { OnOk result (self.new.reads * 65536 + length self.new.buffer.items ≤ self.old.reads * 65536 + length self.old.buffer.items) }
+        ensures taken { taken self.new ≡ taken self.old }
+        ensures weight { OnOk result (weight self.new ≤ weight self.old) }
     {
         let spans = match self.read_head(reader) {
             Ok(spans) => spans,
@@ -136,7 +139,8 @@ impl Intake {
         if spans.headers > MOST_FIELDS {
             return Err(Stop::Refuse(FramingRefusal::UnreadableHead));
         }
-        let head = &self.buffer[..spans.len];
+        let unread = self.buffer.behind();
+        let head = &unread[..spans.len];
         let fields = &self.headers[..spans.headers];
         let framing = framing_of(head, fields, spans.version, spans.path.of(head));
         Ok(Ready {
@@ -147,12 +151,12 @@ impl Intake {
         })
     }
 
-    /// Lets go the first bytes of the buffer.
-    pub fn discard(&mut self, count: usize)
-        requires { count ≤ length self.old.buffer.items }
-        ensures buffer { self.new.buffer.items ≡ drop count self.old.buffer.items }
-        ensures reads { self.new.reads ≡ self.old.reads }
+    /// Lets go what was taken.
+    pub fn discard(&mut self)
+        ensures taken { taken self.new ≡ [] }
+        ensures unread { unread self.new ≡ unread self.old }
+        ensures weight { weight self.new ≡ weight self.old }
     {
-        self.buffer.drain(..count);
+        self.buffer.forget();
     }
 }

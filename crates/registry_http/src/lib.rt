@@ -6,6 +6,7 @@
 
 pub mod answering;
 pub mod body;
+pub mod buffer;
 pub mod chunk;
 pub mod closing;
 pub mod connection;
@@ -16,6 +17,7 @@ pub mod framing;
 pub mod head;
 pub mod intake;
 pub mod outgoing;
+pub mod privacy;
 pub mod query;
 pub mod reply_text;
 pub mod target;

@@ -2,26 +2,26 @@
 use Rattle.std.proofs.Common.{◌≡◌, ◌∙◌, ℕ, ◌≤◌, ◌⊎◌, inl, inr, Bool, true, false, cond, nat_le, List, All, Option, Some, None, IfSome, OnSome, refl, sym, ap, subst, arith}
 use Rattle.std.specs.Prelude.{is_some, bytes_eq}
 use Rattle.std.specs.Ordering.{eq_by_cmp}
-use Rattle.std.specs.FinMap.{get, insert, get-insert}
+use Rattle.std.specs.FinMap.{get, insert, remove, get-insert, get-remove}
 use Rattle.std.proofs.lemmas.Bool.Decides.{nat_tests}
 use Rattle.oci_names.specs.Text.{Text}
 use Rattle.oci_names.specs.Token.{is_token}
 use Rattle.registry_model.specs.declared.level.Level.{Level}
 use Rattle.registry_model.specs.declared.admin.AdminCommand.{AdminCommand}
-use Rattle.registry_model.specs.declared.admin.AdminCommand.TheVariants.{AddRepo, Grant}
-use Rattle.registry_model.specs.declared.admin.AdminFault.TheVariants.{NoRepo, RepoThere}
+use Rattle.registry_model.specs.declared.admin.AdminCommand.TheVariants.{AddRepo, SetQuota, DropRepo, Grant, Revoke, DropSessions, Clear}
+use Rattle.registry_model.specs.declared.admin.AdminFault.{AdminFault}
 use Rattle.registry_model.specs.declared.refusal.Refusal.TheVariants.{TokenRequired}
-use Rattle.registry_model.specs.World.{text_cmp, Repo, Grants, World, repo_at, has_repo, level_at, is_known, with_repo, with_grants}
+use Rattle.registry_model.specs.World.{text_cmp, Repo, Grants, World, repo_at, level_at, update_repo}
 use Rattle.registry_model.specs.Ask.{Ask}
-use Rattle.registry_model.specs.Blobs.{refuses}
-use Rattle.registry_model.specs.Command.{set_repo, with_quota, grant}
-use Rattle.registry_model.specs.Verdict.{Target, target_of, rank, rank_of, aimed, is_base, base_outcome, verdict, judged, changed, after_request}
-use Rattle.registry_model.specs.Team.{Team, IsTeamOf, view, Step, asks, orders, is_own, addressed, is_reading, GivesNoPush, NeverPushes, MayNotPush, IsElsewhere, OwnOrAside}
+use Rattle.registry_model.specs.Outcome.{refuses}
+use Rattle.registry_model.specs.Operation.{addressed, rank, rank_of}
+use Rattle.registry_model.specs.Command.{with_quota, grant, revoke, drop_repo, without_sessions, refusal_of, carried_out, after_command}
+use Rattle.registry_model.specs.Verdict.{verdict, judged, changed, after_request}
+use Rattle.registry_model.specs.Team.{Team, IsTeamOf, view, Step, asks, orders, is_reading, GivesNoPush, NeverPushes, MayNotPush, IsElsewhere, OwnOrAside}
 use Rattle.registry_model.specs.Runs.{after}
-use Rattle.registry_model.proofs.MapLemmas.{text_total, bytes_same}
-use Rattle.registry_model.proofs.VerdictLaws.{MayPush, target_name, reading_changes}
-use Rattle.registry_model.proofs.ViewLaws.{same_key, changed_outside, with_repo_outside, with_grants_outside}
-use Rattle.registry_model.proofs.OwnLaws.{verdict_changes}
+use Rattle.registry_model.proofs.TextOrder.{text_total, bytes_same, same_key, remove_absent}
+use Rattle.registry_model.proofs.VerdictLaws.{reading_changes, verdict_changes}
+use Rattle.registry_model.proofs.ViewLaws.{changed_outside, updated_outside, with_repo_outside, with_grants_outside, no_level, dropped_outside}
 
 -- what stays since the first world of a list
 pub record Since (first : World) (all : List Step) (team : Team) (w : World) : Type 0 where
@@ -31,13 +31,17 @@ pub record Since (first : World) (all : List Step) (team : Team) (w : World) : T
 pub still_team : (first : World) (all : List Step) (team : Team) (w : World) → Since first all team w → IsTeamOf first team → IsTeamOf w team
 still_team first all team w s mine token name t some = mine token name t (subst (λ g. is_some (get g name) ≡ true) (s.same token t) some)
 
-same_grants : (w : World) (t : Option Target) (c : Option Repo) → (changed w t c).grants ≡ w.grants
+same_grants : (w : World) (t : Option Text) (c : Option Repo) → (changed w t c).grants ≡ w.grants
 same_grants w None None = refl
 same_grants w None (Some r) = refl
 same_grants w (Some t) None = refl
 same_grants w (Some t) (Some r) = refl
 
-unchanged : (w : World) (t : Option Target) → changed w t None ≡ w
+updated_grants : (w : World) (name : Text) (change : Repo → Repo) (o : Option Repo) → (update_repo w name change o).grants ≡ w.grants
+updated_grants w name change None = refl
+updated_grants w name change (Some r) = refl
+
+unchanged : (w : World) (t : Option Text) → changed w t None ≡ w
 unchanged w None = refl
 unchanged w (Some t) = refl
 
@@ -57,11 +61,32 @@ level_low w token name level u n true false e f gives low =
     rw (e, get-insert text_total, f) (subst (λ x. rank_of (level_at w x n) ≤ 1) (bytes_same u token e) low)
 level_low w token name level u n false c e f gives low = rw e low
 
+-- a level that was taken away, and the others
+removed_low : (g : Grants) (name n : Text) (c : Bool) → eq_by_cmp text_cmp n name ≡ c → rank_of (get g n) ≤ 1 → rank_of (get (remove g name) n) ≤ 1
+removed_low g name n true f low = rw (get-remove text_total, f) (omega arith)
+removed_low g name n false f low = rw (get-remove text_total, f) low
+
+revoked_low : (w : World) (token name u n : Text) (b : Bool) → bytes_eq u token ≡ b → rank_of (level_at w u n) ≤ 1 → rank_of (level_at (revoke w token name) u n) ≤ 1
+revoked_low w token name u n true e low =
+    rw e (removed_low (w.grants token) name n _ refl (subst (λ x. rank_of (level_at w x n) ≤ 1) (bytes_same u token e) low))
+revoked_low w token name u n false e low = rw e low
+
 other_token : (team : Team) (token other : Text) → team.tokens token ≡ false → team.tokens other ≡ true → (b : Bool) → bytes_eq other token ≡ b → b ≡ false
 other_token team token other out in_team true e = absurd (let bad : true ≡ false = sym in_team ∙ ap team.tokens (bytes_same other token e) ∙ out in cc)
 other_token team token other out in_team false e = refl
 
-module _ (first : World) (all : List Step) (team : Team) (w : World) (s : Since first all team w) where
+-- a command that is refused, or one that is not
+by_refusal : (P : World → Type 0) (w : World) (a : AdminCommand) → P w → P (carried_out w a) → P (after_command w a)
+by_refusal P w a refused done = by (refusal_of w a)
+  where
+    by : (o : Option AdminFault) → P (elim o as (λ _. World) [ None ↦ carried_out w a | Some e ↦ w ])
+    by None = done
+    by (Some e) = refused
+
+module _ (first : World) (all : List Step) (team : Team) (mine : IsTeamOf first team) (w : World) (s : Since first all team w) where
+  now_mine : IsTeamOf w team
+  now_mine = still_team first all team w s mine
+
   since_grant : (token name : Text) (level : Level) → team.tokens token ≡ false
       → ((u n : Text) → All (GivesNoPush u n) all → token ≡ u → name ≡ n → rank level ≤ 1)
       → Since first all team (grant w token name level)
@@ -70,79 +95,83 @@ module _ (first : World) (all : List Step) (team : Team) (w : World) (s : Since 
     low = λ u n h. level_low w token name level u n _ _ refl refl (gives u n h.1) (s.low u n h);
   }
 
+  since_revoke : (token name : Text) → team.tokens token ≡ false → Since first all team (revoke w token name)
+  since_revoke token name out = record {
+    same = λ other t. ap (λ b. cond b (remove (w.grants token) name) (w.grants other)) (other_token team token other out t (bytes_eq other token) refl) ∙ s.same other t;
+    low = λ u n h. revoked_low w token name u n _ refl (s.low u n h);
+  }
+
+  since_drop : (name : Text) → team.names name ≡ false → Since first all team (drop_repo w name)
+  since_drop name out = record {
+    same = λ token t. remove_absent (w.grants token) name (no_level w team now_mine token name t out) ∙ s.same token t;
+    low = λ u n h. removed_low (w.grants u) name n _ refl (s.low u n h);
+  }
+
+  since_order : (a : AdminCommand) → OwnOrAside first all team (orders a) → ((u n : Text) → All (GivesNoPush u n) all → GivesNoPush u n (orders a))
+      → Since first all team (carried_out w a)
+  since_order (AddRepo name quota) h gives = kept_grants first all team w _ refl s
+  since_order (SetQuota name quota) h gives = kept_grants first all team w _ refl s
+  since_order (DropRepo name) h gives = since_drop name.now h
+  since_order (Grant token name level) h gives = since_grant token.now name.now level h gives
+  since_order (Revoke token name) h gives = since_revoke token.now name.now h
+  since_order (DropSessions name) h gives = kept_grants first all team w _ (updated_grants w name.now without_sessions (repo_at w name.now)) s
+  since_order Clear h gives = s
+
   pub since : (st : Step) → OwnOrAside first all team st → ((u n : Text) → All (GivesNoPush u n) all → GivesNoPush u n st) → Since first all team (after w st)
-  since (asks q) h gives = kept_grants first all team w _ (same_grants w (target_of q.verb q.form q.keys) (judged w q.token q).change) s
-  since (orders (Grant token name level)) h gives = by (has_repo w name.now)
-    where
-      by : (b : Bool) → Since first all team (elim (cond b None (Some NoRepo)) as (λ _. World) [ None ↦ grant w token.now name.now level | Some e ↦ w ])
-      by true = since_grant token.now name.now level h gives
-      by false = s
-  since (orders (AddRepo name quota)) h gives = by (has_repo w name.now)
-    where
-      by : (b : Bool) → Since first all team (elim (cond b (Some RepoThere) None) as (λ _. World) [ None ↦ set_repo w name.now quota.bytes | Some e ↦ w ])
-      by true = s
-      by false = kept_grants first all team w _ refl s
+  since (asks q) h gives = kept_grants first all team w _ (same_grants w (addressed q.form) (judged w q.token q).change) s
+  since (orders a) h gives = by_refusal (λ v. Since first all team v) w a s (since_order a h gives)
 
   -- ---- requests
 
   none_of_reading : (o : Option Text) (q : Ask) → is_reading q.verb ≡ true → (judged w o q).change ≡ None
   none_of_reading None q r = refl
-  none_of_reading (Some token) q r = by (is_token token) (is_known (w.grants token)) (is_base q.verb q.form)
+  none_of_reading (Some token) q r = by (is_token token)
     where
-      by : (b k i : Bool) → (cond b (cond k (cond i base_outcome (aimed (w.grants token) (repo_at w) (target_of q.verb q.form q.keys) q.body)) (refuses TokenRequired)) (refuses TokenRequired)).change ≡ None
-      by true true true = refl
-      by true true false = reading_changes (w.grants token) (repo_at w) q.verb q.form q.keys q.body r
-      by true false i = refl
-      by false k i = refl
+      by : (b : Bool) → (cond b (verdict (w.grants token) (repo_at w) q) (refuses TokenRequired)).change ≡ None
+      by true = reading_changes (w.grants token) (repo_at w) q r
+      by false = refl
 
   no_change : (c : Option Repo) (n : ℕ) → OnSome c (nat_le 2 n ≡ true) → n ≤ 1 → c ≡ None
   no_change None n h low = refl
   no_change (Some r) n h low = absurd (grind (arith, nat_tests))
 
-  none_pushed : (u : Text) (q : Ask) (t : Target) → target_of q.verb q.form q.keys ≡ Some t → NeverPushes first all u t.name → (judged w (Some u) q).change ≡ None
-  none_pushed u q t e never = by (is_token u)
+  none_pushed : (u : Text) (q : Ask) (name : Text) → addressed q.form ≡ Some name → NeverPushes first all u name → (judged w (Some u) q).change ≡ None
+  none_pushed u q name e never = by (is_token u)
     where
       by : (b : Bool) → (cond b (verdict (w.grants u) (repo_at w) q) (refuses TokenRequired)).change ≡ None
-      by true = no_change (verdict (w.grants u) (repo_at w) q).change (rank_of (level_at w u t.name)) (verdict_changes (w.grants u) (repo_at w) q t e) (s.low u t.name never)
+      by true = no_change (verdict (w.grants u) (repo_at w) q).change (rank_of (level_at w u name)) (verdict_changes (w.grants u) (repo_at w) q name e) (s.low u name never)
       by false = refl
 
-  -- the target's name is the addressed one
-  addressed_is : (q : Ask) (t : Target) → target_of q.verb q.form q.keys ≡ Some t → addressed q.form ≡ Some t.name
-  addressed_is q t e = subst (λ o. IfSome o (λ x. addressed q.form ≡ Some x.name)) e (target_name q.verb q.form q.keys)
+  elsewhere : (q : Ask) → IsElsewhere team q.form → (name : Text) → addressed q.form ≡ Some name → team.names name ≡ false
+  elsewhere q h name e = subst (λ o. IfSome o (λ n. team.names n ≡ false)) e h
 
-  elsewhere : (q : Ask) → IsElsewhere team q.form → (t : Target) → target_of q.verb q.form q.keys ≡ Some t → team.names t.name ≡ false
-  elsewhere q h t e = subst (λ o. IfSome o (λ name. team.names name ≡ false)) (addressed_is q t e) h
-
-  may_not : (o : Option Text) (q : Ask) (target : Option Target) → target_of q.verb q.form q.keys ≡ target → (name : Option Text) → addressed q.form ≡ name
-      → MayNotPush first all o name → changed w target (judged w o q).change ≡ w
-  may_not None q target e name a h = unchanged w target
-  may_not (Some u) q None e name a h = same_world (judged w (Some u) q).change
+  may_not : (o : Option Text) (q : Ask) (name : Option Text) → addressed q.form ≡ name
+      → MayNotPush first all o name → changed w name (judged w o q).change ≡ w
+  may_not None q name a h = unchanged w name
+  may_not (Some u) q None a h = same_world (judged w (Some u) q).change
     where
       same_world : (c : Option Repo) → changed w None c ≡ w
       same_world None = refl
       same_world (Some r) = refl
-  may_not (Some u) q (Some t) e None a h = absurd (let bad = sym a ∙ addressed_is q t e in cc)
-  may_not (Some u) q (Some t) e (Some name) a h =
-      let same : name ≡ t.name = let k = sym a ∙ addressed_is q t e in cc in
-      ap (λ c. changed w (Some t) c) (none_pushed u q t e (subst (λ n. NeverPushes first all u n) same h))
+  may_not (Some u) q (Some name) a h = ap (λ c. changed w (Some name) c) (none_pushed u q name a h)
 
   pub aside_request : (q : Ask) → IsElsewhere team q.form ⊎ ((is_reading q.verb ≡ true) ⊎ MayNotPush first all q.token (addressed q.form))
       → view (after_request w q) team ≡ view w team
-  aside_request q (inl h) = changed_outside w team (target_of q.verb q.form q.keys) (judged w q.token q).change (λ t e. elsewhere q h t e)
+  aside_request q (inl h) = changed_outside w team (addressed q.form) (judged w q.token q).change (λ name e. elsewhere q h name e)
   aside_request q (inr (inl r)) =
-      ap (λ c. view (changed w (target_of q.verb q.form q.keys) c) team) (none_of_reading q.token q r) ∙ ap (λ v. view v team) (unchanged w (target_of q.verb q.form q.keys))
-  aside_request q (inr (inr h)) = ap (λ v. view v team) (may_not q.token q (target_of q.verb q.form q.keys) refl (addressed q.form) refl h)
+      ap (λ c. view (changed w (addressed q.form) c) team) (none_of_reading q.token q r) ∙ ap (λ v. view v team) (unchanged w (addressed q.form))
+  aside_request q (inr (inr h)) = ap (λ v. view v team) (may_not q.token q (addressed q.form) refl h)
 
   -- ---- commands
 
+  carried_aside : (a : AdminCommand) → OwnOrAside first all team (orders a) → view (carried_out w a) team ≡ view w team
+  carried_aside (AddRepo name quota) h = with_repo_outside w team name.now (with_quota (repo_at w name.now) quota.bytes) h
+  carried_aside (SetQuota name quota) h = with_repo_outside w team name.now (with_quota (repo_at w name.now) quota.bytes) h
+  carried_aside (DropRepo name) h = dropped_outside w team now_mine name.now h
+  carried_aside (Grant token name level) h = with_grants_outside w team token.now (insert (w.grants token.now) name.now level) h
+  carried_aside (Revoke token name) h = with_grants_outside w team token.now (remove (w.grants token.now) name.now) h
+  carried_aside (DropSessions name) h = updated_outside w team name.now without_sessions (repo_at w name.now) h
+  carried_aside Clear h = refl
+
   pub aside_order : (a : AdminCommand) → OwnOrAside first all team (orders a) → view (after w (orders a)) team ≡ view w team
-  aside_order (Grant token name level) h = by (has_repo w name.now)
-    where
-      by : (b : Bool) → view (elim (cond b None (Some NoRepo)) as (λ _. World) [ None ↦ grant w token.now name.now level | Some e ↦ w ]) team ≡ view w team
-      by true = with_grants_outside w team token.now (insert (w.grants token.now) name.now level) h
-      by false = refl
-  aside_order (AddRepo name quota) h = by (has_repo w name.now)
-    where
-      by : (b : Bool) → view (elim (cond b (Some RepoThere) None) as (λ _. World) [ None ↦ set_repo w name.now quota.bytes | Some e ↦ w ]) team ≡ view w team
-      by true = refl
-      by false = with_repo_outside w team name.now (with_quota (repo_at w name.now) quota.bytes) h
+  aside_order a h = by_refusal (λ v. view v team ≡ view w team) w a refl (carried_aside a h)

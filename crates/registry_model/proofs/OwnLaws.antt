@@ -1,32 +1,22 @@
 -- A team's own requests, answered from what the team sees.
-use Rattle.std.proofs.Common.{◌≡◌, ◌∙◌, ℕ, Bool, true, false, cond, nat_le, List, Option, Some, None, OnSome, refl, sym, ap, subst}
+use Rattle.std.proofs.Common.{◌≡◌, ◌∙◌, Bool, true, false, cond, nat_le, Option, Some, None, OnSome, refl, sym, ap}
 use Rattle.std.specs.Prelude.{is_some}
-use Rattle.std.specs.FinMap.{get}
 use Rattle.oci_names.specs.Text.{Text}
 use Rattle.oci_names.specs.Token.{is_token}
 use Rattle.registry_model.specs.declared.level.Level.{Level}
 use Rattle.registry_model.specs.declared.refusal.Refusal.TheVariants.{TokenRequired}
-use Rattle.registry_model.specs.World.{Repo, Grants, World, repo_at, level_at, is_known}
+use Rattle.registry_model.specs.World.{Repo, World, repo_at, level_at}
 use Rattle.registry_model.specs.Ask.{Ask}
-use Rattle.registry_model.specs.Blobs.{Outcome, refuses}
-use Rattle.registry_model.specs.Verdict.{Target, target_of, rank_of, aimed, is_base, base_outcome, verdict, judged, changed, reply_to, after_request}
+use Rattle.registry_model.specs.Outcome.{refuses}
+use Rattle.registry_model.specs.Operation.{addressed, rank_of}
+use Rattle.registry_model.specs.Verdict.{verdict, judged, changed, reply_to, after_request}
 use Rattle.registry_model.specs.Team.{Team, IsTeamOf, view, is_own}
-use Rattle.registry_model.proofs.VerdictLaws.{verdict_same, decide_changes, MayPush}
+use Rattle.registry_model.proofs.VerdictLaws.{verdict_same, verdict_changes, MayPush}
 use Rattle.registry_model.proofs.ViewLaws.{changed_inside, seen_repo, own_grants}
 
 push_some : (o : Option Level) → nat_le 2 (rank_of o) ≡ true → is_some o ≡ true
 push_some None e = absurd (cc)
 push_some (Some level) e = refl
-
--- a verdict changes where the token may push
-pub verdict_changes : (g : Grants) (f : Text → Option Repo) (q : Ask) (t : Target) → target_of q.verb q.form q.keys ≡ Some t
-    → OnSome (verdict g f q).change (MayPush g t.name)
-verdict_changes g f q t e = rw e (by (is_known g) (is_base q.verb q.form))
-  where
-    by : (b i : Bool) → OnSome (cond b (cond i base_outcome (aimed g f (Some t) q.body)) (refuses TokenRequired)).change (MayPush g t.name)
-    by true true = tt
-    by true false = decide_changes g f t q.body
-    by false i = tt
 
 module _ (w : World) (team : Team) (mine : IsTeamOf w team) where
   judged_as : (token : Text) → team.tokens token ≡ true → (q : Ask) → judged w (Some token) q ≡ judged (view w team) (Some token) q
@@ -42,20 +32,20 @@ module _ (w : World) (team : Team) (mine : IsTeamOf w team) where
   pub own_reply : (q : Ask) → is_own team q.token ≡ true → reply_to w q ≡ reply_to (view w team) q
   own_reply q h = ap (λ o. o.reply) (same_judged q.token h q)
 
-  inside : (o : Option Text) → is_own team o ≡ true → (q : Ask) (t : Target) → target_of q.verb q.form q.keys ≡ Some t
-      → OnSome (judged w o q).change (team.names t.name ≡ true)
-  inside None h q t e = absurd (cc)
-  inside (Some token) h q t e = by (is_token token)
+  inside : (o : Option Text) → is_own team o ≡ true → (q : Ask) (name : Text) → addressed q.form ≡ Some name
+      → OnSome (judged w o q).change (team.names name ≡ true)
+  inside None h q name e = absurd (cc)
+  inside (Some token) h q name e = by (is_token token)
     where
-      named : (c : Option Repo) → OnSome c (MayPush (w.grants token) t.name) → OnSome c (team.names t.name ≡ true)
+      named : (c : Option Repo) → OnSome c (MayPush (w.grants token) name) → OnSome c (team.names name ≡ true)
       named None k = tt
-      named (Some r) k = mine token t.name h (push_some (level_at w token t.name) k)
+      named (Some r) k = mine token name h (push_some (level_at w token name) k)
 
-      by : (b : Bool) → OnSome (cond b (verdict (w.grants token) (repo_at w) q) (refuses TokenRequired)).change (team.names t.name ≡ true)
-      by true = named _ (verdict_changes (w.grants token) (repo_at w) q t e)
+      by : (b : Bool) → OnSome (cond b (verdict (w.grants token) (repo_at w) q) (refuses TokenRequired)).change (team.names name ≡ true)
+      by true = named _ (verdict_changes (w.grants token) (repo_at w) q name e)
       by false = tt
 
   pub own_after : (q : Ask) → is_own team q.token ≡ true → view (after_request w q) team ≡ after_request (view w team) q
   own_after q h =
-      changed_inside w team (target_of q.verb q.form q.keys) (judged w q.token q).change (λ t e. inside q.token h q t e)
-      ∙ ap (λ o. changed (view w team) (target_of q.verb q.form q.keys) o.change) (same_judged q.token h q)
+      changed_inside w team (addressed q.form) (judged w q.token q).change (λ name e. inside q.token h q name e)
+      ∙ ap (λ o. changed (view w team) (addressed q.form) o.change) (same_judged q.token h q)

@@ -1,13 +1,11 @@
 -- Where the last slash of a path stands.
-use Rattle.std.proofs.Common.{◌≡◌, ◌≢◌, ◌∙◌, ℕ, ◌+◌, ◌-◌, ◌<◌, ◌≤◌, Bool, true, false, not, cond, ◌&&◌, List, [], ◌∷◌, nat_eq, length, take, drop, get_or, refl, sym, ap, arith, length-drop, Option, Some, None}
+use Rattle.std.proofs.Common.{◌≡◌, ◌≢◌, ◌∙◌, ℕ, ◌+◌, ◌-◌, ◌<◌, ◌≤◌, true, not, cond, ◌&&◌, List, [], ◌∷◌, length, take, drop, get_or, refl, sym, ap, arith, length-drop, Some}
 use Rattle.std.proofs.lemmas.Bool.{ne_eqb}
 use Rattle.std.proofs.lemmas.List.Sums.{suffix_len_is}
 use Rattle.std.proofs.lemmas.Str.Pattern.{NoCharPasses-char}
 use Rattle.std.specs.List.{suffix_len}
-use Rattle.std.specs.Prelude.{MatchOption}
 use Rattle.std.specs.Str.{NoCharPasses}
-use Rattle.std.specs.Str.Pattern.{RFindsChar, SplitsAroundMatch}
-use Rattle.std.specs.Borrow.{Bor}
+use Rattle.std.specs.Str.Pattern.{RFindsChar}
 use Rattle.std.proofs.lemmas.List.{get_or-drop}
 use Rattle.registry_model.specs.Form.{is_slash, last_segment, path_before, name_in}
 

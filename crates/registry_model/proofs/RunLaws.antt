@@ -1,18 +1,13 @@
 -- What a run says: the laws of single steps, over lists of steps.
-use Rattle.std.proofs.Common.{◌≡◌, ◌∙◌, ℕ, ◌+◌, ◌<◌, ◌⊎◌, inl, inr, suc, Bool, true, false, cond, List, [], ◌∷◌, ◌++◌, map, length, take, get_or, All, refl, sym, ap, subst, arith}
-use Rattle.std.proofs.lemmas.List.{take_more}
+use Rattle.std.proofs.Common.{◌≡◌, ◌∙◌, ◌⊎◌, inl, inr, suc, Bool, true, false, List, [], ◌∷◌, ◌++◌, map, length, All, refl, sym, ap, subst}
 use Rattle.std.proofs.lemmas.List.Elements.{All-head, All-tail, All-cons, All-nil}
 use Rattle.oci_names.specs.Text.{Text}
 use Rattle.registry_model.specs.World.{World}
-use Rattle.registry_model.specs.Answer.{Answer}
-use Rattle.registry_model.specs.Ask.{Ask}
+use Rattle.registry_model.specs.Operation.{addressed}
 use Rattle.registry_model.specs.Verdict.{reply_to, after_request}
 use Rattle.registry_model.specs.Keeping.{State}
 use Rattle.registry_model.specs.Doing.{Kind, answered, missed, lost, kind_of, outcome_kind, DoesAs, CarriesOutAs}
-use Rattle.registry_model.specs.declared.admin.AdminCommand.{AdminCommand}
-use Rattle.registry_model.specs.declared.admin.AdminFault.{AdminFault}
-use Rattle.std.specs.Prelude.{Result}
-use Rattle.registry_model.specs.Team.{Team, IsTeamOf, view, Step, asks, orders, is_own, addressed, is_reading, GivesNoPush, MayNotPush, IsElsewhere, OwnOrAside}
+use Rattle.registry_model.specs.Team.{Team, IsTeamOf, view, Step, asks, orders, is_own, is_reading, GivesNoPush, MayNotPush, IsElsewhere, OwnOrAside}
 use Rattle.registry_model.specs.Runs.{Outcome, told, did, comes_to, after, kind, Takes, TakesAll, kept_as, kept, Follow, after_all, AllLost, LostToTheEnd, own, replies, IsToldAlone, RunSays}
 use Rattle.registry_model.proofs.OwnLaws.{own_reply, own_after}
 use Rattle.registry_model.proofs.AsideLaws.{Since, still_team, since, aside_request, aside_order}
@@ -32,13 +27,13 @@ module _ (first : World) (all : List Step) (team : Team) (mine : IsTeamOf first 
           let tail : map (λ p. p.1) (own team others) ≡ replies (after_request (view w team) q) (map (λ p. p.0) (own team others)) =
           rest ∙ ap (λ v. replies v (map (λ p. p.0) (own team others))) (own_after w team team_of q e) in
           λ i. own_reply w team team_of q e i ∷ tail i)
-      request false e = rw e (rest ∙ ap (λ v. replies v (map (λ p. p.0) (own team others))) (aside_request first all team w s q (aside h)))
+      request false e = rw e (rest ∙ ap (λ v. replies v (map (λ p. p.0) (own team others))) (aside_request first all team mine w s q (aside h)))
         where
           aside : OwnOrAside first all team (asks q) → IsElsewhere team q.form ⊎ ((is_reading q.verb ≡ true) ⊎ MayNotPush first all q.token (addressed q.form))
           aside (inl own_request) = absurd (let bad = sym own_request ∙ e in cc)
           aside (inr other) = other
   one_alone w s (orders a) o others h is rest = subst (λ x. IsToldAlone w team ((orders a, x) ∷ others)) (sym is)
-      (rest ∙ ap (λ v. replies v (map (λ p. p.0) (own team others))) (aside_order first all team w s a h))
+      (rest ∙ ap (λ v. replies v (map (λ p. p.0) (own team others))) (aside_order first all team mine w s a h))
 
   alone_from : (w : World) → Since first all team w → (steps : List Step) (outcomes : List Outcome)
       → All (OwnOrAside first all team) steps → ((u n : Text) → All (GivesNoPush u n) all → All (GivesNoPush u n) steps)
@@ -51,7 +46,7 @@ module _ (first : World) (all : List Step) (team : Team) (mine : IsTeamOf first 
       let later = λ (u n : Text) (x : All (GivesNoPush u n) all). All-tail (GivesNoPush u n) st steps (gives u n x) in
       by_kind (kind o) f
       (λ d k. one_alone w s st o (kept steps outcomes) now d
-      (alone_from (after w st) (since first all team w s st now (λ u n x. All-head (GivesNoPush u n) st steps (gives u n x)))
+      (alone_from (after w st) (since first all team mine w s st now (λ u n x. All-head (GivesNoPush u n) st steps (gives u n x)))
       steps outcomes others later k))
       (λ k. alone_from w s steps outcomes others later k)
     where

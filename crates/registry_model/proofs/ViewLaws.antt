@@ -1,49 +1,14 @@
 -- What a team sees of a world, as that changes.
-use Rattle.std.proofs.Common.{◌≡◌, ◌∙◌, ℕ, Bool, true, false, cond, if◌then◌else◌, List, Option, Some, None, OnSome, refl, sym, ap, subst}
+use Rattle.std.proofs.Common.{◌≡◌, ◌∙◌, Bool, true, false, cond, Option, Some, None, OnSome, refl, sym, ap}
 use Rattle.std.specs.Prelude.{is_some, bytes_eq}
-use Rattle.std.specs.Ordering.{eq_by_cmp}
-use Rattle.std.specs.declared.cmp.Ordering.TheVariants.{Equal}
-use Rattle.std.specs.Cmp.{Equal-is}
-use Rattle.std.specs.FinMap.{FinMap, get, insert, retain_keys, empty, same_map, get-insert, get-retain_keys}
+use Rattle.std.specs.FinMap.{get, remove, retain_keys, empty, get-retain_keys}
 use Rattle.oci_names.specs.Text.{Text}
-use Rattle.registry_model.specs.World.{text_cmp, Repo, Grants, World, repo_at, level_at, with_repo, with_grants}
-use Rattle.registry_model.specs.Ask.{Ask}
-use Rattle.registry_model.specs.Verdict.{Target, changed}
-use Rattle.registry_model.specs.Team.{Team, IsTeamOf, view, is_own}
-use Rattle.registry_model.proofs.MapLemmas.{text_total, exact_texts, bytes_same}
-
-tie : (p : Text → Bool) (q x : Text) → text_cmp q x ≡ Equal → p x ≡ p q
-tie p q x e = ap p (sym (exact_texts q x e))
-
-inner : {A : Type 0} (b c : Bool) (u v : Option A) → (b ≡ true → c ≡ true) → cond c (cond b u v) None ≡ cond b u (cond c v None)
-inner true true u v h = refl
-inner true false u v h = absurd (let k = h refl in cc)
-inner false c u v h = refl
-
-outer : {A : Type 0} (b c : Bool) (u v : Option A) → (b ≡ true → c ≡ false) → cond c (cond b u v) None ≡ cond c v None
-outer true true u v h = absurd (let k = h refl in cc)
-outer true false u v h = refl
-outer false c u v h = refl
-
-pub same_key : (q name : Text) → eq_by_cmp text_cmp q name ≡ true → q ≡ name
-same_key q name e = exact_texts q name ((Equal-is _).0 e)
-
-module _ {X : Type 0} (m : FinMap text_cmp X) (p : Text → Bool) (name : Text) (x : X) where
-  left : (q : Text) → get (retain_keys (insert m name x) p) q ≡ cond (p q) (cond (eq_by_cmp text_cmp q name) (Some x) (get m q)) None
-  left q = get-retain_keys (insert m name x) p q (tie p q) ∙ ap (λ v. cond (p q) v None) (get-insert text_total m name x q)
-
-  pub retain_inside : p name ≡ true → retain_keys (insert m name x) p ≡ insert (retain_keys m p) name x
-  retain_inside h = same_map text_total exact_texts _ _ (λ q.
-      left q
-      ∙ inner (eq_by_cmp text_cmp q name) (p q) (Some x) (get m q) (λ e. ap p (same_key q name e) ∙ h)
-      ∙ ap (λ v. cond (eq_by_cmp text_cmp q name) (Some x) v) (sym (get-retain_keys m p q (tie p q)))
-      ∙ sym (get-insert text_total (retain_keys m p) name x q))
-
-  pub retain_outside : p name ≡ false → retain_keys (insert m name x) p ≡ retain_keys m p
-  retain_outside h = same_map text_total exact_texts _ _ (λ q.
-      left q
-      ∙ outer (eq_by_cmp text_cmp q name) (p q) (Some x) (get m q) (λ e. ap p (same_key q name e) ∙ h)
-      ∙ sym (get-retain_keys m p q (tie p q)))
+use Rattle.registry_model.specs.declared.level.Level.{Level}
+use Rattle.registry_model.specs.World.{Repo, Grants, World, repo_at, update_repo, level_at, with_repo, with_grants}
+use Rattle.registry_model.specs.Verdict.{changed}
+use Rattle.registry_model.specs.Command.{drop_repo}
+use Rattle.registry_model.specs.Team.{Team, IsTeamOf, view}
+use Rattle.registry_model.proofs.TextOrder.{bytes_same, tie, retain_inside, retain_outside, removed_outside, remove_absent}
 
 module _ (w : World) (team : Team) where
   pub with_repo_inside : (name : Text) (r : Repo) → team.names name ≡ true → view (with_repo w name r) team ≡ with_repo (view w team) name r
@@ -52,19 +17,23 @@ module _ (w : World) (team : Team) where
   pub with_repo_outside : (name : Text) (r : Repo) → team.names name ≡ false → view (with_repo w name r) team ≡ view w team
   with_repo_outside name r h = ap (λ m. let v : World = record { repos = m; grants = (view w team).grants } in v) (retain_outside w.repos team.names name r h)
 
-  pub changed_inside : (target : Option Target) (c : Option Repo) → ((t : Target) → target ≡ Some t → OnSome c (team.names t.name ≡ true))
+  pub changed_inside : (target : Option Text) (c : Option Repo) → ((name : Text) → target ≡ Some name → OnSome c (team.names name ≡ true))
       → view (changed w target c) team ≡ changed (view w team) target c
   changed_inside None None h = refl
   changed_inside None (Some r) h = refl
-  changed_inside (Some t) None h = refl
-  changed_inside (Some t) (Some r) h = with_repo_inside t.name r (h t refl)
+  changed_inside (Some name) None h = refl
+  changed_inside (Some name) (Some r) h = with_repo_inside name r (h name refl)
 
-  pub changed_outside : (target : Option Target) (c : Option Repo) → ((t : Target) → target ≡ Some t → team.names t.name ≡ false)
+  pub changed_outside : (target : Option Text) (c : Option Repo) → ((name : Text) → target ≡ Some name → team.names name ≡ false)
       → view (changed w target c) team ≡ view w team
   changed_outside None None h = refl
   changed_outside None (Some r) h = refl
-  changed_outside (Some t) None h = refl
-  changed_outside (Some t) (Some r) h = with_repo_outside t.name r (h t refl)
+  changed_outside (Some name) None h = refl
+  changed_outside (Some name) (Some r) h = with_repo_outside name r (h name refl)
+
+  pub updated_outside : (name : Text) (change : Repo → Repo) (o : Option Repo) → team.names name ≡ false → view (update_repo w name change o) team ≡ view w team
+  updated_outside name change None h = refl
+  updated_outside name change (Some r) h = with_repo_outside name (change r) h
 
   -- the grants of a token that is not the team's
   pub with_grants_outside : (token : Text) (g : Grants) → team.tokens token ≡ false → view (with_grants w token g) team ≡ view w team
@@ -82,3 +51,18 @@ module _ (w : World) (team : Team) where
 
   pub own_grants : (token : Text) → team.tokens token ≡ true → (view w team).grants token ≡ w.grants token
   own_grants token h = ap (λ b. cond b (w.grants token) empty) h
+
+  -- a name outside has no level of the team's
+  pub no_level : IsTeamOf w team → (token name : Text) → team.tokens token ≡ true → team.names name ≡ false → level_at w token name ≡ None
+  no_level mine token name t out = by (level_at w token name) refl
+    where
+      by : (o : Option Level) → level_at w token name ≡ o → o ≡ None
+      by None e = refl
+      by (Some level) e = absurd (let bad = sym (mine token name t (ap is_some e)) ∙ out in cc)
+
+  pub dropped_outside : IsTeamOf w team → (name : Text) → team.names name ≡ false → view (drop_repo w name) team ≡ view w team
+  dropped_outside mine name out = λ i. record { repos = removed_outside w.repos team.names name out i; grants = λ token. by token (team.tokens token) refl i }
+    where
+      by : (token : Text) (b : Bool) → team.tokens token ≡ b → cond b (remove (w.grants token) name) empty ≡ cond b (w.grants token) empty
+      by token false t = refl
+      by token true t = remove_absent (w.grants token) name (no_level mine token name t out)

@@ -1,5 +1,5 @@
 -- A reply, as its reader sees it.
-use Rattle.std.specs.Prelude.{ℕ, List, [], Option, Some, None, codes, String, Vec, string_bytes, option_map}
+use Rattle.std.specs.Prelude.{ℕ, [], Option, Some, None, codes, String, string_bytes, option_map}
 use Rattle.std.specs.Borrow.{Bor}
 use Rattle.std.specs.declared.alloc.Global.{Global}
 use Rattle.oci_names.specs.Text.{Text}

@@ -1,5 +1,5 @@
 -- A request, as its writer sees it.
-use Rattle.std.specs.Prelude.{ℕ, List, Option, option_map}
+use Rattle.std.specs.Prelude.{Option, option_map}
 use Rattle.std.specs.Borrow.{Bor}
 use Rattle.oci_names.specs.Text.{Text}
 use Rattle.registry_model.specs.declared.request.Verb.{Verb}

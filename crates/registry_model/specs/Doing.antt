@@ -1,5 +1,5 @@
 -- What one request or command comes to: an answer, want of memory, or the end at a storage failure.
-use Rattle.std.specs.Prelude.{◌≡◌, Bool, true, false, Option, Some, None, Result, Ok, Err}
+use Rattle.std.specs.Prelude.{◌≡◌, true, false, Option, Some, None, Result, Ok, Err}
 use Rattle.registry_model.specs.declared.admin.AdminCommand.{AdminCommand}
 use Rattle.registry_model.specs.declared.admin.AdminFault.{AdminFault}
 use Rattle.registry_model.specs.declared.admin.AdminFault.TheVariants.{Memory, Storage}

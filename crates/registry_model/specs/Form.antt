@@ -1,5 +1,5 @@
 -- The forms of a request's path (OCI Distribution Specification 1.1, Endpoints).
-use Rattle.std.specs.Prelude.{ℕ, ◌==◌, ◌&&◌, ◌||◌, Bool, List, [], drop, codes, bytes_eq, nat_eq, if◌then◌else◌}
+use Rattle.std.specs.Prelude.{ℕ, ◌==◌, ◌&&◌, ◌||◌, Bool, [], drop, codes, bytes_eq, nat_eq, if◌then◌else◌}
 use Rattle.std.specs.List.{before_last, after_last, starts_with}
 use Rattle.oci_names.specs.Text.{Text}
 use Rattle.registry_model.specs.declared.route.Route.{Route}

@@ -1,9 +1,12 @@
 -- What the calls of a keeper say of the world that it keeps.
-use Rattle.std.specs.Prelude.{◌≡◌, ℕ, Bool, true, false, List, Option, Result, Ok, Err, ⊤, Vec, option_map}
+use Rattle.std.specs.Prelude.{◌≡◌, ℕ, Bool, true, false, List, map, Option, Result, Ok, Err, ⊤, Vec, option_map}
 use Rattle.std.specs.declared.alloc.Global.{Global}
 use Rattle.oci_names.specs.Text.{Text}
 use Rattle.oci_names.specs.declared.fault.Fault.{Fault}
 use Rattle.oci_names.specs.declared.fault.Fault.TheVariants.{Memory, Storage}
+use Rattle.oci_manifest.specs.declared.kind.Kind.{Kind}
+use Rattle.registry_model.specs.declared.quota.Usage.{Usage}
+use Rattle.registry_model.specs.TagPage.{Page}
 use Rattle.registry_model.specs.World.{World}
 
 -- the world, and whether the storage has failed, after which the world says nothing
@@ -40,3 +43,17 @@ Spends (Err Storage) s s' = s'.spent ≡ true
 -- the bytes that a vector holds, if there is one
 abbrev pub bytes_in : Option (Vec ℕ Global) → Option Text
 bytes_in o = option_map (λ v. v.items) o
+
+-- ---- what the answers show
+
+abbrev pub manifest_shown : Option (Kind × Vec ℕ Global) → Option (Kind × Text)
+manifest_shown o = option_map (λ p. (p.0, p.1.items)) o
+
+abbrev pub page_shown : Vec Text Global × Bool → Page
+page_shown p = record { tags = p.0.items; more = p.1 }
+
+abbrev pub entries_shown : Vec (Text × Vec ℕ Global) Global → List (Text × Text)
+entries_shown v = map (λ p. (p.0, p.1.items)) v.items
+
+abbrev pub usages_shown : Vec (Text × Usage) Global → List (Text × Usage)
+usages_shown v = v.items

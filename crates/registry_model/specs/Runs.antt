@@ -1,7 +1,5 @@
 -- Steps one after the other, and what a team is told among them (profile).
-use Rattle.std.specs.Prelude.{◌≡◌, ℕ, Bool, true, false, if◌then◌else◌, List, [], ◌∷◌, map, length, All, ⊤, Result}
-use Rattle.oci_names.specs.Text.{Text}
-use Rattle.registry_model.specs.declared.admin.AdminCommand.{AdminCommand}
+use Rattle.std.specs.Prelude.{◌≡◌, false, if◌then◌else◌, List, [], ◌∷◌, map, length, All, ⊤, Result}
 use Rattle.registry_model.specs.declared.admin.AdminFault.{AdminFault}
 use Rattle.registry_model.specs.World.{World}
 use Rattle.registry_model.specs.Answer.{Answer}

@@ -1,19 +1,13 @@
 -- What holds of every world that the registry makes (profile).
-use Rattle.std.specs.Prelude.{◌≡◌, ℕ, ◌≤◌, ◌<◌, true, List, length, is_some, IsTrue, IfSome, Some, bytes_eq}
+use Rattle.std.specs.Prelude.{◌≡◌, ℕ, ◌≤◌, true, length, is_some, IsOk, Some}
 use Rattle.std.specs.FinMap.{get, len}
 use Rattle.oci_names.specs.Text.{Text}
 use Rattle.oci_names.specs.Digest.{matches}
+use Rattle.oci_manifest.specs.Manifest.{manifest_in}
 use Rattle.registry_model.specs.declared.level.Level.{Level}
 use Rattle.registry_model.specs.World.{Repo, World, repo_at, has_repo, level_at}
+use Rattle.registry_model.specs.Limits.{largest, largest_blob, most_sessions}
 use Rattle.registry_model.specs.Usage.{used}
-
--- 9,223,372,036,854,775,807
-abbrev pub largest : ℕ
-largest = 9223372036854775807
-
--- the most bytes of a blob or of a session
-abbrev pub largest_blob : ℕ
-largest_blob = 67108864
 
 pub record IsSoundRepo (r : Repo) : Type 0 where
   -- each tag names a manifest
@@ -21,9 +15,11 @@ pub record IsSoundRepo (r : Repo) : Type 0 where
   -- each digest is that of its bytes
   pub blobs : (digest bytes : Text) → get r.blobs digest ≡ Some bytes → matches digest bytes ≡ true
   pub manifests : (digest bytes : Text) → get r.manifests digest ≡ Some bytes → matches digest bytes ≡ true
+  -- each manifest reads as one
+  pub reads : (digest bytes : Text) → get r.manifests digest ≡ Some bytes → IsOk (manifest_in bytes)
   -- sessions have numbers from 1 to the last, there are at most 1,000, and each has at most 67,108,864 bytes
   pub numbers : (number : ℕ) (bytes : Text) → get r.sessions number ≡ Some bytes → (1 ≤ number) × (number ≤ r.last) × (length bytes ≤ largest_blob)
-  pub open_sessions : len r.sessions ≤ 1000
+  pub open_sessions : len r.sessions ≤ most_sessions
   pub used_fits : used r ≤ largest
   pub last_fits : r.last ≤ largest
   pub quota_fits : r.quota ≤ largest

@@ -1,16 +1,15 @@
 -- A team, what it sees of a world, and which steps are its own or leave what it sees (profile).
-use Rattle.std.specs.Prelude.{◌≡◌, ℕ, ◌≤◌, ◌⊎◌, Bool, true, false, not, if◌then◌else◌, List, [], ◌∷◌, Option, Some, None, is_some, IfSome, All, ⊤}
-use Rattle.std.specs.FinMap.{get, retain_keys, empty}
+use Rattle.std.specs.Prelude.{◌≡◌, ◌≤◌, ◌⊎◌, Bool, true, false, if◌then◌else◌, List, Option, Some, None, is_some, IfSome, All, ⊤}
+use Rattle.std.specs.FinMap.{retain_keys, empty}
 use Rattle.oci_names.specs.Text.{Text}
-use Rattle.registry_model.specs.declared.level.Level.{Level}
 use Rattle.registry_model.specs.declared.request.Verb.{Verb}
 use Rattle.registry_model.specs.declared.request.Verb.TheVariants.{Get, Head}
 use Rattle.registry_model.specs.declared.admin.AdminCommand.{AdminCommand}
-use Rattle.registry_model.specs.declared.admin.AdminCommand.TheVariants.{AddRepo, Grant}
+use Rattle.registry_model.specs.declared.admin.AdminCommand.TheVariants.{AddRepo, SetQuota, DropRepo, Grant, Revoke, DropSessions, Clear}
 use Rattle.registry_model.specs.World.{World, level_at}
-use Rattle.registry_model.specs.Form.{Form, no_form, base, blob, uploads, session, manifest, tags, referrers}
+use Rattle.registry_model.specs.Form.{Form}
 use Rattle.registry_model.specs.Ask.{Ask}
-use Rattle.registry_model.specs.Verdict.{rank_of, rank}
+use Rattle.registry_model.specs.Operation.{addressed, rank_of, rank}
 
 -- tokens, and names of repositories
 pub record Team : Type 0 where
@@ -40,17 +39,6 @@ abbrev pub is_own : Team → Option Text → Bool
 is_own team None = false
 is_own team (Some token) = team.tokens token
 
--- the name that a path addresses
-abbrev pub addressed : Form → Option Text
-addressed no_form = None
-addressed base = None
-addressed (blob name digest) = Some name
-addressed (uploads name) = Some name
-addressed (session name reference) = Some name
-addressed (manifest name reference) = Some name
-addressed (tags name) = Some name
-addressed (referrers name digest) = Some name
-
 -- a request that reads, whatever its token
 abbrev pub is_reading : Verb → Bool
 is_reading Get = true
@@ -60,8 +48,8 @@ is_reading _ = false
 -- the step gives the token no level above the first on the name
 abbrev pub GivesNoPush : Text → Text → Step → Type 0
 GivesNoPush u name (asks q) = ⊤
-GivesNoPush u name (orders (AddRepo other quota)) = ⊤
 GivesNoPush u name (orders (Grant token other level)) = (token.now ≡ u) → (other.now ≡ name) → rank level ≤ 1
+GivesNoPush u name (orders _) = ⊤
 
 -- the token may not push to the name, in the world and after any of the steps
 abbrev pub NeverPushes : World → List Step → Text → Text → Type 0
@@ -82,5 +70,10 @@ IsElsewhere team form = IfSome (addressed form) (λ name. team.names name ≡ fa
 abbrev pub OwnOrAside : World → List Step → Team → Step → Type 0
 OwnOrAside w steps team (asks q) =
     (is_own team q.token ≡ true) ⊎ IsElsewhere team q.form ⊎ (is_reading q.verb ≡ true) ⊎ MayNotPush w steps q.token (addressed q.form)
-OwnOrAside w steps team (orders (Grant token name level)) = team.tokens token.now ≡ false
 OwnOrAside w steps team (orders (AddRepo name quota)) = team.names name.now ≡ false
+OwnOrAside w steps team (orders (SetQuota name quota)) = team.names name.now ≡ false
+OwnOrAside w steps team (orders (DropRepo name)) = team.names name.now ≡ false
+OwnOrAside w steps team (orders (Grant token name level)) = team.tokens token.now ≡ false
+OwnOrAside w steps team (orders (Revoke token name)) = team.tokens token.now ≡ false
+OwnOrAside w steps team (orders (DropSessions name)) = team.names name.now ≡ false
+OwnOrAside w steps team (orders Clear) = ⊤

@@ -1,99 +1,87 @@
 -- What a request is answered: the order of refusals, and then the operation's own answer (OCI Distribution
--- Specification 1.1; the order and the levels are the profile's).
---
--- Served so far are GET and HEAD of the base and of a blob, and the push of a whole blob; any other request is
--- answered as one that has no endpoint.
-use Rattle.std.specs.Prelude.{ℕ, List, Bool, true, false, not, codes, ◌&&◌, Option, Some, None, nat_le, if◌then◌else◌}
+-- Specification 1.1; the order and the levels are the profile's). One function of the token's grants and of look-ups of
+-- repositories gives it, so that two worlds in which these agree give one answer.
+use Rattle.std.specs.Prelude.{Bool, codes, Option, Some, None, nat_le, if◌then◌else◌}
 use Rattle.std.specs.FinMap.{get}
 use Rattle.oci_names.specs.Text.{Text}
 use Rattle.oci_names.specs.RepoName.{is_repo_name}
 use Rattle.oci_names.specs.Token.{is_token}
-use Rattle.registry_model.specs.declared.level.Level.{Level}
-use Rattle.registry_model.specs.declared.level.Level.TheVariants.{Pull, Push, Delete}
-use Rattle.registry_model.specs.declared.refusal.Refusal.TheVariants.{TokenRequired, NoEndpoint, InvalidName, AccessDenied}
+use Rattle.registry_model.specs.declared.refusal.Refusal.TheVariants.{TokenRequired, NoEndpoint, InvalidName, MethodNotAllowed, AccessDenied}
 use Rattle.registry_model.specs.declared.request.Verb.{Verb}
-use Rattle.registry_model.specs.declared.request.Verb.TheVariants.{Get, Head, Post}
-use Rattle.registry_model.specs.World.{Repo, Grants, World, repo_at, is_known, with_repo}
+use Rattle.registry_model.specs.declared.request.Verb.TheVariants.{Get, Head}
 use Rattle.registry_model.specs.declared.reply.Status.TheVariants.{OK}
-use Rattle.registry_model.specs.Answer.{Answer, bare_answer, sent}
-use Rattle.registry_model.specs.Form.{Form, base, blob, uploads}
-use Rattle.registry_model.specs.Ask.{Keys, Ask}
-use Rattle.registry_model.specs.Blobs.{Outcome, refuses, read_blob, size_blob, push_blob}
+use Rattle.registry_model.specs.World.{Repo, Grants, World, repo_at, is_known, with_repo}
+use Rattle.registry_model.specs.Answer.{Answer, bare_answer, refused, sent}
+use Rattle.registry_model.specs.Form.{Form, no_form, base, blob, uploads, session, manifest, tags, referrers}
+use Rattle.registry_model.specs.Ask.{Ask}
+use Rattle.registry_model.specs.Operation.{Operation, reads_blob, sizes_blob, deletes_blob, pushes_blob, opens_session, mounts_blob, reads_session, appends_chunk, closes_session, reads_manifest, sizes_manifest, deletes_manifest, pushes_manifest, lists_tags, lists_referrers, operation_of, allow_of, addressed, rank, rank_of, needed}
+use Rattle.registry_model.specs.Outcome.{Outcome, refuses, tells, in_repo}
+use Rattle.registry_model.specs.Blobs as blobs
+use Rattle.registry_model.specs.Sessions as sessions
+use Rattle.registry_model.specs.Mount.{mount_blob}
+use Rattle.registry_model.specs.Manifests as manifests
+use Rattle.registry_model.specs.TagPage as page
+use Rattle.registry_model.specs.Referrers as subjects
 
--- what a request asks for, of a repository
-pub data Operation : Type 0 where
-  reads_blob : Text → Operation
-  sizes_blob : Text → Operation
-  pushes_blob : Text → Operation
+-- ---- the operation, in a repository that is there
 
--- the operation, and the name of its repository
-pub record Target : Type 0 where
-  pub name : Text
-  pub operation : Operation
+abbrev pub operate : Grants → (Text → Option Repo) → Repo → Text → Operation → Text → Outcome
+operate grants repos r name (reads_blob digest) body = blobs.read_blob r digest
+operate grants repos r name (sizes_blob digest) body = blobs.size_blob r digest
+operate grants repos r name (deletes_blob digest) body = blobs.delete_blob r digest
+operate grants repos r name (pushes_blob digest) body = blobs.push_blob r name digest body
+operate grants repos r name opens_session body = sessions.open_session r name
+operate grants repos r name (mounts_blob digest source) body = mount_blob grants repos r name digest source
+operate grants repos r name (reads_session reference) body = sessions.read_session r name reference
+operate grants repos r name (appends_chunk reference range) body = sessions.append_chunk r name reference range body
+operate grants repos r name (closes_session reference digest range) body = sessions.close_session r name reference digest range body
+operate grants repos r name (reads_manifest reference) body = manifests.read_manifest r reference
+operate grants repos r name (sizes_manifest reference) body = manifests.size_manifest r reference
+operate grants repos r name (deletes_manifest reference) body = manifests.delete_manifest r reference
+operate grants repos r name (pushes_manifest reference content_type) body = manifests.push_manifest r name reference content_type body
+operate grants repos r name (lists_tags n last) body = page.list_tags r name n last
+operate grants repos r name (lists_referrers digest artifact_type) body = subjects.list_referrers r digest artifact_type
 
--- a POST with a digest and no mount pushes a whole blob
-abbrev pub post_target : Text → Option Text → Option Text → Option Target
-post_target name None (Some digest) = Some (record { name = name; operation = pushes_blob digest })
-post_target name _ _ = None
+-- ---- the order of refusals
 
-abbrev pub target_of : Verb → Form → Keys → Option Target
-target_of Get (blob name digest) keys = Some (record { name = name; operation = reads_blob digest })
-target_of Head (blob name digest) keys = Some (record { name = name; operation = sizes_blob digest })
-target_of Post (uploads name) keys = post_target name keys.mount keys.digest
-target_of _ _ _ = None
+-- the refusal that names the methods which the form has
+abbrev pub not_allowed : Form → Outcome
+not_allowed form = tells (record (refused MethodNotAllowed) { allow = Some (allow_of form) })
 
--- the number of a level; each allows what the lower ones do
-abbrev pub rank : Level → ℕ
-rank Pull = 1
-rank Push = 2
-rank Delete = 3
+abbrev pub allows : Grants → Text → Operation → Bool
+allows grants name operation = nat_le (rank (needed operation)) (rank_of (get grants name))
 
-abbrev pub rank_of : Option Level → ℕ
-rank_of None = 0
-rank_of (Some level) = rank level
+abbrev pub granted : Grants → (Text → Option Repo) → Text → Form → Option Operation → Text → Outcome
+granted grants repos name form None body = not_allowed form
+granted grants repos name form (Some operation) body =
+    if allows grants name operation then in_repo (repos name) (λ r. operate grants repos r name operation body) else refuses AccessDenied
 
-abbrev pub needed : Operation → Level
-needed (reads_blob digest) = Pull
-needed (sizes_blob digest) = Pull
-needed (pushes_blob digest) = Push
+-- a request on the repository of a name
+abbrev pub decide : Grants → (Text → Option Repo) → Text → Ask → Outcome
+decide grants repos name q = if is_repo_name name then granted grants repos name q.form (operation_of q) q.body else refuses InvalidName
 
-abbrev pub operate : Repo → Text → Operation → Text → Outcome
-operate r name (reads_blob digest) body = read_blob r digest
-operate r name (sizes_blob digest) body = size_blob r digest
-operate r name (pushes_blob digest) body = push_blob r name digest body
-
--- a name without a repository is refused as one without a grant is
-abbrev pub operate_in : Option Repo → Text → Operation → Text → Outcome
-operate_in None name operation body = refuses AccessDenied
-operate_in (Some r) name operation body = operate r name operation body
-
-abbrev pub allows : Grants → Target → Bool
-allows grants target = nat_le (rank (needed target.operation)) (rank_of (get grants target.name))
-
-abbrev pub decide : Grants → (Text → Option Repo) → Target → Text → Outcome
-decide grants repos target body =
-    if not (is_repo_name target.name) then refuses InvalidName
-    else (if allows grants target then operate_in (repos target.name) target.name target.operation body else refuses AccessDenied)
-
-abbrev pub aimed : Grants → (Text → Option Repo) → Option Target → Text → Outcome
-aimed grants repos None body = refuses NoEndpoint
-aimed grants repos (Some target) body = decide grants repos target body
-
--- GET and HEAD of the base ask whether the registry is there for the token
-abbrev pub is_base : Verb → Form → Bool
-is_base Get base = true
-is_base Head base = true
-is_base _ _ = false
-
+-- whether the registry is there for the token (OCI Distribution Specification 1.1, Determining Support)
 abbrev pub base_outcome : Outcome
-base_outcome = record {
-  reply = record (bare_answer OK) { content_type = Some (codes "application/json"); body = sent (codes "{}") };
-  change = None;
-}
+base_outcome = tells (record (bare_answer OK) { content_type = Some (codes "application/json"); body = sent (codes "{}") })
 
--- the base asks for no name
+abbrev pub at_base : Verb → Outcome
+at_base Get = base_outcome
+at_base Head = base_outcome
+at_base _ = not_allowed base
+
+-- by the path's form
+abbrev pub served_on : Grants → (Text → Option Repo) → Form → Ask → Outcome
+served_on grants repos no_form q = refuses NoEndpoint
+served_on grants repos base q = at_base q.verb
+served_on grants repos (blob name digest) q = decide grants repos name q
+served_on grants repos (uploads name) q = decide grants repos name q
+served_on grants repos (session name reference) q = decide grants repos name q
+served_on grants repos (manifest name reference) q = decide grants repos name q
+served_on grants repos (tags name) q = decide grants repos name q
+served_on grants repos (referrers name digest) q = decide grants repos name q
+
 abbrev pub served : Grants → (Text → Option Repo) → Ask → Outcome
-served grants repos q = if is_base q.verb q.form then base_outcome else aimed grants repos (target_of q.verb q.form q.keys) q.body
+served grants repos q = served_on grants repos q.form q
 
 -- what a token with these grants is answered, where the repositories are looked up so
 abbrev pub verdict : Grants → (Text → Option Repo) → Ask → Outcome
@@ -104,13 +92,14 @@ abbrev pub judged : World → Option Text → Ask → Outcome
 judged w None q = refuses TokenRequired
 judged w (Some token) q = if is_token token then verdict (w.grants token) (repo_at w) q else refuses TokenRequired
 
-abbrev pub changed : World → Option Target → Option Repo → World
-changed w (Some target) (Some r) = with_repo w target.name r
+-- ---- the answer, and the world after it: only the path's repository may change
+
+abbrev pub changed : World → Option Text → Option Repo → World
+changed w (Some name) (Some r) = with_repo w name r
 changed w _ _ = w
 
--- the reply to a request, and the world after it: only the path's repository may change
 abbrev pub reply_to : World → Ask → Answer
 reply_to w q = (judged w q.token q).reply
 
 abbrev pub after_request : World → Ask → World
-after_request w q = changed w (target_of q.verb q.form q.keys) (judged w q.token q).change
+after_request w q = changed w (addressed q.form) (judged w q.token q).change

@@ -1,9 +1,9 @@
 -- What a registry holds: repositories that own whole bytes, and grants (profile).
-use Rattle.std.specs.Prelude.{ℕ, List, Bool, Option, Some, None, is_some, not, nat_lt}
+use Rattle.std.specs.Prelude.{ℕ, Bool, Option, Some, None, is_some, nat_lt}
 use Rattle.std.specs.declared.cmp.Ordering.{Ordering}
 use Rattle.std.specs.Ordering.{nat_cmp}
 use Rattle.std.specs.Cmp.Lexicographic.{slice_cmp}
-use Rattle.std.specs.FinMap.{FinMap, get, insert, len, empty, contains_key}
+use Rattle.std.specs.FinMap.{FinMap, get, insert, len, empty}
 use Rattle.std.specs.Prelude.{if◌then◌else◌, bytes_eq}
 use Rattle.oci_names.specs.Text.{Text}
 use Rattle.registry_model.specs.declared.level.Level.{Level}
@@ -57,6 +57,11 @@ level_at w token name = get (w.grants token) name
 
 abbrev pub with_repo : World → Text → Repo → World
 with_repo w name r = record w { repos = insert w.repos name r }
+
+-- the repository of the name, changed; one that is not there stays so
+abbrev pub update_repo : World → Text → (Repo → Repo) → Option Repo → World
+update_repo w name change None = w
+update_repo w name change (Some r) = with_repo w name (change r)
 
 abbrev pub with_grants : World → Text → Grants → World
 with_grants w token grants = record w { grants = λ other. if bytes_eq other token then grants else w.grants other }

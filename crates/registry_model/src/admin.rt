@@ -9,12 +9,32 @@ pub enum AdminCommand<'a> {
         name: &'a RepoName,
         quota: Quota,
     },
+    /// Sets a repository's quota, which may lie below what it uses.
+    SetQuota {
+        name: &'a RepoName,
+        quota: Quota,
+    },
+    /// Takes a repository away, with what it holds and every level on it.
+    DropRepo {
+        name: &'a RepoName,
+    },
     /// Gives a token a level on a repository, in the place of the one that it has.
     Grant {
         token: &'a Token,
         name: &'a RepoName,
         level: Level,
     },
+    /// Takes a token's level on a repository away.
+    Revoke {
+        token: &'a Token,
+        name: &'a RepoName,
+    },
+    /// Ends every open upload session of a repository; their numbers are not used again.
+    DropSessions {
+        name: &'a RepoName,
+    },
+    /// Frees what no repository holds any more; no reply changes by it.
+    Clear,
 }
 
 /// Why a command was not carried out; all but `Storage` change nothing.

@@ -1,20 +1,24 @@
-ghost use Rattle.std.specs.Prelude.{◌≡◌, ◌≤◌, ℕ, true, false, length, Option, Some, None};
-ghost use Rattle.std.specs.FinMap.{get};
+ghost use Rattle.std.specs.Prelude.{◌≡◌, ◌≤◌, ◌<◌, ◌+◌, ℕ, true, false, length, is_some, Option, Some, None, Result, Ok};
 ghost use Rattle.oci_names.specs.Digest.{matches};
+ghost use Rattle.oci_manifest.specs.Manifest.{shown, manifest_in};
+ghost use Rattle.registry_model.specs.Limits.{largest, largest_blob, largest_manifest, most_sessions};
 ghost use Rattle.registry_model.specs.World.{is_known, has_repo, level_at};
-ghost use Rattle.registry_model.specs.Lookups.{blob_at, blob_size_at, put_blob};
-ghost use Rattle.registry_model.specs.Command.{set_repo, grant};
-ghost use Rattle.registry_model.specs.Keeping.{State, Reads, ReadsBy, Writes, Spends, bytes_in};
+ghost use Rattle.registry_model.specs.Lookups.{blob_at, blob_size_at, manifest_at, manifest_size_at, tag_at, page_at, manifests_on_at, session_at, session_size_at, sessions_open_at, last_number_at, usage_at, usages_of, bytes_or_none, put_blob, open_session, append, finish, mount, put_manifest, delete_blob, delete_manifest, delete_tag};
+ghost use Rattle.registry_model.specs.Command.{set_repo, drop_repo, grant, revoke, drop_sessions};
+ghost use Rattle.registry_model.specs.Ask.{text_in};
+ghost use Rattle.registry_model.specs.Keeping.{State, Reads, ReadsBy, Writes, WritesBy, Spends, bytes_in, manifest_shown, page_shown, entries_shown, usages_shown};
 
-use crate::{Level, Quota};
-use oci_names::{Digest, Fault, RepoName, Token};
+use crate::{Level, Quota, Usage};
+use oci_manifest::{Kind, Manifest};
+use oci_names::{Digest, Fault, RepoName, Tag, Token};
 use std::alloc::Global;
 
 /// What keeps a registry's world.
 ///
 /// Every call answers inside a `Result`: after `Fault::Memory` nothing has changed; after
 /// `Fault::Storage` the keeper is spent, and answers `Storage` alone. A read leaves the world as it
-/// is. A write makes its one change and leaves every other repository, session, grant and number.
+/// is, and finds nothing in a repository that is not there. A write makes its one change and leaves
+/// every other repository, session, grant and number; what it asks for, a read tells.
 pub trait Keeper {
     // The world that it keeps, and whether it is spent.
     ghost state: { Self → State };
@@ -44,7 +48,7 @@ pub trait Keeper {
         ensures spends { Spends result (state self.old) (state self.new) }
         ensures honest { is_honest self.new → is_honest self.old };
 
-    /// The bytes of a blob; `None` where it or its repository is not there.
+    /// The bytes of a blob.
     fn blob(
         &mut self,
         alloc: Global,
@@ -55,20 +59,197 @@ pub trait Keeper {
         ensures spends { Spends result (state self.old) (state self.new) }
         ensures honest { is_honest self.new → is_honest self.old };
 
-    /// The length of a blob in bytes; `None` where it or its repository is not there. Reads no blob.
+    /// The length of a blob in bytes. Reads no blob.
     fn blob_size(&mut self, repo: &RepoName, digest: &Digest) -> Result<Option<u64>, Fault>
         ensures found { is_honest self.new → Reads result (blob_size_at (state self.old).world repo.now digest.now) (state self.old) (state self.new) }
         ensures spends { Spends result (state self.old) (state self.new) }
         ensures honest { is_honest self.new → is_honest self.old };
 
+    /// The kind and the bytes of a manifest.
+    fn manifest(
+        &mut self,
+        alloc: Global,
+        repo: &RepoName,
+        digest: &Digest,
+    ) -> Result<Option<(Kind, Vec<u8>)>, Fault>
+        ensures found { is_honest self.new → ReadsBy manifest_shown result (manifest_at (state self.old).world repo.now digest.now) (state self.old) (state self.new) }
+        ensures spends { Spends result (state self.old) (state self.new) }
+        ensures honest { is_honest self.new → is_honest self.old };
+
+    /// The kind of a manifest, and its length in bytes. Reads no manifest.
+    fn manifest_size(
+        &mut self,
+        repo: &RepoName,
+        digest: &Digest,
+    ) -> Result<Option<(Kind, u64)>, Fault>
+        ensures found { is_honest self.new → Reads result (manifest_size_at (state self.old).world repo.now digest.now) (state self.old) (state self.new) }
+        ensures spends { Spends result (state self.old) (state self.new) }
+        ensures honest { is_honest self.new → is_honest self.old };
+
+    /// The digest that a tag names.
+    fn tag(&mut self, alloc: Global, repo: &RepoName, tag: &Tag) -> Result<Option<Digest>, Fault>
+        ensures found { is_honest self.new → Reads result (tag_at (state self.old).world repo.now tag.now) (state self.old) (state self.new) }
+        ensures spends { Spends result (state self.old) (state self.new) }
+        ensures honest { is_honest self.new → is_honest self.old };
+
+    /// The first `n` tags, or all, behind `last` in byte order, and whether more follow a page that is
+    /// not empty by its size.
+    fn tags_after(
+        &mut self,
+        alloc: Global,
+        repo: &RepoName,
+        last: &str,
+        n: Option<u64>,
+    ) -> Result<(Vec<Tag>, bool), Fault>
+        ensures found { is_honest self.new → ReadsBy page_shown result (page_at (state self.old).world repo.now last.now n) (state self.old) (state self.new) }
+        ensures spends { Spends result (state self.old) (state self.new) }
+        ensures honest { is_honest self.new → is_honest self.old };
+
+    /// The digests and the bytes of the manifests whose subject is the digest, in byte order of their
+    /// own digests.
+    fn manifests_of_subject(
+        &mut self,
+        alloc: Global,
+        repo: &RepoName,
+        digest: &Digest,
+    ) -> Result<Vec<(Digest, Vec<u8>)>, Fault>
+        ensures found { is_honest self.new → ReadsBy entries_shown result (manifests_on_at (state self.old).world repo.now digest.now) (state self.old) (state self.new) }
+        ensures spends { Spends result (state self.old) (state self.new) }
+        ensures honest { is_honest self.new → is_honest self.old };
+
+    /// The length in bytes of an open upload session. Reads no byte of it.
+    fn session_size(&mut self, repo: &RepoName, number: u64) -> Result<Option<u64>, Fault>
+        ensures found { is_honest self.new → Reads result (session_size_at (state self.old).world repo.now number) (state self.old) (state self.new) }
+        ensures spends { Spends result (state self.old) (state self.new) }
+        ensures honest { is_honest self.new → is_honest self.old };
+
+    /// The bytes of an open upload session.
+    fn session(
+        &mut self,
+        alloc: Global,
+        repo: &RepoName,
+        number: u64,
+    ) -> Result<Option<Vec<u8>>, Fault>
+        ensures found { is_honest self.new → ReadsBy bytes_in result (session_at (state self.old).world repo.now number) (state self.old) (state self.new) }
+        ensures spends { Spends result (state self.old) (state self.new) }
+        ensures honest { is_honest self.new → is_honest self.old };
+
+    /// How many upload sessions are open; 0 where the repository is not there.
+    fn sessions_open(&mut self, repo: &RepoName) -> Result<u64, Fault>
+        ensures found { is_honest self.new → Reads result (sessions_open_at (state self.old).world repo.now) (state self.old) (state self.new) }
+        ensures spends { Spends result (state self.old) (state self.new) }
+        ensures honest { is_honest self.new → is_honest self.old };
+
+    /// The last number that an upload session got; 0 where none did.
+    fn last_number(&mut self, repo: &RepoName) -> Result<u64, Fault>
+        ensures found { is_honest self.new → Reads result (last_number_at (state self.old).world repo.now) (state self.old) (state self.new) }
+        ensures spends { Spends result (state self.old) (state self.new) }
+        ensures honest { is_honest self.new → is_honest self.old };
+
+    /// What a repository holds and may hold. Reads no blob and no manifest.
+    fn usage(&mut self, repo: &RepoName) -> Result<Usage, Fault>
+        ensures found { is_honest self.new → Reads result (usage_at (state self.old).world repo.now) (state self.old) (state self.new) }
+        ensures spends { Spends result (state self.old) (state self.new) }
+        ensures honest { is_honest self.new → is_honest self.old };
+
+    /// What each repository holds and may hold, in byte order of names.
+    fn usages(&mut self, alloc: Global) -> Result<Vec<(RepoName, Usage)>, Fault>
+        ensures found { is_honest self.new → ReadsBy usages_shown result (usages_of (state self.old).world) (state self.old) (state self.new) }
+        ensures spends { Spends result (state self.old) (state self.new) }
+        ensures honest { is_honest self.new → is_honest self.old };
+
     /// Adds a blob to a repository that is there (`has_repo` tells), under a digest that the bytes
-    /// match (`Digest::verifies` tells); of at most 67,108,864 bytes. A digest that is there keeps
-    /// its bytes.
+    /// match (`Digest::verifies` tells); of at most 67,108,864 bytes. A digest that is there keeps its
+    /// bytes.
     fn put_blob(&mut self, repo: &RepoName, digest: &Digest, bytes: &[u8]) -> Result<(), Fault>
         requires there { is_honest self.old → (state self.old).spent ≡ false → has_repo (state self.old).world repo.now ≡ true }
         requires matching { matches digest.now bytes.now ≡ true }
-        requires fits { length bytes.now ≤ 67108864 }
+        requires fits { length bytes.now ≤ largest_blob }
         ensures made { is_honest self.new → Writes result (put_blob (state self.old).world repo.now digest.now bytes.now) (state self.old) (state self.new) }
+        ensures spends { Spends result (state self.old) (state self.new) }
+        ensures honest { is_honest self.new → is_honest self.old };
+
+    /// Opens an empty upload session under the number behind the last one, and answers it. Fewer than
+    /// 1,000 are open (`sessions_open` tells), and the last number is below 9,223,372,036,854,775,807
+    /// (`last_number` tells).
+    fn open_session(&mut self, repo: &RepoName) -> Result<u64, Fault>
+        requires there { is_honest self.old → (state self.old).spent ≡ false → has_repo (state self.old).world repo.now ≡ true }
+        requires few { is_honest self.old → (state self.old).spent ≡ false → sessions_open_at (state self.old).world repo.now < most_sessions }
+        requires below { is_honest self.old → (state self.old).spent ≡ false → last_number_at (state self.old).world repo.now < largest }
+        ensures made { is_honest self.new → WritesBy (λ n. n) result (last_number_at (state self.old).world repo.now + 1) (open_session (state self.old).world repo.now) (state self.old) (state self.new) }
+        ensures spends { Spends result (state self.old) (state self.new) }
+        ensures honest { is_honest self.new → is_honest self.old };
+
+    /// Puts bytes behind those of an open upload session (`session_size` tells), which then has at most
+    /// 67,108,864. Touches none that it has.
+    fn append(&mut self, repo: &RepoName, number: u64, bytes: &[u8]) -> Result<(), Fault>
+        requires open { is_honest self.old → (state self.old).spent ≡ false → is_some (session_at (state self.old).world repo.now number) ≡ true }
+        requires fits { is_honest self.old → (state self.old).spent ≡ false → length (bytes_or_none (session_at (state self.old).world repo.now number)) + length bytes.now ≤ largest_blob }
+        ensures made { is_honest self.new → Writes result (append (state self.old).world repo.now number bytes.now) (state self.old) (state self.new) }
+        ensures spends { Spends result (state self.old) (state self.new) }
+        ensures honest { is_honest self.new → is_honest self.old };
+
+    /// Ends an open upload session and adds its whole bytes as a blob, whose digest they match.
+    /// `bytes` are all of them, the last chunk among them.
+    fn finish(
+        &mut self,
+        repo: &RepoName,
+        number: u64,
+        digest: &Digest,
+        bytes: &[u8],
+    ) -> Result<(), Fault>
+        requires open { is_honest self.old → (state self.old).spent ≡ false → is_some (session_at (state self.old).world repo.now number) ≡ true }
+        requires matching { matches digest.now bytes.now ≡ true }
+        requires fits { length bytes.now ≤ largest_blob }
+        ensures made { is_honest self.new → Writes result (finish (state self.old).world repo.now number digest.now bytes.now) (state self.old) (state self.new) }
+        ensures spends { Spends result (state self.old) (state self.new) }
+        ensures honest { is_honest self.new → is_honest self.old };
+
+    /// Adds a blob that another repository has (`blob_size` tells), or the same one.
+    fn mount(&mut self, from: &RepoName, to: &RepoName, digest: &Digest) -> Result<(), Fault>
+        requires there { is_honest self.old → (state self.old).spent ≡ false → has_repo (state self.old).world to.now ≡ true }
+        requires source { is_honest self.old → (state self.old).spent ≡ false → is_some (blob_at (state self.old).world from.now digest.now) ≡ true }
+        ensures made { is_honest self.new → Writes result (mount (state self.old).world from.now to.now digest.now) (state self.old) (state self.new) }
+        ensures spends { Spends result (state self.old) (state self.new) }
+        ensures honest { is_honest self.new → is_honest self.old };
+
+    /// Adds a manifest under a digest that its bytes match, and sets the tag to it, if one is given.
+    /// `manifest` is what the bytes read as; they are at most 4,194,304. A digest that is there keeps
+    /// its bytes.
+    fn put_manifest(
+        &mut self,
+        repo: &RepoName,
+        digest: &Digest,
+        bytes: &[u8],
+        manifest: &Manifest,
+        tag: Option<&Tag>,
+    ) -> Result<(), Fault>
+        requires there { is_honest self.old → (state self.old).spent ≡ false → has_repo (state self.old).world repo.now ≡ true }
+        requires matching { matches digest.now bytes.now ≡ true }
+        requires reads { manifest_in bytes.now ≡ Ok (shown manifest.now) }
+        requires fits { length bytes.now ≤ largest_manifest }
+        ensures made { is_honest self.new → Writes result (put_manifest (state self.old).world repo.now digest.now bytes.now (text_in tag.entry)) (state self.old) (state self.new) }
+        ensures spends { Spends result (state self.old) (state self.new) }
+        ensures honest { is_honest self.new → is_honest self.old };
+
+    /// Takes a blob away (`blob_size` tells that it is there).
+    fn delete_blob(&mut self, repo: &RepoName, digest: &Digest) -> Result<(), Fault>
+        requires there { is_honest self.old → (state self.old).spent ≡ false → is_some (blob_at (state self.old).world repo.now digest.now) ≡ true }
+        ensures made { is_honest self.new → Writes result (delete_blob (state self.old).world repo.now digest.now) (state self.old) (state self.new) }
+        ensures spends { Spends result (state self.old) (state self.new) }
+        ensures honest { is_honest self.new → is_honest self.old };
+
+    /// Takes a manifest away (`manifest_size` tells that it is there), and each tag that names it.
+    fn delete_manifest(&mut self, repo: &RepoName, digest: &Digest) -> Result<(), Fault>
+        requires there { is_honest self.old → (state self.old).spent ≡ false → is_some (manifest_at (state self.old).world repo.now digest.now) ≡ true }
+        ensures made { is_honest self.new → Writes result (delete_manifest (state self.old).world repo.now digest.now) (state self.old) (state self.new) }
+        ensures spends { Spends result (state self.old) (state self.new) }
+        ensures honest { is_honest self.new → is_honest self.old };
+
+    /// Takes a tag away (`tag` tells that it is there).
+    fn delete_tag(&mut self, repo: &RepoName, tag: &Tag) -> Result<(), Fault>
+        requires there { is_honest self.old → (state self.old).spent ≡ false → is_some (tag_at (state self.old).world repo.now tag.now) ≡ true }
+        ensures made { is_honest self.new → Writes result (delete_tag (state self.old).world repo.now tag.now) (state self.old) (state self.new) }
         ensures spends { Spends result (state self.old) (state self.new) }
         ensures honest { is_honest self.new → is_honest self.old };
 
@@ -78,10 +259,37 @@ pub trait Keeper {
         ensures spends { Spends result (state self.old) (state self.new) }
         ensures honest { is_honest self.new → is_honest self.old };
 
+    /// Takes a repository that is there away, with what it holds and every level on it.
+    fn drop_repo(&mut self, name: &RepoName) -> Result<(), Fault>
+        requires there { is_honest self.old → (state self.old).spent ≡ false → has_repo (state self.old).world name.now ≡ true }
+        ensures made { is_honest self.new → Writes result (drop_repo (state self.old).world name.now) (state self.old) (state self.new) }
+        ensures spends { Spends result (state self.old) (state self.new) }
+        ensures honest { is_honest self.new → is_honest self.old };
+
     /// Gives a token a level on a repository that is there, in the place of the one that it has.
     fn grant(&mut self, token: &Token, name: &RepoName, level: Level) -> Result<(), Fault>
-        requires { is_honest self.old → (state self.old).spent ≡ false → has_repo (state self.old).world name.now ≡ true }
+        requires there { is_honest self.old → (state self.old).spent ≡ false → has_repo (state self.old).world name.now ≡ true }
         ensures made { is_honest self.new → Writes result (grant (state self.old).world token.now name.now level) (state self.old) (state self.new) }
+        ensures spends { Spends result (state self.old) (state self.new) }
+        ensures honest { is_honest self.new → is_honest self.old };
+
+    /// Takes the level of a token on a repository away (`level` tells that it has one).
+    fn revoke(&mut self, token: &Token, name: &RepoName) -> Result<(), Fault>
+        requires granted { is_honest self.old → (state self.old).spent ≡ false → is_some (level_at (state self.old).world token.now name.now) ≡ true }
+        ensures made { is_honest self.new → Writes result (revoke (state self.old).world token.now name.now) (state self.old) (state self.new) }
+        ensures spends { Spends result (state self.old) (state self.new) }
+        ensures honest { is_honest self.new → is_honest self.old };
+
+    /// Ends every open upload session of a repository that is there; the last number stays.
+    fn drop_sessions(&mut self, name: &RepoName) -> Result<(), Fault>
+        requires there { is_honest self.old → (state self.old).spent ≡ false → has_repo (state self.old).world name.now ≡ true }
+        ensures made { is_honest self.new → Writes result (drop_sessions (state self.old).world name.now) (state self.old) (state self.new) }
+        ensures spends { Spends result (state self.old) (state self.new) }
+        ensures honest { is_honest self.new → is_honest self.old };
+
+    /// Frees what no repository holds any more; the world stays.
+    fn clear(&mut self) -> Result<(), Fault>
+        ensures made { is_honest self.new → Writes result ((state self.old).world) (state self.old) (state self.new) }
         ensures spends { Spends result (state self.old) (state self.new) }
         ensures honest { is_honest self.new → is_honest self.old };
 }

@@ -5,22 +5,34 @@
 
 pub mod admin;
 pub mod keeper;
+mod kept;
 pub mod laws;
 pub mod level;
-pub mod maps;
+mod maps;
+pub mod numbers;
+pub mod page;
 pub mod quota;
+pub mod range;
+#[cfg(test)]
+mod range_tests;
 pub mod refusal;
 pub mod reply;
+mod repository;
 pub mod request;
 pub mod route;
+pub mod soundness;
 #[cfg(test)]
 mod tests;
+pub mod worked;
 
 pub use admin::{AdminCommand, AdminFault};
 pub use keeper::Keeper;
 pub use level::Level;
 pub use maps::MapKeeper;
+pub use numbers::number;
+pub use page::page_link;
 pub use quota::{Quota, Usage};
+pub use range::{RangeVerdict, range_fits};
 pub use refusal::Refusal;
 pub use reply::{Body, Reply, Status};
 pub use request::{Query, Request, Verb};

@@ -1,55 +1,8 @@
 use crate::quota::over_quota;
-use crate::{Keeper, Level, MapKeeper, Quota, Refusal, Route};
-use oci_names::{Digest, RepoName, Token, Verdict};
-use std::alloc::Global;
-use std::process::Abort;
+use crate::{Quota, Refusal, Route};
 use std::test::Fail;
 
-/// By `printf abc | sha256sum`.
-const ABC: &str = "sha256:ba7816bf8f01cfea414140de5dae2223b00361a396177a9cb410ff61f20015ad";
-
-/// Each call of a keeper of the empty world, before a repository is made and after.
-fn keeps_what_it_is_given<K: Keeper>(
-    rt: &impl Abort,
-    alloc: Global,
-    keeper: &mut K,
-) -> Result<(), Fail> {
-    let name = RepoName::parse(alloc, "team/app")?;
-    let token = Token::parse(alloc, "t1")?;
-    let digest = Digest::parse(alloc, ABC)?;
-    let quota = Quota::new(1000).ok_or("a quota")?;
-    assert!(rt; !keeper.spent());
-    assert_eq!(rt; keeper.known(&token), Ok(false));
-    assert_eq!(rt; keeper.level(&token, &name), Ok(None));
-    assert_eq!(rt; keeper.blob_size(&name, &digest), Ok(None));
-    assert_eq!(rt; keeper.has_repo(&name), Ok(false));
-
-    assert_eq!(rt; keeper.set_repo(&name, quota), Ok(()));
-    assert_eq!(rt; keeper.has_repo(&name), Ok(true));
-    assert_eq!(rt; keeper.grant(&token, &name, Level::Pull), Ok(()));
-    assert_eq!(rt; keeper.has_repo(&name), Ok(true));
-    assert_eq!(rt; keeper.grant(&token, &name, Level::Push), Ok(()));
-    assert_eq!(rt; keeper.known(&token), Ok(true));
-    assert_eq!(rt; keeper.level(&token, &name), Ok(Some(Level::Push)));
-
-    let bytes = b"abc";
-    assert_eq!(rt; digest.verifies(bytes), Verdict::Matches);
-    assert_eq!(rt; keeper.has_repo(&name), Ok(true));
-    assert_eq!(rt; keeper.put_blob(&name, &digest, bytes), Ok(()));
-    assert_eq!(rt; keeper.blob_size(&name, &digest), Ok(Some(3)));
-    match keeper.blob(alloc, &name, &digest)? {
-        Some(found) => assert_eq!(rt; found.as_slice(), b"abc".as_slice()),
-        None => assert!(rt; false, "the blob was put"),
-    }
-    assert!(rt; !keeper.spent());
-    Ok(())
-}
-
-#[test]
-fn maps_keep_what_they_are_given(rt: HostRuntime) -> Result<(), Fail> {
-    let mut keeper = MapKeeper::new(rt.alloc());
-    keeps_what_it_is_given(&rt, rt.alloc(), &mut keeper)
-}
+mod keeper;
 
 #[test]
 fn quotas_end_below_2_to_63(rt: HostRuntime) {

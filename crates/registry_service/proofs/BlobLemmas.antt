@@ -1,96 +1,192 @@
--- Look-ups and pushes in a repository that is there.
-use Rattle.std.proofs.Common.{◌≡◌, ◌∙◌, ℕ, List, [], ◌++◌, Bool, true, false, cond, not, ◌&&◌, None, Some, refl, sym, ap, subst, append_assoc}
-use Rattle.std.specs.Prelude.{Option, option_map, is_some, nat_lt, length}
+-- Blobs in a repository that is there.
+use Rattle.std.proofs.Common.{◌≡◌, ◌∙◌, ℕ, ◌≤◌, arith, Bool, true, false, cond, None, Some, refl, sym, ap, subst}
+use Rattle.std.proofs.lemmas.Bool.Decides.{nat_tests}
+use Rattle.std.specs.Prelude.{Result, Option, option_map, is_some, length, nat_lt, ◌&&◌}
 use Rattle.std.specs.Option.{option_and_then}
 use Rattle.std.specs.FinMap.{get}
-use Rattle.std.proofs.Math.Bool.{and-false}
 use Rattle.oci_names.specs.Text.{Text}
 use Rattle.oci_names.specs.Digest.{is_digest, is_verified, matches, verdict_of}
-use Rattle.oci_names.specs.declared.digest.Verdict.{Verdict}
 use Rattle.oci_names.specs.declared.digest.Verdict.TheVariants.{Matches, Differs, Unsupported}
-use Rattle.registry_model.specs.declared.refusal.Refusal.TheVariants.{InvalidDigest, BlobUnknown, DigestMismatch, ContentTooLarge}
+use Rattle.registry_model.specs.declared.refusal.Refusal.TheVariants.{BlobUnknown, InvalidDigest, ContentTooLarge, DigestMismatch, QuotaExceeded}
+use Rattle.registry_model.specs.declared.reply.Status.TheVariants.{Accepted}
+use Rattle.oci_names.specs.declared.fault.Fault.{Fault}
+use Rattle.registry_model.specs.declared.reply.Reply.{Reply}
+use Rattle.registry_service.specs.Results.{Operates}
 use Rattle.registry_model.specs.World.{Repo, World, repo_at, has_repo}
-use Rattle.registry_model.specs.Answer.{Answer, refused}
-use Rattle.registry_model.specs.Blobs.{Outcome, refuses, found_blob, found_size, read_blob, push_blob, with_blob, created_blob}
+use Rattle.std.specs.Option.{option_map_or}
+use Rattle.registry_model.specs.Answer.{Answer, refused, bare_answer}
+use Rattle.registry_model.specs.Outcome.{refuses, makes, within_quota}
+use Rattle.registry_model.specs.Blobs.{blob_named, found_blob, found_size, read_blob, size_blob, delete_blob, without_blob, can_verify, with_blob, created_blob, push_blob}
 use Rattle.registry_model.specs.Lookups.{blob_at, blob_size_at}
-use Rattle.registry_model.specs.Verdict.{operate_in, reads_blob, sizes_blob, pushes_blob, changed}
+use Rattle.registry_model.specs.Lookups as lookups
 use Rattle.registry_model.specs.Keeping.{State}
-use Rattle.registry_model.specs.Soundness.{largest_blob}
+use Rattle.registry_model.specs.Limits.{largest_blob}
+use Rattle.registry_model.specs.Usage.{goes_over}
+use Rattle.registry_service.specs.Quota.{blob_grows_over, grows_over, new_length}
+use Rattle.registry_service.proofs.QuotaLemmas.{push_over}
+use Rattle.registry_service.proofs.OperatingLemmas.{Done, told, made}
 
-reads_in : (o : Option Repo) → is_some o ≡ true → (name text body : Text) → is_digest text ≡ true
-    → operate_in o name (reads_blob text) body ≡ found_blob text (option_and_then (λ r. get r.blobs text) o)
-reads_in None h name text body d = absurd (cc)
-reads_in (Some r) h name text body d = ap (λ b. cond b (found_blob text (get r.blobs text)) (refuses BlobUnknown)) d
+found_none : (digest : Text) (o : Option Text) → (found_blob digest o).change ≡ None
+found_none digest None = refl
+found_none digest (Some bytes) = refl
 
-found_changes_nothing : (text : Text) (o : Option Text) → (found_blob text o).change ≡ None
-found_changes_nothing text None = refl
-found_changes_nothing text (Some b) = refl
+size_none : (digest : Text) (o : Option ℕ) → (found_size digest o).change ≡ None
+size_none digest None = refl
+size_none digest (Some size) = refl
 
-module _ (s s' : State) (name text digest : Text) (there : has_repo s.world name ≡ true) (unspent : s.spent ≡ false)
-    (same : digest ≡ text) (valid : is_digest text ≡ true) (stays : s' ≡ s) where
-  -- the reply of what was found, and nothing changed
-  pub reads : (found : Option Text) → found ≡ blob_at s.world name digest → (a : Answer) → a ≡ (found_blob text found).reply
-      → (a ≡ (operate_in (repo_at s.world name) name (reads_blob text) []).reply)
-      × (s' ≡ record { world = changed s.world (Some (record { name = name; operation = reads_blob text })) (operate_in (repo_at s.world name) name (reads_blob text) []).change; spent = false })
-  reads found at a e =
-      let here : found ≡ blob_at s.world name text = at ∙ ap (blob_at s.world name) same in
-      let out : operate_in (repo_at s.world name) name (reads_blob text) [] ≡ found_blob text found =
-      reads_in (repo_at s.world name) there name text [] valid ∙ ap (found_blob text) (sym here) in
-      let none : (operate_in (repo_at s.world name) name (reads_blob text) []).change ≡ None = ap (λ o. o.change) out ∙ found_changes_nothing text found in (
-        e ∙ sym (ap (λ o. o.reply) out),
-        stays ∙ (λ i. record { world = s.world; spent = unspent i })
-            ∙ ap (λ c. record { world = changed s.world (Some (record { name = name; operation = reads_blob text })) c; spent = false }) (sym none),
-      )
+-- the blob of a digest, in the repository that the world has
+named_there : (w : World) (name text : Text) → is_digest text ≡ true → (r : Repo) → repo_at w name ≡ Some r → blob_named r text ≡ blob_at w name text
+named_there w name text valid r at = ap (λ b. cond b (get r.blobs text) None) valid ∙ sym (ap (λ o. option_and_then (λ r. get r.blobs text) o) at)
 
-sizes_in : (o : Option Repo) → is_some o ≡ true → (name text body : Text) → is_digest text ≡ true
-    → operate_in o name (sizes_blob text) body ≡ found_size text (option_map length (option_and_then (λ r. get r.blobs text) o))
-sizes_in None h name text body d = absurd (cc)
-sizes_in (Some r) h name text body d = ap (λ b. cond b (found_size text (option_map length (get r.blobs text))) (refuses BlobUnknown)) d
+named_nothing : (text : Text) → is_digest text ≡ false → (r : Repo) → blob_named r text ≡ None
+named_nothing text invalid r = ap (λ b. cond b (get r.blobs text) None) invalid
 
-size_changes_nothing : (text : Text) (o : Option ℕ) → (found_size text o).change ≡ None
-size_changes_nothing text None = refl
-size_changes_nothing text (Some n) = refl
+module _ (s s' : State) (name : Text) (unspent : s.spent ≡ false) (there : has_repo s.world name ≡ true) (text : Text) (a : Answer) where
+  module _ (stays : s' ≡ s) where
+    pub reads : is_digest text ≡ true → (found : Option Text) → found ≡ blob_at s.world name text → a ≡ (found_blob text found).reply → Done s s' name (λ r. read_blob r text) a
+    reads valid found at e =
+        told s s' name unspent there (λ r. read_blob r text) a (found_blob text found) (found_none text found)
+        (λ r here. ap (found_blob text) (named_there s.world name text valid r here ∙ sym at)) stays e
 
-module _ (s s' : State) (name text digest : Text) (there : has_repo s.world name ≡ true) (unspent : s.spent ≡ false)
-    (same : digest ≡ text) (valid : is_digest text ≡ true) (stays : s' ≡ s) where
-  -- the reply of the length that was found, and nothing changed
-  pub sizes : (found : Option ℕ) → found ≡ blob_size_at s.world name digest → (a : Answer) → a ≡ (found_size text found).reply
-      → (a ≡ (operate_in (repo_at s.world name) name (sizes_blob text) []).reply)
-      × (s' ≡ record { world = changed s.world (Some (record { name = name; operation = sizes_blob text })) (operate_in (repo_at s.world name) name (sizes_blob text) []).change; spent = false })
-  sizes found at a e =
-      let here : found ≡ blob_size_at s.world name text = at ∙ ap (blob_size_at s.world name) same in
-      let out : operate_in (repo_at s.world name) name (sizes_blob text) [] ≡ found_size text found =
-      sizes_in (repo_at s.world name) there name text [] valid ∙ ap (found_size text) (sym here) in
-      let none : (operate_in (repo_at s.world name) name (sizes_blob text) []).change ≡ None = ap (λ o. o.change) out ∙ size_changes_nothing text found in (
-        e ∙ sym (ap (λ o. o.reply) out),
-        stays ∙ (λ i. record { world = s.world; spent = unspent i })
-            ∙ ap (λ c. record { world = changed s.world (Some (record { name = name; operation = sizes_blob text })) c; spent = false }) (sym none),
-      )
+    pub reads_nothing : is_digest text ≡ false → a ≡ refused BlobUnknown → Done s s' name (λ r. read_blob r text) a
+    reads_nothing invalid e =
+        told s s' name unspent there (λ r. read_blob r text) a (refuses BlobUnknown) refl (λ r here. ap (found_blob text) (named_nothing text invalid r)) stays e
+
+    pub sizes : is_digest text ≡ true → (found : Option ℕ) → found ≡ blob_size_at s.world name text → a ≡ (found_size text found).reply → Done s s' name (λ r. size_blob r text) a
+    sizes valid found at e =
+        told s s' name unspent there (λ r. size_blob r text) a (found_size text found) (size_none text found)
+        (λ r here. ap (found_size text) (ap (option_map length) (named_there s.world name text valid r here) ∙ sym at)) stays e
+
+    pub sizes_nothing : is_digest text ≡ false → a ≡ refused BlobUnknown → Done s s' name (λ r. size_blob r text) a
+    sizes_nothing invalid e =
+        told s s' name unspent there (λ r. size_blob r text) a (refuses BlobUnknown) refl (λ r here. ap (λ o. found_size text (option_map length o)) (named_nothing text invalid r)) stays e
+
+    pub deletes_nothing : ((r : Repo) → repo_at s.world name ≡ Some r → blob_named r text ≡ None) → a ≡ refused BlobUnknown → Done s s' name (λ r. delete_blob r text) a
+    deletes_nothing none e =
+        told s s' name unspent there (λ r. delete_blob r text) a (refuses BlobUnknown) refl
+        (λ r here. ap (λ o. cond (is_some o) (makes (bare_answer Accepted) (without_blob r text)) (refuses BlobUnknown)) (none r here)) stays e
+
+    pub deletes_invalid : is_digest text ≡ false → a ≡ refused BlobUnknown → Done s s' name (λ r. delete_blob r text) a
+    deletes_invalid invalid e = deletes_nothing (λ r here. named_nothing text invalid r) e
+
+    size_absent : (o : Option Text) → option_map length o ≡ None → o ≡ None
+    size_absent None e = refl
+    size_absent (Some bytes) e = absurd (cc)
+
+    pub deletes_absent : is_digest text ≡ true → None ≡ blob_size_at s.world name text → a ≡ refused BlobUnknown → Done s s' name (λ r. delete_blob r text) a
+    deletes_absent valid at e = deletes_nothing (λ r here. named_there s.world name text valid r here ∙ size_absent (blob_at s.world name text) (sym at)) e
+
+  some_size : (o : Option Text) → is_some (option_map length o) ≡ true → is_some o ≡ true
+  some_size None e = e
+  some_size (Some bytes) e = refl
+
+  pub deletes : is_digest text ≡ true → is_some (blob_size_at s.world name text) ≡ true
+      → s' ≡ record { world = lookups.delete_blob s.world name text; spent = false } → a ≡ bare_answer Accepted → Done s s' name (λ r. delete_blob r text) a
+  deletes valid some after e =
+      made s s' name unspent there (λ r. delete_blob r text) a (bare_answer Accepted) (λ r. without_blob r text)
+      (λ r here. ap (λ b. cond b (makes (bare_answer Accepted) (without_blob r text)) (refuses BlobUnknown))
+      (ap is_some (named_there s.world name text valid r here) ∙ some_size (blob_at s.world name text) some)) after e
+
+-- ---- pushes
+
+matched : (v m : Bool) → cond v (cond m Matches Differs) Unsupported ≡ Matches → (v ≡ true) × (m ≡ true)
+matched true true e = (refl, refl)
+matched true false e = absurd (cc)
+matched false m e = absurd (cc)
+
+differed : (v m : Bool) → cond v (cond m Matches Differs) Unsupported ≡ Differs → (v ≡ true) × (m ≡ false)
+differed true true e = absurd (cc)
+differed true false e = (refl, refl)
+differed false m e = absurd (cc)
 
 unsupported : (v m : Bool) → cond v (cond m Matches Differs) Unsupported ≡ Unsupported → v ≡ false
 unsupported true true e = absurd (cc)
 unsupported true false e = absurd (cc)
 unsupported false m e = refl
 
-pub not_verified : (digest body : Text) → verdict_of digest body ≡ Unsupported → is_verified digest ≡ false
-not_verified digest body e = unsupported (is_verified digest) (matches digest body) e
+and_false : (b : Bool) → (b && false) ≡ false
+and_false true = refl
+and_false false = refl
 
--- a digest against which nothing can be verified is refused
-pub refuses_unverified : (o : Option Repo) → is_some o ≡ true → (name text body : Text) → is_verified text ≡ false
-    → operate_in o name (pushes_blob text) body ≡ refuses InvalidDigest
-refuses_unverified None h name text body v = absurd (cc)
-refuses_unverified (Some r) h name text body v =
-    let test : (is_digest text && is_verified text) ≡ false = ap (λ x. is_digest text && x) v ∙ and-false (is_digest text) in
-    ap (λ b. cond (not b) (refuses InvalidDigest) (cond (nat_lt largest_blob (length body)) (refuses ContentTooLarge)
-    (cond (not (matches text body)) (refuses DigestMismatch) (record { reply = created_blob name text; change = Some (with_blob r text body) })))) test
+module _ (text body : Text) where
+  verified : is_digest text ≡ true → is_verified text ≡ true → can_verify text ≡ true
+  verified d v = ap (λ b. b && is_verified text) d ∙ v
 
-module _ (s : State) (name text body digest : Text) (there : has_repo s.world name ≡ true) (unspent : s.spent ≡ false) (same : digest ≡ text)
-    (verdict : verdict_of digest body ≡ Unsupported) (a : Answer) (e : a ≡ refused InvalidDigest) where
-  pub unverified : (a ≡ (operate_in (repo_at s.world name) name (pushes_blob text) body).reply)
-      × (s ≡ record { world = changed s.world (Some (record { name = name; operation = pushes_blob text })) (operate_in (repo_at s.world name) name (pushes_blob text) body).change; spent = false })
-  unverified =
-      let out = refuses_unverified (repo_at s.world name) there name text body (ap is_verified (sym same) ∙ not_verified digest body verdict) in (
-        e ∙ sym (ap (λ o. o.reply) out),
-        (λ i. record { world = s.world; spent = unspent i })
-            ∙ ap (λ o. record { world = changed s.world (Some (record { name = name; operation = pushes_blob text })) o.change; spent = false }) (sym out),
-      )
+  unverified : is_verified text ≡ false → can_verify text ≡ false
+  unverified v = ap (λ b. is_digest text && b) v ∙ and_false (is_digest text)
+
+  module _ (r : Repo) (name : Text) where
+    push_invalid : can_verify text ≡ false → push_blob r name text body ≡ refuses InvalidDigest
+    push_invalid v = rw v refl
+
+    push_large : can_verify text ≡ true → nat_lt largest_blob (length body) ≡ true → push_blob r name text body ≡ refuses ContentTooLarge
+    push_large v l = rw (v, l) refl
+
+    push_differs : can_verify text ≡ true → nat_lt largest_blob (length body) ≡ false → matches text body ≡ false → push_blob r name text body ≡ refuses DigestMismatch
+    push_differs v l m = rw (v, l, m) refl
+
+    pub push_matches : can_verify text ≡ true → nat_lt largest_blob (length body) ≡ false → matches text body ≡ true
+        → push_blob r name text body ≡ within_quota r (with_blob r text body) (created_blob name text)
+    push_matches v l m = rw (v, l, m) refl
+
+module _ (s s' : State) (name : Text) (unspent : s.spent ≡ false) (there : has_repo s.world name ≡ true) (text body : Text) (a : Answer) where
+  module _ (stays : s' ≡ s) where
+    pub pushes_invalid : is_digest text ≡ false → a ≡ refused InvalidDigest → Done s s' name (λ r. push_blob r name text body) a
+    pushes_invalid d e =
+        told s s' name unspent there (λ r. push_blob r name text body) a (refuses InvalidDigest) refl
+        (λ r here. push_invalid text body r name (ap (λ b. b && is_verified text) d)) stays e
+
+    pub pushes_unverified : verdict_of text body ≡ Unsupported → a ≡ refused InvalidDigest → Done s s' name (λ r. push_blob r name text body) a
+    pushes_unverified v e =
+        told s s' name unspent there (λ r. push_blob r name text body) a (refuses InvalidDigest) refl
+        (λ r here. push_invalid text body r name (unverified text body (unsupported (is_verified text) (matches text body) v))) stays e
+
+    module _ (valid : is_digest text ≡ true) where
+      pub pushes_large : is_verified text ≡ true → nat_lt largest_blob (length body) ≡ true → a ≡ refused ContentTooLarge → Done s s' name (λ r. push_blob r name text body) a
+      pushes_large v l e =
+          told s s' name unspent there (λ r. push_blob r name text body) a (refuses ContentTooLarge) refl
+          (λ r here. push_large text body r name (verified text body valid v) l) stays e
+
+      pub pushes_large_differing : verdict_of text body ≡ Differs → nat_lt largest_blob (length body) ≡ true → a ≡ refused ContentTooLarge → Done s s' name (λ r. push_blob r name text body) a
+      pushes_large_differing v l e = pushes_large (differed (is_verified text) (matches text body) v).0 l e
+
+      pub pushes_large_matching : verdict_of text body ≡ Matches → nat_lt largest_blob (length body) ≡ true → a ≡ refused ContentTooLarge → Done s s' name (λ r. push_blob r name text body) a
+      pushes_large_matching v l e = pushes_large (matched (is_verified text) (matches text body) v).0 l e
+
+      pub pushes_differing : verdict_of text body ≡ Differs → nat_lt largest_blob (length body) ≡ false → a ≡ refused DigestMismatch → Done s s' name (λ r. push_blob r name text body) a
+      pushes_differing v l e =
+          let d = differed (is_verified text) (matches text body) v in
+          told s s' name unspent there (λ r. push_blob r name text body) a (refuses DigestMismatch) refl
+          (λ r here. push_differs text body r name (verified text body valid d.0) l d.1) stays e
+
+  -- the quota's verdict is that of the repository which is there
+  over_there : (r : Repo) → repo_at s.world name ≡ Some r → (b : Bool) → b ≡ blob_grows_over s.world name text (length body) 0 → goes_over r (with_blob r text body) ≡ b
+  over_there r here b e =
+      push_over r text body
+      ∙ sym (e ∙ ap (λ o. option_map_or (λ x. grows_over x (new_length (option_and_then (λ y. get y.blobs text) o) (length body)) 0) o (nat_lt 0 (new_length (option_and_then (λ y. get y.blobs text) o) (length body)))) here)
+
+  pub adds_over : s' ≡ s → true ≡ blob_grows_over s.world name text (length body) 0 → a ≡ refused QuotaExceeded
+      → Done s s' name (λ r. within_quota r (with_blob r text body) (created_blob name text)) a
+  adds_over stays over e =
+      told s s' name unspent there (λ r. within_quota r (with_blob r text body) (created_blob name text)) a (refuses QuotaExceeded) refl
+      (λ r here. ap (λ b. cond b (refuses QuotaExceeded) (makes (created_blob name text) (with_blob r text body))) (over_there r here true over)) stays e
+
+  pub adds : false ≡ blob_grows_over s.world name text (length body) 0 → s' ≡ record { world = lookups.put_blob s.world name text body; spent = false } → a ≡ created_blob name text
+      → Done s s' name (λ r. within_quota r (with_blob r text body) (created_blob name text)) a
+  adds within after e =
+      made s s' name unspent there (λ r. within_quota r (with_blob r text body) (created_blob name text)) a (created_blob name text) (λ r. with_blob r text body)
+      (λ r here. ap (λ b. cond b (refuses QuotaExceeded) (makes (created_blob name text) (with_blob r text body))) (over_there r here false within)) after e
+
+pub matched_by : (text body : Text) → verdict_of text body ≡ Matches → (is_verified text ≡ true) × (matches text body ≡ true)
+matched_by text body v = matched (is_verified text) (matches text body) v
+
+not_large : (n : ℕ) → n ≤ 67108864 → nat_lt 67108864 n ≡ false
+not_large n h = grind (arith, nat_tests)
+
+-- a body that matches, added under the digest of the text
+pub push_added : (r : Result Reply Fault) (s s' : State) (name text body digest : Text) → digest ≡ text → is_digest text ≡ true → verdict_of text body ≡ Matches
+    → length body ≤ 67108864 → Operates r name (λ x. within_quota x (with_blob x digest body) (created_blob name digest)) s s' → Operates r name (λ x. push_blob x name text body) s s'
+push_added r s s' name text body digest same valid v small h =
+    let m = matched_by text body v in
+    subst (λ act. Operates r name act s s') (sym (λ i x. push_matches text body x name (verified text body valid m.0) (not_large (length body) small) m.1 i))
+    (subst (λ d. Operates r name (λ x. within_quota x (with_blob x d body) (created_blob name d)) s s') same h)

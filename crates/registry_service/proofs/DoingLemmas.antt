@@ -1,5 +1,5 @@
 -- What a request comes to, by the reply.
-use Rattle.std.proofs.Common.{◌≡◌, false, true, refl, sym, ap, subst}
+use Rattle.std.proofs.Common.{◌≡◌, false, true, refl, sym, subst}
 use Rattle.registry_model.specs.Answer.{Answer, busy_answer, failed_answer}
 use Rattle.registry_model.specs.Ask.{Ask}
 use Rattle.registry_model.specs.Verdict.{reply_to, after_request}

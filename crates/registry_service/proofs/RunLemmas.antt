@@ -1,8 +1,7 @@
 -- One step more of a run.
-use Rattle.std.proofs.Common.{◌≡◌, ◌∙◌, ℕ, ◌+◌, ◌<◌, List, [], ◌∷◌, ◌++◌, map, length, take, get_or, sym, ap, subst}
+use Rattle.std.proofs.Common.{◌≡◌, ℕ, ◌+◌, ◌<◌, List, [], ◌∷◌, ◌++◌, map, length, take, get_or, sym, subst}
 use Rattle.std.proofs.lemmas.List.{take_more, map-append}
 use Rattle.registry_model.specs.Keeping.{State}
-use Rattle.registry_model.specs.Team as team
 use Rattle.registry_model.specs.Runs as runs
 use Rattle.registry_model.specs.Runs.{Takes, TakesAll}
 use Rattle.registry_model.proofs.RunLaws.{TakesAll-more}

@@ -1,3 +1,9 @@
-pub mod Targets
+pub mod Operations
 pub mod Results
+pub mod Quota
+pub mod Uploads
+pub mod Mounting
+pub mod Finding
+pub mod Push
+pub mod Listing
 pub mod Steps

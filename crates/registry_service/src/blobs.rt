@@ -1,29 +1,22 @@
-ghost use Rattle.std.specs.Prelude.{◌≡◌, true, false, [], IfOk, string_bytes};
-ghost use Rattle.registry_model.specs.World.{has_repo, repo_at};
-ghost use Rattle.registry_model.specs.Blobs.{blob_location};
-ghost use Rattle.registry_model.specs.Verdict.{operate_in, reads_blob, sizes_blob, pushes_blob};
+ghost use Rattle.std.specs.Prelude.{◌≡◌, ◌≤◌, true, false, IfOk, length};
+ghost use Rattle.oci_names.specs.Digest.{matches};
+ghost use Rattle.registry_model.specs.Limits.{largest_blob};
+ghost use Rattle.registry_model.specs.Outcome.{within_quota};
+ghost use Rattle.registry_model.specs.World.{has_repo};
+ghost use Rattle.registry_model.specs.Blobs.{created_blob, with_blob, read_blob, size_blob, delete_blob, push_blob};
 ghost use Rattle.registry_model.specs.Answer.{answer_of};
 ghost use Rattle.registry_model.specs.Doing.{kind_of, answered};
 ghost use Rattle.registry_model.specs.Keeping.{Spends};
-ghost use Rattle.registry_service.specs.Results.{Comes};
+ghost use Rattle.registry_service.specs.Results.{Operates};
 
+use crate::quota::blob_goes_over;
+use crate::replies::blob_location;
 use oci_names::{Digest, Fault, NameFault, RepoName, Verdict};
 use registry_model::{Body, Keeper, Refusal, Reply, Status};
-use std::alloc::{AllocError, Global};
+use std::alloc::Global;
 
 /// The most bytes of a blob.
 const LARGEST_BLOB: usize = 67_108_864;
-
-/// Where a blob is fetched.
-fn blob_location(alloc: Global, name: &RepoName, digest: &Digest) -> Result<String, AllocError>
-    ensures { IfOk result (λ s. string_bytes s ≡ blob_location name.now digest.now) }
-{
-    let mut location = String::from_str(alloc, "/v2/")?;
-    location.push_str(name.as_str())?;
-    location.push_str("/blobs/")?;
-    location.push_str(digest.as_str())?;
-    Ok(location)
-}
 
 /// GET of a blob in a repository that is there.
 pub fn read_blob<K: Keeper>(
@@ -34,8 +27,7 @@ pub fn read_blob<K: Keeper>(
 ) -> Result<Reply, Fault>
     requires unspent { (K.state keeper.old).spent ≡ false }
     requires there { K.is_honest keeper.old → has_repo (K.state keeper.old).world name.now ≡ true }
-    ensures comes { K.is_honest keeper.new → Comes result (record { name = name.now; operation = reads_blob text.now })
-        (operate_in (repo_at (K.state keeper.old).world name.now) name.now (reads_blob text.now) []) (K.state keeper.old) (K.state keeper.new) }
+    ensures comes { K.is_honest keeper.new → Operates result name.now (λ r. read_blob r text.now) (K.state keeper.old) (K.state keeper.new) }
     ensures answers { IfOk result (λ reply. kind_of (answer_of reply) ≡ answered) }
     ensures spends { Spends result (K.state keeper.old) (K.state keeper.new) }
     ensures honest { K.is_honest keeper.new → K.is_honest keeper.old }
@@ -67,8 +59,7 @@ pub fn size_blob<K: Keeper>(
 ) -> Result<Reply, Fault>
     requires unspent { (K.state keeper.old).spent ≡ false }
     requires there { K.is_honest keeper.old → has_repo (K.state keeper.old).world name.now ≡ true }
-    ensures comes { K.is_honest keeper.new → Comes result (record { name = name.now; operation = sizes_blob text.now })
-        (operate_in (repo_at (K.state keeper.old).world name.now) name.now (sizes_blob text.now) []) (K.state keeper.old) (K.state keeper.new) }
+    ensures comes { K.is_honest keeper.new → Operates result name.now (λ r. size_blob r text.now) (K.state keeper.old) (K.state keeper.new) }
     ensures answers { IfOk result (λ reply. kind_of (answer_of reply) ≡ answered) }
     ensures spends { Spends result (K.state keeper.old) (K.state keeper.new) }
     ensures honest { K.is_honest keeper.new → K.is_honest keeper.old }
@@ -91,8 +82,67 @@ pub fn size_blob<K: Keeper>(
     }
 }
 
-/// The push of a whole blob to a repository that is there. The body is hashed once; the reply's
-/// memory is taken before the write.
+/// DELETE of a blob in a repository that is there; a manifest that names it stays.
+pub fn delete_blob<K: Keeper>(
+    keeper: &mut K,
+    alloc: Global,
+    name: &RepoName,
+    text: &str,
+) -> Result<Reply, Fault>
+    requires unspent { (K.state keeper.old).spent ≡ false }
+    requires there { K.is_honest keeper.old → has_repo (K.state keeper.old).world name.now ≡ true }
+    ensures comes { K.is_honest keeper.new → Operates result name.now (λ r. delete_blob r text.now) (K.state keeper.old) (K.state keeper.new) }
+    ensures answers { IfOk result (λ reply. kind_of (answer_of reply) ≡ answered) }
+    ensures spends { Spends result (K.state keeper.old) (K.state keeper.new) }
+    ensures honest { K.is_honest keeper.new → K.is_honest keeper.old }
+{
+    let digest = match Digest::parse(alloc, text) {
+        Ok(digest) => digest,
+        Err(fault) => match fault {
+            NameFault::Memory => return Err(Fault::Memory),
+            _ => return Ok(Reply::refusal(Refusal::BlobUnknown)),
+        },
+    };
+    if keeper.blob_size(name, &digest)?.is_none() {
+        return Ok(Reply::refusal(Refusal::BlobUnknown));
+    }
+    keeper.delete_blob(name, &digest)?;
+    Ok(Reply::bare(Status::Accepted))
+}
+
+/// Adds a blob within the quota of a repository that is there. The reply's memory is taken before the
+/// write.
+fn add_blob<K: Keeper>(
+    keeper: &mut K,
+    alloc: Global,
+    name: &RepoName,
+    digest: Digest,
+    body: &[u8],
+) -> Result<Reply, Fault>
+    requires unspent { (K.state keeper.old).spent ≡ false }
+    requires there { K.is_honest keeper.old → has_repo (K.state keeper.old).world name.now ≡ true }
+    requires matching { matches digest body.now ≡ true }
+    requires fits { length body.now ≤ largest_blob }
+    ensures comes { K.is_honest keeper.new → Operates result name.now (λ r. within_quota r (with_blob r digest body.now) (created_blob name.now digest)) (K.state keeper.old) (K.state keeper.new) }
+    ensures answers { IfOk result (λ reply. kind_of (answer_of reply) ≡ answered) }
+    ensures spends { Spends result (K.state keeper.old) (K.state keeper.new) }
+    ensures honest { K.is_honest keeper.new → K.is_honest keeper.old }
+{
+    if blob_goes_over(keeper, name, &digest, body.len() as u64, 0)? {
+        return Ok(Reply::refusal(Refusal::QuotaExceeded));
+    }
+    let Ok(location) = blob_location(alloc, name, &digest) else {
+        return Err(Fault::Memory);
+    };
+    keeper.put_blob(name, &digest, body)?;
+    Ok(Reply {
+        location: Some(location),
+        digest: Some(digest),
+        ..Reply::bare(Status::Created)
+    })
+}
+
+/// The push of a whole blob to a repository that is there. The body is hashed once.
 pub fn push_blob<K: Keeper>(
     keeper: &mut K,
     alloc: Global,
@@ -102,8 +152,7 @@ pub fn push_blob<K: Keeper>(
 ) -> Result<Reply, Fault>
     requires unspent { (K.state keeper.old).spent ≡ false }
     requires there { K.is_honest keeper.old → has_repo (K.state keeper.old).world name.now ≡ true }
-    ensures comes { K.is_honest keeper.new → Comes result (record { name = name.now; operation = pushes_blob text.now })
-        (operate_in (repo_at (K.state keeper.old).world name.now) name.now (pushes_blob text.now) body.now) (K.state keeper.old) (K.state keeper.new) }
+    ensures comes { K.is_honest keeper.new → Operates result name.now (λ r. push_blob r name.now text.now body.now) (K.state keeper.old) (K.state keeper.new) }
     ensures answers { IfOk result (λ reply. kind_of (answer_of reply) ≡ answered) }
     ensures spends { Spends result (K.state keeper.old) (K.state keeper.new) }
     ensures honest { K.is_honest keeper.new → K.is_honest keeper.old }
@@ -115,23 +164,21 @@ pub fn push_blob<K: Keeper>(
             _ => return Ok(Reply::refusal(Refusal::InvalidDigest)),
         },
     };
-    let verdict = digest.verifies(body);
-    if verdict == Verdict::Unsupported {
-        return Ok(Reply::refusal(Refusal::InvalidDigest));
+    match digest.verifies(body) {
+        Verdict::Unsupported => Ok(Reply::refusal(Refusal::InvalidDigest)),
+        Verdict::Differs => {
+            if body.len() > LARGEST_BLOB {
+                Ok(Reply::refusal(Refusal::ContentTooLarge))
+            } else {
+                Ok(Reply::refusal(Refusal::DigestMismatch))
+            }
+        }
+        Verdict::Matches => {
+            if body.len() > LARGEST_BLOB {
+                Ok(Reply::refusal(Refusal::ContentTooLarge))
+            } else {
+                add_blob(keeper, alloc, name, digest, body)
+            }
+        }
     }
-    if body.len() > LARGEST_BLOB {
-        return Ok(Reply::refusal(Refusal::ContentTooLarge));
-    }
-    if verdict == Verdict::Differs {
-        return Ok(Reply::refusal(Refusal::DigestMismatch));
-    }
-    let Ok(location) = blob_location(alloc, name, &digest) else {
-        return Err(Fault::Memory);
-    };
-    keeper.put_blob(name, &digest, body)?;
-    Ok(Reply {
-        location: Some(location),
-        digest: Some(digest),
-        ..Reply::bare(Status::Created)
-    })
 }

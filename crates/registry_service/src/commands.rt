@@ -27,10 +27,31 @@ pub fn carry_out<K: Keeper>(keeper: &mut K, command: &AdminCommand) -> Result<()
             Ok(false) => keeper.set_repo(name, *quota).map_err(given_up),
             Err(fault) => Err(given_up(fault)),
         },
+        AdminCommand::SetQuota { name, quota } => match keeper.has_repo(name) {
+            Ok(true) => keeper.set_repo(name, *quota).map_err(given_up),
+            Ok(false) => Err(AdminFault::NoRepo),
+            Err(fault) => Err(given_up(fault)),
+        },
+        AdminCommand::DropRepo { name } => match keeper.has_repo(name) {
+            Ok(true) => keeper.drop_repo(name).map_err(given_up),
+            Ok(false) => Err(AdminFault::NoRepo),
+            Err(fault) => Err(given_up(fault)),
+        },
         AdminCommand::Grant { token, name, level } => match keeper.has_repo(name) {
             Ok(true) => keeper.grant(token, name, *level).map_err(given_up),
             Ok(false) => Err(AdminFault::NoRepo),
             Err(fault) => Err(given_up(fault)),
         },
+        AdminCommand::Revoke { token, name } => match keeper.level(token, name) {
+            Ok(Some(_)) => keeper.revoke(token, name).map_err(given_up),
+            Ok(None) => Err(AdminFault::NoGrant),
+            Err(fault) => Err(given_up(fault)),
+        },
+        AdminCommand::DropSessions { name } => match keeper.has_repo(name) {
+            Ok(true) => keeper.drop_sessions(name).map_err(given_up),
+            Ok(false) => Err(AdminFault::NoRepo),
+            Err(fault) => Err(given_up(fault)),
+        },
+        AdminCommand::Clear => keeper.clear().map_err(given_up),
     }
 }

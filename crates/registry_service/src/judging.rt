@@ -1,30 +1,40 @@
 ghost use Rattle.std.specs.Prelude.{◌≡◌, false, None, IfOk, IsOkAnd};
 ghost use Rattle.registry_model.specs.declared.refusal.Refusal.TheVariants.{TokenRequired};
 ghost use Rattle.registry_model.specs.World.{repo_at};
+ghost use Rattle.registry_model.specs.Form.{form_of};
+ghost use Rattle.registry_model.specs.Outcome.{in_repo};
 ghost use Rattle.registry_model.specs.Answer.{answer_of, refused};
 ghost use Rattle.registry_model.specs.Ask.{ask_of};
-ghost use Rattle.registry_model.specs.Verdict.{base_outcome, decide, operate_in, reply_to, after_request};
+ghost use Rattle.registry_model.specs.Verdict.{operate, not_allowed, at_base, decide, reply_to, after_request};
 ghost use Rattle.registry_model.specs.Doing.{kind_of, answered};
 ghost use Rattle.registry_model.specs.Keeping.{Spends, WritesBy};
 ghost use Rattle.registry_service.specs.Results.{Comes};
-ghost use Rattle.registry_service.specs.Targets.{shown_operation, shown_target};
+ghost use Rattle.registry_service.specs.Operations.{shown_operation};
 
-use crate::blobs::{push_blob, read_blob, size_blob};
-use crate::target::{Operation, Target, allows, asks_for_base, find_target};
+use crate::blobs::{delete_blob, push_blob, read_blob, size_blob};
+use crate::closing::close_session;
+use crate::listing::{list_referrers, list_tags};
+use crate::manifest_push::push_manifest;
+use crate::manifests::{delete_manifest, read_manifest, size_manifest};
+use crate::mounting::mount_blob;
+use crate::operation::{Operation, allowed_methods, allows, find_operation};
+use crate::uploads::{append_chunk, open_session, read_session};
 use oci_names::{Fault, NameFault, RepoName, Token};
-use registry_model::{Body, Keeper, Refusal, Reply, Request, Status};
+use registry_model::{Body, Keeper, Refusal, Reply, Request, Route, Status, Verb};
 use std::alloc::Global;
 
 /// The reply to an operation that the token may do.
 fn operate<K: Keeper>(
     keeper: &mut K,
     alloc: Global,
+    token: &Token,
     name: &RepoName,
     operation: Operation,
     body: &[u8],
 ) -> Result<Reply, Fault>
-    ensures comes { K.is_honest keeper.new → Comes result (record { name = name.now; operation = shown_operation operation.entry })
-        (operate_in (repo_at (K.state keeper.old).world name.now) name.now (shown_operation operation.entry) body.now) (K.state keeper.old) (K.state keeper.new) }
+    ensures comes { K.is_honest keeper.new → Comes result name.now (in_repo (repo_at (K.state keeper.old).world name.now)
+        (λ r. operate ((K.state keeper.old).world.grants token.now) (repo_at (K.state keeper.old).world) r name.now (shown_operation operation.entry) body.now))
+        (K.state keeper.old) (K.state keeper.new) }
     ensures answers { IfOk result (λ reply. kind_of (answer_of reply) ≡ answered) }
     ensures spends { Spends result (K.state keeper.old) (K.state keeper.new) }
     ensures honest { K.is_honest keeper.new → K.is_honest keeper.old }
@@ -35,47 +45,89 @@ fn operate<K: Keeper>(
     match operation {
         Operation::ReadBlob(digest) => read_blob(keeper, alloc, name, digest),
         Operation::SizeBlob(digest) => size_blob(keeper, alloc, name, digest),
+        Operation::DeleteBlob(digest) => delete_blob(keeper, alloc, name, digest),
         Operation::PushBlob(digest) => push_blob(keeper, alloc, name, digest, body),
+        Operation::OpenSession => open_session(keeper, alloc, name),
+        Operation::MountBlob { digest, source } => {
+            mount_blob(keeper, alloc, token, name, digest, source)
+        }
+        Operation::ReadSession(reference) => read_session(keeper, alloc, name, reference),
+        Operation::AppendChunk { reference, range } => {
+            append_chunk(keeper, alloc, name, reference, range, body)
+        }
+        Operation::CloseSession {
+            reference,
+            digest,
+            range,
+        } => close_session(keeper, alloc, name, reference, digest, range, body),
+        Operation::ReadManifest(reference) => read_manifest(keeper, alloc, name, reference),
+        Operation::SizeManifest(reference) => size_manifest(keeper, alloc, name, reference),
+        Operation::DeleteManifest(reference) => delete_manifest(keeper, alloc, name, reference),
+        Operation::PushManifest {
+            reference,
+            content_type,
+        } => push_manifest(keeper, alloc, name, reference, content_type, body),
+        Operation::ListTags { n, last } => list_tags(keeper, alloc, name, n, last),
+        Operation::ListReferrers {
+            digest,
+            artifact_type,
+        } => list_referrers(keeper, alloc, name, digest, artifact_type),
     }
 }
 
-/// The reply to a request of a known token, by the name and the level.
+/// The refusal that names the methods which the form has.
+fn not_allowed(route: &Route) -> Reply
+    ensures { answer_of result ≡ (not_allowed (form_of route.now)).reply }
+{
+    Reply {
+        allow: Some(allowed_methods(route)),
+        ..Reply::refusal(Refusal::MethodNotAllowed)
+    }
+}
+
+/// The reply to a request of a known token, by the name, the method and the level.
 fn decide<K: Keeper>(
     keeper: &mut K,
     alloc: Global,
     token: &Token,
-    target: Target,
-    body: &[u8],
+    name: &str,
+    request: &Request,
 ) -> Result<Reply, Fault>
     requires { (K.state keeper.old).spent ≡ false }
-    ensures comes { K.is_honest keeper.new → Comes result (shown_target target.entry)
-        (decide ((K.state keeper.old).world.grants token.now) (repo_at (K.state keeper.old).world) (shown_target target.entry) body.now) (K.state keeper.old) (K.state keeper.new) }
+    ensures comes { K.is_honest keeper.new → Comes result name.now
+        (decide ((K.state keeper.old).world.grants token.now) (repo_at (K.state keeper.old).world) name.now (ask_of request.now)) (K.state keeper.old) (K.state keeper.new) }
     ensures answers { IfOk result (λ reply. kind_of (answer_of reply) ≡ answered) }
     ensures spends { Spends result (K.state keeper.old) (K.state keeper.new) }
     ensures honest { K.is_honest keeper.new → K.is_honest keeper.old }
 {
-    let name = match RepoName::parse(alloc, target.name) {
+    let name = match RepoName::parse(alloc, name) {
         Ok(name) => name,
         Err(fault) => match fault {
             NameFault::Memory => return Err(Fault::Memory),
             _ => return Ok(Reply::refusal(Refusal::InvalidName)),
         },
     };
+    let Some(operation) = find_operation(request) else {
+        return Ok(not_allowed(&request.route));
+    };
     let level = keeper.level(token, &name)?;
-    if !allows(level, &target.operation) {
+    if !allows(level, &operation) {
         return Ok(Reply::refusal(Refusal::AccessDenied));
     }
-    operate(keeper, alloc, &name, target.operation, body)
+    operate(keeper, alloc, token, &name, operation, request.body)
 }
 
 /// The reply to a known token that asks for the base.
-fn base_reply() -> Reply
-    ensures { answer_of result ≡ base_outcome.reply }
+fn base_reply(method: Verb) -> Reply
+    ensures { answer_of result ≡ (at_base method).reply }
 {
-    Reply {
-        content_type: Some("application/json"),
-        body: Body::Constant("{}"),
-        ..Reply::bare(Status::OK)
+    match method {
+        Verb::Get | Verb::Head => Reply {
+            content_type: Some("application/json"),
+            body: Body::Constant("{}"),
+            ..Reply::bare(Status::OK)
+        },
+        _ => not_allowed(&Route::Base),
     }
 }
 
@@ -104,11 +156,14 @@ pub fn judge<K: Keeper>(keeper: &mut K, alloc: Global, request: &Request) -> Res
     if !keeper.known(&token)? {
         return Ok(Reply::refusal(Refusal::TokenRequired));
     }
-    if asks_for_base(request) {
-        return Ok(base_reply());
+    match request.route {
+        Route::NoForm => Ok(Reply::refusal(Refusal::NoEndpoint)),
+        Route::Base => Ok(base_reply(request.method)),
+        Route::Blob { name, .. } => decide(keeper, alloc, &token, name, request),
+        Route::Uploads { name } => decide(keeper, alloc, &token, name, request),
+        Route::Session { name, .. } => decide(keeper, alloc, &token, name, request),
+        Route::Manifest { name, .. } => decide(keeper, alloc, &token, name, request),
+        Route::Tags { name } => decide(keeper, alloc, &token, name, request),
+        Route::Referrers { name, .. } => decide(keeper, alloc, &token, name, request),
     }
-    let Some(target) = find_target(request) else {
-        return Ok(Reply::refusal(Refusal::NoEndpoint));
-    };
-    decide(keeper, alloc, &token, target, request.body)
 }

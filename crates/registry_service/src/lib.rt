@@ -4,11 +4,20 @@
 #![tactic(auto)]
 
 mod blobs;
+mod closing;
 mod commands;
+mod content_type;
 mod judging;
+mod listing;
+mod manifest_push;
+mod manifests;
+mod mounting;
+mod operation;
+mod quota;
+mod replies;
 pub mod run;
 pub mod service;
-mod target;
+mod uploads;
 
 pub use registry_model::{AdminCommand, AdminFault};
 pub use run::{Outcome, Step};

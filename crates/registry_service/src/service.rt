@@ -50,7 +50,7 @@ impl<K: Keeper> Service<K> {
     ///
     /// The reply and the world afterwards are those of the definitions; or the reply is 503, where
     /// memory was wanting, and nothing has changed; or it is 500, and the service is spent. A request
-    /// with no token takes no memory.
+    /// with no token is answered `TokenRequired` as long as the service is not spent.
     pub fn handle(&mut self, alloc: Global, request: &Request) -> Reply
         ensures does { K.is_honest self.new → Does (K.state self.old) (ask_of request.now) (answer_of result) (K.state self.new) }
         ensures spends { SpendsAs (kind_of (answer_of result)) (K.state self.old) (K.state self.new) }

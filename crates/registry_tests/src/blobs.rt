@@ -1,6 +1,4 @@
-use crate::setting::{
-    ABC, ABC_512, HELLO, ask, created, fetch, found, push, refused, serve, setting,
-};
+use crate::setting::{ABC, HELLO, ask, created, fetch, found, push, refused, serve, setting};
 use registry_http::End;
 use std::test::Fail;
 
@@ -68,31 +66,6 @@ fn digests_that_do_not_verify(rt: HostRuntime) -> Result<(), Fail> {
     Ok(())
 }
 
-#[test]
-fn sha512(rt: HostRuntime) -> Result<(), Fail> {
-    let mut registry = setting(rt.alloc())?;
-    let pushed = push(rt.alloc(), &mut registry, ABC_512, "abc")?;
-    assert_eq!(rt;
-        pushed.output.as_slice(),
-        created(rt.alloc(), ABC_512)?.as_bytes()
-    );
-    let fetched = fetch(rt.alloc(), &mut registry, ABC_512)?;
-    assert_eq!(rt;
-        fetched.output.as_slice(),
-        found(rt.alloc(), ABC_512, "abc")?.as_bytes()
-    );
-    let other = refused(
-        rt.alloc(),
-        "400 Bad Request",
-        72,
-        "DIGEST_INVALID",
-        "digest does not match",
-    )?;
-    let wrong = push(rt.alloc(), &mut registry, ABC_512, "hello")?;
-    assert_eq!(rt; wrong.output.as_slice(), other.as_bytes());
-    Ok(())
-}
-
 /// A blob that is there keeps its bytes, and the empty blob is one.
 #[test]
 fn empty_blob_and_a_second_push(rt: HostRuntime) -> Result<(), Fail> {
@@ -109,50 +82,6 @@ fn empty_blob_and_a_second_push(rt: HostRuntime) -> Result<(), Fail> {
     assert_eq!(rt;
         fetched.output.as_slice(),
         found(rt.alloc(), empty, "")?.as_bytes()
-    );
-    Ok(())
-}
-
-/// A name without a grant and one without a repository are refused alike, before any look-up; a
-/// path without a form and a name that is none are told before that.
-#[test]
-fn refusals_before_look_up(rt: HostRuntime) -> Result<(), Fail> {
-    let mut registry = setting(rt.alloc())?;
-    let denied = refused(rt.alloc(), "403 Forbidden", 56, "DENIED", "access denied")?;
-    let no_endpoint = refused(
-        rt.alloc(),
-        "404 Not Found",
-        64,
-        "UNSUPPORTED",
-        "no such endpoint",
-    )?;
-    let no_name = refused(
-        rt.alloc(),
-        "400 Bad Request",
-        72,
-        "NAME_INVALID",
-        "invalid repository name",
-    )?;
-    let cases = [
-        ("GET /v2/other/blobs/x", &denied),
-        ("GET /v2/nowhere/blobs/x", &denied),
-        ("POST /v2/other/blobs/uploads/?digest=x", &denied),
-        ("GET /v2/team/app", &no_endpoint),
-        ("DELETE /v2/team/app/blobs/x", &no_endpoint),
-        ("GET /v2/Team/blobs/x", &no_name),
-        ("GET /v2/blobs/x", &no_name),
-    ];
-    for (line, reply) in cases {
-        let served = ask(rt.alloc(), &mut registry, line, "")?;
-        assert_eq!(rt; served.output.as_slice(), reply.as_bytes(), "at {line}");
-    }
-    push(rt.alloc(), &mut registry, ABC, "abc")?;
-    let line =
-        "GET /v2/team%2Fapp/blobs/sha256%3Aba7816bf8f01cfea414140de5dae2223b00361a396177a9cb410ff61f20015ad";
-    let decoded = ask(rt.alloc(), &mut registry, line, "")?;
-    assert_eq!(rt;
-        decoded.output.as_slice(),
-        found(rt.alloc(), ABC, "abc")?.as_bytes()
     );
     Ok(())
 }

@@ -2,10 +2,32 @@
 #![tactic(auto)]
 
 #[cfg(test)]
+mod administrator;
+#[cfg(test)]
 mod blobs;
 #[cfg(test)]
+mod clients;
+#[cfg(test)]
 mod connections;
+#[cfg(test)]
+mod dialogue;
+#[cfg(test)]
+mod isolation;
+#[cfg(test)]
+mod manifests;
+#[cfg(test)]
+mod pages;
+#[cfg(test)]
+mod pieces;
+#[cfg(test)]
+mod quota;
+#[cfg(test)]
+mod referrers;
+#[cfg(test)]
+mod replies;
 #[cfg(test)]
 mod runs;
 #[cfg(test)]
 mod setting;
+#[cfg(test)]
+mod uploads;

@@ -26,7 +26,8 @@ fn add(registry: &mut Registry, name: &RepoName) -> Result<(), Fail> {
     Ok(())
 }
 
-fn grant(
+/// Gives a token a level.
+pub fn grant(
     registry: &mut Registry,
     token: &Token,
     name: &RepoName,

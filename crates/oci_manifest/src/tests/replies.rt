@@ -63,28 +63,19 @@ fn tag_texts(rt: HostRuntime) -> Result<(), Fail> {
     let alloc = rt.alloc();
     let name = RepoName::parse(alloc, "team/app")?;
     let mut tags = Vec::new(alloc);
-    assert!(rt;
-        is_reply(
-            tags_text(alloc, &name, &tags),
-            r#"{"name":"team/app","tags":[]}"#
-        )
-    );
+    let none = r#"{"name":"team/app","tags":[]}"#;
+    assert_eq!(rt; none.len(), 29);
+    assert!(rt; is_reply(tags_text(alloc, &name, &tags), none));
     tags.push(Tag::parse(alloc, "B")?)?;
     tags.push(Tag::parse(alloc, "a")?)?;
-    assert!(rt;
-        is_reply(
-            tags_text(alloc, &name, &tags),
-            r#"{"name":"team/app","tags":["B","a"]}"#
-        )
-    );
+    let page = r#"{"name":"team/app","tags":["B","a"]}"#;
+    assert_eq!(rt; page.len(), 36);
+    assert!(rt; is_reply(tags_text(alloc, &name, &tags), page));
     tags.push(Tag::parse(alloc, "b")?)?;
     tags.push(Tag::parse(alloc, "v1")?)?;
-    assert!(rt;
-        is_reply(
-            tags_text(alloc, &name, &tags),
-            r#"{"name":"team/app","tags":["B","a","b","v1"]}"#
-        )
-    );
+    let all = r#"{"name":"team/app","tags":["B","a","b","v1"]}"#;
+    assert_eq!(rt; all.len(), 45);
+    assert!(rt; is_reply(tags_text(alloc, &name, &tags), all));
     Ok(())
 }
 

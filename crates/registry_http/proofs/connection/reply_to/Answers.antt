@@ -1,4 +1,4 @@
-use Rattle.std.proofs.Common.{◌≡◌, List, Bool, ap, sym, subst, ◌∙◌, take, slice_range}
+use Rattle.std.proofs.Common.{List, Bool, ap, sym, subst, ◌∙◌, ◌≡◌, take, drop}
 use Rattle.oci_names.specs.Text.{Text}
 use Rattle.httparse.specs.Spans.{span_bytes}
 use Rattle.httparse.specs.declared.spans.HeaderSpan.{HeaderSpan}
@@ -7,19 +7,22 @@ use Rattle.registry_model.specs.Doing.{Does}
 use Rattle.registry_http.specs.Asking.{ask_in, verb_of, is_head}
 use Rattle.registry_http.specs.ReplyText.{reply_text}
 use Rattle.registry_http.specs.Reading.{IsHeadAt}
+use Rattle.registry_http.specs.Intaking.{taken}
 use Rattle.registry_http.specs.Spelling.{closes}
 use Rattle.registry_http.specs.Sending.{SendsReply}
+use Rattle.registry_http.proofs.TextLemmas.{behind}
 use Rattle.registry_http.proofs.connection.reply_to.Goals as goal
 
 pub returns-clause-replies : goal.returns-clause-replies
 returns-clause-replies g c = λ honest i ready.
     let spans = c.args.ready.now.spans in
-    let head : take spans.len c.deref.result.now ≡ take spans.len c.args.intake.now.buffer.items = ap (take spans.len) c.deref.ensures.value in
-    let fields : take spans.headers c.deref-2.result.now ≡ take spans.headers c.args.intake.now.headers.items =
-    ap (take spans.headers) c.deref-2.ensures.value in
-    let body = ap (λ (x : Text). slice_range x spans.len c.args.end) c.deref-3.ensures.value ∙ ready.body in
-    let at = subst (λ (x : Text). IsHeadAt x (take spans.headers c.deref-2.result.now) spans i.head) (sym head)
-    (subst (λ (y : List HeaderSpan). IsHeadAt (take spans.len c.args.intake.now.buffer.items) y spans i.head) (sym fields) ready.at) in
+    let all = taken c.args.intake.now in
+    let head : take spans.len c.before-taken.result.now ≡ take spans.len all = ap (take spans.len) c.before-taken.ensures in
+    let fields : take spans.headers c.deref.result.now ≡ take spans.headers c.args.intake.now.headers.items =
+    ap (take spans.headers) c.deref.ensures.value in
+    let body = behind c.before-taken.result.now spans.len ∙ ap (drop spans.len) c.before-taken.ensures ∙ ready.body in
+    let at = subst (λ (x : Text). IsHeadAt x (take spans.headers c.deref.result.now) spans i.head) (sym head)
+    (subst (λ (y : List HeaderSpan). IsHeadAt (take spans.len all) y spans i.head) (sym fields) ready.at) in
     let method = c.of.ensures ∙ ap (λ (x : Text). span_bytes x spans.method) head ∙ ready.at.method in
     let flag = c.is_head.ensures ∙ ap (λ (m : Text). is_head (verb_of m)) method in
     let answer = answer_of c.answer-reply.result in (

@@ -1,4 +1,4 @@
-use Rattle.std.proofs.Common.{inl, sym, ap, refl, ◌∙◌, [], arith, length, length-drop}
+use Rattle.std.proofs.Common.{inl, sym, refl, ◌∙◌, [], arith}
 use Rattle.registry_http.specs.Spelling.{Item}
 use Rattle.registry_http.proofs.RequestLemmas.{readies}
 use Rattle.registry_http.proofs.ServingLemmas.{starts, came, headed, head_cut, head_serves, body_serves, memory_serves, answered, closed, reply_cut}
@@ -8,7 +8,7 @@ pub returns-in-Err-clause-serves : goal.returns-in-Err-clause-serves
 returns-in-Err-clause-serves g c = λ honest. memory_serves [] [] _ (starts _ _ _) _ _ _ _ (λ tail. inl refl) refl c.refuse.ensures
 
 pub requests-init : goal.requests-init
-requests-init g c = record { honest = λ h. h; progress = λ h. rw c.in-Ok.ensures (starts _ _ _) }
+requests-init g c = record { honest = λ h. h; taken = c.in-Ok.ensures.taken; progress = λ h. rw c.in-Ok.ensures.unread (starts _ _ _) }
 
 pub returns-in-Err-next_head-clause-serves : goal.returns-in-Err-next_head-clause-serves
 returns-in-Err-next_head-clause-serves g c = λ honest.
@@ -33,55 +33,49 @@ returns-in-Err-read_body-clause-serves g c = λ honest.
 pub reply_to-requires : goal.reply_to-requires
 reply_to-requires g c =
     let head = c.in-Ok-next_head.ensures.cases in
-    let body = rw head.1.framed at c.in-Ok-read_body.ensures.cases in
-    let made = readies _ _ _ _ head.1.read head.1.few _ body.0 body.1 _ _ _ c.in-Ok-next_head.ready refl head.1.closes body.2 body.3 in
-    rw c.in-Ok-read_body.ensures.headers (record { order = made.0.order; within = made.0.within; room = made.0.room; fits = made.0.fits })
+    let body = rw (c.in-Ok-next_head.ensures.taken, c.requests.invariant.taken, head.1.framed) at c.in-Ok-read_body.ensures.cases in
+    let made = readies _ _ _ _ head.1.read head.1.few _ _ body.0 body.1 _ _ c.in-Ok-next_head.ready refl head.1.closes body.2 body.3 in
+    rw c.in-Ok-read_body.ensures.headers (record { order = made.0.order; room = made.0.room; fits = made.0.fits })
 
 pub returns-in-Err-reply_to-clause-serves : goal.returns-in-Err-reply_to-clause-serves
 returns-in-Err-reply_to-clause-serves g c = λ honest.
     let head = c.in-Ok-next_head.ensures.cases in
-    let body = rw head.1.framed at c.in-Ok-read_body.ensures.cases in
-    let made = readies _ _ _ _ head.1.read head.1.few _ body.0 body.1 _ _ _ c.in-Ok-next_head.ready refl head.1.closes body.2 body.3 in
+    let body = rw (c.in-Ok-next_head.ensures.taken, c.requests.invariant.taken, head.1.framed) at c.in-Ok-read_body.ensures.cases in
+    let made = readies _ _ _ _ head.1.read head.1.few _ _ body.0 body.1 _ _ c.in-Ok-next_head.ready refl head.1.closes body.2 body.3 in
     let item : Item = record { head = head.0; coded = body.0; body = body.1 } in
     let sent = c.in-Err-reply_to.ensures.replies honest item (rw c.in-Ok-read_body.ensures.headers made.0) in
     let progress = headed _ _ _ _ _ _ _ _ head.1 (c.requests.invariant.progress (c.reply_to.ensures.honest honest)) c.in-Ok-write_continue.ensures in
-    reply_cut _ _ _ (came _ _ _ body.3.bytes _ progress body.3.taken) item _ made.1 made.0.request refl sent.0 _ sent.1 _ _ sent.2.0 sent.2.1
-
-pub discard-requires : goal.discard-requires
-discard-requires g c =
-    let head = c.in-Ok-next_head.ensures.cases in
-    let body = rw head.1.framed at c.in-Ok-read_body.ensures.cases in
-    body.3.within
+    reply_cut _ _ _ (came _ _ _ body.3.bytes _ progress body.3.came) item _ made.1 made.0.request refl sent.0 _ sent.1 _ _ sent.2.0 sent.2.1
 
 pub returns-then-ready-clause-serves : goal.returns-then-ready-clause-serves
 returns-then-ready-clause-serves g c = λ honest.
     let head = c.in-Ok-next_head.ensures.cases in
-    let body = rw head.1.framed at c.in-Ok-read_body.ensures.cases in
-    let made = readies _ _ _ _ head.1.read head.1.few _ body.0 body.1 _ _ _ c.in-Ok-next_head.ready refl head.1.closes body.2 body.3 in
+    let body = rw (c.in-Ok-next_head.ensures.taken, c.requests.invariant.taken, head.1.framed) at c.in-Ok-read_body.ensures.cases in
+    let made = readies _ _ _ _ head.1.read head.1.few _ _ body.0 body.1 _ _ c.in-Ok-next_head.ready refl head.1.closes body.2 body.3 in
     let item : Item = record { head = head.0; coded = body.0; body = body.1 } in
     let sent = c.in-Ok-reply_to.ensures.replies honest item (rw c.in-Ok-read_body.ensures.headers made.0) in
     let progress = headed _ _ _ _ _ _ _ _ head.1 (c.requests.invariant.progress (c.reply_to.ensures.honest honest)) c.in-Ok-write_continue.ensures in
-    closed _ _ _ (came _ _ _ body.3.bytes _ progress body.3.taken) item _ made.1 made.0.request refl sent.0 _ sent.1 _ (sym made.0.closes ∙ c.if-ready.true) sent.2
+    closed _ _ _ (came _ _ _ body.3.bytes _ progress body.3.came) item _ made.1 made.0.request refl sent.0 _ sent.1 _ (sym made.0.closes ∙ c.if-ready.true) sent.2
 
 pub requests-preserved : goal.requests-preserved
 requests-preserved g c =
     let head = c.in-Ok-next_head.ensures.cases in
-    let body = rw head.1.framed at c.in-Ok-read_body.ensures.cases in
-    let made = readies _ _ _ _ head.1.read head.1.few _ body.0 body.1 _ _ _ c.in-Ok-next_head.ready refl head.1.closes body.2 body.3 in
+    let body = rw (c.in-Ok-next_head.ensures.taken, c.requests.invariant.taken, head.1.framed) at c.in-Ok-read_body.ensures.cases in
+    let made = readies _ _ _ _ head.1.read head.1.few _ _ body.0 body.1 _ _ c.in-Ok-next_head.ready refl head.1.closes body.2 body.3 in
     let item : Item = record { head = head.0; coded = body.0; body = body.1 } in
     record {
       honest = λ h. c.requests.invariant.honest (c.reply_to.ensures.honest h);
+      taken = c.discard.ensures.taken;
       progress = λ honest.
           let sent = c.in-Ok-reply_to.ensures.replies honest item (rw c.in-Ok-read_body.ensures.headers made.0) in
           let progress = headed _ _ _ _ _ _ _ _ head.1 (c.requests.invariant.progress (c.reply_to.ensures.honest honest)) c.in-Ok-write_continue.ensures in
-          rw c.discard.ensures.buffer
-          (answered _ _ _ (came _ _ _ body.3.bytes _ progress body.3.taken) item _ made.1 made.0.request refl sent.0 _ sent.1 _ (sym made.0.closes ∙ c.if-ready.false) sent.2);
+          rw c.discard.ensures.unread
+          (answered _ _ _ (came _ _ _ body.3.bytes _ progress body.3.came) item _ made.1 made.0.request refl sent.0 _ sent.1 _ (sym made.0.closes ∙ c.if-ready.false) sent.2);
     }
 
 pub requests-smaller : goal.requests-smaller
 requests-smaller g c =
     let head = c.in-Ok-next_head.ensures.cases in
-    let body = rw head.1.framed at c.in-Ok-read_body.ensures.cases in
-    let made = readies _ _ _ _ head.1.read head.1.few _ body.0 body.1 _ _ _ c.in-Ok-next_head.ready refl head.1.closes body.2 body.3 in
-    let kept = ap length c.discard.ensures.buffer ∙ length-drop c.in-Ok-read_body.end c.read_body.new.self.buffer.items in
-    omega (arith, made.0.some, made.0.within, kept, c.discard.ensures.reads, c.in-Ok-next_head.ensures.weight, c.in-Ok-read_body.ensures.weight)
+    let body = rw (c.in-Ok-next_head.ensures.taken, c.requests.invariant.taken, head.1.framed) at c.in-Ok-read_body.ensures.cases in
+    let made = readies _ _ _ _ head.1.read head.1.few _ _ body.0 body.1 _ _ c.in-Ok-next_head.ready refl head.1.closes body.2 body.3 in
+    omega (arith, made.0.some, c.discard.ensures.weight, c.in-Ok-next_head.ensures.weight, c.in-Ok-read_body.ensures.weight)

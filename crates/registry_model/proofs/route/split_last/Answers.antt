@@ -1,4 +1,4 @@
-use Rattle.std.proofs.Common.{arith, sym, ◌∙◌, ap}
+use Rattle.std.proofs.Common.{arith, sym, ◌∙◌}
 use Rattle.registry_model.proofs.RouteLemmas.{split, whole}
 use Rattle.registry_model.proofs.route.split_last.Goals as goal
 

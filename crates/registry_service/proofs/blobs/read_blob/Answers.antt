@@ -11,15 +11,15 @@ returns-in-None-clause-comes g c honest =
     let found = c.in_ok-blob.ensures.found honest in
     let there = c.requires.there (c.in_ok-blob.ensures.honest honest) in
     let read = c.in-Ok.ensures.read in
-    reads _ _ c.args.name.now c.args.text.now c.in-Ok.digest there c.requires.unspent (search rules) (search rules) found.1
-    None (sym (ap bytes_in c.in-None.is) ∙ found.0) _ c.refusal-in-None.ensures
+    reads _ _ c.args.name.now c.requires.unspent there c.args.text.now _ found.1 (search rules) None
+    (sym (ap bytes_in c.in-None.is) ∙ found.0 ∙ search rules) c.refusal-in-None.ensures
 
 pub returns-in-Some-clause-comes : goal.returns-in-Some-clause-comes
 returns-in-Some-clause-comes g c honest =
     let found = c.in_ok-blob.ensures.found honest in
     let there = c.requires.there (c.in_ok-blob.ensures.honest honest) in
     let read = c.in-Ok.ensures.read in
-    reads _ _ c.args.name.now c.args.text.now c.in-Ok.digest there c.requires.unspent (search rules) (search rules) found.1
-    (Some c.in-Some.bytes.items) (sym (ap bytes_in c.in-Some.is) ∙ found.0) _
+    reads _ _ c.args.name.now c.requires.unspent there c.args.text.now _ found.1 (search rules) (Some c.in-Some.bytes.items)
+    (sym (ap bytes_in c.in-Some.is) ∙ found.0 ∙ search rules)
     (ap {B = Answer} (λ (a : Answer). record a { digest = Some c.in-Ok.digest; content_type = Some (codes "application/octet-stream"); body = sent c.in-Some.bytes.items }) c.bare.ensures
     ∙ ap {B = Answer} (λ d. record (bare_answer OK) { digest = Some d; content_type = Some (codes "application/octet-stream"); body = sent c.in-Some.bytes.items }) (search rules))

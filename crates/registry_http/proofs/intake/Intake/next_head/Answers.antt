@@ -13,9 +13,9 @@ returns-then-spans-gt-MOST_FIELDS-clause-cases g c =
 pub returns-clause-cases : goal.returns-clause-cases
 returns-clause-cases g c =
     let read = c.in-Ok.ensures.cases in
-    let framed = rw (c.of.ensures, c.deref.ensures.value, c.deref-2.ensures.value) at c.framing_of-framing.ensures.value in
-    let closing = rw (c.deref.ensures.value, c.deref-2.ensures.value) at c.closes.ensures in
-    let awaiting = rw (c.deref.ensures.value, c.deref-2.ensures.value) at c.awaits.ensures in (
+    let framed = rw (c.of.ensures, c.behind-unread.ensures, c.deref.ensures.value) at c.framing_of-framing.ensures.value in
+    let closing = rw (c.behind-unread.ensures, c.deref.ensures.value) at c.closes.ensures in
+    let awaiting = rw (c.behind-unread.ensures, c.deref.ensures.value) at c.awaits.ensures in (
       read.1,
       record {
         pulls = read.0;

@@ -1,4 +1,4 @@
 use Rattle.registry_http.proofs.intake.Intake.read_body.Goals as goal
 
-pub returns-in-Chunked-clause-cases : goal.returns-in-Chunked-clause-cases
-returns-in-Chunked-clause-cases g c = rw c.in-Chunked.is c.read_chunked.ensures.cases
+pub returns-clause-cases : goal.returns-clause-cases
+returns-clause-cases g c = rw (c.pass.ensures.before, c.pass.ensures.behind) at c.take_body.ensures.cases

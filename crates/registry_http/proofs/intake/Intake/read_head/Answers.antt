@@ -6,4 +6,4 @@ use Rattle.registry_http.proofs.intake.Intake.read_head.Goals as goal
 
 pub returns-in-Never-clause-cases : goal.returns-in-Never-clause-cases
 returns-in-Never-clause-cases g c =
-    inr (refl, leaves (λ b. (tail : Text) → HeadIsUnreadable (b ++ tail)) c.loop-spans.invariant.pulls (λ tail. inl (rw c.deref.ensures.value at (c.in-Never.ensures tail))))
+    inr (refl, leaves (λ b. (tail : Text) → HeadIsUnreadable (b ++ tail)) c.loop-spans.invariant.pulls (λ tail. inl (rw c.behind-unread.ensures at (c.in-Never.ensures tail))))

@@ -1,14 +1,15 @@
-use Rattle.std.proofs.Common.{◌≡◌, length, ◌+◌, ◌*◌, ◌≤◌}
+use Rattle.std.proofs.Common.{◌≡◌, ◌≤◌}
+use Rattle.registry_http.specs.Intaking.{taken, unread, weight}
 use Rattle.registry_http.specs.Reading.{Pulls}
 use Rattle.registry_http.proofs.intake.Intake.read_line.Given as goal
 
--- what the buffer gained is what the reader gave up
+-- what is unread gained what the reader gave up
 abbrev pub invariant-loop-line : goal.invariant-loop-line
 invariant-loop-line g l = record {
-  pulls : Pulls l.fn.self.buffer.items l.self.buffer.items (g.R.Read.remaining l.fn.reader) (g.R.Read.remaining l.reader);
+  pulls : Pulls (unread l.fn.self) (unread l.self) (g.R.Read.remaining l.fn.reader) (g.R.Read.remaining l.reader);
+  taken : taken l.self ≡ taken l.fn.self;
   headers : l.self.headers.items ≡ l.fn.self.headers.items;
-  weight : l.self.reads * 65536 + length l.self.buffer.items ≤ l.fn.self.reads * 65536 + length l.fn.self.buffer.items;
-  within : l.at ≤ length l.self.buffer.items;
+  weight : weight l.self ≤ weight l.fn.self;
 }
 
 abbrev pub decreases-loop-line : goal.decreases-loop-line

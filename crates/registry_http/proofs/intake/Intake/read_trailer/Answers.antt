@@ -2,17 +2,12 @@ use Rattle.std.proofs.Common.{refl}
 use Rattle.registry_http.specs.Chunks.{TrailerIsCut, TrailerIsRefused}
 use Rattle.registry_http.specs.declared.ending.FramingRefusal.TheVariants.{UnreadableChunk}
 use Rattle.registry_http.proofs.TakingLemmas.{refused_from, fill_ends}
-use Rattle.registry_http.proofs.TextLemmas.{behind}
 use Rattle.registry_http.proofs.intake.Intake.read_trailer.Goals as goal
 
 pub returns-in-Never-clause-cases : goal.returns-in-Never-clause-cases
 returns-in-Never-clause-cases g c =
-    let whole = behind c.loop-len.self.buffer.items c.args.at in
-    refused_from c.args.at _ _ _ _ TrailerIsCut TrailerIsRefused UnreadableChunk c.requires c.loop-len.invariant.pulls
-    (λ tail. (refl, rw (c.deref.ensures.value, whole) at (c.in-Never.ensures tail)))
+    refused_from _ _ _ _ TrailerIsCut TrailerIsRefused UnreadableChunk c.loop-len.invariant.pulls (λ tail. (refl, rw c.behind.ensures at (c.in-Never.ensures tail)))
 
 pub returns-in-Err-clause-cases : goal.returns-in-Err-clause-cases
 returns-in-Err-clause-cases g c =
-    let whole = behind c.loop-len.self.buffer.items c.args.at in
-    fill_ends c.in-Err.stop c.args.at _ _ _ _ _ TrailerIsCut TrailerIsRefused c.requires c.loop-len.invariant.pulls c.in-Err.ensures.cases
-    (rw (c.deref.ensures.value, whole) at c.in-NotYet.ensures)
+    fill_ends c.in-Err.stop _ _ _ _ _ TrailerIsCut TrailerIsRefused c.loop-len.invariant.pulls c.in-Err.ensures.cases (rw c.behind.ensures at c.in-NotYet.ensures)

@@ -1,4 +1,4 @@
-use Rattle.std.proofs.Common.{◌∙◌, sym, ap, subst}
+use Rattle.std.proofs.Common.{◌∙◌, ap, subst}
 use Rattle.registry_model.specs.Answer.{answer_of}
 use Rattle.registry_model.specs.Ask.{ask_of}
 use Rattle.registry_model.specs.Doing.{Does, SpendsAs, kind_of}

@@ -1,0 +1,4 @@
+pub mod Texts
+pub mod Contents
+pub mod Search
+pub mod Linked

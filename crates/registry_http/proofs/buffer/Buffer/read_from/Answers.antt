@@ -1,0 +1,28 @@
+use Rattle.std.proofs.Common.{◌≡◌, ◌+◌, ◌++◌, List, ℕ, length, take, slice_range, ap, ◌∙◌, arith}
+use Rattle.std.proofs.lemmas.List.{with_items_is}
+use Rattle.registry_http.proofs.BufferLemmas.{slice_kept, slice_more}
+use Rattle.registry_http.proofs.buffer.Buffer.read_from.Goals as goal
+
+pub returns-in-Ok-clause-cases : goal.returns-in-Ok-clause-cases
+returns-in-Ok-clause-cases g c =
+    let b = c.args.self.now in
+    let room = c.read_at.new.room in
+    let size : length room ≡ b.room.len = omega (arith, c.read_at.auto.room, ap length c.deref_mut.ensures.value, b.room.ok.0) in
+    let front = c.read_at.ensures.front ∙ ap (take b.end) c.deref_mut.ensures.value in
+    let more = slice_range room b.end (b.end + c.in-Ok.n) in
+    let kept = slice_kept b.room.items room b.end b.unread b.end front b.ordered (omega arith) in
+    record {
+      bytes = more;
+      grown = ap (λ (x : List ℕ). slice_range x b.unread (b.end + c.in-Ok.n)) (with_items_is b.room room size)
+          ∙ slice_more room b.unread b.end c.in-Ok.n b.ordered ∙ ap (λ (x : List ℕ). x ++ more) kept;
+      taken = c.in-Ok.ensures.cases.2;
+    }
+
+pub returns-in-Err-clause-before : goal.returns-in-Err-clause-before
+returns-in-Err-clause-before g c =
+    let b = c.args.self.now in
+    let room = c.read_at.new.room in
+    let size : length room ≡ b.room.len = omega (arith, c.read_at.auto.room, ap length c.deref_mut.ensures.value, b.room.ok.0) in
+    let front = c.read_at.ensures.front ∙ ap (take b.end) c.deref_mut.ensures.value in
+    ap (λ (x : List ℕ). slice_range x b.start b.place) (with_items_is b.room room size)
+    ∙ slice_kept b.room.items room b.end b.start b.place front b.started (omega (arith, b.placed, b.ordered))

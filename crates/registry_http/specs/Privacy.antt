@@ -1,0 +1,26 @@
+-- The requests on a connection as steps, and their replies as outcomes (profile).
+use Rattle.std.specs.Prelude.{◌≡◌, List, [], ◌∷◌, map}
+use Rattle.oci_names.specs.Text.{Text}
+use Rattle.registry_model.specs.Answer.{Answer}
+use Rattle.registry_model.specs.Keeping.{State}
+use Rattle.registry_model.specs.Team.{Step, asks}
+use Rattle.registry_model.specs.Runs.{Outcome, told, RunSays}
+use Rattle.registry_http.specs.Asking.{ask_in}
+use Rattle.registry_http.specs.Spelling.{Item}
+use Rattle.registry_http.specs.Serving.{text_for}
+
+abbrev pub step_of : Item → Step
+step_of i = asks (ask_in i.head i.body)
+
+-- the text of each request's answer
+abbrev pub texts_of : List Item → List Answer → List Text
+texts_of [] answers = []
+texts_of (i ∷ items) [] = []
+texts_of (i ∷ items) (a ∷ answers) = text_for i a ∷ texts_of items answers
+
+-- the texts are those of answers, one for each request, of which the laws of a run hold: among them that a team is told
+-- what it would be told alone
+pub record IsPrivateRun (s : State) (items : List Item) (texts : List Text) (s' : State) : Type 0 where
+  pub answers : List Answer
+  pub are_texts : texts ≡ texts_of items answers
+  pub says : RunSays s (map step_of items) (map told answers) s'

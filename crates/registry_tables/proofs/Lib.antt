@@ -1,0 +1,11 @@
+pub mod Texts
+pub mod Fresh
+pub mod Lists
+pub mod Ids
+pub mod Selects
+pub mod Removals
+pub mod Writes
+pub mod Updates
+pub mod Children
+pub mod Pages
+pub mod MakeLemmas

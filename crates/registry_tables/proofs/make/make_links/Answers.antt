@@ -1,0 +1,12 @@
+use Rattle.std.proofs.Common.{arith}
+use Rattle.sqlite.specs.State.{HasCleanDisk}
+use Rattle.sqlite.specs.Held.{state}
+use Rattle.registry_tables.proofs.Texts.{makes_contents, makes_blob_links, makes_manifest_links}
+use Rattle.registry_tables.proofs.MakeLemmas.{then_made}
+use Rattle.registry_tables.proofs.make.make_links.Goals as goal
+
+pub returns-clause-made : goal.returns-clause-made
+returns-clause-made g c clean none =
+    let two : HasCleanDisk (state g.S.Store c.create-2.new.tx.conn.now) = omega (arith, c.create-3.ensures.survives.clean) in
+    let one : HasCleanDisk (state g.S.Store c.create.new.tx.conn.now) = omega (arith, c.create-2.ensures.survives.clean) in
+    then_made _ _ _ (state g.S.Store c.create-2.new.tx.conn.now).now (state g.S.Store c.create-3.new.tx.conn.now).now c.create-3.result makes_manifest_links (c.create-3.ensures.made clean) (c.in_ok-create-2.ensures.made two _ _ makes_blob_links (c.in_ok-create.ensures.made one _ _ makes_contents none))

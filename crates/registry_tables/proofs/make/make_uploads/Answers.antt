@@ -1,0 +1,13 @@
+use Rattle.std.proofs.Common.{arith}
+use Rattle.sqlite.specs.State.{HasCleanDisk}
+use Rattle.sqlite.specs.Held.{state}
+use Rattle.registry_tables.proofs.Texts.{makes_uploads, makes_pieces, makes_sha256_index, makes_subject_index}
+use Rattle.registry_tables.proofs.MakeLemmas.{then_indexed}
+use Rattle.registry_tables.proofs.make.make_uploads.Goals as goal
+
+pub returns-clause-made : goal.returns-clause-made
+returns-clause-made g c clean none =
+    let three : HasCleanDisk (state g.S.Store c.create-3.new.tx.conn.now) = omega (arith, c.create-4.ensures.survives.clean) in
+    let two : HasCleanDisk (state g.S.Store c.create-2.new.tx.conn.now) = omega (arith, c.create-3.ensures.survives.clean) in
+    let one : HasCleanDisk (state g.S.Store c.create.new.tx.conn.now) = omega (arith, c.create-2.ensures.survives.clean) in
+    then_indexed _ _ _ _ _ (state g.S.Store c.create-3.new.tx.conn.now).now (state g.S.Store c.create-4.new.tx.conn.now).now c.create-4.result makes_subject_index (c.create-4.ensures.indexed clean) (c.in_ok-create-3.ensures.indexed three _ _ _ _ makes_sha256_index (c.in_ok-create-2.ensures.made two _ _ makes_pieces (c.in_ok-create.ensures.made one _ _ makes_uploads none)))

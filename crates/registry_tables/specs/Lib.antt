@@ -1,0 +1,4 @@
+pub mod Schema
+pub mod Rows
+pub mod Layout
+pub mod Making

@@ -1,0 +1,460 @@
+use crate::dialogue::{Exchange, answer, ask, send, send_with, talk};
+use crate::replies::{
+    ACCESS_DENIED, BASE, BLOB_UNKNOWN, DELETED, INVALID_NAME, NO_ENDPOINT, TOKEN_REQUIRED,
+    UPLOAD_UNKNOWN, accepted, blob, created, not_allowed, stored,
+};
+use crate::setting::{ABC, Registry, setting};
+use oci_names::{Digest, RepoName, Token};
+use registry_http::write_reply;
+use registry_model::{AdminCommand, Level, Query, Request, Route, Verb};
+use registry_service::{Outcome, Step};
+use std::alloc::Global;
+use std::process::Abort;
+use std::str;
+use std::test::Fail;
+
+/// A repository without a grant and one that is not there are refused alike.
+#[test]
+fn ungranted_and_absent_alike(rt: HostRuntime) -> Result<(), Fail> {
+    let mut registry = setting(rt.alloc())?;
+    let dialogue = [
+        ask("t1", "GET /v2/other/tags/list", ACCESS_DENIED),
+        ask("t1", "GET /v2/nowhere/tags/list", ACCESS_DENIED),
+        ask("t1", "GET /v2/other/blobs/{abc}", ACCESS_DENIED),
+        ask("t1", "GET /v2/nowhere/blobs/{abc}", ACCESS_DENIED),
+        ask("t1", "POST /v2/other/blobs/uploads/", ACCESS_DENIED),
+        ask("t1", "POST /v2/nowhere/blobs/uploads/", ACCESS_DENIED),
+        ask("t1", "GET /v2/other/manifests/v1", ACCESS_DENIED),
+        ask("t1", "GET /v2/nowhere/referrers/x", ACCESS_DENIED),
+    ];
+    talk(&rt, rt.alloc(), &mut registry, dialogue.as_slice())
+}
+
+/// What stands in a repository without a grant is not found in an own one, nor mounted: the mount
+/// opens a session, as where the source has no such blob.
+#[test]
+fn nothing_of_others_is_seen_or_mounted(rt: HostRuntime) -> Result<(), Fail> {
+    let mut registry = setting(rt.alloc())?;
+    let dialogue = [
+        send(
+            "t2",
+            "POST /v2/other/blobs/uploads/?digest={hello}",
+            "hello",
+            created!("other", "{hello}"),
+        ),
+        ask(
+            "t1",
+            "HEAD /v2/team/app/blobs/{hello}",
+            "HTTP/1.1 404 Not Found\r\nContent-Length: 61\r\nContent-Type: application/json\r\n\r\n",
+        ),
+        ask(
+            "t1",
+            "POST /v2/team/app/blobs/uploads/?mount={hello}&from=other",
+            accepted!("team/app", "1", "0-0"),
+        ),
+        ask("t1", "GET /v2/team/app/blobs/{hello}", BLOB_UNKNOWN),
+    ];
+    talk(&rt, rt.alloc(), &mut registry, dialogue.as_slice())
+}
+
+/// A path is told from its last segments, and its name after them; what has no form is refused
+/// before a name that is none, and that before a method that the form has not.
+#[test]
+fn paths_and_names(rt: HostRuntime) -> Result<(), Fail> {
+    let mut registry = setting(rt.alloc())?;
+    let name = "a".repeat(rt.alloc(), 255)?;
+    let longest = format!(in rt.alloc(); "GET /v2/{name}/tags/list")?;
+    let too_long = format!(in rt.alloc(); "GET /v2/{name}a/tags/list")?;
+    let dialogue = [
+        ask("t1", "GET /v2/a/blobs/uploads/manifests/x", ACCESS_DENIED),
+        ask("t1", longest.as_str(), ACCESS_DENIED),
+        ask("t1", too_long.as_str(), INVALID_NAME),
+        ask("t1", "GET /v2/tags/list", INVALID_NAME),
+        ask("t1", "GET /v2//tags/list", INVALID_NAME),
+        ask("t1", "GET /v2/manifests/x", INVALID_NAME),
+        ask("t1", "GET /v2/team/app/tags", NO_ENDPOINT),
+        ask("t1", "GET /v2/team/app/tags/list/", NO_ENDPOINT),
+        ask("t1", "GET /v2/team/app/blobs/uploads/1/", NO_ENDPOINT),
+        ask("t1", "DELETE /v2/Team/tags/list", INVALID_NAME),
+        ask(
+            "t1",
+            "DELETE /v2/team/app/tags/list",
+            not_allowed!("GET, HEAD"),
+        ),
+        ask(
+            "t1",
+            "DELETE /v2/nowhere/tags/list",
+            not_allowed!("GET, HEAD"),
+        ),
+        ask("t1", "GET /v2/team%2Flib/blobs/uploads/1", UPLOAD_UNKNOWN),
+    ];
+    talk(&rt, rt.alloc(), &mut registry, dialogue.as_slice())
+}
+
+/// The methods that each form has, told before any grant is looked at.
+#[test]
+fn methods_of_each_form(rt: HostRuntime) -> Result<(), Fail> {
+    let mut registry = setting(rt.alloc())?;
+    let dialogue = [
+        ask("t1", "POST /v2/", not_allowed!("GET, HEAD")),
+        ask("t1", "get /v2/", not_allowed!("GET, HEAD")),
+        ask(
+            "t1",
+            "PUT /v2/nowhere/blobs/x",
+            not_allowed!("DELETE, GET, HEAD"),
+        ),
+        ask("t1", "GET /v2/nowhere/blobs/uploads/", not_allowed!("POST")),
+        ask(
+            "t1",
+            "HEAD /v2/team/app/blobs/uploads/",
+            "HTTP/1.1 405 Method Not Allowed\r\nContent-Length: 66\r\nContent-Type: application/json\r\nAllow: POST\r\n\r\n",
+        ),
+        ask(
+            "t1",
+            "DELETE /v2/nowhere/blobs/uploads/1",
+            not_allowed!("GET, HEAD, PATCH, PUT"),
+        ),
+        ask(
+            "t1",
+            "PATCH /v2/nowhere/manifests/x",
+            not_allowed!("DELETE, GET, HEAD, PUT"),
+        ),
+        ask(
+            "t1",
+            "POST /v2/nowhere/referrers/x",
+            not_allowed!("GET, HEAD"),
+        ),
+    ];
+    talk(&rt, rt.alloc(), &mut registry, dialogue.as_slice())
+}
+
+/// Without a grant nothing is looked up: not the repository, not the digest, not the body. A token
+/// that is not known is told before the path, and a path is decoded before it is read.
+#[test]
+fn refusals_before_look_up(rt: HostRuntime) -> Result<(), Fail> {
+    let mut registry = setting(rt.alloc())?;
+    let dialogue = [
+        ask("t1", "GET /v2/other/blobs/{abc}", ACCESS_DENIED),
+        ask("t1", "GET /v2/nowhere/blobs/{abc}", ACCESS_DENIED),
+        ask("t1", "GET /v2/other/blobs/x", ACCESS_DENIED),
+        ask("t1", "GET /v2/nowhere/blobs/x", ACCESS_DENIED),
+        ask(
+            "t1",
+            "POST /v2/other/blobs/uploads/?digest=x",
+            ACCESS_DENIED,
+        ),
+        ask("t2", "DELETE /v2/other/blobs/x", ACCESS_DENIED),
+        ask("t1", "POST /v2/", not_allowed!("GET, HEAD")),
+        ask("t1", "GET /v2/team/app", NO_ENDPOINT),
+        ask("t1", "GET /v2/Team/blobs/x", INVALID_NAME),
+        ask("t1", "GET /v2/blobs/x", INVALID_NAME),
+        ask("t9", "GET /v2/Team/blobs/x", TOKEN_REQUIRED),
+        ask("", "POST /v1", TOKEN_REQUIRED),
+        send(
+            "t1",
+            "POST /v2/team/app/blobs/uploads/?digest={abc}",
+            "abc",
+            created!("team/app", "{abc}"),
+        ),
+        ask(
+            "t1",
+            "GET /v2/team%2Fapp/blobs/{abc}",
+            blob!("{abc}", "3", "abc"),
+        ),
+        ask(
+            "t1",
+            "GET /v2/team/app/blobs/sha256%3Aba7816bf8f01cfea414140de5dae2223b00361a396177a9cb410ff61f20015ad",
+            blob!("{abc}", "3", "abc"),
+        ),
+    ];
+    talk(&rt, rt.alloc(), &mut registry, dialogue.as_slice())
+}
+
+/// The pushes and fetches of a blob, of the empty one, and its mounts; each with how its reply
+/// begins where `t1` asks for all of this, in order, of one registry.
+fn blob_requests() -> [Exchange<'static>; 15] {
+    let app = "POST /v2/team/app/blobs/uploads/";
+    let session = "PATCH /v2/team/app/blobs/uploads/1";
+    let mount = "POST /v2/team/lib/blobs/uploads/?mount={abc}&from=team/app";
+    let range = "Content-Range: 0-2\r\n";
+    let push = "POST /v2/team/app/blobs/uploads/?digest={abc}";
+    let empty = "POST /v2/team/app/blobs/uploads/?digest={nothing}";
+    let own = "POST /v2/team/lib/blobs/uploads/?mount={abc}&from=team/lib";
+    let close = "PUT /v2/team/app/blobs/uploads/1?digest={hello}";
+    [
+        send("t1", push, "abc", "HTTP/1.1 201 "),
+        ask("t1", "GET /v2/team/app/blobs/{abc}", "HTTP/1.1 200 "),
+        ask("t1", "HEAD /v2/team/app/blobs/{abc}", "HTTP/1.1 200 "),
+        ask("t1", empty, "HTTP/1.1 201 "),
+        ask("t1", "GET /v2/team/app/blobs/{nothing}", "HTTP/1.1 200 "),
+        ask("t1", mount, "HTTP/1.1 201 "),
+        ask("t1", mount, "HTTP/1.1 201 "),
+        ask("t1", own, "HTTP/1.1 201 "),
+        ask("t1", app, "HTTP/1.1 202 "),
+        send_with("t1", session, range, "hel", "HTTP/1.1 202 "),
+        send_with("t1", session, range, "hel", "HTTP/1.1 416 "),
+        ask("t1", "GET /v2/team/app/blobs/uploads/1", "HTTP/1.1 204 "),
+        send("t1", session, "lo", "HTTP/1.1 202 "),
+        ask("t1", close, "HTTP/1.1 201 "),
+        ask("t1", "GET /v2/team/app/blobs/uploads/1", "HTTP/1.1 404 "),
+    ]
+}
+
+/// The pushes of manifests that follow, up to the one that goes over the quota of 1,000 bytes, and
+/// their referrers.
+fn manifest_requests() -> [Exchange<'static>; 16] {
+    let config = "POST /v2/team/app/blobs/uploads/?digest={config}";
+    let v1 = "PUT /v2/team/app/manifests/v1";
+    let index = "Content-Type: application/vnd.oci.image.index.v1+json\r\n";
+    let over_abc =
+        r#"{ "layers": null, "schemaVersion": 2, "config": {"size":2,"digest":"{abc}","mediaType":"application/vnd.oci.empty.v1+json"} }"#;
+    let both =
+        r#"{ "layers": null, "manifests":[], "schemaVersion": 2, "config": {"size":2,"digest":"{config}","mediaType":"application/vnd.oci.empty.v1+json"} }"#;
+    let sbom = "PUT /v2/team/app/manifests/{sbom}";
+    let plain = "PUT /v2/team/app/manifests/{plain}";
+    let listed = "GET /v2/team/app/referrers/{abc}";
+    let filtered = "GET /v2/team/app/referrers/{abc}?artifactType=application/x.sbom";
+    [
+        send("t1", config, "{}", "HTTP/1.1 201 "),
+        send("t1", v1, "<bare>", "HTTP/1.1 201 "),
+        ask("t1", "GET /v2/team/app/manifests/v1", "HTTP/1.1 200 "),
+        send("t1", v1, over_abc, "HTTP/1.1 201 "),
+        send("t1", v1, both, "HTTP/1.1 400 "),
+        send_with("t1", v1, index, "<bare>", "HTTP/1.1 400 "),
+        send("t1", config, "{}", "HTTP/1.1 201 "),
+        send("t1", sbom, "<sbom>", "HTTP/1.1 201 "),
+        send("t1", plain, "<plain>", "HTTP/1.1 403 "),
+        ask("t1", listed, "HTTP/1.1 200 "),
+        ask("t1", filtered, "HTTP/1.1 200 "),
+        ask(
+            "t1",
+            "DELETE /v2/team/app/manifests/{sbom}",
+            "HTTP/1.1 202 ",
+        ),
+        ask("t1", filtered, "HTTP/1.1 200 "),
+        ask("t1", "GET /v2/team/app/referrers/{hello}", "HTTP/1.1 200 "),
+        ask(
+            "t1",
+            "GET /v2/team/app/referrers/sha256:12",
+            "HTTP/1.1 400 ",
+        ),
+        ask("t1", "GET /v2/team/app/manifests/{sbom}", "HTTP/1.1 404 "),
+    ]
+}
+
+/// The tags and their pages.
+fn tag_requests() -> [Exchange<'static>; 12] {
+    let put = "HTTP/1.1 201 ";
+    let page = "HTTP/1.1 200 ";
+    [
+        send("t1", "PUT /v2/team/app/manifests/v1", "<bare>", put),
+        send("t1", "PUT /v2/team/app/manifests/b", "<bare>", put),
+        send("t1", "PUT /v2/team/app/manifests/B", "<bare>", put),
+        send("t1", "PUT /v2/team/app/manifests/a", "<bare>", put),
+        ask("t1", "GET /v2/team/app/tags/list", page),
+        ask("t1", "GET /v2/team/app/tags/list?n=2", page),
+        ask("t1", "GET /v2/team/app/tags/list?n=2&last=a", page),
+        ask("t1", "GET /v2/team/app/tags/list?n=2&last=a0", page),
+        ask("t1", "GET /v2/team/app/tags/list?n=0", page),
+        ask("t1", "GET /v2/team/app/tags/list?n=4", page),
+        ask("t1", "GET /v2/team/app/tags/list?n=99", page),
+        ask("t1", "GET /v2/team/app/tags/list?n=x", "HTTP/1.1 400 "),
+    ]
+}
+
+/// What `other` holds in the second registry from the start.
+fn fill_other(rt: &impl Abort, alloc: Global, registry: &mut Registry) -> Result<(), Fail> {
+    let dialogue = [
+        send(
+            "t2",
+            "POST /v2/other/blobs/uploads/?digest={hello}",
+            "hello",
+            created!("other", "{hello}"),
+        ),
+        send(
+            "t2",
+            "POST /v2/other/blobs/uploads/?digest={config}",
+            "{}",
+            created!("other", "{config}"),
+        ),
+        ask(
+            "t2",
+            "POST /v2/other/blobs/uploads/",
+            accepted!("other", "1", "0-0"),
+        ),
+        send(
+            "t2",
+            "PUT /v2/other/manifests/v1",
+            "<plain>",
+            stored!("other", "{plain}", "{abc}"),
+        ),
+    ];
+    talk(rt, alloc, registry, dialogue.as_slice())
+}
+
+/// What others do before the request of `t1` of this number: `t2` pushes a blob to `other`, opens the
+/// session of number `round` + 2 there, and appends to the one before it or closes it.
+fn meanwhile(
+    rt: &impl Abort,
+    alloc: Global,
+    registry: &mut Registry,
+    round: u32,
+) -> Result<(), Fail> {
+    let text = format!(in alloc; "{round}")?;
+    let digest = Digest::of_sha256(alloc, text.as_bytes())?;
+    let digest = digest.as_str();
+    let push = format!(in alloc; "POST /v2/other/blobs/uploads/?digest={digest}")?;
+    let pushed = format!(in alloc;
+        "HTTP/1.1 201 Created\r\nContent-Length: 0\r\nDocker-Content-Digest: {digest}\r\nLocation: /v2/other/blobs/{digest}\r\n\r\n"
+    )?;
+    let next = round.saturating_add(2);
+    let last = round.saturating_add(1);
+    let opened = format!(in alloc;
+        "HTTP/1.1 202 Accepted\r\nContent-Length: 0\r\nLocation: /v2/other/blobs/uploads/{next}\r\nRange: 0-0\r\n\r\n"
+    )?;
+    let append = format!(in alloc; "PATCH /v2/other/blobs/uploads/{last}")?;
+    let appended = format!(in alloc;
+        "HTTP/1.1 202 Accepted\r\nContent-Length: 0\r\nLocation: /v2/other/blobs/uploads/{last}\r\nRange: 0-0\r\n\r\n"
+    )?;
+    let close = format!(in alloc; "PUT /v2/other/blobs/uploads/{last}?digest={{x}}")?;
+    let to_last = if round % 2 == 0 {
+        send("t2", append.as_str(), "x", appended.as_str())
+    } else {
+        send("t2", close.as_str(), "x", created!("other", "{x}"))
+    };
+    let dialogue = [
+        send("t2", push.as_str(), text.as_str(), pushed.as_str()),
+        ask("t2", "POST /v2/other/blobs/uploads/", opened.as_str()),
+        to_last,
+        ask("", "GET /v2/", TOKEN_REQUIRED),
+        ask("t2", "GET /v2/", BASE),
+        ask("t2", "GET /v2/nowhere/tags/list", ACCESS_DENIED),
+        ask("t2", "GET /v2/team/app/tags/list", ACCESS_DENIED),
+        ask("t2", "POST /v2/team/app/blobs/uploads/", ACCESS_DENIED),
+    ];
+    talk(rt, alloc, registry, dialogue.as_slice())
+}
+
+/// Two registries that are alike but for what `other` holds: the replies to `t1` are the same byte
+/// for byte, whatever others do before each of its requests in the second.
+#[test]
+fn two_registries(rt: HostRuntime) -> Result<(), Fail> {
+    let mut alone = setting(rt.alloc())?;
+    let mut shared = setting(rt.alloc())?;
+    fill_other(&rt, rt.alloc(), &mut shared)?;
+    let mut requests = Vec::new(rt.alloc());
+    requests.extend_from_slice(blob_requests().as_slice())?;
+    requests.extend_from_slice(manifest_requests().as_slice())?;
+    requests.extend_from_slice(tag_requests().as_slice())?;
+    assert_eq!(rt; requests.len(), 43);
+    for (request, round) in requests.iter().zip(0_u32..43) {
+        let line = request.line;
+        let first = answer(rt.alloc(), &mut alone, request)?;
+        meanwhile(&rt, rt.alloc(), &mut shared, round)?;
+        let second = answer(rt.alloc(), &mut shared, request)?;
+        let reply = str::from_utf8(first.output.as_slice())?;
+        assert!(rt; reply.starts_with(request.reply), "to {line}: {reply}");
+        assert_eq!(rt;
+            str::from_utf8(second.output.as_slice())?,
+            reply,
+            "to {line}"
+        );
+    }
+    Ok(())
+}
+
+/// A request on a blob of `team/app` or `other`, without a query but for a digest to push.
+fn step<'a>(
+    token: &'a str,
+    method: Verb,
+    route: Route<'a>,
+    digest: Option<&'a str>,
+    body: &'a [u8],
+) -> Step<'a> {
+    Step::Request(Request {
+        token: Some(token),
+        method,
+        route,
+        query: Query {
+            digest,
+            mount: None,
+            from: None,
+            n: None,
+            last: None,
+            artifact_type: None,
+        },
+        content_type: None,
+        content_range: None,
+        body,
+    })
+}
+
+/// The text of an outcome's reply; empty where it is that of a command that was done.
+fn outcome_text(alloc: Global, outcome: &Outcome) -> Result<Vec<u8>, Fail> {
+    let mut text = Vec::new(alloc);
+    match outcome {
+        Outcome::Reply(reply) => write_reply(reply, false, false, &mut text).map_err(
+            |_| "the reply is written",
+        )?,
+        Outcome::Admin(done) => (*done)?,
+    }
+    Ok(text)
+}
+
+/// The setting, with a `t3` of level 2 on `team/app`.
+fn with_third_token(alloc: Global) -> Result<Registry, Fail> {
+    let mut registry = setting(alloc)?;
+    let name = RepoName::parse(alloc, "team/app")?;
+    let token = Token::parse(alloc, "t3")?;
+    registry.admin(&AdminCommand::Grant {
+        token: &token,
+        name: &name,
+        level: Level::Push,
+    })?;
+    Ok(registry)
+}
+
+/// Runs the steps in that setting, and compares the text of each outcome.
+fn tells(rt: &impl Abort, alloc: Global, steps: &[Step], expected: &[&str]) -> Result<(), Fail> {
+    let mut registry = with_third_token(alloc)?;
+    let outcomes = registry.run(alloc, steps).map_err(|_| "a run")?;
+    assert_eq!(rt; outcomes.len(), expected.len());
+    for (outcome, text) in outcomes.iter().zip(expected) {
+        let told = outcome_text(alloc, outcome)?;
+        assert_eq!(rt; str::from_utf8(told.as_slice())?, *text);
+    }
+    Ok(())
+}
+
+/// To the two tokens of a repository it is one: what one of them deletes the other does not find.
+/// Another's push of the same bytes and the administrator's clearing change none of their replies.
+#[test]
+fn team_run(rt: HostRuntime) -> Result<(), Fail> {
+    let app = Route::Uploads { name: "team/app" };
+    let other = Route::Uploads { name: "other" };
+    let blob = Route::Blob {
+        name: "team/app",
+        digest: ABC,
+    };
+    let push = step("t3", Verb::Post, app, Some(ABC), b"abc");
+    let deletion = step("t1", Verb::Delete, blob, None, b"");
+    let fetch = step("t3", Verb::Get, blob, None, b"");
+    let steps = [
+        push,
+        step("t2", Verb::Post, other, Some(ABC), b"abc"),
+        Step::Admin(AdminCommand::Clear),
+        deletion,
+        Step::Admin(AdminCommand::Clear),
+        fetch,
+    ];
+    let created =
+        "HTTP/1.1 201 Created\r\nContent-Length: 0\r\nDocker-Content-Digest: sha256:ba7816bf8f01cfea414140de5dae2223b00361a396177a9cb410ff61f20015ad\r\nLocation: /v2/team/app/blobs/sha256:ba7816bf8f01cfea414140de5dae2223b00361a396177a9cb410ff61f20015ad\r\n\r\n";
+    let others =
+        "HTTP/1.1 201 Created\r\nContent-Length: 0\r\nDocker-Content-Digest: sha256:ba7816bf8f01cfea414140de5dae2223b00361a396177a9cb410ff61f20015ad\r\nLocation: /v2/other/blobs/sha256:ba7816bf8f01cfea414140de5dae2223b00361a396177a9cb410ff61f20015ad\r\n\r\n";
+    let done = "";
+    let told = [created, others, done, DELETED, done, BLOB_UNKNOWN];
+    tells(&rt, rt.alloc(), steps.as_slice(), told.as_slice())?;
+    let alone = [push, deletion, fetch];
+    let told = [created, DELETED, BLOB_UNKNOWN];
+    tells(&rt, rt.alloc(), alone.as_slice(), told.as_slice())
+}
