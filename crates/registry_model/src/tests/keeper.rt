@@ -1,5 +1,6 @@
 //! Each call of a keeper, through the trait.
-ghost use Rattle.std.specs.Prelude.{◌<◌};
+ghost use Rattle.std.specs.Prelude.{◌<◌, ◌≡◌, true};
+ghost use Rattle.oci_names.specs.Digest.{matches};
 
 use crate::{Keeper, Level, MapKeeper, Quota, Usage};
 use oci_manifest::{Kind, read_manifest};
@@ -144,6 +145,13 @@ fn open<K: Keeper>(
     keeper.open_session(name)
 }
 
+/// The digest is that of the bytes.
+fn matches(rt: &impl Abort, digest: &Digest, bytes: &[u8])
+    ensures { matches digest.now bytes.now ≡ true }
+{
+    assert_eq!(rt; digest.verifies(bytes), Verdict::Matches);
+}
+
 /// Puts a manifest and sets a tag to it.
 fn put<K: Keeper>(
     rt: &impl Abort,
@@ -157,7 +165,7 @@ fn put<K: Keeper>(
     let tag = Tag::parse(alloc, tag)?;
     let manifest = read_manifest(alloc, bytes)?;
     assert!(rt; bytes.len() <= 4_194_304);
-    assert_eq!(rt; digest.verifies(bytes), Verdict::Matches);
+    matches(rt, digest, bytes);
     assert_eq!(rt; keeper.has_repo(name), Ok(true));
     assert_eq!(rt;
         keeper.put_manifest(name, digest, bytes, &manifest, Some(&tag)),
@@ -315,7 +323,7 @@ fn puts_both_or_neither<K: Keeper>(
     let index = Digest::parse(alloc, INDEX_DIGEST)?;
     let tag = Tag::parse(alloc, "latest")?;
     let manifest = read_manifest(alloc, INDEX)?;
-    assert_eq!(rt; index.verifies(INDEX), Verdict::Matches);
+    matches(rt, &index, INDEX);
     assert_eq!(rt; keeper.has_repo(name), Ok(true));
     match keeper.put_manifest(name, &index, INDEX, &manifest, Some(&tag)) {
         Ok(()) => {
