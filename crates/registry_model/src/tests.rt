@@ -3,6 +3,7 @@ use crate::{Quota, Refusal, Route};
 use std::test::Fail;
 
 mod keeper;
+mod memory;
 
 #[test]
 fn quotas_end_below_2_to_63(rt: HostRuntime) {

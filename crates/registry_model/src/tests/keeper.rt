@@ -10,12 +10,12 @@ use std::process::Abort;
 use std::test::Fail;
 
 /// By `printf abc | sha256sum`.
-const ABC: &str = "sha256:ba7816bf8f01cfea414140de5dae2223b00361a396177a9cb410ff61f20015ad";
+pub const ABC: &str = "sha256:ba7816bf8f01cfea414140de5dae2223b00361a396177a9cb410ff61f20015ad";
 
-const INDEX: &[u8] = b"{\"schemaVersion\":2,\"manifests\":[]}";
+pub const INDEX: &[u8] = b"{\"schemaVersion\":2,\"manifests\":[]}";
 
 /// By `sha256sum` of `INDEX`.
-const INDEX_DIGEST: &str =
+pub const INDEX_DIGEST: &str =
     "sha256:bc5857ac9458293d5111ab85c952172cd7f56bceb4e3014ddc4cafac8927b313";
 
 /// An index whose subject is `INDEX`.
@@ -129,7 +129,7 @@ fn keeps_sessions<K: Keeper>(
 }
 
 /// Opens a session where so many are open, and the last number is this one.
-fn open<K: Keeper>(
+pub fn open<K: Keeper>(
     rt: &impl Abort,
     keeper: &mut K,
     name: &RepoName,
@@ -146,7 +146,7 @@ fn open<K: Keeper>(
 }
 
 /// The digest is that of the bytes.
-fn matches(rt: &impl Abort, digest: &Digest, bytes: &[u8])
+pub fn matches(rt: &impl Abort, digest: &Digest, bytes: &[u8])
     ensures { matches digest.now bytes.now ≡ true }
 {
     assert_eq!(rt; digest.verifies(bytes), Verdict::Matches);
@@ -311,70 +311,4 @@ fn keeps_all<K: Keeper>(rt: &impl Abort, alloc: Global, keeper: &mut K) -> Resul
 fn maps_keep_what_they_are_given(rt: HostRuntime) -> Result<(), Fail> {
     let mut keeper = MapKeeper::new(rt.alloc());
     keeps_all(&rt, rt.alloc(), &mut keeper)
-}
-
-/// Where there is no memory for a manifest or for its tag, neither is there.
-fn puts_both_or_neither<K: Keeper>(
-    rt: &impl Abort,
-    alloc: Global,
-    keeper: &mut K,
-    name: &RepoName,
-) -> Result<(), Fail> {
-    let index = Digest::parse(alloc, INDEX_DIGEST)?;
-    let tag = Tag::parse(alloc, "latest")?;
-    let manifest = read_manifest(alloc, INDEX)?;
-    matches(rt, &index, INDEX);
-    assert_eq!(rt; keeper.has_repo(name), Ok(true));
-    match keeper.put_manifest(name, &index, INDEX, &manifest, Some(&tag)) {
-        Ok(()) => {
-            assert_eq!(rt;
-                keeper.manifest_size(name, &index),
-                Ok(Some((Kind::Index, 34)))
-            );
-            assert!(rt; keeper.tag(alloc, name, &tag)?.is_some());
-        }
-        Err(fault) => {
-            assert_eq!(rt; fault, Fault::Memory);
-            assert_eq!(rt; keeper.manifest_size(name, &index), Ok(None));
-            assert!(rt; keeper.tag(alloc, name, &tag)?.is_none());
-        }
-    }
-    Ok(())
-}
-
-/// Where there is no memory for the blob, its upload session stays open.
-fn finishes_or_stays_open<K: Keeper>(
-    rt: &impl Abort,
-    alloc: Global,
-    keeper: &mut K,
-    name: &RepoName,
-) -> Result<(), Fail> {
-    let digest = Digest::parse(alloc, ABC)?;
-    let number = open(rt, keeper, name, 0, 0)?;
-    assert_eq!(rt; digest.verifies(b"abc"), Verdict::Matches);
-    assert_eq!(rt; keeper.session_size(name, number), Ok(Some(0)));
-    match keeper.finish(name, number, &digest, b"abc") {
-        Ok(()) => {
-            assert_eq!(rt; keeper.session_size(name, number), Ok(None));
-            assert_eq!(rt; keeper.blob_size(name, &digest), Ok(Some(3)));
-        }
-        Err(fault) => {
-            assert_eq!(rt; fault, Fault::Memory);
-            assert_eq!(rt; keeper.session_size(name, number), Ok(Some(0)));
-            assert_eq!(rt; keeper.blob_size(name, &digest), Ok(None));
-        }
-    }
-    Ok(())
-}
-
-/// To be run with each allocation failing in turn.
-#[test]
-fn maps_make_a_write_or_change_nothing(rt: HostRuntime) -> Result<(), Fail> {
-    let alloc = rt.alloc();
-    let mut keeper = MapKeeper::new(alloc);
-    let name = RepoName::parse(alloc, "team/app")?;
-    let quota = Quota::new(1000).ok_or("a quota")?;
-    keeper.set_repo(&name, quota)?;
-    puts_both_or_neither(&rt, alloc, &mut keeper, &name)?;
-    finishes_or_stays_open(&rt, alloc, &mut keeper, &name)
 }
