@@ -135,8 +135,8 @@ fn writes_or_nothing(rt: &impl Abort, alloc: Global) -> Option<()> {
     finishes_or_stays_open(rt, alloc, &mut keeper, &name)
 }
 
-/// To be run with each allocation failing in turn. Where it is one before a write, the writes are made
-/// in a second keeper.
+/// To be run with each allocation failing in turn, by `rt try --test --fail-alloc N` from N = 1 on. Where
+/// it is one before a write, the writes are made in a second keeper.
 #[test]
 fn maps_make_a_write_or_change_nothing(rt: HostRuntime) -> Result<(), Fail> {
     if writes_or_nothing(&rt, rt.alloc()).is_none() {
