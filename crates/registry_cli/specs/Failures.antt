@@ -1,5 +1,5 @@
 -- The exit statuses and the messages of the program (profile).
-use Rattle.std.specs.Prelude.{ℕ, List, Bool, Result, Ok, Err, codes, if◌then◌else◌}
+use Rattle.std.specs.Prelude.{ℕ, List, Bool, Result, Ok, Err, codes, ⊤, if◌then◌else◌}
 use Rattle.oci_names.specs.declared.fault.NameFault.{NameFault}
 use Rattle.oci_names.specs.declared.fault.NameFault.TheVariants as text
 use Rattle.registry_model.specs.declared.admin.AdminFault.{AdminFault}
@@ -56,3 +56,11 @@ status_if (Err failure) = status_of failure
 -- the status of a program that served one connection
 abbrev pub status_after : End → Bool → ℕ
 status_after end spent = status_if (ended_as end spent)
+
+-- why a command line is not read: its form, a name or a token, or want of memory
+abbrev pub IsOfWords : Failure → Type 0
+IsOfWords InvalidOptions = ⊤
+IsOfWords InvalidName = ⊤
+IsOfWords InvalidToken = ⊤
+IsOfWords OutOfMemory = ⊤
+IsOfWords _ = ⊥

@@ -1,1 +1,4 @@
 pub mod Failures
+pub mod Setting
+pub mod Program
+pub mod Reading

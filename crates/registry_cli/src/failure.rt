@@ -55,12 +55,22 @@ impl Failure {
 }
 
 impl From<AllocError> for Failure {
+    ghost use Rattle.std.specs.Prelude.{◌≡◌};
+    ghost use Rattle.registry_cli.specs.declared.failure.Failure.{Failure};
+
+    ghost from_gives = { λ _ failure. failure ≡ Failure.OutOfMemory };
+
     fn from(_: AllocError) -> Failure {
         Failure::OutOfMemory
     }
 }
 
 impl<T: Drop> From<std::alloc::AllocFailed<T>> for Failure {
+    ghost use Rattle.std.specs.Prelude.{◌≡◌};
+    ghost use Rattle.registry_cli.specs.declared.failure.Failure.{Failure};
+
+    ghost from_gives = { λ _ failure. failure ≡ Failure.OutOfMemory };
+
     fn from(_: std::alloc::AllocFailed<T>) -> Failure {
         Failure::OutOfMemory
     }

@@ -1,3 +1,6 @@
+ghost use Rattle.std.specs.Prelude.{IfErr};
+ghost use Rattle.registry_cli.specs.Failures.{IsOfWords};
+
 use crate::failure::{Failure, of_text};
 use oci_names::{RepoName, Token};
 use registry_model::{Level, Quota};
@@ -57,18 +60,30 @@ fn split_grant(text: &str) -> Option<(&str, &str, Level)> {
     Some((token, name, level))
 }
 
-fn name_of(alloc: Global, text: &str) -> Result<RepoName, Failure> {
-    RepoName::parse(alloc, text).map_err(|fault| of_text(fault, Failure::InvalidName))
+fn name_of(alloc: Global, text: &str) -> Result<RepoName, Failure>
+    ensures { IfErr result IsOfWords }
+{
+    match RepoName::parse(alloc, text) {
+        Ok(name) => Ok(name),
+        Err(fault) => Err(of_text(fault, Failure::InvalidName)),
+    }
 }
 
-fn token_of(alloc: Global, text: &str) -> Result<Token, Failure> {
-    Token::parse(alloc, text).map_err(|fault| of_text(fault, Failure::InvalidToken))
+fn token_of(alloc: Global, text: &str) -> Result<Token, Failure>
+    ensures { IfErr result IsOfWords }
+{
+    match Token::parse(alloc, text) {
+        Ok(token) => Ok(token),
+        Err(fault) => Err(of_text(fault, Failure::InvalidToken)),
+    }
 }
 
 impl Setup {
     /// Reads the values of `--repo` and `--grant`. What does not split or has no number in range is
     /// told first, then what is no name, then what is no token.
-    pub fn read(alloc: Global, repos: &[&str], grants: &[&str]) -> Result<Setup, Failure> {
+    pub fn read(alloc: Global, repos: &[&str], grants: &[&str]) -> Result<Setup, Failure>
+        ensures { IfErr result IsOfWords }
+    {
         let mut split_repos = Vec::new(alloc);
         for text in repos {
             split_repos.push(split_repo(text).ok_or(Failure::InvalidOptions)?)?;

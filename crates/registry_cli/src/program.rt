@@ -1,4 +1,7 @@
-ghost use Rattle.std.specs.Prelude.{◌≤◌, IfOk};
+ghost use Rattle.std.specs.Prelude.{◌<◌, ◌≤◌, IfErr, None};
+ghost use Rattle.registry_cli.specs.Failures.{IsOfWords};
+ghost use Rattle.registry_cli.specs.Program.{IsUntouched, Tells, RunsWords};
+ghost use Rattle.registry_cli.specs.Reading.{IsToldOfWords};
 
 use crate::failure::{Failure, say};
 use crate::options::Setup;
@@ -11,7 +14,7 @@ use std::io::{Read, Write};
 
 /// What there is to do, or what the command line was answered.
 #[derive(Drop)]
-enum Told {
+pub enum Told {
     Failed(Failure),
     Line(Error),
 }
@@ -45,34 +48,21 @@ fn command<'a>(alloc: Global) -> Result<Command<'a>, AllocError> {
         .subcommand(stdio)
 }
 
-/// `registry stdio`: without `--memory` there is nothing to serve.
-fn stdio<R: Read, W: Write, E: Write>(
-    alloc: Global,
-    matches: &ArgMatches,
-    reader: &mut R,
-    out: &mut W,
-    err: &mut E,
-) -> Result<u8, Failure>
-    ensures { IfOk result (λ status. status ≤ 4) }
+/// What `registry stdio` is to serve: without `--memory` there is nothing.
+fn setup_of(alloc: Global, matches: &ArgMatches) -> Result<Setup, Failure>
+    ensures { IfErr result IsOfWords }
 {
     if !matches.get_flag("memory") {
         return Err(Failure::InvalidOptions);
     }
     let repos = matches.get_strs("repo").unwrap_or(&[]);
     let grants = matches.get_strs("grant").unwrap_or(&[]);
-    let setup = Setup::read(alloc, repos, grants)?;
-    serve_memory(alloc, &setup, reader, out, err)
+    Setup::read(alloc, repos, grants)
 }
 
-/// Does what the words say.
-fn run<S: AsStr, R: Read, W: Write, E: Write>(
-    alloc: Global,
-    words: &[S],
-    reader: &mut R,
-    out: &mut W,
-    err: &mut E,
-) -> Result<u8, Told>
-    ensures { IfOk result (λ status. status ≤ 4) }
+/// Reads the words.
+fn read_words<S: AsStr>(alloc: Global, words: &[S]) -> Result<Setup, Told>
+    ensures { IfErr result IsToldOfWords }
 {
     let command = match command(alloc) {
         Ok(command) => command,
@@ -83,16 +73,14 @@ fn run<S: AsStr, R: Read, W: Write, E: Write>(
         Err(error) => return Err(Told::Line(error)),
     };
     match matches.subcommand() {
-        Some(("stdio", matches)) => {
-            stdio(alloc, matches, reader, out, err).map_err(Told::Failed)
-        }
+        Some(("stdio", matches)) => setup_of(alloc, matches).map_err(Told::Failed),
         _ => Err(Told::Failed(Failure::InvalidOptions)),
     }
 }
 
 /// Answers a command line that is a mistake, or that asks for help or the version.
 fn tell<W: Write, E: Write>(alloc: Global, error: &Error, out: &mut W, err: &mut E) -> u8
-    ensures { result ≤ 4 }
+    ensures tells { Tells result (record { left = None; left' = None; held = W.contents out.old; held' = W.contents out.new }) }
 {
     if error.kind() == ErrorKind::OutOfMemory {
         return say(err, Failure::OutOfMemory);
@@ -121,11 +109,23 @@ pub fn run_words<T: AllocGlobal, S: AsStr, R: Read, W: Write, E: Write>(
     out: &mut W,
     err: &mut E,
 ) -> u8
-    ensures { result ≤ 4 }
+    ensures runs { RunsWords result (record {
+      left = R.remaining reader.old;
+      left' = R.remaining reader.new;
+      held = W.contents out.old;
+      held' = W.contents out.new;
+    }) }
+    ensures refused { 0 < result → result < 4 → IsUntouched (record {
+      left = R.remaining reader.old;
+      left' = R.remaining reader.new;
+      held = W.contents out.old;
+      held' = W.contents out.new;
+    }) }
+    ensures status { result ≤ 4 }
 {
     let alloc = rt.alloc();
-    match run(alloc, words, reader, out, err) {
-        Ok(status) => status,
+    match read_words(alloc, words) {
+        Ok(setup) => serve_memory(alloc, &setup, reader, out, err),
         Err(Told::Failed(failure)) => say(err, failure),
         Err(Told::Line(error)) => tell(alloc, &error, out, err),
     }

@@ -1,34 +1,64 @@
-ghost use Rattle.std.specs.Prelude.{◌≡◌, ◌≤◌, IfOk};
+ghost use Rattle.std.specs.Prelude.{◌≡◌, ◌≤◌};
 ghost use Rattle.registry_http.specs.declared.ending.End.{End as Ending};
 ghost use Rattle.registry_http.specs.Serving.{Serves};
 ghost use Rattle.registry_cli.specs.Failures.{ended_as, status_after};
+ghost use Rattle.registry_cli.specs.Setting.{with_repos, with_levels, levels_if, SetsUp};
+ghost use Rattle.registry_cli.specs.Program.{ServesMemory};
 
 use crate::failure::{Failure, of_command, say};
-use crate::options::Setup;
+use crate::options::{GrantOption, RepoOption, Setup};
 use registry_http::{End, serve_connection};
 use registry_model::{Keeper, MapKeeper};
 use registry_service::{AdminCommand, Service};
 use std::alloc::Global;
 use std::io::{Read, Write};
 
-/// Makes the repositories, then the grants.
-fn set_up<K: Keeper>(service: &mut Service<K>, setup: &Setup) -> Result<(), Failure> {
-    for repo in &setup.repos {
+/// Makes the repositories.
+fn make_repos<K: Keeper>(service: &mut Service<K>, repos: &[RepoOption]) -> Result<(), Failure>
+    ensures honest { K.is_honest service.new → K.is_honest service.old }
+    ensures made { K.is_honest service.new → SetsUp (with_repos (K.state service.old).world repos.now) result (K.state service.new) }
+{
+    for repo in repos {
         let command = AdminCommand::AddRepo {
             name: &repo.name,
             quota: repo.quota,
         };
-        service.admin(&command).map_err(of_command)?;
+        match service.admin(&command) {
+            Ok(()) => {}
+            Err(fault) => return Err(of_command(fault)),
+        }
     }
-    for grant in &setup.grants {
+    Ok(())
+}
+
+/// Gives the levels.
+fn give_levels<K: Keeper>(service: &mut Service<K>, grants: &[GrantOption]) -> Result<(), Failure>
+    ensures honest { K.is_honest service.new → K.is_honest service.old }
+    ensures given { K.is_honest service.new → SetsUp (with_levels (K.state service.old).world grants.now) result (K.state service.new) }
+{
+    for grant in grants {
         let command = AdminCommand::Grant {
             token: &grant.token,
             name: &grant.name,
             level: grant.level,
         };
-        service.admin(&command).map_err(of_command)?;
+        match service.admin(&command) {
+            Ok(()) => {}
+            Err(fault) => return Err(of_command(fault)),
+        }
     }
     Ok(())
+}
+
+/// Makes the repositories, then gives the levels.
+fn set_up<K: Keeper>(service: &mut Service<K>, setup: &Setup) -> Result<(), Failure>
+    ensures honest { K.is_honest service.new → K.is_honest service.old }
+    ensures begins { K.is_honest service.new → SetsUp (levels_if (with_repos (K.state service.old).world setup.now.repos.items) setup.now.grants.items) result (K.state service.new) }
+{
+    match make_repos(service, &setup.repos) {
+        Ok(()) => give_levels(service, &setup.grants),
+        Err(failure) => Err(failure),
+    }
 }
 
 /// What the end of the one connection says of the program: a failed connection goes before a failed
@@ -77,17 +107,26 @@ pub fn serve_stdio<R: Read, W: Write, E: Write, K: Keeper>(
     }
 }
 
-/// Serves a registry over memory to one connection.
+/// Serves one connection over a registry in memory that begins with this setup, and says on standard
+/// error what failed. The status is that of `serve_stdio`; or that of the command that was refused, 1,
+/// or of want of memory, 3, and then nothing was read or written.
 pub fn serve_memory<R: Read, W: Write, E: Write>(
     alloc: Global,
     setup: &Setup,
     reader: &mut R,
     out: &mut W,
     err: &mut E,
-) -> Result<u8, Failure>
-    ensures { IfOk result (λ status. status ≤ 4) }
+) -> u8
+    ensures serves { ServesMemory setup.now result (record {
+      left = R.remaining reader.old;
+      left' = R.remaining reader.new;
+      held = W.contents out.old;
+      held' = W.contents out.new;
+    }) }
 {
     let mut service = Service::new(MapKeeper::new(alloc));
-    set_up(&mut service, setup)?;
-    Ok(serve_stdio(alloc, &mut service, reader, out, err))
+    match set_up(&mut service, setup) {
+        Ok(()) => serve_stdio(alloc, &mut service, reader, out, err),
+        Err(failure) => say(err, failure),
+    }
 }

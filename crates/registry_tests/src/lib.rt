@@ -16,6 +16,8 @@ mod isolation;
 #[cfg(test)]
 mod manifests;
 #[cfg(test)]
+mod memory;
+#[cfg(test)]
 mod pages;
 #[cfg(test)]
 mod pieces;

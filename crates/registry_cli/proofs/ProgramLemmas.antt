@@ -1,0 +1,60 @@
+-- What the program does over memory.
+use Rattle.std.proofs.Common.{arith, ◌≡◌, ◌⊎◌, ◌∙◌, ◌<◌, ℕ, true, false, Result, Ok, Err, inl, inr, sym, subst}
+use Rattle.std.specs.Prelude.{MatchResult}
+use Rattle.std.specs.Io.KnownBytes.{Appends}
+use Rattle.oci_names.specs.Text.{Text}
+use Rattle.registry_http.specs.declared.ending.End.{End}
+use Rattle.registry_http.specs.declared.ending.End.TheVariants as ending
+use Rattle.registry_model.specs.World.{World}
+use Rattle.registry_model.specs.Keeping.{State}
+use Rattle.registry_cli.specs.declared.failure.Failure.{Failure}
+use Rattle.registry_cli.specs.declared.failure.Failure.TheVariants as failure
+use Rattle.registry_cli.specs.declared.options.Setup.{Setup}
+use Rattle.registry_cli.specs.Failures.{status_after}
+use Rattle.registry_cli.specs.Setting.{world_by, SetsUp}
+use Rattle.registry_cli.specs.Program.{Ends, GivesUp, IsUntouched, ServesFrom, ServesMemory, RunsWords}
+
+pub served : (setup : Setup) (w : World) (status : ℕ) (e : Ends) → world_by setup ≡ Ok w → ServesFrom w status e → ServesMemory setup status e
+served setup w status e m s = inr (subst (λ r. MatchResult r (λ w. ServesFrom w status e) (λ f. GivesUp f status e)) (sym m) s)
+
+refused : (setup : Setup) (f : Failure) (status : ℕ) (e : Ends) → world_by setup ≡ Err f → GivesUp f status e → ServesMemory setup status e
+refused setup f status e m g = inr (subst (λ r. MatchResult r (λ w. ServesFrom w status e) (λ f. GivesUp f status e)) (sym m) g)
+
+pub stopped : (setup : Setup) (f : Failure) (s : State) (status : ℕ) (e : Ends) → SetsUp (world_by setup) (Err f) s → s.spent ≡ false → GivesUp f status e → ServesMemory setup status e
+stopped setup failure.OutOfMemory s status e m spent g = inl g
+stopped setup failure.StorageFailure s status e m spent g = absurd (let x : true ≡ false = sym m ∙ spent in cc)
+stopped setup failure.NoRepo s status e m spent g = refused setup failure.NoRepo status e m g
+stopped setup failure.RepoThere s status e m spent g = refused setup failure.RepoThere status e m g
+stopped setup failure.InvalidName s status e m spent g = refused setup failure.InvalidName status e m g
+stopped setup failure.InvalidToken s status e m spent g = refused setup failure.InvalidToken status e m g
+stopped setup failure.InvalidOptions s status e m spent g = refused setup failure.InvalidOptions status e m g
+stopped setup failure.ConnectionFailure s status e m spent g = refused setup failure.ConnectionFailure status e m g
+
+after_serving : (w : World) (status : ℕ) (e : Ends) → ServesFrom w status e → 0 < status → status < 4 → ⊥
+after_serving w status e s more less = go s.end s.ends
+  where
+    go : (end : End) → status ≡ status_after end false → ⊥
+    go ending.Closed i = omega arith
+    go ending.Cut i = omega arith
+    go (ending.Refused r) i = omega arith
+    go ending.ReadFailed i = omega arith
+    go (ending.WriteFailed n) i = omega arith
+
+-- status 1, 2 and 3 say that nothing was done
+pub untouched : (status : ℕ) (e : Ends) → RunsWords status e → 0 < status → status < 4 → IsUntouched e
+untouched status e (inl p) more less = go p.1
+  where
+    by : (r : Result World Failure) → MatchResult r (λ w. ServesFrom w status e) (λ f. GivesUp f status e) → IsUntouched e
+    by (Ok w) s = absurd (after_serving w status e s more less)
+    by (Err f) g = g.1
+
+    go : ServesMemory p.0 status e → IsUntouched e
+    go (inl g) = g.1
+    go (inr m) = by (world_by p.0) m
+untouched status e (inr (inl p)) more less = p.2.1
+untouched status e (inr (inr t)) more less = go t.1
+  where
+    go : (((status ≡ 2) ⊎ (status ≡ 3)) × (e.held' ≡ e.held)) ⊎ (((status ≡ 0) × (text : Text) × Appends e.held e.held' text) ⊎ (status ≡ 4)) → IsUntouched e
+    go (inl h) = record { left = t.0; held = h.1 }
+    go (inr (inl z)) = absurd (let x = z.0 in omega arith)
+    go (inr (inr f)) = absurd (omega arith)

@@ -1,0 +1,64 @@
+-- What the program does, by its exit status.
+use Rattle.std.specs.Prelude.{◌≡◌, ℕ, false, ◌⊎◌, Option, MatchResult}
+use Rattle.std.specs.Io.KnownBytes.{Appends}
+use Rattle.oci_names.specs.Text.{Text}
+use Rattle.registry_model.specs.World.{World}
+use Rattle.registry_model.specs.Keeping.{State}
+use Rattle.registry_model.specs.Doing.{keeps}
+use Rattle.registry_http.specs.Serving.{Serves}
+use Rattle.registry_http.specs.declared.ending.End.{End}
+use Rattle.registry_cli.specs.declared.failure.Failure.{Failure}
+use Rattle.registry_cli.specs.declared.failure.Failure.TheVariants.{OutOfMemory, ConnectionFailure}
+use Rattle.registry_cli.specs.declared.options.Setup.{Setup}
+use Rattle.registry_cli.specs.Failures.{status_of, status_after, IsOfWords}
+use Rattle.registry_cli.specs.Setting.{world_by}
+
+-- the bytes that standard input had left before and after, and those that standard output held, where they are known
+pub record Ends : Type 0 where
+  pub left : Option Text
+  pub left' : Option Text
+  pub held : Option Text
+  pub held' : Option Text
+
+-- nothing was read from standard input, and nothing written to standard output
+pub record IsUntouched (e : Ends) : Type 0 where
+  pub left : e.left' ≡ e.left
+  pub held : e.held' ≡ e.held
+
+-- the program ended for this reason, and did nothing
+abbrev pub GivesUp : Failure → ℕ → Ends → Type 0
+GivesUp f status e = (status ≡ status_of f) × IsUntouched e
+
+-- one connection was served from this world on; in memory no storage fails
+pub record ServesFrom (w : World) (status : ℕ) (e : Ends) : Type 0 where
+  pub end : End
+  pub last : State
+  pub ends : status ≡ status_after end false
+  pub serves : Serves end (record {
+    left = e.left;
+    left' = e.left';
+    held = e.held;
+    held' = e.held';
+    state = keeps w;
+    state' = last;
+  })
+
+-- a registry over memory that begins so serves one connection; or what it begins with is refused; or memory was wanting
+abbrev pub ServesMemory : Setup → ℕ → Ends → Type 0
+ServesMemory setup status e =
+    GivesUp OutOfMemory status e
+    ⊎ MatchResult (world_by setup) (λ w. ServesFrom w status e) (λ f. GivesUp f status e)
+
+-- help, the version or what is wrong with the words was told, on standard output only with status 0; or writing it
+-- there failed; or memory was wanting
+abbrev pub Tells : ℕ → Ends → Type 0
+Tells status e = (e.left' ≡ e.left)
+    × ((((status ≡ 2) ⊎ (status ≡ status_of OutOfMemory)) × (e.held' ≡ e.held))
+    ⊎ (((status ≡ 0) × (text : Text) × Appends e.held e.held' text) ⊎ (status ≡ status_of ConnectionFailure)))
+
+-- what words come to: a registry over memory that they set up is served; or they are not read, and nothing is done; or
+-- something is told of them
+abbrev pub RunsWords : ℕ → Ends → Type 0
+RunsWords status e =
+    ((setup : Setup) × ServesMemory setup status e)
+    ⊎ (((f : Failure) × IsOfWords f × GivesUp f status e) ⊎ Tells status e)
