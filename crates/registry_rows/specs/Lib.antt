@@ -1,0 +1,5 @@
+pub mod Keys
+pub mod Tables
+pub mod World
+pub mod Registry
+pub mod Changes

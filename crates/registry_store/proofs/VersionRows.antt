@@ -1,0 +1,54 @@
+-- What the statement on the version makes of the tables.
+use Rattle.std.proofs.Common.{◌≡◌, ◌∙◌, ℕ, List, [], ◌∷◌, pos, Ok, Err, Result, OnOk, sym, ap, subst, refl}
+use Rattle.std.specs.Prelude.{◌/◌, length}
+use Rattle.sqlite.specs.declared.types.Value.TheVariants.{Null, Int}
+use Rattle.sqlite.specs.declared.error.Error.{Error}
+use Rattle.sqlite.specs.Order.{Row}
+use Rattle.sqlite.specs.Cast.{cast_row}
+use Rattle.sqlite.specs.Ops.{unary}
+use Rattle.sqlite.specs.Schema.{Schema}
+use Rattle.sqlite.specs.Table.{Table}
+use Rattle.sqlite.specs.Term.{Term, lit}
+use Rattle.sqlite.specs.State.{State, Executes, ExecutesInside}
+use Rattle.registry_tables.specs.Schema.{version_table}
+use Rattle.registry_tables.specs.Layout.{tree_of, placed, rows_of}
+use Rattle.registry_tables.proofs.Writes.{either, inserts, adds_row, AddsRow, keeps_others}
+use Rattle.registry_rows.specs.Tables.{AreTables}
+use Rattle.registry_store.specs.VersionTexts.{version_add}
+use Rattle.registry_store.specs.Known.{KnowsRegistry}
+use Rattle.registry_store.specs.Held.{held, HoldsTables, IsReady}
+use Rattle.registry_store.specs.Steps.{VersionComes}
+use Rattle.registry_store.proofs.Others.{only_version, contents_beside_version}
+
+cast_version : (schema : Schema) → cast_row (placed schema version_table) (Null ∷ Int (pos 2) ∷ []) ≡ Null ∷ Int (pos 2) ∷ []
+unfolding unary
+cast_version schema = rw (either, either)
+
+-- whatever else is in the tables, they stay as they are
+same_tables : (t : Rattle.registry_rows.specs.Tables.Tables) (rows : List Row) → AreTables t → AreTables (record t { version = rows })
+same_tables t rows a = record { repos = a.repos; grants = a.grants; tags = a.tags; blobs = a.blobs; manifests = a.manifests; uploads = a.uploads; pieces = a.pieces }
+
+pub version_by : (old new : State) (r : Result ℕ Error) → IsReady old → ExecutesInside 0 version_add [] old new r → OnOk r (VersionComes old new)
+version_by old new (Err e) is ran = tt
+version_by old new (Ok n) is ran = record {
+  ready = record { inside = ran.1.mode; holds = record { known = subst KnowsRegistry (sym it.ran.schema_is) is.holds.known; contents = contents_beside_version old.now new.now is.holds.known keeps is.holds.contents; tables = subst AreTables (sym now) (same_tables (held old) _ is.holds.tables) } };
+  id = new.last_rowid;
+  puts = record { before = it.puts.before; after = it.puts.after; olds_are = it.puts.olds_are; news_are = ap (λ s. new.now.trees (tree_of s version_table)) it.ran.schema_is ∙ it.puts.news_are };
+  others = now;
+}
+  where
+    schema : Schema
+    schema = old.now.schema
+
+    table : Table
+    table = placed schema version_table
+
+    it : AddsRow schema table (Int (pos 2) ∷ []) old new
+    it = adds_row schema table (Int (pos 2) ∷ []) old new (cast_version schema)
+        (inserts schema is.holds.known.version.at table is.holds.known.version.place version_add [] old new refl refl refl (lit Null ∷ lit (Int (pos 2)) ∷ []) 2 is.holds.known.version_texts.add n ran.0)
+
+    keeps : Rattle.registry_tables.specs.Layout.KeepsOthers version_table old.now new.now
+    keeps = keeps_others version_table old.now new.now (tree_of schema version_table) refl it.ran.schema_is it.tables
+
+    now : held new ≡ record (held old) { version = (held new).version }
+    now = only_version old.now new.now is.holds.known keeps (rows_of new.now version_table) refl

@@ -1,0 +1,24 @@
+use Rattle.std.proofs.Common.{Bool, Err, ap, refl}
+use Rattle.registry_model.specs.Lookups.{manifests_on_at}
+use Rattle.registry_model.specs.Keeping.{entries_shown}
+use Rattle.registry_store.specs.Held.{is_storage}
+use Rattle.registry_store.proofs.Kept.{found, stood}
+use Rattle.registry_store.proofs.keeper.StoreKeeper.manifests_of_subject.Goals as goal
+
+pub manifests_of_subject-requires : goal.manifests_of_subject-requires
+manifests_of_subject-requires g c = record { settled = λ clean. c.self.invariant c.if-self.false clean }
+
+pub invariant_of-self : goal.invariant_of-self
+invariant_of-self g c unspent clean = (c.in-Ok.ensures.settled clean refl).0
+
+pub returns-in-Ok-clause-found : goal.returns-in-Ok-clause-found
+returns-in-Ok-clause-found g c clean = (
+  found g.S.Store c.self.inside.conn c.args.self.now c.self.inside.spent c.self.view_is (λ w. manifests_on_at w c.args.repo.now c.args.digest.now) _ (c.in-Ok.ensures.found clean),
+  stood g.S.Store c.self.inside.conn c.args.self.now c.self.inside.spent c.self.view_is c.manifests_of_subject.new.conn (c.in-Ok.ensures.settled clean refl).1,
+)
+
+pub invariant_of-self-in-Err-Memory : goal.invariant_of-self-in-Err-Memory
+invariant_of-self-in-Err-Memory g c unspent clean = (c.in-Err-Memory.ensures.settled clean (ap (λ f. is_storage {A = Bool} (Err f)) c.in-Err-Memory.field-0-is)).0
+
+pub returns-in-Err-Memory-clause-found : goal.returns-in-Err-Memory-clause-found
+returns-in-Err-Memory-clause-found g c clean = stood g.S.Store c.self.inside.conn c.args.self.now c.self.inside.spent c.self.view_is c.manifests_of_subject.new.conn (c.in-Err-Memory.ensures.settled clean (ap (λ f. is_storage {A = Bool} (Err f)) c.in-Err-Memory.field-0-is)).1

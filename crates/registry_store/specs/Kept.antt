@@ -1,0 +1,11 @@
+-- What a store holds: a connection, and whether the storage has failed.
+use Rattle.std.specs.Prelude.{Bool, refl}
+use Rattle.std.specs.Coded.{Coded, code_by, coded×, coded_bool}
+use Rattle.sqlite.specs.Held.{Held, held_code}
+
+pub record Kept (S : Type 0) : Type 0 where
+  pub conn : Held S
+  pub spent : Bool
+
+abbrev pub kept_code : {S : Type 0} → Coded S → Coded (Kept S)
+kept_code {S} store = code_by (Held S × Bool) (coded× (held_code store) coded_bool) (λ k. (k.conn, k.spent)) (λ p. record { conn = p.0; spent = p.1 }) (λ _. refl)

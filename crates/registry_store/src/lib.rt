@@ -1,0 +1,35 @@
+//! A registry's world in the tables of a SQLite database.
+#![tactic(auto)]
+
+mod appending;
+mod blobs;
+mod columns;
+mod contents;
+mod deletions;
+mod dropping;
+mod fault;
+mod finishing;
+mod granting;
+mod grants;
+mod keeper;
+mod listed;
+mod manifests;
+mod mounting;
+mod names;
+mod numbers;
+mod opening;
+mod pieces;
+mod putting;
+mod putting_manifests;
+mod reading;
+mod repos;
+mod sessions;
+mod setting;
+mod settled;
+mod store;
+mod subjects;
+mod tag_pages;
+mod tags;
+mod uploads;
+
+pub use store::{OpenFault, Store};
