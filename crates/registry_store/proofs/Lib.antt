@@ -46,3 +46,4 @@ pub mod ManifestPuts
 pub mod SessionBytes
 pub mod SessionWrites
 pub mod ReferrerBytes
+pub mod OpeningLemmas

@@ -18,3 +18,6 @@ pub mod TagPages
 pub mod Puts
 pub mod Worlds
 pub mod Drops
+pub mod Opening
+pub mod Asking
+pub mod Unwritten

@@ -13,6 +13,7 @@ mod granting;
 mod grants;
 mod keeper;
 mod listed;
+mod making;
 mod manifests;
 mod mounting;
 mod names;
@@ -31,5 +32,9 @@ mod subjects;
 mod tag_pages;
 mod tags;
 mod uploads;
+mod version;
+mod written;
 
-pub use store::{OpenFault, Store};
+pub use opening::OpenFault;
+pub use store::Store;
+pub use written::Written;

@@ -1,59 +1,62 @@
-//! The making of a registry's tables.
-ghost use Rattle.std.specs.Prelude.{◌≡◌, OnOk, IsTrue, ⊤};
-ghost use Rattle.sqlite.specs.State.{HasCleanDisk, KeepsCommit, Survives};
+//! The opening of a registry on a database.
+ghost use Rattle.std.specs.Prelude.{◌≡◌, OnOk, IfErr, ⊤};
+ghost use Rattle.sqlite.specs.State.{HasCleanDisk, Survives};
 ghost use Rattle.sqlite.specs.Held.{state};
 ghost use Rattle.registry_tables.specs.Schema.{no_schema};
 ghost use Rattle.registry_tables.specs.Making.{IsEmptyWith};
 ghost use Rattle.registry_model.specs.World.{no_world};
-ghost use Rattle.registry_store.specs.Held.{IsReady, Makes};
-ghost use Rattle.registry_store.specs.Steps.{VersionComes, IsNew};
+ghost use Rattle.registry_store.specs.Held.{IsSettled, StaysSettled, Makes};
+ghost use Rattle.registry_store.specs.Opening.{IsIdle, HoldsRegistry, has_version_table};
+ghost use Rattle.registry_store.specs.Asking.{IsWanting};
 
-use crate::fault::fault_of;
-use oci_names::Fault;
-use registry_tables::make_tables;
-use sqlite::{Alter, Connection, Transaction};
+use crate::making::create;
+use crate::version::read_version;
+use sqlite::{Alter, Connection, Error, ErrorCode};
 
-/// Writes which schema the tables are.
-fn add_version<S: Alter>(tx: &mut Transaction<'_, S>) -> Result<(), Fault>
-    ensures added { HasCleanDisk (state S.Store tx.new.conn.now) → IsReady (state S.Store tx.old.conn.now) → OnOk result (VersionComes (state S.Store tx.old.conn.now) (state S.Store tx.new.conn.now)) }
-    ensures kept { HasCleanDisk (state S.Store tx.new.conn.now) → IsReady (state S.Store tx.old.conn.now) → KeepsCommit (state S.Store tx.old.conn.now) (state S.Store tx.new.conn.now) }
-    ensures same_reference { tx.new.conn.ghost_name ≡ tx.old.conn.ghost_name }
-    ensures survives { Survives (state S.Store tx.old.conn.now) (state S.Store tx.new.conn.now) (λ _. ⊥) }
+/// Why a database is not opened as a registry.
+#[derive(Clone, Copy, Debug, PartialEq, Eq)]
+pub enum OpenFault {
+    /// Memory was refused.
+    Memory,
+    /// The database failed.
+    Storage,
+    /// The tables are of another schema than 2.
+    Schema(i64),
+    /// There are tables of these names that are not a registry's.
+    NotARegistry,
+}
+
+/// Why a file is not opened: want of memory is told apart from all others.
+pub(crate) fn fault_in_opening(error: Error) -> OpenFault
+    ensures { IsWanting result }
 {
-    match tx.execute("INSERT INTO registry_schema (version) VALUES (2)", &[]) {
-        Ok(_) => Ok(()),
-        Err(error) => Err(fault_of(error)),
+    match error {
+        Error::SqliteFailure(ErrorCode::OutOfMemory) => OpenFault::Memory,
+        _ => OpenFault::Storage,
     }
 }
 
-/// Makes the tables, with the version.
-fn make<S: Alter>(tx: &mut Transaction<'_, S>) -> Result<(), Fault>
-    requires { HasCleanDisk (state S.Store tx.old.conn.now) → IsTrue (state S.Store tx.old.conn.now).in_transaction }
-    ensures made { HasCleanDisk (state S.Store tx.new.conn.now) → IsEmptyWith no_schema (state S.Store tx.old.conn.now).now → OnOk result (IsNew (state S.Store tx.new.conn.now)) }
-    ensures kept { HasCleanDisk (state S.Store tx.new.conn.now) → IsEmptyWith no_schema (state S.Store tx.old.conn.now).now → KeepsCommit (state S.Store tx.old.conn.now) (state S.Store tx.new.conn.now) }
-    ensures same_reference { tx.new.conn.ghost_name ≡ tx.old.conn.ghost_name }
-    ensures survives { Survives (state S.Store tx.old.conn.now) (state S.Store tx.new.conn.now) (λ _. ⊥) }
+/// Whether a table says which schema the tables are. Reads no row.
+fn is_marked<S: Alter>(conn: &Connection<S>) -> bool
+    ensures { result ≡ has_version_table (state S.Store conn.now).now.schema }
 {
-    match make_tables(tx) {
-        Ok(()) => add_version(tx),
-        Err(error) => Err(fault_of(error)),
-    }
+    conn.schema().table_named(b"registry_schema").is_some()
 }
 
-/// Makes the tables of an empty database, all or none. They stand for the world without repositories and
-/// grants.
-pub(crate) fn create<S: Alter>(conn: &mut Connection<S>) -> Result<(), Fault>
-    requires bare { HasCleanDisk (state S.Store conn.old) → IsEmptyWith no_schema (state S.Store conn.old).now }
-    ensures made { HasCleanDisk (state S.Store conn.new) → OnOk result (Makes (state S.Store conn.new) no_world) }
+/// Makes the tables of a registry where no table says that they are there; else sees that they are of
+/// schema 2.
+pub(crate) fn take_up<S: Alter>(conn: &mut Connection<S>) -> Result<(), OpenFault>
+    ensures made { HasCleanDisk (state S.Store conn.new) → IsEmptyWith no_schema (state S.Store conn.old).now → OnOk result (Makes (state S.Store conn.new) no_world) }
+    ensures found { HasCleanDisk (state S.Store conn.new) → IsIdle (state S.Store conn.old) → HoldsRegistry (state S.Store conn.old).now → OnOk result (StaysSettled (state S.Store conn.old) (state S.Store conn.new)) }
+    ensures wanting { HasCleanDisk (state S.Store conn.new) → HoldsRegistry (state S.Store conn.old).now → IfErr result IsWanting }
     ensures survives { Survives (state S.Store conn.old) (state S.Store conn.new) (λ _. ⊤) }
 {
-    if !conn.is_autocommit() {
-        return Err(Fault::Storage);
+    if !is_marked(conn) {
+        return create(conn);
     }
-    let mut tx = conn.transaction();
-    make(&mut tx)?;
-    match tx.commit() {
-        Ok(()) => Ok(()),
-        Err(error) => Err(fault_of(error)),
+    match read_version(conn) {
+        Ok(2) => Ok(()),
+        Ok(found) => Err(OpenFault::Schema(found)),
+        Err(fault) => Err(fault),
     }
 }

@@ -1,29 +1,23 @@
 //! A registry's world in the tables of a database.
-ghost use Rattle.std.specs.Prelude.{◌≡◌, false, IfOk};
-ghost use Rattle.sqlite.specs.State.{HasCleanDisk};
+ghost use Rattle.std.specs.Prelude.{◌≡◌, false, IfOk, IfErr, ⊤};
+ghost use Rattle.sqlite.specs.State.{HasCleanDisk, Survives};
 ghost use Rattle.sqlite.specs.Held.{state};
 ghost use Rattle.sqlite.specs.Steps.{over_memory};
+ghost use Rattle.sqlite.specs.Files.{file_state};
+ghost use Rattle.sqlite.specs.WalFiles.{image_at};
+ghost use Rattle.registry_tables.specs.Schema.{no_schema};
+ghost use Rattle.registry_tables.specs.Making.{IsEmptyWith};
 ghost use Rattle.registry_model.specs.World.{no_world};
-ghost use Rattle.registry_store.specs.Held.{world_in};
+ghost use Rattle.registry_store.specs.Held.{IsSettled, world_in};
+ghost use Rattle.registry_store.specs.Opening.{IsIdle, IsOurs, HoldsRegistry, OpensOn};
+ghost use Rattle.registry_store.specs.Asking.{IsWanting};
 
-use crate::opening::create;
+use crate::opening::{OpenFault, fault_in_opening, take_up};
+use crate::written::Written;
 use oci_names::Fault;
-use sqlite::{Alter, Connection, MemStore};
+use sqlite::{Alter, Connection, FileFrom, FileStore, MemStore};
 use std::alloc::Global;
 use std::marker::Model;
-
-/// Why a database is not opened as a registry.
-#[derive(Clone, Copy, Debug, PartialEq, Eq)]
-pub enum OpenFault {
-    /// Memory was refused.
-    Memory,
-    /// The database failed.
-    Storage,
-    /// The tables are of another schema than 2.
-    Schema(i64),
-    /// There are tables of these names that are not a registry's.
-    NotARegistry,
-}
 
 /// Keeps a registry's world in the tables of a database. Once the storage has failed it is spent, and
 /// answers `Fault::Storage` alone.
@@ -56,17 +50,76 @@ impl Store<MemStore> {
         ensures empty { IfOk result (λ s. HasCleanDisk (state over_memory s.conn) → world_in (state over_memory s.conn) ≡ no_world) }
         ensures unspent { IfOk result (λ s. s.spent ≡ false) }
     {
-        let Ok(mut conn) = Connection::open_in_memory(alloc) else {
+        let Ok(conn) = Connection::open_in_memory(alloc) else {
             return Err(OpenFault::Memory);
         };
-        match create(&mut conn) {
+        match Store::adopt(alloc, conn) {
+            Ok(store) => Ok(store),
+            Err((fault, _)) => Err(fault),
+        }
+    }
+}
+
+impl<S: Alter + Drop> Store<S> {
+    /// The registry in the tables of a database: they are made where there are none. That no one else wrote
+    /// the tables is for the caller to know. A refusal hands the connection back: `Schema` where the tables
+    /// are of another schema than 2, `NotARegistry` where a name is taken by what is none of a registry's.
+    pub fn adopt(
+        alloc: Global,
+        mut conn: Connection<S>,
+    ) -> Result<Store<S>, (OpenFault, Connection<S>)>
+        requires idle { HasCleanDisk (state S.Store conn) → IsIdle (state S.Store conn) }
+        requires ours { HasCleanDisk (state S.Store conn) → IsOurs (state S.Store conn).now }
+        ensures made { IfOk result (λ s. HasCleanDisk (state S.Store s.conn) → IsEmptyWith no_schema (state S.Store conn).now → world_in (state S.Store s.conn) ≡ no_world) }
+        ensures found { IfOk result (λ s. HasCleanDisk (state S.Store s.conn) → HoldsRegistry (state S.Store conn).now → (state S.Store s.conn).now ≡ (state S.Store conn).now) }
+        ensures unspent { IfOk result (λ s. s.spent ≡ false) }
+        ensures survives { IfOk result (λ s. Survives (state S.Store conn) (state S.Store s.conn) (λ _. ⊤)) }
+        ensures wanting { IfErr result (λ e. HasCleanDisk (state S.Store e.1) → HoldsRegistry (state S.Store conn).now → IsWanting e.0) }
+    {
+        match take_up(&mut conn) {
             Ok(()) => Ok(Store {
                 alloc,
                 conn,
                 spent: false,
             }),
-            Err(Fault::Memory) => Err(OpenFault::Memory),
-            Err(Fault::Storage) => Err(OpenFault::Storage),
+            Err(fault) => Err((fault, conn)),
+        }
+    }
+
+    /// Gives the database back, with the tables as they are.
+    pub fn into_connection(self) -> Connection<S>
+        ensures { result ≡ self.conn }
+    {
+        self.conn
+    }
+}
+
+impl<F: Written> Store<FileStore<FileFrom<F>>> {
+    /// The registry in the database file at the path, which is made where there is none, its log beside it.
+    /// It is read whole once. The refusals are those of `adopt`; a file that is no database is `Storage`.
+    pub fn open_from(
+        rt: &HostRuntime,
+        path: &str,
+        start: F,
+    ) -> Result<Store<FileStore<FileFrom<F>>>, OpenFault>
+        ensures found { IfOk result (λ s. HasCleanDisk (file_state s.conn) → OpensOn (image_at F.Start) (file_state s.conn).now) }
+        ensures unspent { IfOk result (λ s. s.spent ≡ false) }
+    {
+        let conn = match Connection::open_from(rt, path, false, start) {
+            Ok(conn) => conn,
+            Err((error, _)) => return Err(fault_in_opening(error)),
+        };
+        match Store::adopt(rt.alloc(), conn) {
+            Ok(store) => Ok(store),
+            Err((fault, _)) => Err(fault),
+        }
+    }
+
+    /// Copies the log into the database file and closes both.
+    pub fn close(self) -> Result<(), Fault> {
+        match self.conn.close() {
+            Ok(()) => Ok(()),
+            Err(_) => Err(Fault::Storage),
         }
     }
 }

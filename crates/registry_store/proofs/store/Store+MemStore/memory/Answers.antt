@@ -1,7 +1,4 @@
 use Rattle.registry_store.proofs.store.Store+MemStore.memory.Goals as goal
 
-pub invariant_of-result : goal.invariant_of-result
-invariant_of-result c unspent clean = (c.in-Ok-create.ensures.made clean).0
-
-pub returns-in-Ok-create-clause-empty : goal.returns-in-Ok-create-clause-empty
-returns-in-Ok-create-clause-empty c clean = (c.in-Ok-create.ensures.made clean).1
+pub returns-in-Ok-adopt-clause-empty : goal.returns-in-Ok-adopt-clause-empty
+returns-in-Ok-adopt-clause-empty c clean = c.in-Ok-adopt.ensures.made clean (record { schema_is = c.in-Ok.ensures.empty.2; empty = tt })

@@ -6,16 +6,14 @@ use Rattle.registry_tables.specs.Schema.{no_schema}
 use Rattle.registry_tables.specs.Making.{IsEmptyWith}
 use Rattle.registry_store.proofs.FreshTables.{makes_none}
 use Rattle.registry_store.proofs.Transactions.{survives_all}
-use Rattle.registry_store.proofs.opening.create.Goals as goal
+use Rattle.registry_store.proofs.making.make_alone.Goals as goal
 
 pub returns-in-Ok-clause-made : goal.returns-in-Ok-clause-made
-returns-in-Ok-clause-made g c clean =
+returns-in-Ok-clause-made g c clean bare =
     let begun = c.transaction-tx.ensures.begun in
     let same = c.conn-2-1.given.1 (sym (c.make.ensures.same_reference ∙ c.transaction-tx.ensures.same_reference)) in
     let late : HasCleanDisk (state g.S.Store c.commit.new.self.0) = rw same at clean in
     let mid : HasCleanDisk (state g.S.Store c.make.new.tx.conn.now) = omega (arith, c.commit.ensures.survives.clean) in
-    let first : HasCleanDisk (state g.S.Store c.transaction-tx.result.conn.now) = omega (arith, c.make.ensures.survives.clean) in
-    let bare = c.requires.bare (rw begun at first) in
     let empty : IsEmptyWith no_schema (state g.S.Store c.transaction-tx.result.conn.now).now = rw begun bare in
     rw same (makes_none (state g.S.Store c.make.new.tx.conn.now) (state g.S.Store c.commit.new.self.0) (c.in_ok-make.ensures.made mid empty) (c.in-Ok.ensures.ok late).1)
 

@@ -3,7 +3,7 @@ use Rattle.sqlite.specs.State.{HasCleanDisk}
 use Rattle.sqlite.specs.Held.{state}
 use Rattle.registry_store.proofs.FreshTables.{then_new, holds_none}
 use Rattle.registry_tables.proofs.Selects.{commit_then}
-use Rattle.registry_store.proofs.opening.make.Goals as goal
+use Rattle.registry_store.proofs.making.make.Goals as goal
 
 pub returns-in-Ok-clause-made : goal.returns-in-Ok-clause-made
 returns-in-Ok-clause-made g c clean empty =

@@ -1,0 +1,184 @@
+#!/usr/bin/env python3
+"""Looks at a registry's database with another program.
+
+A server is started on loopback over a new file, images are pushed with curl, the server is ended, and
+sqlite3 reads the file: it is sound, its tables, keys and indexes are those of docs/STORE.md, and the
+bytes that it keeps are the bytes that were pushed. Needs curl and sqlite3 (3.37 or newer, for STRICT);
+installs nothing.
+"""
+import hashlib
+import json
+import os
+import shutil
+import socket
+import subprocess
+import sys
+import tempfile
+import time
+
+REGISTRY = os.path.abspath("build/registry")
+REPO = "team/app"
+# 1,000,000,000 bytes
+QUOTA = "1000000000"
+
+# name: (columns as PRAGMA table_info has them: name, type, NOT NULL, place in the primary key), foreign keys
+TEXT, NUMBER, BLOB = "TEXT", "INTEGER", "BLOB"
+TABLES = {
+    "registry_schema": [("version", NUMBER, 1, 0)],
+    "registry_repos": [("name", TEXT, 1, 1), ("quota", NUMBER, 1, 0), ("last_session", NUMBER, 1, 0)],
+    "registry_grants": [("token", TEXT, 1, 1), ("repo", TEXT, 1, 2), ("level", NUMBER, 1, 0)],
+    "registry_tags": [("repo", TEXT, 1, 1), ("tag", TEXT, 1, 2), ("digest", TEXT, 1, 0)],
+    "registry_contents": [("id", NUMBER, 0, 1), ("sha256", TEXT, 1, 0), ("size", NUMBER, 1, 0), ("bytes", BLOB, 1, 0)],
+    "registry_blob_links": [("repo", TEXT, 1, 1), ("digest", TEXT, 1, 2), ("size", NUMBER, 1, 0), ("content", NUMBER, 1, 0)],
+    "registry_manifest_links": [
+        ("repo", TEXT, 1, 1),
+        ("digest", TEXT, 1, 2),
+        ("size", NUMBER, 1, 0),
+        ("kind", NUMBER, 1, 0),
+        ("subject", TEXT, 0, 0),
+        ("content", NUMBER, 1, 0),
+    ],
+    "registry_uploads": [("repo", TEXT, 1, 1), ("number", NUMBER, 1, 2), ("size", NUMBER, 1, 0)],
+    "registry_pieces": [
+        ("repo", TEXT, 1, 1),
+        ("number", NUMBER, 1, 2),
+        ("start", NUMBER, 1, 3),
+        ("size", NUMBER, 1, 0),
+        ("content", NUMBER, 1, 0),
+    ],
+}
+WITHOUT_REPO = {"registry_schema", "registry_repos", "registry_contents"}
+INDEXES = {"registry_manifest_links_subject", "registry_contents_sha256"}
+
+
+def digest(body):
+    return "sha256:" + hashlib.sha256(body).hexdigest()
+
+
+def say(held, what):
+    print(("ok    " if held else "WRONG ") + what)
+    if not held:
+        say.wrong += 1
+
+
+say.wrong = 0
+
+
+def registry(*words):
+    ran = subprocess.run([REGISTRY, *words], capture_output=True, check=False)
+    say(ran.returncode == 0, "registry " + " ".join(words[:1]) + ran.stderr.decode())
+
+
+def free_port():
+    with socket.socket() as it:
+        it.bind(("127.0.0.1", 0))
+        return it.getsockname()[1]
+
+
+class Server:
+    def __init__(self, db):
+        self.at = f"127.0.0.1:{free_port()}"
+        self.process = subprocess.Popen([REGISTRY, "serve", "--db", db, "--listen", self.at], stdout=subprocess.PIPE)
+        line = self.process.stdout.readline()
+        say(line == b"registry: listening\n", "the server says that it listens")
+
+    def curl(self, method, path, body=None, fields=()):
+        words = ["curl", "-sS", "-o", "-", "-w", "%{http_code}", "-X", method, "-H", "Authorization: Bearer t1"]
+        for field in fields:
+            words += ["-H", field]
+        if body is not None:
+            words += ["--data-binary", "@-"]
+        ran = subprocess.run([*words, f"http://{self.at}{path}"], input=body or b"", capture_output=True, check=False)
+        return ran.stdout[-3:].decode(), ran.stdout[:-3]
+
+    def push_blob(self, body):
+        path = f"/v2/{REPO}/blobs/uploads/?digest={digest(body)}"
+        status, _ = self.curl("POST", path, body, ["Content-Type: application/octet-stream"])
+        say(status == "201", f"a blob of {len(body)} bytes is pushed: {status}")
+
+    def push_image(self, tag, layer):
+        config = json.dumps({"architecture": "amd64", "os": "linux", "tag": tag}).encode()
+        for body in (config, layer):
+            self.push_blob(body)
+        media = "application/vnd.oci.image.{}"
+        manifest = json.dumps(
+            {
+                "schemaVersion": 2,
+                "mediaType": media.format("manifest.v1+json"),
+                "config": {"mediaType": media.format("config.v1+json"), "digest": digest(config), "size": len(config)},
+                "layers": [{"mediaType": media.format("layer.v1.tar"), "digest": digest(layer), "size": len(layer)}],
+            }
+        ).encode()
+        field = "Content-Type: " + media.format("manifest.v1+json")
+        status, _ = self.curl("PUT", f"/v2/{REPO}/manifests/{tag}", manifest, [field])
+        say(status == "201", f"the image {tag} is pushed: {status}")
+        status, back = self.curl("GET", f"/v2/{REPO}/manifests/{tag}")
+        say((status, back) == ("200", manifest), f"the image {tag} is pulled as it was pushed")
+        return {config, layer, manifest}
+
+    def end(self):
+        self.process.kill()
+        self.process.wait()
+
+
+def query(db, text):
+    ran = subprocess.run(["sqlite3", "-json", db, text], capture_output=True, check=False)
+    if ran.returncode:
+        say(False, f"sqlite3: {ran.stderr.decode().strip()}")
+        return []
+    return json.loads(ran.stdout or b"[]")
+
+
+def look_at_tables(db):
+    listed = {row["name"]: row for row in query(db, "PRAGMA table_list") if row["name"].startswith("registry_")}
+    say(set(listed) == set(TABLES), "the tables are those of the schema")
+    for name, columns in TABLES.items():
+        found = [(row["name"], row["type"], row["notnull"], row["pk"]) for row in query(db, f"PRAGMA table_info({name})")]
+        say(found == columns, f"{name}: its columns and its key{'' if found == columns else f': {found}'}")
+        say(listed.get(name, {}).get("strict") == 1, f"{name}: STRICT")
+        keys = [(row["table"], row["from"], row["to"], row["on_delete"]) for row in query(db, f"PRAGMA foreign_key_list({name})")]
+        wanted = [] if name in WITHOUT_REPO else [("registry_repos", "repo", "name", "CASCADE")]
+        say(keys == wanted, f"{name}: what goes with a repository")
+    indexes = {row["name"] for row in query(db, "SELECT name FROM sqlite_schema WHERE type = 'index' AND sql IS NOT NULL")}
+    say(indexes == INDEXES, f"the indexes: {', '.join(sorted(indexes))}")
+    say(query(db, "SELECT version FROM registry_schema") == [{"version": 2}], "the version is 2")
+
+
+def look_at_bytes(db, pushed):
+    rows = query(db, "SELECT sha256, size, hex(bytes) AS bytes FROM registry_contents")
+    kept = sorted(bytes.fromhex(row["bytes"]) for row in rows)
+    say(kept == sorted(pushed), f"the bytes that are kept are the {len(pushed)} that were pushed, each once")
+    say(
+        all(row["sha256"] == hashlib.sha256(bytes.fromhex(row["bytes"])).hexdigest() for row in rows)
+        and all(row["size"] * 2 == len(row["bytes"]) for row in rows),
+        "each has its own digest and size beside it",
+    )
+
+
+def main():
+    lacking = [it for it in ("curl", "sqlite3") if shutil.which(it) is None]
+    if lacking or not os.path.exists(REGISTRY):
+        print(f"check-file needs {' and '.join(lacking) or 'build/registry'}", file=sys.stderr)
+        return 2
+    with tempfile.TemporaryDirectory() as room:
+        db = os.path.join(room, "registry.db")
+        registry("repo", "--db", db, "--name", REPO, "--quota", QUOTA)
+        registry("grant", "--db", db, "--token", "t1", "--name", REPO, "--level", "3")
+        server = Server(db)
+        try:
+            layer = bytes(i * 7 % 251 for i in range(300_000))
+            pushed = server.push_image("v1", layer) | server.push_image("v2", b"a second layer")
+            # the same layer again: it is kept once
+            pushed |= server.push_image("v3", layer)
+        finally:
+            server.end()
+        look_at_tables(db)
+        look_at_bytes(db, pushed)
+        say(query(db, "PRAGMA integrity_check") == [{"integrity_check": "ok"}], "PRAGMA integrity_check says ok")
+        say(query(db, "PRAGMA foreign_key_check") == [], "PRAGMA foreign_key_check finds nothing")
+    print(f"{say.wrong} wrong" if say.wrong else "the file is as it should be")
+    return 1 if say.wrong else 0
+
+
+if __name__ == "__main__":
+    sys.exit(main())

@@ -1,0 +1,77 @@
+//! The making of a registry's tables.
+ghost use Rattle.std.specs.Prelude.{◌≡◌, OnOk, IsTrue, ⊤};
+ghost use Rattle.sqlite.specs.State.{HasCleanDisk, KeepsCommit, Survives};
+ghost use Rattle.sqlite.specs.Held.{state};
+ghost use Rattle.registry_tables.specs.Schema.{no_schema};
+ghost use Rattle.registry_tables.specs.Making.{IsEmptyWith};
+ghost use Rattle.registry_model.specs.World.{no_world};
+ghost use Rattle.registry_store.specs.Held.{IsReady, Makes};
+ghost use Rattle.registry_store.specs.Steps.{VersionComes, IsNew};
+
+use crate::opening::OpenFault;
+use registry_tables::make_tables;
+use sqlite::{Alter, Connection, Error, ErrorCode, Transaction};
+
+/// Why tables are not made: a name that is taken is told apart.
+fn fault_in_making(error: Error) -> OpenFault {
+    match error {
+        Error::SqliteFailure(ErrorCode::OutOfMemory) => OpenFault::Memory,
+        Error::SqliteFailure(ErrorCode::NameTaken) => OpenFault::NotARegistry,
+        _ => OpenFault::Storage,
+    }
+}
+
+/// Writes which schema the tables are.
+fn add_version<S: Alter>(tx: &mut Transaction<'_, S>) -> Result<(), Error>
+    ensures added { HasCleanDisk (state S.Store tx.new.conn.now) → IsReady (state S.Store tx.old.conn.now) → OnOk result (VersionComes (state S.Store tx.old.conn.now) (state S.Store tx.new.conn.now)) }
+    ensures kept { HasCleanDisk (state S.Store tx.new.conn.now) → IsReady (state S.Store tx.old.conn.now) → KeepsCommit (state S.Store tx.old.conn.now) (state S.Store tx.new.conn.now) }
+    ensures same_reference { tx.new.conn.ghost_name ≡ tx.old.conn.ghost_name }
+    ensures survives { Survives (state S.Store tx.old.conn.now) (state S.Store tx.new.conn.now) (λ _. ⊥) }
+{
+    match tx.execute("INSERT INTO registry_schema (version) VALUES (2)", &[]) {
+        Ok(_) => Ok(()),
+        Err(error) => Err(error),
+    }
+}
+
+/// Makes the tables, with the version.
+fn make<S: Alter>(tx: &mut Transaction<'_, S>) -> Result<(), Error>
+    requires { HasCleanDisk (state S.Store tx.old.conn.now) → IsTrue (state S.Store tx.old.conn.now).in_transaction }
+    ensures made { HasCleanDisk (state S.Store tx.new.conn.now) → IsEmptyWith no_schema (state S.Store tx.old.conn.now).now → OnOk result (IsNew (state S.Store tx.new.conn.now)) }
+    ensures kept { HasCleanDisk (state S.Store tx.new.conn.now) → IsEmptyWith no_schema (state S.Store tx.old.conn.now).now → KeepsCommit (state S.Store tx.old.conn.now) (state S.Store tx.new.conn.now) }
+    ensures same_reference { tx.new.conn.ghost_name ≡ tx.old.conn.ghost_name }
+    ensures survives { Survives (state S.Store tx.old.conn.now) (state S.Store tx.new.conn.now) (λ _. ⊥) }
+{
+    match make_tables(tx) {
+        Ok(()) => add_version(tx),
+        Err(error) => Err(error),
+    }
+}
+
+/// The same, in a transaction of its own.
+fn make_alone<S: Alter>(conn: &mut Connection<S>) -> Result<(), Error>
+    ensures made { HasCleanDisk (state S.Store conn.new) → IsEmptyWith no_schema (state S.Store conn.old).now → OnOk result (Makes (state S.Store conn.new) no_world) }
+    ensures survives { Survives (state S.Store conn.old) (state S.Store conn.new) (λ _. ⊤) }
+{
+    if !conn.is_autocommit() {
+        return Err(Error::SqliteFailure(ErrorCode::TransactionState));
+    }
+    let mut tx = conn.transaction();
+    make(&mut tx)?;
+    match tx.commit() {
+        Ok(()) => Ok(()),
+        Err(error) => Err(error),
+    }
+}
+
+/// Makes the tables, all or none. In an empty database they stand for the world without repositories and
+/// grants. `NotARegistry`: one of their names is taken.
+pub(crate) fn create<S: Alter>(conn: &mut Connection<S>) -> Result<(), OpenFault>
+    ensures made { HasCleanDisk (state S.Store conn.new) → IsEmptyWith no_schema (state S.Store conn.old).now → OnOk result (Makes (state S.Store conn.new) no_world) }
+    ensures survives { Survives (state S.Store conn.old) (state S.Store conn.new) (λ _. ⊤) }
+{
+    match make_alone(conn) {
+        Ok(()) => Ok(()),
+        Err(error) => Err(fault_in_making(error)),
+    }
+}

@@ -1,0 +1,61 @@
+//! Which schema the tables of a database are.
+ghost use Rattle.std.specs.Prelude.{◌≡◌, ◌∷◌, [], pos, OnOk, IfOk, IfErr, ⊤, map, Ok};
+ghost use Rattle.std.specs.List.Sorted.{IsPermutation};
+ghost use Rattle.sqlite.specs.State.{HasCleanDisk, IsUnchanged, Survives};
+ghost use Rattle.sqlite.specs.Held.{state};
+ghost use Rattle.sqlite.specs.Order.{column};
+ghost use Rattle.sqlite.specs.declared.types.Value.TheVariants.{Int};
+ghost use Rattle.registry_store.specs.Held.{HoldsTables, held};
+ghost use Rattle.registry_store.specs.Opening.{HoldsRegistry};
+ghost use Rattle.registry_store.specs.Asking.{IsWanting, IsFailing};
+
+use crate::opening::OpenFault;
+use sqlite::{Alter, Connection, Error, ErrorCode, Row};
+
+/// Why the version is not read: a text that the tables do not answer is told apart.
+fn fault_in_reading(error: Error) -> OpenFault
+    ensures { IsFailing error → IsWanting result }
+{
+    match error {
+        Error::SqliteFailure(ErrorCode::OutOfMemory) => OpenFault::Memory,
+        Error::SqlInputError(_) => OpenFault::NotARegistry,
+        _ => OpenFault::Storage,
+    }
+}
+
+/// The versions that the tables say they are.
+fn version_rows<S: Alter>(conn: &mut Connection<S>) -> Result<Vec<Row>, Error>
+    ensures shown { HasCleanDisk (state S.Store conn.new) → HoldsTables (state S.Store conn.old).now → IfOk result (λ rows. IsPermutation (map (λ r. column r 1 ∷ []) (held (state S.Store conn.old)).version) rows.items) }
+    ensures same { HasCleanDisk (state S.Store conn.new) → HoldsTables (state S.Store conn.old).now → OnOk result (IsUnchanged (state S.Store conn.old) (state S.Store conn.new)) }
+    ensures failing { HasCleanDisk (state S.Store conn.new) → HoldsTables (state S.Store conn.old).now → IfErr result IsFailing }
+    ensures survives { Survives (state S.Store conn.old) (state S.Store conn.new) (λ _. ⊤) }
+{
+    conn.query_all("SELECT version FROM registry_schema", &[])
+}
+
+/// The one version that the rows say, a whole number.
+fn version_in(rows: &[Row]) -> Result<i64, OpenFault>
+    ensures { rows.now ≡ (Int (pos 2) ∷ []) ∷ [] → IfOk result (λ n. n ≡ pos 2) × IfErr result IsWanting }
+{
+    let [row] = rows else {
+        return Err(OpenFault::NotARegistry);
+    };
+    match row.get(0) {
+        Ok(version) => Ok(version),
+        Err(Error::SqliteFailure(ErrorCode::OutOfMemory)) => Err(OpenFault::Memory),
+        Err(_) => Err(OpenFault::NotARegistry),
+    }
+}
+
+/// Which schema the tables are. `NotARegistry`: it is not one row that says so with a whole number.
+pub(crate) fn read_version<S: Alter>(conn: &mut Connection<S>) -> Result<i64, OpenFault>
+    ensures found { HasCleanDisk (state S.Store conn.new) → HoldsRegistry (state S.Store conn.old).now → IfOk result (λ n. n ≡ pos 2) }
+    ensures same { HasCleanDisk (state S.Store conn.new) → HoldsRegistry (state S.Store conn.old).now → OnOk result (IsUnchanged (state S.Store conn.old) (state S.Store conn.new)) }
+    ensures wanting { HasCleanDisk (state S.Store conn.new) → HoldsRegistry (state S.Store conn.old).now → IfErr result IsWanting }
+    ensures survives { Survives (state S.Store conn.old) (state S.Store conn.new) (λ _. ⊤) }
+{
+    match version_rows(conn) {
+        Ok(rows) => version_in(&rows),
+        Err(error) => Err(fault_in_reading(error)),
+    }
+}
