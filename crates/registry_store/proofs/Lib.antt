@@ -47,3 +47,5 @@ pub mod SessionBytes
 pub mod SessionWrites
 pub mod ReferrerBytes
 pub mod OpeningLemmas
+pub mod Naming
+pub mod Freed

@@ -5,8 +5,8 @@ ghost use Rattle.registry_store.specs.Held.{world_in};
 
 use crate::store::Store;
 use crate::{
-    appending, deletions, dropping, finishing, granting, mounting, putting, putting_manifests,
-    reading, sessions, setting,
+    appending, clearing, deletions, dropping, finishing, granting, mounting, putting,
+    putting_manifests, reading, sessions, setting,
 };
 use oci_manifest::{Kind, Manifest};
 use oci_names::{Digest, Fault, RepoName, Tag, Token};
@@ -494,11 +494,17 @@ impl<S: Alter> Keeper for Store<S> {
         }
     }
 
-    /// Frees nothing yet: a content that nothing names stays.
     fn clear(&mut self) -> Result<(), Fault> {
         if self.spent {
             return Err(Fault::Storage);
         }
-        Ok(())
+        match clearing::clear(self.alloc, &mut self.conn) {
+            Ok(()) => Ok(()),
+            Err(Fault::Memory) => Err(Fault::Memory),
+            Err(Fault::Storage) => {
+                self.spent = true;
+                Err(Fault::Storage)
+            }
+        }
     }
 }

@@ -3,6 +3,7 @@
 
 mod appending;
 mod blobs;
+mod clearing;
 mod columns;
 mod contents;
 mod deletions;
