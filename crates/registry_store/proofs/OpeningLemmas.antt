@@ -10,7 +10,7 @@ use Rattle.sqlite_schema.specs.Names.{same_name}
 use Rattle.registry_tables.specs.Schema.{version_table, no_schema}
 use Rattle.registry_tables.specs.Layout.{Stands, placed}
 use Rattle.registry_store.specs.Held.{IsSettled, HoldsTables, held, tables_in}
-use Rattle.registry_store.specs.Opening.{IsIdle, HoldsRegistry, has_version_table, MayFind, WereOurs, IsOurs}
+use Rattle.registry_store.specs.Opening.{IsIdle, HoldsRegistry, has_version_table, SaysTwo, MayFind, WereOurs, IsOurs}
 use Rattle.sqlite.specs.Start.{FindsIn}
 use Rattle.sqlite.specs.Files.{AreFoundIn}
 use Rattle.sqlite.specs.State.{Opens, IsLive}
@@ -67,8 +67,8 @@ shows_version old new (Ok rows) h shown =
     subst (λ (xs : List Row). IsPermutation (map {B = Row} (λ r. column r 1 ∷ []) xs) rows.items) (all_pass (held old).version)
     (shows old.now.schema version_find _ (tree_of old.now.schema version_table) [] (col 1 1 ∷ []) [] old new rows.items refl h.known.version_texts.find h.known.version.stored shown)
 
-pub one_version : (db : Database) (rows : List Row) → HoldsRegistry db → IsPermutation (map {B = Row} (λ r. column r 1 ∷ []) (tables_in db).version) rows → rows ≡ (Int (pos 2) ∷ []) ∷ []
-one_version db rows h same = one_permutation _ rows (subst (λ (xs : List Row). IsPermutation xs rows) h.version same)
+pub one_version : (db : Database) (rows : List Row) → SaysTwo db → IsPermutation (map {B = Row} (λ r. column r 1 ∷ []) (tables_in db).version) rows → rows ≡ (Int (pos 2) ∷ []) ∷ []
+one_version db rows says same = one_permutation _ rows (subst (λ (xs : List Row). IsPermutation xs rows) says same)
 
 -- ---- how asking for it fails
 

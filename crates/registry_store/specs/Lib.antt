@@ -18,10 +18,7 @@ pub mod TagPages
 pub mod Puts
 pub mod Worlds
 pub mod Drops
-<<<<<<< HEAD
 pub mod Opening
 pub mod Asking
 pub mod Unwritten
-=======
 pub mod Naming
->>>>>>> fe87725 (The store's clear frees what nothing names: exactly the contents that a link or a piece names stay)

@@ -24,7 +24,6 @@ SaysTwo db = map {B = Row} (λ r. column r 1 ∷ []) (tables_in db).version ≡ 
 pub record HoldsRegistry (db : Database) : Type 0 where
   pub holds : HoldsTables db
   pub agree : Agree (tables_in db)
-  pub version : SaysTwo db
 
 -- no table at all, or a registry
 abbrev pub IsOurs : Database → Type 0

@@ -6,7 +6,7 @@ ghost use Rattle.registry_tables.specs.Schema.{no_schema};
 ghost use Rattle.registry_tables.specs.Making.{IsEmptyWith};
 ghost use Rattle.registry_model.specs.World.{no_world};
 ghost use Rattle.registry_store.specs.Held.{IsSettled, StaysSettled, Makes};
-ghost use Rattle.registry_store.specs.Opening.{IsIdle, HoldsRegistry, has_version_table};
+ghost use Rattle.registry_store.specs.Opening.{IsIdle, HoldsRegistry, SaysTwo, has_version_table};
 ghost use Rattle.registry_store.specs.Asking.{IsWanting};
 
 use crate::making::create;
@@ -48,7 +48,7 @@ fn is_marked<S: Alter>(conn: &Connection<S>) -> bool
 pub(crate) fn take_up<S: Alter>(conn: &mut Connection<S>) -> Result<(), OpenFault>
     ensures made { HasCleanDisk (state S.Store conn.new) → IsEmptyWith no_schema (state S.Store conn.old).now → OnOk result (Makes (state S.Store conn.new) no_world) }
     ensures found { HasCleanDisk (state S.Store conn.new) → IsIdle (state S.Store conn.old) → HoldsRegistry (state S.Store conn.old).now → OnOk result (StaysSettled (state S.Store conn.old) (state S.Store conn.new)) }
-    ensures wanting { HasCleanDisk (state S.Store conn.new) → HoldsRegistry (state S.Store conn.old).now → IfErr result IsWanting }
+    ensures wanting { HasCleanDisk (state S.Store conn.new) → HoldsRegistry (state S.Store conn.old).now → SaysTwo (state S.Store conn.old).now → IfErr result IsWanting }
     ensures survives { Survives (state S.Store conn.old) (state S.Store conn.new) (λ _. ⊤) }
 {
     if !is_marked(conn) {

@@ -9,7 +9,7 @@ ghost use Rattle.registry_tables.specs.Schema.{no_schema};
 ghost use Rattle.registry_tables.specs.Making.{IsEmptyWith};
 ghost use Rattle.registry_model.specs.World.{no_world};
 ghost use Rattle.registry_store.specs.Held.{IsSettled, world_in};
-ghost use Rattle.registry_store.specs.Opening.{IsIdle, IsOurs, HoldsRegistry, OpensOn};
+ghost use Rattle.registry_store.specs.Opening.{IsIdle, IsOurs, HoldsRegistry, SaysTwo, OpensOn};
 ghost use Rattle.registry_store.specs.Asking.{IsWanting};
 
 use crate::opening::{OpenFault, fault_in_opening, take_up};
@@ -74,7 +74,7 @@ impl<S: Alter + Drop> Store<S> {
         ensures found { IfOk result (λ s. HasCleanDisk (state S.Store s.conn) → HoldsRegistry (state S.Store conn).now → (state S.Store s.conn).now ≡ (state S.Store conn).now) }
         ensures unspent { IfOk result (λ s. s.spent ≡ false) }
         ensures survives { IfOk result (λ s. Survives (state S.Store conn) (state S.Store s.conn) (λ _. ⊤)) }
-        ensures wanting { IfErr result (λ e. HasCleanDisk (state S.Store e.1) → HoldsRegistry (state S.Store conn).now → IsWanting e.0) }
+        ensures wanting { IfErr result (λ e. HasCleanDisk (state S.Store e.1) → HoldsRegistry (state S.Store conn).now → SaysTwo (state S.Store conn).now → IsWanting e.0) }
     {
         match take_up(&mut conn) {
             Ok(()) => Ok(Store {
@@ -88,7 +88,8 @@ impl<S: Alter + Drop> Store<S> {
 
     /// Gives the database back, with the tables as they are.
     pub fn into_connection(self) -> Connection<S>
-        ensures { result ≡ self.conn }
+        ensures same { result ≡ self.conn }
+        ensures settled { self.spent ≡ false → HasCleanDisk (state S.Store result) → IsSettled (state S.Store result) }
     {
         self.conn
     }

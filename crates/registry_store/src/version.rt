@@ -6,7 +6,7 @@ ghost use Rattle.sqlite.specs.Held.{state};
 ghost use Rattle.sqlite.specs.Order.{column};
 ghost use Rattle.sqlite.specs.declared.types.Value.TheVariants.{Int};
 ghost use Rattle.registry_store.specs.Held.{HoldsTables, held};
-ghost use Rattle.registry_store.specs.Opening.{HoldsRegistry};
+ghost use Rattle.registry_store.specs.Opening.{SaysTwo};
 ghost use Rattle.registry_store.specs.Asking.{IsWanting, IsFailing};
 
 use crate::opening::OpenFault;
@@ -49,9 +49,9 @@ fn version_in(rows: &[Row]) -> Result<i64, OpenFault>
 
 /// Which schema the tables are. `NotARegistry`: it is not one row that says so with a whole number.
 pub(crate) fn read_version<S: Alter>(conn: &mut Connection<S>) -> Result<i64, OpenFault>
-    ensures found { HasCleanDisk (state S.Store conn.new) → HoldsRegistry (state S.Store conn.old).now → IfOk result (λ n. n ≡ pos 2) }
-    ensures same { HasCleanDisk (state S.Store conn.new) → HoldsRegistry (state S.Store conn.old).now → OnOk result (IsUnchanged (state S.Store conn.old) (state S.Store conn.new)) }
-    ensures wanting { HasCleanDisk (state S.Store conn.new) → HoldsRegistry (state S.Store conn.old).now → IfErr result IsWanting }
+    ensures found { HasCleanDisk (state S.Store conn.new) → HoldsTables (state S.Store conn.old).now → SaysTwo (state S.Store conn.old).now → IfOk result (λ n. n ≡ pos 2) }
+    ensures same { HasCleanDisk (state S.Store conn.new) → HoldsTables (state S.Store conn.old).now → OnOk result (IsUnchanged (state S.Store conn.old) (state S.Store conn.new)) }
+    ensures wanting { HasCleanDisk (state S.Store conn.new) → HoldsTables (state S.Store conn.old).now → SaysTwo (state S.Store conn.old).now → IfErr result IsWanting }
     ensures survives { Survives (state S.Store conn.old) (state S.Store conn.new) (λ _. ⊤) }
 {
     match version_rows(conn) {

@@ -13,7 +13,7 @@ returns-then-not-is_marked-clause-found g c clean idle h =
     absurd cc
 
 pub returns-then-not-is_marked-clause-wanting : goal.returns-then-not-is_marked-clause-wanting
-returns-then-not-is_marked-clause-wanting g c clean h =
+returns-then-not-is_marked-clause-wanting g c clean h says =
     let there = is_marked (state g.S.Store c.args.conn.now).now.schema h.holds.known.version in
     let told = c.is_marked.ensures in
     let not = c.if-not-is_marked.true in
@@ -21,4 +21,4 @@ returns-then-not-is_marked-clause-wanting g c clean h =
 
 pub returns-in-Ok-eq2-clause-found : goal.returns-in-Ok-eq2-clause-found
 returns-in-Ok-eq2-clause-found g c clean idle h =
-    stays_read (state g.S.Store c.args.conn.now) (state g.S.Store c.read_version.new.conn) (settled (state g.S.Store c.args.conn.now) idle h) (c.in-Ok-eq2.ensures.same clean h)
+    stays_read (state g.S.Store c.args.conn.now) (state g.S.Store c.read_version.new.conn) (settled (state g.S.Store c.args.conn.now) idle h) (c.in-Ok-eq2.ensures.same clean h.holds)
