@@ -6,7 +6,7 @@ REQUEST_FIELDS = Host: r\r\nAuthorization: Bearer t1\r\n
 O = sha256:44136fa355b3678a1146ad16f7e8649e94fb4fc21fe77e8310c060f61caaff8a
 SBOM = {"schemaVersion":2,"artifactType":"application/x.sbom","config":{"mediaType":"application/vnd.oci.empty.v1+json","digest":"$(O)","size":2},"layers":[],"subject":{"mediaType":"application/vnd.oci.image.manifest.v1+json","digest":"$(A)","size":3}}
 
-.PHONY: demo build test fmt clean bench-http
+.PHONY: demo build test fmt clean check-file bench bench-http
 
 # Builds, then pushes the blob `abc` and fetches it: both replies, byte for byte. Then a manifest that
 # refers to it, and the list of its referrers.
@@ -27,6 +27,14 @@ build:
 # The merge gate: every proof from nothing, the must-fail edits, the tests and the stored run.
 test:
 	rt ci
+
+# A server's database file, looked at by another program: needs curl and sqlite3 beside python3.
+check-file: build
+	python3 check/file.py
+
+# Requests a second over loopback on a database file, beside docker-registry where installed (python3).
+bench: build
+	python3 bench/loopback.py
 
 # Requests a second and MB/s over standard input, beside `cat` and `sha256sum` of the same bytes (python3).
 bench-http: build
