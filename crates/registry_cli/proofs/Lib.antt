@@ -1,2 +1,4 @@
 pub mod SettingLemmas
 pub mod ProgramLemmas
+pub mod TableLemmas
+pub mod SocketLemmas

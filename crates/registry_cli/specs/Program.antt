@@ -10,7 +10,7 @@ use Rattle.registry_http.specs.declared.ending.End.{End}
 use Rattle.registry_cli.specs.declared.failure.Failure.{Failure}
 use Rattle.registry_cli.specs.declared.failure.Failure.TheVariants.{OutOfMemory, ConnectionFailure}
 use Rattle.registry_cli.specs.declared.options.Setup.{Setup}
-use Rattle.registry_cli.specs.Failures.{status_of, status_after, IsOfWords}
+use Rattle.registry_cli.specs.Failures.{status_of, status_after}
 use Rattle.registry_cli.specs.Setting.{world_by}
 
 -- the bytes that standard input had left before and after, and those that standard output held, where they are known
@@ -49,16 +49,20 @@ ServesMemory setup status e =
     GivesUp OutOfMemory status e
     ⊎ MatchResult (world_by setup) (λ w. ServesFrom w status e) (λ f. GivesUp f status e)
 
+-- one connection was served over a registry that was opened; its storage may fail
+abbrev pub ServesStored : ℕ → Ends → State → State → Type 0
+ServesStored status e s s' = (end : End) × (status ≡ status_after end s'.spent) × Serves end (record {
+  left = e.left;
+  left' = e.left';
+  held = e.held;
+  held' = e.held';
+  state = s;
+  state' = s';
+})
+
 -- help, the version or what is wrong with the words was told, on standard output only with status 0; or writing it
 -- there failed; or memory was wanting
 abbrev pub Tells : ℕ → Ends → Type 0
 Tells status e = (e.left' ≡ e.left)
     × ((((status ≡ 2) ⊎ (status ≡ status_of OutOfMemory)) × (e.held' ≡ e.held))
     ⊎ (((status ≡ 0) × (text : Text) × Appends e.held e.held' text) ⊎ (status ≡ status_of ConnectionFailure)))
-
--- what words come to: a registry over memory that they set up is served; or they are not read, and nothing is done; or
--- something is told of them
-abbrev pub RunsWords : ℕ → Ends → Type 0
-RunsWords status e =
-    ((setup : Setup) × ServesMemory setup status e)
-    ⊎ (((f : Failure) × IsOfWords f × GivesUp f status e) ⊎ Tells status e)

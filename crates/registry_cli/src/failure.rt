@@ -1,55 +1,71 @@
 ghost use Rattle.std.specs.Prelude.{◌≡◌};
-ghost use Rattle.registry_cli.specs.Failures.{status_of, text_of, failure_of, failure_of_text};
+ghost use Rattle.registry_cli.specs.Failures.{status_of, failure_of, failure_of_text};
 
 use oci_names::NameFault;
 use registry_service::AdminFault;
 use std::alloc::AllocError;
+use std::fmt;
 use std::io::Write;
 
 /// Why the program ends with another status than 0.
 #[derive(Clone, Copy, Debug, PartialEq, Eq)]
 pub enum Failure {
     NoRepo,
+    NoGrant,
     RepoThere,
     InvalidName,
     InvalidToken,
     InvalidOptions,
     OutOfMemory,
     StorageFailure,
+    /// The database has this schema, which is another than the one that is read.
+    Schema(i64),
+    NotARegistry,
     ConnectionFailure,
 }
 
 impl Failure {
-    /// The exit status: 1 a refused command, 2 the command line, 3 storage or memory, 4 reading or
-    /// writing.
+    /// The exit status: 1 a refused command, 2 the command line, 3 storage, schema or memory, 4 a
+    /// socket, reading or writing.
     pub fn status(self) -> u8
         ensures { result ≡ status_of self }
     {
         match self {
             Failure::NoRepo => 1,
+            Failure::NoGrant => 1,
             Failure::RepoThere => 1,
             Failure::InvalidName => 2,
             Failure::InvalidToken => 2,
             Failure::InvalidOptions => 2,
             Failure::OutOfMemory => 3,
             Failure::StorageFailure => 3,
+            Failure::Schema(_) => 3,
+            Failure::NotARegistry => 3,
             Failure::ConnectionFailure => 4,
         }
     }
+}
 
-    /// What is said of it on standard error.
-    pub fn text(self) -> &'static str
-        ensures { result.now ≡ text_of self }
-    {
+/// What is said of it on standard error.
+impl fmt::Display for Failure {
+    ghost use Rattle.std.specs.Prelude.{Some};
+    ghost use Rattle.registry_cli.specs.Failures.{text_of};
+
+    ghost output = { λ failure. Some (text_of failure) };
+
+    fn fmt<W: fmt::Write>(&self, f: &mut fmt::Formatter<W>) -> fmt::Result {
         match self {
-            Failure::NoRepo => "registry: no such repository",
-            Failure::RepoThere => "registry: repository already there",
-            Failure::InvalidName => "registry: invalid name",
-            Failure::InvalidToken => "registry: invalid token",
-            Failure::InvalidOptions => "registry: invalid options",
-            Failure::OutOfMemory => "registry: out of memory",
-            Failure::StorageFailure => "registry: storage failure",
-            Failure::ConnectionFailure => "registry: connection failure",
+            Failure::NoRepo => f.write_str("registry: no such repository"),
+            Failure::NoGrant => f.write_str("registry: no such grant"),
+            Failure::RepoThere => f.write_str("registry: repository already there"),
+            Failure::InvalidName => f.write_str("registry: invalid name"),
+            Failure::InvalidToken => f.write_str("registry: invalid token"),
+            Failure::InvalidOptions => f.write_str("registry: invalid options"),
+            Failure::OutOfMemory => f.write_str("registry: out of memory"),
+            Failure::StorageFailure => f.write_str("registry: storage failure"),
+            Failure::Schema(found) => write!(f, "registry: schema {found} is not supported"),
+            Failure::NotARegistry => f.write_str("registry: not a registry"),
+            Failure::ConnectionFailure => f.write_str("registry: connection failure"),
         }
     }
 }
@@ -80,17 +96,17 @@ impl<T: Drop> From<std::alloc::AllocFailed<T>> for Failure {
 pub fn say<E: Write>(err: &mut E, failure: Failure) -> u8
     ensures { result ≡ status_of failure }
 {
-    let _ = writeln!(err, "{}", failure.text());
+    let _ = writeln!(err, "{failure}");
     failure.status()
 }
 
-/// Why a command that sets the registry up was not carried out. `NoGrant` comes of no such command.
+/// Why a command was not carried out.
 pub fn of_command(fault: AdminFault) -> Failure
     ensures { result ≡ failure_of fault }
 {
     match fault {
         AdminFault::NoRepo => Failure::NoRepo,
-        AdminFault::NoGrant => Failure::InvalidOptions,
+        AdminFault::NoGrant => Failure::NoGrant,
         AdminFault::RepoThere => Failure::RepoThere,
         AdminFault::Memory => Failure::OutOfMemory,
         AdminFault::Storage => Failure::StorageFailure,

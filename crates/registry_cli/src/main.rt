@@ -1,13 +1,22 @@
-//! The program `registry`: the command line, the ends of the process, exit statuses and messages.
+//! The program `registry`: the command line, the ends of the process, databases, sockets, exit
+//! statuses and messages.
 #![tactic(auto)]
 
+mod carrying;
+mod commands;
+mod databases;
 mod failure;
+mod line;
+mod opening;
 mod options;
 mod program;
+mod sockets;
 mod stdio;
+mod table;
 #[cfg(test)]
 mod tests;
 
+use databases::Databases;
 use failure::Failure;
 use std::env;
 use std::process::ExitCode;
@@ -23,6 +32,7 @@ fn main(rt: HostRuntime) -> ExitCode {
     };
     let status = program::run_words(
         &rt,
+        &Databases,
         words.as_slice(),
         &mut rt.stdin(),
         &mut rt.stdout(),

@@ -1,5 +1,6 @@
-ghost use Rattle.std.specs.Prelude.{IfErr};
+ghost use Rattle.std.specs.Prelude.{◌≡◌, IfOk, IfErr};
 ghost use Rattle.registry_cli.specs.Failures.{IsOfWords};
+ghost use Rattle.registry_cli.specs.Levels.{level_numbered};
 
 use crate::failure::{Failure, of_text};
 use oci_names::{RepoName, Token};
@@ -36,13 +37,20 @@ fn decimal(text: &str) -> Option<u64> {
     text.parse().ok()
 }
 
-fn level_of(text: &str) -> Option<Level> {
-    match decimal(text) {
-        Some(1) => Some(Level::Pull),
-        Some(2) => Some(Level::Push),
-        Some(3) => Some(Level::Delete),
+/// The level of a number: 1 pull, 2 push, 3 delete.
+pub fn level_numbered(number: u64) -> Option<Level>
+    ensures { result ≡ level_numbered number }
+{
+    match number {
+        1 => Some(Level::Pull),
+        2 => Some(Level::Push),
+        3 => Some(Level::Delete),
         _ => None,
     }
+}
+
+fn level_of(text: &str) -> Option<Level> {
+    level_numbered(decimal(text)?)
 }
 
 /// `NAME=QUOTA`, split at the last `=`.
@@ -60,8 +68,10 @@ fn split_grant(text: &str) -> Option<(&str, &str, Level)> {
     Some((token, name, level))
 }
 
-fn name_of(alloc: Global, text: &str) -> Result<RepoName, Failure>
-    ensures { IfErr result IsOfWords }
+/// The name that the text is.
+pub fn name_of(alloc: Global, text: &str) -> Result<RepoName, Failure>
+    ensures is { IfOk result (λ name. name ≡ text.now) }
+    ensures refused { IfErr result IsOfWords }
 {
     match RepoName::parse(alloc, text) {
         Ok(name) => Ok(name),
@@ -69,8 +79,10 @@ fn name_of(alloc: Global, text: &str) -> Result<RepoName, Failure>
     }
 }
 
-fn token_of(alloc: Global, text: &str) -> Result<Token, Failure>
-    ensures { IfErr result IsOfWords }
+/// The token that the text is.
+pub fn token_of(alloc: Global, text: &str) -> Result<Token, Failure>
+    ensures is { IfOk result (λ token. token ≡ text.now) }
+    ensures refused { IfErr result IsOfWords }
 {
     match Token::parse(alloc, text) {
         Ok(token) => Ok(token),

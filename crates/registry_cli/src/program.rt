@@ -1,82 +1,22 @@
-ghost use Rattle.std.specs.Prelude.{◌<◌, ◌≤◌, IfErr, None};
-ghost use Rattle.registry_cli.specs.Failures.{IsOfWords};
-ghost use Rattle.registry_cli.specs.Program.{IsUntouched, Tells, RunsWords};
-ghost use Rattle.registry_cli.specs.Reading.{IsToldOfWords};
+ghost use Rattle.std.specs.Prelude.{◌≡◌, ◌<◌, ◌≤◌, None};
+ghost use Rattle.registry_cli.specs.Stored.{OverSome};
+ghost use Rattle.registry_cli.specs.Program.{IsUntouched, Tells};
+ghost use Rattle.registry_cli.specs.Running.{RunsOrder, RunsStored, RunsServer, RunsWords};
+ghost use Rattle.registry_cli.specs.Carrying.{IsSilent};
 
+use crate::carrying::carry_out;
+use crate::commands::Order;
 use crate::failure::{Failure, say};
-use crate::options::Setup;
-use crate::stdio::serve_memory;
+use crate::line::{Task, Told, read_words};
+use crate::opening::Opener;
+use crate::sockets::serve;
+use crate::stdio::{serve_from, serve_memory};
+use clap::Error;
 use clap::error::ErrorKind;
-use clap::{Arg, ArgAction, ArgMatches, Command, Error};
-use std::alloc::{AllocError, Global};
+use std::alloc::Global;
 use std::convert::AsStr;
 use std::io::{Read, Write};
-
-/// What there is to do, or what the command line was answered.
-#[derive(Drop)]
-pub enum Told {
-    Failed(Failure),
-    Line(Error),
-}
-
-/// The command line.
-fn command<'a>(alloc: Global) -> Result<Command<'a>, AllocError> {
-    let memory = Arg::new(alloc, "memory")
-        .long("memory")
-        .action(ArgAction::SetTrue)
-        .help("Keep everything in memory");
-    let repo = Arg::new(alloc, "repo")
-        .long("repo")
-        .value_name("NAME=QUOTA")
-        .action(ArgAction::Append)
-        .help("Make a repository with a quota in bytes");
-    let grant = Arg::new(alloc, "grant")
-        .long("grant")
-        .value_name("TOKEN=NAME=LEVEL")
-        .action(ArgAction::Append)
-        .help("Give a token a level on a repository: 1 pull, 2 push, 3 delete");
-    let stdio = Command::new(alloc, "stdio")
-        .about("Serve standard input as one connection")
-        .arg(memory)?
-        .arg(repo)?
-        .arg(grant)?;
-    Command::new(alloc, "registry")
-        .about("An OCI artifact registry")
-        .version("0.1.0")
-        .no_binary_name(true)
-        .subcommand_required(true)
-        .subcommand(stdio)
-}
-
-/// What `registry stdio` is to serve: without `--memory` there is nothing.
-fn setup_of(alloc: Global, matches: &ArgMatches) -> Result<Setup, Failure>
-    ensures { IfErr result IsOfWords }
-{
-    if !matches.get_flag("memory") {
-        return Err(Failure::InvalidOptions);
-    }
-    let repos = matches.get_strs("repo").unwrap_or(&[]);
-    let grants = matches.get_strs("grant").unwrap_or(&[]);
-    Setup::read(alloc, repos, grants)
-}
-
-/// Reads the words.
-fn read_words<S: AsStr>(alloc: Global, words: &[S]) -> Result<Setup, Told>
-    ensures { IfErr result IsToldOfWords }
-{
-    let command = match command(alloc) {
-        Ok(command) => command,
-        Err(_) => return Err(Told::Failed(Failure::OutOfMemory)),
-    };
-    let matches = match command.try_get_matches_from(words) {
-        Ok(matches) => matches,
-        Err(error) => return Err(Told::Line(error)),
-    };
-    match matches.subcommand() {
-        Some(("stdio", matches)) => setup_of(alloc, matches).map_err(Told::Failed),
-        _ => Err(Told::Failed(Failure::InvalidOptions)),
-    }
-}
+use std::net::{Net, TcpListener, TcpStream};
 
 /// Answers a command line that is a mistake, or that asks for help or the version.
 fn tell<W: Write, E: Write>(alloc: Global, error: &Error, out: &mut W, err: &mut E) -> u8
@@ -99,23 +39,106 @@ fn tell<W: Write, E: Write>(alloc: Global, error: &Error, out: &mut W, err: &mut
     }
 }
 
-/// Does what the words behind the program's name say, with these ends for standard input, output
-/// and error, and gives the exit status: 0 done, 1 a refused command, 2 the command line, 3 storage
-/// or memory, 4 reading or writing failed.
-pub fn run_words<T: AllocGlobal, S: AsStr, R: Read, W: Write, E: Write>(
-    rt: &T,
-    words: &[S],
+/// Opens the registry at a path, and carries an order out over it.
+fn run_order<O: Opener, W: Write, E: Write>(
+    alloc: Global,
+    opener: &O,
+    path: &str,
+    order: &Order,
+    out: &mut W,
+    err: &mut E,
+) -> u8
+    ensures runs { RunsOrder (OverSome O.Kept.is_honest O.Kept.state (O.opens opener.now)) result (record { held = W.contents out.old; held' = W.contents out.new }) }
+    ensures silent { 0 < result → result < 4 → IsSilent (record { held = W.contents out.old; held' = W.contents out.new }) }
+    ensures status { result ≤ 4 }
+{
+    match opener.open(path) {
+        Ok(kept) => {
+            let ended = carry_out(alloc, kept, order, out, err);
+            ended.status
+        }
+        Err(failure) => say(err, failure),
+    }
+}
+
+/// Opens the registry at a path, and serves one connection over it.
+fn run_stored<O: Opener, R: Read, W: Write, E: Write>(
+    alloc: Global,
+    opener: &O,
+    path: &str,
     reader: &mut R,
     out: &mut W,
     err: &mut E,
 ) -> u8
-    ensures runs { RunsWords result (record {
+    ensures runs { RunsStored (OverSome O.Kept.is_honest O.Kept.state (O.opens opener.now)) result (record {
       left = R.remaining reader.old;
       left' = R.remaining reader.new;
       held = W.contents out.old;
       held' = W.contents out.new;
     }) }
-    ensures refused { 0 < result → result < 4 → IsUntouched (record {
+    ensures failed { 0 < result → 3 ≤ result }
+    ensures status { result ≤ 4 }
+{
+    match opener.open(path) {
+        Ok(kept) => {
+            let ended = serve_from(alloc, kept, reader, out, err);
+            ended.status
+        }
+        Err(failure) => say(err, failure),
+    }
+}
+
+/// Opens the registry at a path, binds the address, and serves so many connections.
+fn run_server<
+    T: AllocGlobal + Net<Listener = TcpListener, Stream = TcpStream>,
+    O: Opener,
+    W: Write,
+    E: Write,
+>(rt: &T, opener: &O, path: &str, address: &str, connections: u64, out: &mut W, err: &mut E) -> u8
+    ensures runs { RunsServer (OverSome O.Kept.is_honest O.Kept.state (O.opens opener.now)) result (record { held = W.contents out.old; held' = W.contents out.new }) }
+    ensures failed { 0 < result → 3 ≤ result }
+    ensures status { result ≤ 4 }
+{
+    let kept = match opener.open(path) {
+        Ok(kept) => kept,
+        Err(failure) => return say(err, failure),
+    };
+    let Ok(mut listener) = TcpListener::bind(rt, address) else {
+        return say(err, Failure::ConnectionFailure);
+    };
+    match serve(
+        rt.alloc(),
+        opener,
+        path,
+        kept,
+        &mut listener,
+        connections,
+        out,
+    ) {
+        Ok(()) => 0,
+        Err(failure) => say(err, failure),
+    }
+}
+
+/// Does what the words behind the program's name say, with these ends for standard input, output
+/// and error, and an opener of databases, and gives the exit status: 0 done, 1 a refused command, 2
+/// the command line, 3 storage, schema or memory, 4 a socket, reading or writing failed. What is wrong
+/// with the words is told before a database is opened.
+pub fn run_words<
+    T: AllocGlobal + Net<Listener = TcpListener, Stream = TcpStream>,
+    O: Opener,
+    S: AsStr,
+    R: Read,
+    W: Write,
+    E: Write,
+>(rt: &T, opener: &O, words: &[S], reader: &mut R, out: &mut W, err: &mut E) -> u8
+    ensures runs { RunsWords (OverSome O.Kept.is_honest O.Kept.state (O.opens opener.now)) result (record {
+      left = R.remaining reader.old;
+      left' = R.remaining reader.new;
+      held = W.contents out.old;
+      held' = W.contents out.new;
+    }) }
+    ensures refused { 0 < result → result < 3 → IsUntouched (record {
       left = R.remaining reader.old;
       left' = R.remaining reader.new;
       held = W.contents out.old;
@@ -125,7 +148,16 @@ pub fn run_words<T: AllocGlobal, S: AsStr, R: Read, W: Write, E: Write>(
 {
     let alloc = rt.alloc();
     match read_words(alloc, words) {
-        Ok(setup) => serve_memory(alloc, &setup, reader, out, err),
+        Ok(Task::Memory(setup)) => serve_memory(alloc, &setup, reader, out, err),
+        Ok(Task::Stored { path }) => run_stored(alloc, opener, path, reader, out, err),
+        Ok(
+            Task::Server {
+                path,
+                address,
+                connections,
+            },
+        ) => run_server(rt, opener, path, address, connections, out, err),
+        Ok(Task::Order { path, order }) => run_order(alloc, opener, path, &order, out, err),
         Err(Told::Failed(failure)) => say(err, failure),
         Err(Told::Line(error)) => tell(alloc, &error, out, err),
     }

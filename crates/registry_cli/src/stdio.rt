@@ -1,10 +1,11 @@
-ghost use Rattle.std.specs.Prelude.{◌≡◌, ◌≤◌};
+ghost use Rattle.std.specs.Prelude.{◌≡◌, ◌<◌, ◌≤◌, IfErr};
 ghost use Rattle.registry_http.specs.declared.ending.End.{End as Ending};
 ghost use Rattle.registry_http.specs.Serving.{Serves};
-ghost use Rattle.registry_cli.specs.Failures.{ended_as, status_after};
+ghost use Rattle.registry_cli.specs.Failures.{IsOfConnection, ended_as, status_after};
 ghost use Rattle.registry_cli.specs.Setting.{with_repos, with_levels, levels_if, SetsUp};
-ghost use Rattle.registry_cli.specs.Program.{ServesMemory};
+ghost use Rattle.registry_cli.specs.Program.{ServesMemory, ServesStored};
 
+use crate::carrying::Ended;
 use crate::failure::{Failure, of_command, say};
 use crate::options::{GrantOption, RepoOption, Setup};
 use registry_http::{End, serve_connection};
@@ -64,7 +65,8 @@ fn set_up<K: Keeper>(service: &mut Service<K>, setup: &Setup) -> Result<(), Fail
 /// What the end of the one connection says of the program: a failed connection goes before a failed
 /// storage; a cut or refused connection is no failure.
 fn ended(end: End, spent: bool) -> Result<(), Failure>
-    ensures { result ≡ ended_as end spent }
+    ensures is { result ≡ ended_as end spent }
+    ensures fails { IfErr result IsOfConnection }
 {
     match end {
         End::ReadFailed => Err(Failure::ConnectionFailure),
@@ -82,6 +84,7 @@ fn ended(end: End, spent: bool) -> Result<(), Failure>
 /// Serves one connection over the service, and says on standard error what failed. The status is 0;
 /// 4 where reading or writing failed; 3 where the service is spent at the end. A connection that was
 /// cut or refused is no failure.
+#[tactic(auto, using(crate::proofs::ProgramLemmas::connection_status))]
 pub fn serve_stdio<R: Read, W: Write, E: Write, K: Keeper>(
     alloc: Global,
     service: &mut Service<K>,
@@ -98,6 +101,7 @@ pub fn serve_stdio<R: Read, W: Write, E: Write, K: Keeper>(
       state = K.state service.old;
       state' = K.state service.new;
     }) }
+    ensures failed { 0 < result → 3 ≤ result }
     ensures status { result ≤ 4 }
 {
     let end = serve_connection(alloc, service, reader, out);
@@ -128,5 +132,31 @@ pub fn serve_memory<R: Read, W: Write, E: Write>(
     match set_up(&mut service, setup) {
         Ok(()) => serve_stdio(alloc, &mut service, reader, out, err),
         Err(failure) => say(err, failure),
+    }
+}
+
+/// Serves one connection over a keeper, as `serve_stdio` does, and hands the keeper back.
+pub fn serve_from<R: Read, W: Write, E: Write, K: Keeper>(
+    alloc: Global,
+    keeper: K,
+    reader: &mut R,
+    out: &mut W,
+    err: &mut E,
+) -> Ended<K>
+    ensures honest { K.is_honest result.keeper → K.is_honest keeper }
+    ensures serves { K.is_honest result.keeper → ServesStored result.status (record {
+      left = R.remaining reader.old;
+      left' = R.remaining reader.new;
+      held = W.contents out.old;
+      held' = W.contents out.new;
+    }) (K.state keeper) (K.state result.keeper) }
+    ensures failed { 0 < result.status → 3 ≤ result.status }
+    ensures status { result.status ≤ 4 }
+{
+    let mut service = Service::new(keeper);
+    let status = serve_stdio(alloc, &mut service, reader, out, err);
+    Ended {
+        keeper: service.into_keeper(),
+        status,
     }
 }

@@ -1,6 +1,17 @@
+use crate::carrying::carry_out;
+use crate::commands::{Change, Order};
+use crate::failure::Failure;
+use crate::opening::Opener;
 use crate::program::run_words;
+use crate::sockets::{Entrance, serve, serve_one};
+use oci_names::{Fault, RepoName, Token};
+use registry_http::{End, serve_connection};
+use registry_model::{AdminCommand, Keeper, Level, MapKeeper, Quota};
+use registry_service::Service;
+use std::alloc::Global;
 use std::io;
-use std::io::Write;
+use std::io::{Read, Write};
+use std::net::{Shutdown, TcpListener, TcpStream};
 use std::test::Fail;
 
 const MEMORY: [&str; 6] = [
@@ -20,11 +31,73 @@ struct Outcome {
     err: Vec<u8>,
 }
 
+/// Opens a registry in memory under every path: `team/app` with a quota of 1,000 bytes, on which `t1`
+/// has level 3, and in it the blob `abc`. Under the path `missing` none is found, and so on.
+struct Shelf {
+    alloc: Global,
+}
+
+fn failure_of_fault(fault: Fault) -> Failure {
+    match fault {
+        Fault::Memory => Failure::OutOfMemory,
+        Fault::Storage => Failure::StorageFailure,
+    }
+}
+
+/// Serves one connection over the keeper and throws the replies away.
+fn pushed(alloc: Global, keeper: MapKeeper, input: &[u8]) -> MapKeeper {
+    let mut service = Service::new(keeper);
+    let mut reader = input;
+    let mut replies = Vec::new(alloc);
+    let _ = serve_connection(alloc, &mut service, &mut reader, &mut replies);
+    service.into_keeper()
+}
+
+fn prepared(alloc: Global) -> Result<MapKeeper, Failure> {
+    let Ok(name) = RepoName::parse(alloc, "team/app") else {
+        return Err(Failure::InvalidName);
+    };
+    let Ok(token) = Token::parse(alloc, "t1") else {
+        return Err(Failure::InvalidToken);
+    };
+    let quota = Quota::new(1000).ok_or(Failure::InvalidOptions)?;
+    let mut service = Service::new(MapKeeper::new(alloc));
+    let made = service.admin(&AdminCommand::AddRepo { name: &name, quota });
+    let granted = service.admin(&AdminCommand::Grant {
+        token: &token,
+        name: &name,
+        level: Level::Delete,
+    });
+    if made.is_err() || granted.is_err() {
+        return Err(Failure::OutOfMemory);
+    }
+    Ok(pushed(alloc, service.into_keeper(), PUSH))
+}
+
+impl Opener for Shelf {
+    type Kept = MapKeeper;
+
+    ghost use Rattle.std.specs.Prelude.{⊤};
+
+    ghost opens = { λ _ _ _. ⊤ };
+
+    fn open(&self, path: &str) -> Result<MapKeeper, Failure> {
+        match path {
+            "other" => Err(Failure::NotARegistry),
+            "old" => Err(Failure::Schema(1)),
+            "newer" => Err(Failure::Schema(-7)),
+            "broken" => Err(Failure::StorageFailure),
+            _ => prepared(self.alloc),
+        }
+    }
+}
+
 fn run(rt: &HostRuntime, words: &[&str], input: &[u8]) -> Outcome {
     let mut reader = input;
     let mut out = Vec::new(rt.alloc());
     let mut err = Vec::new(rt.alloc());
-    let status = run_words(rt, words, &mut reader, &mut out, &mut err);
+    let shelf = Shelf { alloc: rt.alloc() };
+    let status = run_words(rt, &shelf, words, &mut reader, &mut out, &mut err);
     Outcome { status, out, err }
 }
 
@@ -168,11 +241,347 @@ fn a_failed_writer_is_a_failed_connection(rt: HostRuntime) -> Result<(), Fail> {
     let mut reader = PUSH;
     let mut out = Short { room: 250 };
     let mut err = Vec::new(rt.alloc());
-    let status = run_words(&rt, MEMORY.as_slice(), &mut reader, &mut out, &mut err);
+    let shelf = Shelf { alloc: rt.alloc() };
+    let status = run_words(
+        &rt,
+        &shelf,
+        MEMORY.as_slice(),
+        &mut reader,
+        &mut out,
+        &mut err,
+    );
     assert_eq!(rt; status, 4);
     assert_eq!(rt;
         err.as_slice(),
         b"registry: connection failure\n".as_slice()
     );
+    Ok(())
+}
+
+/// A case: the words, the exit status, the line on standard error and what is on standard output.
+type Case<'a> = (&'a [&'a str], u8, &'a [u8]);
+
+/// Orders over a database that are carried out or refused; nothing is on standard output.
+#[test]
+fn orders_are_carried_out_or_refused(rt: HostRuntime) -> Result<(), Fail> {
+    let cases: [Case; 14] = [
+        (
+            &["repo", "--db", "f", "--name", "team/lib", "--quota", "1000"],
+            0,
+            b"",
+        ),
+        (
+            &["repo", "--db", "f", "--name", "team/app", "--quota", "1000"],
+            1,
+            b"registry: repository already there\n",
+        ),
+        (
+            &["quota", "--db", "f", "--name", "team/app", "--quota", "0"],
+            0,
+            b"",
+        ),
+        (
+            &["quota", "--db", "f", "--name", "team/lib", "--quota", "0"],
+            1,
+            b"registry: no such repository\n",
+        ),
+        (&["drop", "--db", "f", "--name", "team/app"], 0, b""),
+        (
+            &["drop", "--db", "f", "--name", "nowhere"],
+            1,
+            b"registry: no such repository\n",
+        ),
+        (&["sessions", "--db", "f", "--name", "team/app"], 0, b""),
+        (
+            &["sessions", "--db", "f", "--name", "nowhere"],
+            1,
+            b"registry: no such repository\n",
+        ),
+        (
+            &[
+                "grant",
+                "--db",
+                "f",
+                "--token=-x",
+                "--name",
+                "team/app",
+                "--level",
+                "3",
+            ],
+            0,
+            b"",
+        ),
+        (
+            &[
+                "grant", "--db", "f", "--token", "t1", "--name", "nowhere", "--level", "1",
+            ],
+            1,
+            b"registry: no such repository\n",
+        ),
+        (
+            &["revoke", "--db", "f", "--token", "t1", "--name", "team/app"],
+            0,
+            b"",
+        ),
+        (
+            &["revoke", "--db", "f", "--token", "t9", "--name", "team/app"],
+            1,
+            b"registry: no such grant\n",
+        ),
+        (&["clear", "--db", "f"], 0, b""),
+        (
+            &["clear", "--db", "other"],
+            3,
+            b"registry: not a registry\n",
+        ),
+    ];
+    for (words, status, line) in cases {
+        let ran = run(&rt, words, b"");
+        assert_eq!(rt; ran.status, status, "at {words:?}");
+        assert_eq!(rt; ran.err.as_slice(), line, "at {words:?}");
+        assert_eq!(rt; ran.out.len(), 0);
+    }
+    Ok(())
+}
+
+/// Names are told before tokens, and both before the database is opened; then why it is not.
+#[test]
+fn words_are_told_before_the_database(rt: HostRuntime) -> Result<(), Fail> {
+    let cases: [Case; 8] = [
+        (
+            &[
+                "grant", "--db", "broken", "--token", "t,", "--name", "A", "--level", "1",
+            ],
+            2,
+            b"registry: invalid name\n",
+        ),
+        (
+            &[
+                "grant", "--db", "broken", "--token", "t,", "--name", "a", "--level", "1",
+            ],
+            2,
+            b"registry: invalid token\n",
+        ),
+        (
+            &["revoke", "--db", "broken", "--token", "t,", "--name", "a"],
+            2,
+            b"registry: invalid token\n",
+        ),
+        (
+            &["drop", "--db", "broken", "--name", "A"],
+            2,
+            b"registry: invalid name\n",
+        ),
+        (
+            &["usage", "--db", "broken"],
+            3,
+            b"registry: storage failure\n",
+        ),
+        (
+            &["usage", "--db", "old"],
+            3,
+            b"registry: schema 1 is not supported\n",
+        ),
+        (
+            &["stdio", "--db", "newer"],
+            3,
+            b"registry: schema -7 is not supported\n",
+        ),
+        (
+            &["serve", "--db", "other", "--listen", "nowhere"],
+            3,
+            b"registry: not a registry\n",
+        ),
+    ];
+    for (words, status, line) in cases {
+        let ran = run(&rt, words, b"");
+        assert_eq!(rt; ran.status, status, "at {words:?}");
+        assert_eq!(rt; ran.err.as_slice(), line, "at {words:?}");
+        assert_eq!(rt; ran.out.len(), 0);
+    }
+    Ok(())
+}
+
+/// Numbers out of their range and options that are missing are told before a name that is none.
+#[test]
+fn the_command_line_refuses_first(rt: HostRuntime) -> Result<(), Fail> {
+    let cases: [&[&str]; 10] = [
+        &[
+            "grant", "--db", "f", "--token", "t1", "--name", "A", "--level", "4",
+        ],
+        &[
+            "grant", "--db", "f", "--token", "t1", "--name", "A", "--level", "0",
+        ],
+        &[
+            "repo",
+            "--db",
+            "f",
+            "--name",
+            "A",
+            "--quota",
+            "9223372036854775808",
+        ],
+        &["repo", "--db", "f", "--name", "A", "--quota", "many"],
+        &["repo", "--db", "f", "--name", "A"],
+        &["repo", "--name", "A", "--quota", "1"],
+        &["usage"],
+        &["serve", "--db", "f"],
+        &[
+            "serve",
+            "--db",
+            "f",
+            "--listen",
+            "nowhere",
+            "--connections",
+            "9223372036854775808",
+        ],
+        &[],
+    ];
+    for words in cases {
+        let ran = run(&rt, words, b"");
+        assert_eq!(rt; ran.status, 2, "at {words:?}");
+        assert!(rt; ran.out.is_empty() && !ran.err.is_empty(), "at {words:?}");
+        assert!(rt; !ran.err.starts_with(b"registry: "), "at {words:?}");
+    }
+    Ok(())
+}
+
+#[test]
+fn standard_input_is_served_over_a_database(rt: HostRuntime) -> Result<(), Fail> {
+    let ran = run(&rt, &["stdio", "--db", "f"], PUSH);
+    assert_eq!(rt; ran.status, 0);
+    assert_eq!(rt; ran.out.as_slice(), REPLIES);
+    assert_eq!(rt; ran.err.len(), 0);
+    let cases: [&[&str]; 3] = [
+        &["stdio", "--db", "f", "--memory"],
+        &["stdio", "--db", "f", "--repo", "a=1"],
+        &["stdio", "--db", "f", "--grant", "t=a=1"],
+    ];
+    for words in cases {
+        let ran = run(&rt, words, PUSH);
+        assert_eq!(rt; ran.status, 2, "at {words:?}");
+        assert_eq!(rt;
+            ran.err.as_slice(),
+            b"registry: invalid options\n".as_slice()
+        );
+        assert_eq!(rt; ran.out.len(), 0);
+    }
+    Ok(())
+}
+
+const USAGE: &[u8] =
+    b"                used               quota     blobs manifests      tags  sessions name\n                   3                1000         1         0         0         0 team/app\n";
+
+#[test]
+fn usage_is_a_table(rt: HostRuntime) -> Result<(), Fail> {
+    let ran = run(&rt, &["usage", "--db", "f"], b"");
+    assert_eq!(rt; ran.status, 0);
+    assert_eq!(rt; ran.out.as_slice(), USAGE);
+    assert_eq!(rt; ran.err.len(), 0);
+    Ok(())
+}
+
+/// The keeper that is handed back has what was ordered.
+#[test]
+fn an_order_changes_the_keeper(rt: HostRuntime) -> Result<(), Fail> {
+    let alloc = rt.alloc();
+    let mut out = Vec::new(alloc);
+    let mut err = Vec::new(alloc);
+    let name = RepoName::parse(alloc, "team/app")?;
+    let quota = Quota::new(5).ok_or("no quota")?;
+    let order = Order::Change(Change::AddRepo { name, quota });
+    let first = carry_out(alloc, MapKeeper::new(alloc), &order, &mut out, &mut err);
+    assert_eq!(rt; first.status, 0);
+    let second = carry_out(alloc, first.keeper, &order, &mut out, &mut err);
+    assert_eq!(rt; second.status, 1);
+    let mut keeper = second.keeper;
+    let team = RepoName::parse(alloc, "team/app")?;
+    assert_eq!(rt; keeper.usage(&team).map_err(failure_of_fault)?.quota, 5);
+    let mut shut = Short { room: 4 };
+    let told = carry_out(alloc, keeper, &Order::Usage, &mut shut, &mut err);
+    assert_eq!(rt; told.status, 4);
+    Ok(())
+}
+
+/// Serves the same requests so many times, and then takes no further connection.
+struct Door {
+    alloc: Global,
+    left: u64,
+}
+
+impl Entrance for Door {
+    fn serve_next<K: Keeper>(
+        &mut self,
+        alloc: Global,
+        service: &mut Service<K>,
+    ) -> io::Result<End> {
+        if self.left == 0 {
+            return Err(io::Error::from(io::ErrorKind::ConnectionAborted));
+        }
+        self.left -= 1;
+        let mut reader = PUSH;
+        let mut replies = Vec::new(self.alloc);
+        Ok(serve_connection(alloc, service, &mut reader, &mut replies))
+    }
+}
+
+#[test]
+fn connections_are_served_until_none_is_taken(rt: HostRuntime) -> Result<(), Fail> {
+    let alloc = rt.alloc();
+    let shelf = Shelf { alloc };
+    let mut out = Vec::new(alloc);
+    let mut door = Door { alloc, left: 3 };
+    let kept = shelf.open("f")?;
+    let served = serve(alloc, &shelf, "f", kept, &mut door, 2, &mut out);
+    assert_eq!(rt; served, Ok(()));
+    assert_eq!(rt; door.left, 1);
+    assert_eq!(rt; out.as_slice(), b"registry: listening\n".as_slice());
+    let kept = shelf.open("f")?;
+    let served = serve(alloc, &shelf, "f", kept, &mut door, 2, &mut out);
+    assert_eq!(rt; served, Err(Failure::ConnectionFailure));
+    Ok(())
+}
+
+#[test]
+fn an_address_is_bound_or_told(rt: HostRuntime) -> Result<(), Fail> {
+    let none = run(
+        &rt,
+        &[
+            "serve",
+            "--db",
+            "f",
+            "--listen",
+            "127.0.0.1:0",
+            "--connections",
+            "0",
+        ],
+        b"",
+    );
+    assert_eq!(rt; none.status, 0);
+    assert_eq!(rt; none.out.as_slice(), b"registry: listening\n".as_slice());
+    assert_eq!(rt; none.err.len(), 0);
+    let nowhere = run(&rt, &["serve", "--db", "f", "--listen", "nowhere"], b"");
+    assert_eq!(rt; nowhere.status, 4);
+    assert_eq!(rt; nowhere.out.len(), 0);
+    assert_eq!(rt;
+        nowhere.err.as_slice(),
+        b"registry: connection failure\n".as_slice()
+    );
+    Ok(())
+}
+
+#[test]
+fn a_connection_over_a_socket_is_served(rt: HostRuntime) -> Result<(), Fail> {
+    let alloc = rt.alloc();
+    let listener = TcpListener::bind(&rt, "127.0.0.1:0")?;
+    let mut client = TcpStream::connect(&rt, listener.local_addr()?)?;
+    client.write_all(PUSH)?;
+    client.shutdown(Shutdown::Write)?;
+    let mut service = Service::new(prepared(alloc)?);
+    let end = serve_one(alloc, &listener, &mut service)?;
+    assert_eq!(rt; end, End::Closed);
+    let mut replies = Vec::new(alloc);
+    client.read_to_end(&mut replies)?;
+    assert_eq!(rt; replies.as_slice(), REPLIES);
     Ok(())
 }

@@ -1,0 +1,6 @@
+use Rattle.registry_cli.proofs.SocketLemmas.{Since}
+use Rattle.registry_cli.proofs.sockets.serve_each.Given as goal
+
+-- since the registry was last opened, some connections were served
+abbrev pub invariant-loop : goal.invariant-loop
+invariant-loop g l = g.O.Kept.Keeper.is_honest l.service → Since (g.O.Opener.opens l.opener l.path) (g.O.Kept.Keeper.state l.service)
