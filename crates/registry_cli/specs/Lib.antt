@@ -9,3 +9,4 @@ pub mod Carrying
 pub mod Stored
 pub mod Sockets
 pub mod Running
+pub mod Databases

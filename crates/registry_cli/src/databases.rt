@@ -1,19 +1,64 @@
+//! Registries that lie in database files.
+ghost use Rattle.registry_cli.specs.Failures.{IsOfOpening};
+
 use crate::failure::Failure;
 use crate::opening::Opener;
-use registry_model::MapKeeper;
+use registry_store::{OpenFault, Store, Written};
+use sqlite::{FileFrom, FileStore, Unknown};
+use std::marker::PhantomData;
 
-/// Opens the registries that lie in database files. None is opened yet: each opening is a failure of
-/// the storage.
-pub struct Databases;
+/// Files of which the same is supposed each time that they are opened.
+pub trait Supposed: Written {
+    fn new() -> Self;
+}
 
-impl Opener for Databases {
+impl Supposed for Unknown {
+    fn new() -> Unknown {
+        Unknown
+    }
+}
+
+/// Opens the registries that lie in database files, of which `F` says what is supposed.
+#[derive(Drop)]
+pub struct Databases<'a, F: Supposed> {
+    rt: &'a HostRuntime,
+    supposed: PhantomData<F>,
+}
+
+impl<'a, F: Supposed> Databases<'a, F> {
+    pub fn new(rt: &'a HostRuntime) -> Databases<'a, F> {
+        Databases {
+            rt,
+            supposed: PhantomData,
+        }
+    }
+}
+
+/// Why a database is not opened, as the program tells it.
+fn of_opening(fault: OpenFault) -> Failure
+    ensures { IsOfOpening result }
+{
+    match fault {
+        OpenFault::Memory => Failure::OutOfMemory,
+        OpenFault::Storage => Failure::StorageFailure,
+        OpenFault::Schema(found) => Failure::Schema(found),
+        OpenFault::NotARegistry => Failure::NotARegistry,
+    }
+}
+
+impl<F: Supposed> Opener for Databases<'_, F> {
     ghost use Rattle.registry_model.specs.Keeping.{State};
+    ghost use Rattle.sqlite.specs.WalFiles.{image_at};
+    ghost use Rattle.registry_cli.specs.Databases.{MayOpen};
 
-    type Kept = MapKeeper;
+    type Kept = Store<FileStore<FileFrom<F>>>;
 
-    ghost opens = { λ _ _ _. ⊥ };
+    ghost opens = { λ _ _ s. MayOpen (image_at F.Start) s };
 
-    fn open(&self, _path: &str) -> Result<MapKeeper, Failure> {
-        Err(Failure::StorageFailure)
+    fn open(&self, path: &str) -> Result<Store<FileStore<FileFrom<F>>>, Failure> {
+        match Store::open_from(self.rt, path, F::new()) {
+            Ok(store) => Ok(store),
+            Err(fault) => Err(of_opening(fault)),
+        }
     }
 }

@@ -18,6 +18,7 @@ mod tests;
 
 use databases::Databases;
 use failure::Failure;
+use sqlite::Unknown;
 use std::env;
 use std::process::ExitCode;
 
@@ -32,7 +33,7 @@ fn main(rt: HostRuntime) -> ExitCode {
     };
     let status = program::run_words(
         &rt,
-        &Databases,
+        &Databases::<Unknown>::new(&rt),
         words.as_slice(),
         &mut rt.stdin(),
         &mut rt.stdout(),
