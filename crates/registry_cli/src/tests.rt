@@ -2,11 +2,12 @@ use crate::carrying::carry_out;
 use crate::commands::{Change, Order};
 use crate::failure::Failure;
 use crate::opening::Opener;
+use crate::options::{name_of, token_of};
 use crate::program::run_words;
 use crate::sockets::{Entrance, serve, serve_one};
-use oci_names::{Fault, RepoName, Token};
+use oci_names::RepoName;
 use registry_http::{End, serve_connection};
-use registry_model::{AdminCommand, Keeper, Level, MapKeeper, Quota};
+use registry_model::{Keeper, Level, MapKeeper, Quota};
 use registry_service::Service;
 use std::alloc::Global;
 use std::io;
@@ -32,16 +33,10 @@ struct Outcome {
 }
 
 /// Opens a registry in memory under every path: `team/app` with a quota of 1,000 bytes, on which `t1`
-/// has level 3, and in it the blob `abc`. Under the path `missing` none is found, and so on.
+/// has level 3, and in it the blob `abc`; but for four paths, under which none is found.
+#[derive(Drop)]
 struct Shelf {
     alloc: Global,
-}
-
-fn failure_of_fault(fault: Fault) -> Failure {
-    match fault {
-        Fault::Memory => Failure::OutOfMemory,
-        Fault::Storage => Failure::StorageFailure,
-    }
 }
 
 /// Serves one connection over the keeper and throws the replies away.
@@ -53,25 +48,31 @@ fn pushed(alloc: Global, keeper: MapKeeper, input: &[u8]) -> MapKeeper {
     service.into_keeper()
 }
 
-fn prepared(alloc: Global) -> Result<MapKeeper, Failure> {
-    let Ok(name) = RepoName::parse(alloc, "team/app") else {
-        return Err(Failure::InvalidName);
-    };
-    let Ok(token) = Token::parse(alloc, "t1") else {
-        return Err(Failure::InvalidToken);
-    };
-    let quota = Quota::new(1000).ok_or(Failure::InvalidOptions)?;
-    let mut service = Service::new(MapKeeper::new(alloc));
-    let made = service.admin(&AdminCommand::AddRepo { name: &name, quota });
-    let granted = service.admin(&AdminCommand::Grant {
-        token: &token,
-        name: &name,
-        level: Level::Delete,
-    });
-    if made.is_err() || granted.is_err() {
-        return Err(Failure::OutOfMemory);
+/// The keeper after the order, which has to be carried out.
+fn ordered(alloc: Global, keeper: MapKeeper, change: Change) -> Result<MapKeeper, Failure> {
+    let mut out = Vec::new(alloc);
+    let mut err = Vec::new(alloc);
+    let ended = carry_out(alloc, keeper, &Order::Change(change), &mut out, &mut err);
+    if ended.status == 0 {
+        Ok(ended.keeper)
+    } else {
+        Err(Failure::OutOfMemory)
     }
-    Ok(pushed(alloc, service.into_keeper(), PUSH))
+}
+
+fn prepared(alloc: Global) -> Result<MapKeeper, Failure> {
+    let name = name_of(alloc, "team/app")?;
+    let quota = Quota::new(1000).ok_or(Failure::InvalidOptions)?;
+    let made = ordered(
+        alloc,
+        MapKeeper::new(alloc),
+        Change::AddRepo { name, quota },
+    )?;
+    let name = name_of(alloc, "team/app")?;
+    let token = token_of(alloc, "t1")?;
+    let level = Level::Delete;
+    let granted = ordered(alloc, made, Change::Grant { token, name, level })?;
+    Ok(pushed(alloc, granted, PUSH))
 }
 
 impl Opener for Shelf {
@@ -496,7 +497,7 @@ fn an_order_changes_the_keeper(rt: HostRuntime) -> Result<(), Fail> {
     assert_eq!(rt; second.status, 1);
     let mut keeper = second.keeper;
     let team = RepoName::parse(alloc, "team/app")?;
-    assert_eq!(rt; keeper.usage(&team).map_err(failure_of_fault)?.quota, 5);
+    assert_eq!(rt; keeper.usage(&team)?.quota, 5);
     let mut shut = Short { room: 4 };
     let told = carry_out(alloc, keeper, &Order::Usage, &mut shut, &mut err);
     assert_eq!(rt; told.status, 4);
@@ -504,8 +505,8 @@ fn an_order_changes_the_keeper(rt: HostRuntime) -> Result<(), Fail> {
 }
 
 /// Serves the same requests so many times, and then takes no further connection.
+#[derive(Drop)]
 struct Door {
-    alloc: Global,
     left: u64,
 }
 
@@ -520,7 +521,7 @@ impl Entrance for Door {
         }
         self.left -= 1;
         let mut reader = PUSH;
-        let mut replies = Vec::new(self.alloc);
+        let mut replies = Vec::new(alloc);
         Ok(serve_connection(alloc, service, &mut reader, &mut replies))
     }
 }
@@ -530,7 +531,7 @@ fn connections_are_served_until_none_is_taken(rt: HostRuntime) -> Result<(), Fai
     let alloc = rt.alloc();
     let shelf = Shelf { alloc };
     let mut out = Vec::new(alloc);
-    let mut door = Door { alloc, left: 3 };
+    let mut door = Door { left: 3 };
     let kept = shelf.open("f")?;
     let served = serve(alloc, &shelf, "f", kept, &mut door, 2, &mut out);
     assert_eq!(rt; served, Ok(()));

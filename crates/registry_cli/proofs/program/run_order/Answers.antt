@@ -4,7 +4,13 @@ use Rattle.registry_cli.proofs.program.run_order.Goals as goal
 pub returns-in-Ok-clause-runs : goal.returns-in-Ok-clause-runs
 returns-in-Ok-clause-runs g c =
     let carried = c.carry_out-ended in
-    inr (c.args.order.now, (c.args.path.now, record {
-      last = carried.result.keeper;
-      says = λ honest. (g.O.Kept.Keeper.state c.in-Ok.kept, c.in-Ok.ensures.opened (carried.ensures.honest honest), carried.ensures.carries honest);
-    }))
+    inr (
+      c.args.order.now,
+      (
+        c.args.path.now,
+        record {
+          last = carried.result.keeper;
+          says = λ honest. (g.O.Kept.Keeper.state c.in-Ok.kept, c.in-Ok.ensures.opened (carried.ensures.honest honest), carried.ensures.carries honest);
+        },
+      ),
+    )
