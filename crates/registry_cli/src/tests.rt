@@ -88,7 +88,10 @@ impl Opener for Shelf {
             "old" => Err(Failure::Schema(1)),
             "newer" => Err(Failure::Schema(-7)),
             "broken" => Err(Failure::StorageFailure),
-            _ => prepared(self.alloc),
+            _ => match prepared(self.alloc) {
+                Ok(keeper) => Ok(keeper),
+                Err(_) => Err(Failure::OutOfMemory),
+            },
         }
     }
 }
