@@ -2,19 +2,25 @@ use crate::dialogue::{ask, send, talk, using};
 use crate::replies::{
     ACCESS_DENIED, DELETED, TOKEN_REQUIRED, UPLOAD_UNKNOWN, accepted, blob, created,
 };
-use crate::setting::{Registry, grant, setting};
+use crate::setting::{Maker, grant, setting};
 use oci_names::{RepoName, Token};
-use registry_model::{AdminCommand, AdminFault, Level, Quota};
+use registry_model::{AdminCommand, AdminFault, Keeper, Level, Quota};
+use registry_service::Service;
+use std::alloc::Global;
+use std::process::Abort;
 use std::test::Fail;
 
-fn revoke(registry: &mut Registry, token: &Token, name: &RepoName) -> Result<(), AdminFault> {
+fn revoke<K: Keeper>(
+    registry: &mut Service<K>,
+    token: &Token,
+    name: &RepoName,
+) -> Result<(), AdminFault> {
     registry.admin(&AdminCommand::Revoke { token, name })
 }
 
 /// What a repository or a session holds stays through `Clear`, whoever else held the same bytes.
-#[test]
-fn clear_keeps_what_is_named(rt: HostRuntime) -> Result<(), Fail> {
-    let mut registry = setting(rt.alloc())?;
+pub fn clear_keeps_what_is_named<M: Maker>(rt: &impl Abort, alloc: Global) -> Result<(), Fail> {
+    let mut registry = setting::<M>(alloc)?;
     let pushes = [
         send(
             "t1",
@@ -29,17 +35,17 @@ fn clear_keeps_what_is_named(rt: HostRuntime) -> Result<(), Fail> {
             created!("other", "{abc}"),
         ),
     ];
-    talk(&rt, rt.alloc(), &mut registry, pushes.as_slice())?;
+    talk(rt, alloc, &mut registry, pushes.as_slice())?;
     registry.admin(&AdminCommand::Clear)?;
-    let name = RepoName::parse(rt.alloc(), "other")?;
-    let token = Token::parse(rt.alloc(), "t2")?;
+    let name = RepoName::parse(alloc, "other")?;
+    let token = Token::parse(alloc, "t2")?;
     registry.admin(&AdminCommand::Grant {
         token: &token,
         name: &name,
         level: Level::Delete,
     })?;
     let deletion = ask("t2", "DELETE /v2/other/blobs/{abc}", DELETED);
-    talk(&rt, rt.alloc(), &mut registry, &[deletion])?;
+    talk(rt, alloc, &mut registry, &[deletion])?;
     registry.admin(&AdminCommand::Clear)?;
     let opening = [
         ask(
@@ -65,7 +71,7 @@ fn clear_keeps_what_is_named(rt: HostRuntime) -> Result<(), Fail> {
             accepted!("team/app", "1", "0-4"),
         ),
     ];
-    talk(&rt, rt.alloc(), &mut registry, opening.as_slice())?;
+    talk(rt, alloc, &mut registry, opening.as_slice())?;
     registry.admin(&AdminCommand::Clear)?;
     let closing = [
         ask(
@@ -79,19 +85,18 @@ fn clear_keeps_what_is_named(rt: HostRuntime) -> Result<(), Fail> {
             blob!("{hello}", "5", "hello"),
         ),
     ];
-    talk(&rt, rt.alloc(), &mut registry, closing.as_slice())
+    talk(rt, alloc, &mut registry, closing.as_slice())
 }
 
 /// Dropped sessions keep their numbers, a dropped repository does not; a level that is not there
 /// cannot be revoked, and a token without a level is not known.
-#[test]
-fn administrator_drops(rt: HostRuntime) -> Result<(), Fail> {
-    let mut registry = setting(rt.alloc())?;
-    let app = RepoName::parse(rt.alloc(), "team/app")?;
-    let lib = RepoName::parse(rt.alloc(), "team/lib")?;
-    let other = RepoName::parse(rt.alloc(), "other")?;
-    let first = Token::parse(rt.alloc(), "t1")?;
-    let second = Token::parse(rt.alloc(), "t2")?;
+pub fn administrator_drops<M: Maker>(rt: &impl Abort, alloc: Global) -> Result<(), Fail> {
+    let mut registry = setting::<M>(alloc)?;
+    let app = RepoName::parse(alloc, "team/app")?;
+    let lib = RepoName::parse(alloc, "team/lib")?;
+    let other = RepoName::parse(alloc, "other")?;
+    let first = Token::parse(alloc, "t1")?;
+    let second = Token::parse(alloc, "t2")?;
     let opening = [
         ask(
             "t1",
@@ -110,7 +115,7 @@ fn administrator_drops(rt: HostRuntime) -> Result<(), Fail> {
             accepted!("team/lib", "1", "0-0"),
         ),
     ];
-    talk(&rt, rt.alloc(), &mut registry, opening.as_slice())?;
+    talk(rt, alloc, &mut registry, opening.as_slice())?;
     registry.admin(&AdminCommand::DropSessions { name: &app })?;
     registry.admin(&AdminCommand::DropRepo { name: &lib })?;
     let dropped = [
@@ -122,12 +127,12 @@ fn administrator_drops(rt: HostRuntime) -> Result<(), Fail> {
         ),
         ask("t1", "POST /v2/team/lib/blobs/uploads/", ACCESS_DENIED),
     ];
-    talk(&rt, rt.alloc(), &mut registry, dropped.as_slice())?;
-    let mut registry = using(&rt, rt.alloc(), registry, "team/app", 0)?;
+    talk(rt, alloc, &mut registry, dropped.as_slice())?;
+    let mut registry = using(rt, alloc, registry, "team/app", 0)?;
     let quota = Quota::new(1000).ok_or("a quota")?;
     registry.admin(&AdminCommand::AddRepo { name: &lib, quota })?;
     let ungranted = ask("t1", "POST /v2/team/lib/blobs/uploads/", ACCESS_DENIED);
-    talk(&rt, rt.alloc(), &mut registry, &[ungranted])?;
+    talk(rt, alloc, &mut registry, &[ungranted])?;
     grant(&mut registry, &first, &lib, Level::Delete)?;
     assert_eq!(rt;
         revoke(&mut registry, &second, &app),
@@ -142,16 +147,15 @@ fn administrator_drops(rt: HostRuntime) -> Result<(), Fail> {
         ),
         ask("t2", "GET /v2/", TOKEN_REQUIRED),
     ];
-    talk(&rt, rt.alloc(), &mut registry, made_anew.as_slice())
+    talk(rt, alloc, &mut registry, made_anew.as_slice())
 }
 
 /// A command that names what is not there, or makes what is, is refused.
-#[test]
-fn refused_commands(rt: HostRuntime) -> Result<(), Fail> {
-    let mut registry = setting(rt.alloc())?;
-    let app = RepoName::parse(rt.alloc(), "team/app")?;
-    let nowhere = RepoName::parse(rt.alloc(), "nowhere")?;
-    let token = Token::parse(rt.alloc(), "t1")?;
+pub fn refused_commands<M: Maker>(rt: &impl Abort, alloc: Global) -> Result<(), Fail> {
+    let mut registry = setting::<M>(alloc)?;
+    let app = RepoName::parse(alloc, "team/app")?;
+    let nowhere = RepoName::parse(alloc, "nowhere")?;
+    let token = Token::parse(alloc, "t1")?;
     let quota = Quota::new(0).ok_or("a quota")?;
     let level = Level::Pull;
     for (command, fault) in [
@@ -195,5 +199,5 @@ fn refused_commands(rt: HostRuntime) -> Result<(), Fail> {
     // The quota of 0 was not set.
     let push = "POST /v2/team/app/blobs/uploads/?digest={abc}";
     let pushed = send("t1", push, "abc", created!("team/app", "{abc}"));
-    talk(&rt, rt.alloc(), &mut registry, &[pushed])
+    talk(rt, alloc, &mut registry, &[pushed])
 }

@@ -1,22 +1,22 @@
-use crate::setting::{ABC, HELLO, ask, created, fetch, found, push, refused, serve, setting};
+use crate::setting::{
+    ABC, HELLO, Maker, ask, created, fetch, found, push, refused, serve, setting,
+};
 use registry_http::End;
+use std::alloc::Global;
+use std::process::Abort;
 use std::test::Fail;
 
-#[test]
-fn push_then_get_of_a_blob(rt: HostRuntime) -> Result<(), Fail> {
-    let mut registry = setting(rt.alloc())?;
-    let pushed = push(rt.alloc(), &mut registry, ABC, "abc")?;
+pub fn push_then_get_of_a_blob<M: Maker>(rt: &impl Abort, alloc: Global) -> Result<(), Fail> {
+    let mut registry = setting::<M>(alloc)?;
+    let pushed = push(alloc, &mut registry, ABC, "abc")?;
     assert_eq!(rt; pushed.end, End::Closed);
     assert_eq!(rt; pushed.output.len(), 241);
-    assert_eq!(rt;
-        pushed.output.as_slice(),
-        created(rt.alloc(), ABC)?.as_bytes()
-    );
-    let fetched = fetch(rt.alloc(), &mut registry, ABC)?;
+    assert_eq!(rt; pushed.output.as_slice(), created(alloc, ABC)?.as_bytes());
+    let fetched = fetch(alloc, &mut registry, ABC)?;
     assert_eq!(rt; fetched.output.len(), 177);
-    let line = format!(in rt.alloc(); "HEAD /v2/team/app/blobs/{ABC}")?;
-    let head = ask(rt.alloc(), &mut registry, line.as_str(), "")?;
-    let whole = found(rt.alloc(), ABC, "abc")?;
+    let line = format!(in alloc; "HEAD /v2/team/app/blobs/{ABC}")?;
+    let head = ask(alloc, &mut registry, line.as_str(), "")?;
+    let whole = found(alloc, ABC, "abc")?;
     assert_eq!(rt; head.output.len(), 174);
     assert!(rt; whole.as_bytes().starts_with(head.output.as_slice()));
     assert_eq!(rt; fetched.output.as_slice(), whole.as_bytes());
@@ -24,72 +24,60 @@ fn push_then_get_of_a_blob(rt: HostRuntime) -> Result<(), Fail> {
 }
 
 /// The digest of another text, of an algorithm that cannot be verified, and of no form.
-#[test]
-fn digests_that_do_not_verify(rt: HostRuntime) -> Result<(), Fail> {
-    let mut registry = setting(rt.alloc())?;
+pub fn digests_that_do_not_verify<M: Maker>(rt: &impl Abort, alloc: Global) -> Result<(), Fail> {
+    let mut registry = setting::<M>(alloc)?;
     let md5 = "md5:900150983cd24fb0d6963f7d28e17f72";
     let invalid = refused(
-        rt.alloc(),
+        alloc,
         "400 Bad Request",
         65,
         "DIGEST_INVALID",
         "invalid digest",
     )?;
     let other = refused(
-        rt.alloc(),
+        alloc,
         "400 Bad Request",
         72,
         "DIGEST_INVALID",
         "digest does not match",
     )?;
-    let unknown = refused(
-        rt.alloc(),
-        "404 Not Found",
-        61,
-        "BLOB_UNKNOWN",
-        "blob unknown",
-    )?;
-    let pushed = push(rt.alloc(), &mut registry, md5, "abc")?;
+    let unknown = refused(alloc, "404 Not Found", 61, "BLOB_UNKNOWN", "blob unknown")?;
+    let pushed = push(alloc, &mut registry, md5, "abc")?;
     assert_eq!(rt; pushed.output.as_slice(), invalid.as_bytes());
-    let fetched = fetch(rt.alloc(), &mut registry, md5)?;
+    let fetched = fetch(alloc, &mut registry, md5)?;
     assert_eq!(rt; fetched.output.as_slice(), unknown.as_bytes());
-    let wrong = push(rt.alloc(), &mut registry, HELLO, "abc")?;
+    let wrong = push(alloc, &mut registry, HELLO, "abc")?;
     assert_eq!(rt; wrong.output.as_slice(), other.as_bytes());
-    let short = push(rt.alloc(), &mut registry, "sha256:12", "abc")?;
+    let short = push(alloc, &mut registry, "sha256:12", "abc")?;
     assert_eq!(rt; short.output.as_slice(), invalid.as_bytes());
-    let absent = fetch(rt.alloc(), &mut registry, HELLO)?;
+    let absent = fetch(alloc, &mut registry, HELLO)?;
     assert_eq!(rt; absent.output.as_slice(), unknown.as_bytes());
-    let line = format!(in rt.alloc(); "HEAD /v2/team/app/blobs/{HELLO}")?;
-    let head = ask(rt.alloc(), &mut registry, line.as_str(), "")?;
+    let line = format!(in alloc; "HEAD /v2/team/app/blobs/{HELLO}")?;
+    let head = ask(alloc, &mut registry, line.as_str(), "")?;
     assert_eq!(rt; head.output.len(), unknown.len().saturating_sub(61));
     assert!(rt; unknown.as_bytes().starts_with(head.output.as_slice()));
     Ok(())
 }
 
 /// A blob that is there keeps its bytes, and the empty blob is one.
-#[test]
-fn empty_blob_and_a_second_push(rt: HostRuntime) -> Result<(), Fail> {
-    let mut registry = setting(rt.alloc())?;
+pub fn empty_blob_and_a_second_push<M: Maker>(rt: &impl Abort, alloc: Global) -> Result<(), Fail> {
+    let mut registry = setting::<M>(alloc)?;
     let empty = "sha256:e3b0c44298fc1c149afbf4c8996fb92427ae41e4649b934ca495991b7852b855";
     for _ in 0..2 {
-        let pushed = push(rt.alloc(), &mut registry, empty, "")?;
-        assert_eq!(rt;
-            pushed.output.as_slice(),
-            created(rt.alloc(), empty)?.as_bytes()
-        );
+        let pushed = push(alloc, &mut registry, empty, "")?;
+        assert_eq!(rt; pushed.output.as_slice(), created(alloc, empty)?.as_bytes());
     }
-    let fetched = fetch(rt.alloc(), &mut registry, empty)?;
+    let fetched = fetch(alloc, &mut registry, empty)?;
     assert_eq!(rt;
         fetched.output.as_slice(),
-        found(rt.alloc(), empty, "")?.as_bytes()
+        found(alloc, empty, "")?.as_bytes()
     );
     Ok(())
 }
 
 /// With a known token 200; without one, and under one that has no grant, 401.
-#[test]
-fn base_needs_a_known_token(rt: HostRuntime) -> Result<(), Fail> {
-    let mut registry = setting(rt.alloc())?;
+pub fn base_needs_a_known_token<M: Maker>(rt: &impl Abort, alloc: Global) -> Result<(), Fail> {
+    let mut registry = setting::<M>(alloc)?;
     let known: &[u8] =
         b"HTTP/1.1 200 OK\r\nContent-Length: 2\r\nContent-Type: application/json\r\n\r\n{}";
     let unknown: &[u8] =
@@ -118,11 +106,11 @@ fn base_needs_a_known_token(rt: HostRuntime) -> Result<(), Fail> {
         ),
     ];
     for (input, reply) in cases {
-        let served = serve(rt.alloc(), &mut registry, input);
+        let served = serve(alloc, &mut registry, input);
         assert_eq!(rt; served.output.as_slice(), reply);
     }
     let head = serve(
-        rt.alloc(),
+        alloc,
         &mut registry,
         b"HEAD /v2/ HTTP/1.1\r\nHost: r\r\nAuthorization: Bearer t1\r\n\r\n",
     );

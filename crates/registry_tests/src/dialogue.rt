@@ -1,6 +1,6 @@
 //! Dialogues: requests, each on a connection of its own, with the whole replies that they must get.
 
-use crate::setting::{ABC, ABC_512, HELLO, Registry, Served, serve};
+use crate::setting::{ABC, ABC_512, HELLO, Served, serve};
 use oci_names::RepoName;
 use registry_http::End;
 use registry_model::Keeper;
@@ -24,7 +24,7 @@ const PLAIN: &str =
     r#"{"schemaVersion":2,"config":{"mediaType":"application/vnd.oci.empty.v1+json","digest":"sha256:44136fa355b3678a1146ad16f7e8649e94fb4fc21fe77e8310c060f61caaff8a","size":2},"layers":[],"subject":{"mediaType":"application/vnd.oci.image.manifest.v1+json","digest":"sha256:ba7816bf8f01cfea414140de5dae2223b00361a396177a9cb410ff61f20015ad","size":3}}"#;
 
 /// The words that stand for documents and for digests, these by sha256sum and sha512sum.
-const WORDS: [(&str, &str); 16] = [
+const WORDS: [(&str, &str); 18] = [
     ("<bare>", BARE),
     ("<sbom>", SBOM),
     ("<plain>", PLAIN),
@@ -43,6 +43,14 @@ const WORDS: [(&str, &str); 16] = [
     (
         "{x}",
         "sha256:2d711642b726b04401627ca9fbac32f5c8530fb1903cc4db02258717921a4881",
+    ),
+    (
+        "{hel}",
+        "sha256:d6a81f224bbf2f7c22baddbd5d40730eb20cfb0b3d74e10cab61788214caceb1",
+    ),
+    (
+        "{helhel}",
+        "sha256:87c0cbd2170ee9fec71a6c00273f9c79ffbf3d94a578f3bf5a3b7eeae8ece51c",
     ),
     // Of 998 times the letter `a`.
     (
@@ -144,16 +152,20 @@ fn request_text(alloc: Global, exchange: &Exchange) -> Result<String, Fail> {
 }
 
 /// Sends the request as a connection.
-pub fn answer(alloc: Global, registry: &mut Registry, exchange: &Exchange) -> Result<Served, Fail> {
+pub fn answer<K: Keeper>(
+    alloc: Global,
+    registry: &mut Service<K>,
+    exchange: &Exchange,
+) -> Result<Served, Fail> {
     let request = request_text(alloc, exchange)?;
     Ok(serve(alloc, registry, request.as_bytes()))
 }
 
 /// Sends each request in turn, and compares its whole reply.
-pub fn talk(
+pub fn talk<K: Keeper>(
     rt: &impl Abort,
     alloc: Global,
-    registry: &mut Registry,
+    registry: &mut Service<K>,
     exchanges: &[Exchange],
 ) -> Result<(), Fail> {
     for exchange in exchanges {
@@ -168,13 +180,13 @@ pub fn talk(
 }
 
 /// The registry again, whose repository of this name uses so many bytes.
-pub fn using(
+pub fn using<K: Keeper + Drop>(
     rt: &impl Abort,
     alloc: Global,
-    registry: Registry,
+    registry: Service<K>,
     name: &str,
     used: u64,
-) -> Result<Registry, Fail> {
+) -> Result<Service<K>, Fail> {
     let repo = RepoName::parse(alloc, name)?;
     let mut keeper = registry.into_keeper();
     let usage = keeper.usage(&repo)?;

@@ -3,20 +3,19 @@ use crate::replies::{
     ACCESS_DENIED, BASE, BLOB_UNKNOWN, DELETED, INVALID_NAME, NO_ENDPOINT, TOKEN_REQUIRED,
     UPLOAD_UNKNOWN, accepted, blob, created, not_allowed, stored,
 };
-use crate::setting::{ABC, Registry, setting};
+use crate::setting::{ABC, Maker, add, grant, setting};
 use oci_names::{Digest, RepoName, Token};
 use registry_http::write_reply;
-use registry_model::{AdminCommand, Level, Query, Request, Route, Verb};
-use registry_service::{Outcome, Step};
+use registry_model::{AdminCommand, Keeper, Level, Query, Quota, Request, Route, Verb};
+use registry_service::{Outcome, Service, Step};
 use std::alloc::Global;
 use std::process::Abort;
 use std::str;
 use std::test::Fail;
 
 /// A repository without a grant and one that is not there are refused alike.
-#[test]
-fn ungranted_and_absent_alike(rt: HostRuntime) -> Result<(), Fail> {
-    let mut registry = setting(rt.alloc())?;
+pub fn ungranted_and_absent_alike<M: Maker>(rt: &impl Abort, alloc: Global) -> Result<(), Fail> {
+    let mut registry = setting::<M>(alloc)?;
     let dialogue = [
         ask("t1", "GET /v2/other/tags/list", ACCESS_DENIED),
         ask("t1", "GET /v2/nowhere/tags/list", ACCESS_DENIED),
@@ -27,14 +26,16 @@ fn ungranted_and_absent_alike(rt: HostRuntime) -> Result<(), Fail> {
         ask("t1", "GET /v2/other/manifests/v1", ACCESS_DENIED),
         ask("t1", "GET /v2/nowhere/referrers/x", ACCESS_DENIED),
     ];
-    talk(&rt, rt.alloc(), &mut registry, dialogue.as_slice())
+    talk(rt, alloc, &mut registry, dialogue.as_slice())
 }
 
 /// What stands in a repository without a grant is not found in an own one, nor mounted: the mount
 /// opens a session, as where the source has no such blob.
-#[test]
-fn nothing_of_others_is_seen_or_mounted(rt: HostRuntime) -> Result<(), Fail> {
-    let mut registry = setting(rt.alloc())?;
+pub fn nothing_of_others_is_seen_or_mounted<M: Maker>(
+    rt: &impl Abort,
+    alloc: Global,
+) -> Result<(), Fail> {
+    let mut registry = setting::<M>(alloc)?;
     let dialogue = [
         send(
             "t2",
@@ -54,17 +55,16 @@ fn nothing_of_others_is_seen_or_mounted(rt: HostRuntime) -> Result<(), Fail> {
         ),
         ask("t1", "GET /v2/team/app/blobs/{hello}", BLOB_UNKNOWN),
     ];
-    talk(&rt, rt.alloc(), &mut registry, dialogue.as_slice())
+    talk(rt, alloc, &mut registry, dialogue.as_slice())
 }
 
 /// A path is told from its last segments, and its name after them; what has no form is refused
 /// before a name that is none, and that before a method that the form has not.
-#[test]
-fn paths_and_names(rt: HostRuntime) -> Result<(), Fail> {
-    let mut registry = setting(rt.alloc())?;
-    let name = "a".repeat(rt.alloc(), 255)?;
-    let longest = format!(in rt.alloc(); "GET /v2/{name}/tags/list")?;
-    let too_long = format!(in rt.alloc(); "GET /v2/{name}a/tags/list")?;
+pub fn paths_and_names<M: Maker>(rt: &impl Abort, alloc: Global) -> Result<(), Fail> {
+    let mut registry = setting::<M>(alloc)?;
+    let name = "a".repeat(alloc, 255)?;
+    let longest = format!(in alloc; "GET /v2/{name}/tags/list")?;
+    let too_long = format!(in alloc; "GET /v2/{name}a/tags/list")?;
     let dialogue = [
         ask("t1", "GET /v2/a/blobs/uploads/manifests/x", ACCESS_DENIED),
         ask("t1", longest.as_str(), ACCESS_DENIED),
@@ -88,13 +88,12 @@ fn paths_and_names(rt: HostRuntime) -> Result<(), Fail> {
         ),
         ask("t1", "GET /v2/team%2Flib/blobs/uploads/1", UPLOAD_UNKNOWN),
     ];
-    talk(&rt, rt.alloc(), &mut registry, dialogue.as_slice())
+    talk(rt, alloc, &mut registry, dialogue.as_slice())
 }
 
 /// The methods that each form has, told before any grant is looked at.
-#[test]
-fn methods_of_each_form(rt: HostRuntime) -> Result<(), Fail> {
-    let mut registry = setting(rt.alloc())?;
+pub fn methods_of_each_form<M: Maker>(rt: &impl Abort, alloc: Global) -> Result<(), Fail> {
+    let mut registry = setting::<M>(alloc)?;
     let dialogue = [
         ask("t1", "POST /v2/", not_allowed!("GET, HEAD")),
         ask("t1", "get /v2/", not_allowed!("GET, HEAD")),
@@ -125,14 +124,13 @@ fn methods_of_each_form(rt: HostRuntime) -> Result<(), Fail> {
             not_allowed!("GET, HEAD"),
         ),
     ];
-    talk(&rt, rt.alloc(), &mut registry, dialogue.as_slice())
+    talk(rt, alloc, &mut registry, dialogue.as_slice())
 }
 
 /// Without a grant nothing is looked up: not the repository, not the digest, not the body. A token
 /// that is not known is told before the path, and a path is decoded before it is read.
-#[test]
-fn refusals_before_look_up(rt: HostRuntime) -> Result<(), Fail> {
-    let mut registry = setting(rt.alloc())?;
+pub fn refusals_before_look_up<M: Maker>(rt: &impl Abort, alloc: Global) -> Result<(), Fail> {
+    let mut registry = setting::<M>(alloc)?;
     let dialogue = [
         ask("t1", "GET /v2/other/blobs/{abc}", ACCESS_DENIED),
         ask("t1", "GET /v2/nowhere/blobs/{abc}", ACCESS_DENIED),
@@ -167,7 +165,7 @@ fn refusals_before_look_up(rt: HostRuntime) -> Result<(), Fail> {
             blob!("{abc}", "3", "abc"),
         ),
     ];
-    talk(&rt, rt.alloc(), &mut registry, dialogue.as_slice())
+    talk(rt, alloc, &mut registry, dialogue.as_slice())
 }
 
 /// The pushes and fetches of a blob, of the empty one, and its mounts; each with how its reply
@@ -263,7 +261,11 @@ fn tag_requests() -> [Exchange<'static>; 12] {
 }
 
 /// What `other` holds in the second registry from the start.
-fn fill_other(rt: &impl Abort, alloc: Global, registry: &mut Registry) -> Result<(), Fail> {
+fn fill_other<K: Keeper>(
+    rt: &impl Abort,
+    alloc: Global,
+    registry: &mut Service<K>,
+) -> Result<(), Fail> {
     let dialogue = [
         send(
             "t2",
@@ -294,10 +296,10 @@ fn fill_other(rt: &impl Abort, alloc: Global, registry: &mut Registry) -> Result
 
 /// What others do before the request of `t1` of this number: `t2` pushes a blob to `other`, opens the
 /// session of number `round` + 2 there, and appends to the one before it or closes it.
-fn meanwhile(
+fn meanwhile<K: Keeper>(
     rt: &impl Abort,
     alloc: Global,
-    registry: &mut Registry,
+    registry: &mut Service<K>,
     round: u32,
 ) -> Result<(), Fail> {
     let text = format!(in alloc; "{round}")?;
@@ -335,23 +337,21 @@ fn meanwhile(
     talk(rt, alloc, registry, dialogue.as_slice())
 }
 
-/// Two registries that are alike but for what `other` holds: the replies to `t1` are the same byte
-/// for byte, whatever others do before each of its requests in the second.
-#[test]
-fn two_registries(rt: HostRuntime) -> Result<(), Fail> {
-    let mut alone = setting(rt.alloc())?;
-    let mut shared = setting(rt.alloc())?;
-    fill_other(&rt, rt.alloc(), &mut shared)?;
-    let mut requests = Vec::new(rt.alloc());
-    requests.extend_from_slice(blob_requests().as_slice())?;
-    requests.extend_from_slice(manifest_requests().as_slice())?;
-    requests.extend_from_slice(tag_requests().as_slice())?;
-    assert_eq!(rt; requests.len(), 43);
-    for (request, round) in requests.iter().zip(0_u32..43) {
+/// Gives the requests of `t1` to both registries, in the second one after what others do there: the
+/// replies begin as they must, and are the same byte for byte.
+fn answers_alike<K: Keeper, L: Keeper>(
+    rt: &impl Abort,
+    alloc: Global,
+    alone: &mut Service<K>,
+    shared: &mut Service<L>,
+    requests: &[Exchange],
+) -> Result<(), Fail> {
+    assert!(rt; requests.len() < 100);
+    for (request, round) in requests.iter().zip(0_u32..100) {
         let line = request.line;
-        let first = answer(rt.alloc(), &mut alone, request)?;
-        meanwhile(&rt, rt.alloc(), &mut shared, round)?;
-        let second = answer(rt.alloc(), &mut shared, request)?;
+        let first = answer(alloc, alone, request)?;
+        meanwhile(rt, alloc, shared, round)?;
+        let second = answer(alloc, shared, request)?;
         let reply = str::from_utf8(first.output.as_slice())?;
         assert!(rt; reply.starts_with(request.reply), "to {line}: {reply}");
         assert_eq!(rt;
@@ -361,6 +361,110 @@ fn two_registries(rt: HostRuntime) -> Result<(), Fail> {
         );
     }
     Ok(())
+}
+
+/// The requests on blobs, manifests and tags.
+fn own_requests(alloc: Global) -> Result<Vec<Exchange<'static>>, Fail> {
+    let mut requests = Vec::new(alloc);
+    requests.extend_from_slice(blob_requests().as_slice())?;
+    requests.extend_from_slice(manifest_requests().as_slice())?;
+    requests.extend_from_slice(tag_requests().as_slice())?;
+    Ok(requests)
+}
+
+/// Two registries that are alike but for what `other` holds: the replies to `t1` are the same byte
+/// for byte, whatever others do before each of its requests in the second.
+pub fn two_registries<A: Maker, B: Maker>(rt: &impl Abort, alloc: Global) -> Result<(), Fail> {
+    let mut alone = setting::<A>(alloc)?;
+    let mut shared = setting::<B>(alloc)?;
+    fill_other(rt, alloc, &mut shared)?;
+    let requests = own_requests(alloc)?;
+    assert_eq!(rt; requests.len(), 43);
+    answers_alike(rt, alloc, &mut alone, &mut shared, requests.as_slice())
+}
+
+/// Requests of `t1` on what is outside its view, each with how its reply begins.
+fn outside_requests() -> [Exchange<'static>; 7] {
+    let denied = "HTTP/1.1 403 ";
+    let mount = "POST /v2/team/lib/blobs/uploads/?mount={hello}&from=other";
+    [
+        ask("t1", "GET /v2/other/tags/list", denied),
+        ask("t1", "GET /v2/other/blobs/{hello}", denied),
+        ask("t1", "GET /v2/third/tags/list", denied),
+        ask("t1", "GET /v2/lonely/blobs/{abc}", denied),
+        ask("t1", "GET /v2/nowhere/blobs/{abc}", denied),
+        ask("t1", mount, "HTTP/1.1 202 "),
+        ask("t1", "GET /v2/team/lib/blobs/{hello}", "HTTP/1.1 404 "),
+    ]
+}
+
+/// A registry of `team/lib`, `team/app` and `lonely`, with the levels that `t1` has in the setting;
+/// `t4` has level 3 on `lonely`, has pushed `abc` and `hello` there, and opened a session.
+fn among_one_other<M: Maker>(rt: &impl Abort, alloc: Global) -> Result<Service<M::Kept>, Fail> {
+    let mut registry = Service::new(M::keeper(alloc).ok_or("a keeper")?);
+    let token = Token::parse(alloc, "t4")?;
+    let name = RepoName::parse(alloc, "lonely")?;
+    add(&mut registry, &name)?;
+    grant(&mut registry, &token, &name, Level::Delete)?;
+    let token = Token::parse(alloc, "t1")?;
+    for name in ["team/lib", "team/app"] {
+        let name = RepoName::parse(alloc, name)?;
+        add(&mut registry, &name)?;
+        grant(&mut registry, &token, &name, Level::Delete)?;
+    }
+    let dialogue = [
+        send(
+            "t4",
+            "POST /v2/lonely/blobs/uploads/?digest={hello}",
+            "hello",
+            created!("lonely", "{hello}"),
+        ),
+        send(
+            "t4",
+            "POST /v2/lonely/blobs/uploads/?digest={abc}",
+            "abc",
+            created!("lonely", "{abc}"),
+        ),
+        ask(
+            "t4",
+            "POST /v2/lonely/blobs/uploads/",
+            accepted!("lonely", "1", "0-0"),
+        ),
+    ];
+    talk(rt, alloc, &mut registry, dialogue.as_slice())?;
+    Ok(registry)
+}
+
+/// The setting, in which `other` is full of things and has another quota, `third` is there, and `t3`
+/// may delete in it and read in `team/app`.
+fn among_many_others<M: Maker>(rt: &impl Abort, alloc: Global) -> Result<Service<M::Kept>, Fail> {
+    let mut registry = setting::<M>(alloc)?;
+    fill_other(rt, alloc, &mut registry)?;
+    let name = RepoName::parse(alloc, "other")?;
+    let quota = Quota::new(2000).ok_or("a quota")?;
+    registry.admin(&AdminCommand::SetQuota { name: &name, quota })?;
+    let token = Token::parse(alloc, "t3")?;
+    let name = RepoName::parse(alloc, "third")?;
+    add(&mut registry, &name)?;
+    grant(&mut registry, &token, &name, Level::Delete)?;
+    let name = RepoName::parse(alloc, "team/app")?;
+    grant(&mut registry, &token, &name, Level::Pull)?;
+    registry.admin(&AdminCommand::Clear)?;
+    Ok(registry)
+}
+
+/// Two registries that have nothing in common but what `t1` has a level on, and its levels: the replies
+/// to `t1` are the same byte for byte, also to what it asks of others.
+pub fn nothing_in_common_but_a_view<A: Maker, B: Maker>(
+    rt: &impl Abort,
+    alloc: Global,
+) -> Result<(), Fail> {
+    let mut alone = among_one_other::<A>(rt, alloc)?;
+    let mut shared = among_many_others::<B>(rt, alloc)?;
+    let mut requests = own_requests(alloc)?;
+    requests.extend_from_slice(outside_requests().as_slice())?;
+    assert_eq!(rt; requests.len(), 50);
+    answers_alike(rt, alloc, &mut alone, &mut shared, requests.as_slice())
 }
 
 /// A request on a blob of `team/app` or `other`, without a query but for a digest to push.
@@ -402,8 +506,8 @@ fn outcome_text(alloc: Global, outcome: &Outcome) -> Result<Vec<u8>, Fail> {
 }
 
 /// The setting, with a `t3` of level 2 on `team/app`.
-fn with_third_token(alloc: Global) -> Result<Registry, Fail> {
-    let mut registry = setting(alloc)?;
+fn with_third_token<M: Maker>(alloc: Global) -> Result<Service<M::Kept>, Fail> {
+    let mut registry = setting::<M>(alloc)?;
     let name = RepoName::parse(alloc, "team/app")?;
     let token = Token::parse(alloc, "t3")?;
     registry.admin(&AdminCommand::Grant {
@@ -415,8 +519,13 @@ fn with_third_token(alloc: Global) -> Result<Registry, Fail> {
 }
 
 /// Runs the steps in that setting, and compares the text of each outcome.
-fn tells(rt: &impl Abort, alloc: Global, steps: &[Step], expected: &[&str]) -> Result<(), Fail> {
-    let mut registry = with_third_token(alloc)?;
+fn tells<M: Maker>(
+    rt: &impl Abort,
+    alloc: Global,
+    steps: &[Step],
+    expected: &[&str],
+) -> Result<(), Fail> {
+    let mut registry = with_third_token::<M>(alloc)?;
     let outcomes = registry.run(alloc, steps).map_err(|_| "a run")?;
     assert_eq!(rt; outcomes.len(), expected.len());
     for (outcome, text) in outcomes.iter().zip(expected) {
@@ -428,8 +537,7 @@ fn tells(rt: &impl Abort, alloc: Global, steps: &[Step], expected: &[&str]) -> R
 
 /// To the two tokens of a repository it is one: what one of them deletes the other does not find.
 /// Another's push of the same bytes and the administrator's clearing change none of their replies.
-#[test]
-fn team_run(rt: HostRuntime) -> Result<(), Fail> {
+pub fn team_run<M: Maker>(rt: &impl Abort, alloc: Global) -> Result<(), Fail> {
     let app = Route::Uploads { name: "team/app" };
     let other = Route::Uploads { name: "other" };
     let blob = Route::Blob {
@@ -453,8 +561,8 @@ fn team_run(rt: HostRuntime) -> Result<(), Fail> {
         "HTTP/1.1 201 Created\r\nContent-Length: 0\r\nDocker-Content-Digest: sha256:ba7816bf8f01cfea414140de5dae2223b00361a396177a9cb410ff61f20015ad\r\nLocation: /v2/other/blobs/sha256:ba7816bf8f01cfea414140de5dae2223b00361a396177a9cb410ff61f20015ad\r\n\r\n";
     let done = "";
     let told = [created, others, done, DELETED, done, BLOB_UNKNOWN];
-    tells(&rt, rt.alloc(), steps.as_slice(), told.as_slice())?;
+    tells::<M>(rt, alloc, steps.as_slice(), told.as_slice())?;
     let alone = [push, deletion, fetch];
     let told = [created, DELETED, BLOB_UNKNOWN];
-    tells(&rt, rt.alloc(), alone.as_slice(), told.as_slice())
+    tells::<M>(rt, alloc, alone.as_slice(), told.as_slice())
 }

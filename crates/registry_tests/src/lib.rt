@@ -10,11 +10,15 @@ mod clients;
 #[cfg(test)]
 mod connections;
 #[cfg(test)]
+mod contents;
+#[cfg(test)]
 mod dialogue;
 #[cfg(test)]
 mod isolation;
 #[cfg(test)]
 mod manifests;
+#[cfg(test)]
+mod maps;
 #[cfg(test)]
 mod memory;
 #[cfg(test)]
@@ -31,5 +35,7 @@ mod replies;
 mod runs;
 #[cfg(test)]
 mod setting;
+#[cfg(test)]
+mod tables;
 #[cfg(test)]
 mod uploads;

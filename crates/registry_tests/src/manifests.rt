@@ -3,16 +3,17 @@ use crate::replies::{
     ACCESS_DENIED, BASE, BLOB_UNKNOWN, CONTENT_TOO_LARGE, DELETED, INVALID_MANIFEST,
     INVALID_REFERENCE, MANIFEST_BLOB_UNKNOWN, MANIFEST_UNKNOWN, created, manifest, stored,
 };
-use crate::setting::{Registry, serve, setting};
+use crate::setting::{Maker, serve, setting};
 use registry_http::{End, FramingRefusal};
+use registry_service::Service;
 use std::alloc::Global;
 use std::process::Abort;
 use std::str;
 use std::test::Fail;
 
 /// The setting, with the config of the documents in `team/app`.
-fn with_config(rt: &impl Abort, alloc: Global) -> Result<Registry, Fail> {
-    let mut registry = setting(alloc)?;
+fn with_config<M: Maker>(rt: &impl Abort, alloc: Global) -> Result<Service<M::Kept>, Fail> {
+    let mut registry = setting::<M>(alloc)?;
     let push = send(
         "t1",
         "POST /v2/team/app/blobs/uploads/?digest={config}",
@@ -25,9 +26,8 @@ fn with_config(rt: &impl Abort, alloc: Global) -> Result<Registry, Fail> {
 
 /// The bytes that were pushed come back, spaces and all; what is no manifest, names a blob that is
 /// not there or has another kind's media type is refused.
-#[test]
-fn manifest_kept_to_the_byte(rt: HostRuntime) -> Result<(), Fail> {
-    let mut registry = with_config(&rt, rt.alloc())?;
+pub fn manifest_kept_to_the_byte<M: Maker>(rt: &impl Abort, alloc: Global) -> Result<(), Fail> {
+    let mut registry = with_config::<M>(rt, alloc)?;
     let put = "PUT /v2/team/app/manifests/v1";
     let without_blob =
         r#"{ "layers": null, "schemaVersion": 2, "config": {"size":2,"digest":"{abc}","mediaType":"application/vnd.oci.empty.v1+json"} }"#;
@@ -65,14 +65,13 @@ fn manifest_kept_to_the_byte(rt: HostRuntime) -> Result<(), Fail> {
             manifest!("{bare}", "191", "<bare>"),
         ),
     ];
-    talk(&rt, rt.alloc(), &mut registry, dialogue.as_slice())
+    talk(rt, alloc, &mut registry, dialogue.as_slice())
 }
 
 /// The media type of a push is compared without regard to case and up to its parameters; where it is
 /// absent or empty it agrees. Of several lines the first counts.
-#[test]
-fn media_types_of_a_push(rt: HostRuntime) -> Result<(), Fail> {
-    let mut registry = with_config(&rt, rt.alloc())?;
+pub fn media_types_of_a_push<M: Maker>(rt: &impl Abort, alloc: Global) -> Result<(), Fail> {
+    let mut registry = with_config::<M>(rt, alloc)?;
     for (fields, reply) in [
         (
             "Content-Type: Application/vnd.OCI.image.manifest.v1+json ; charset=utf-8\r\n",
@@ -97,19 +96,18 @@ fn media_types_of_a_push(rt: HostRuntime) -> Result<(), Fail> {
             "<bare>",
             reply,
         );
-        talk(&rt, rt.alloc(), &mut registry, &[put])?;
+        talk(rt, alloc, &mut registry, &[put])?;
     }
     Ok(())
 }
 
-#[test]
-fn tag_lengths(rt: HostRuntime) -> Result<(), Fail> {
-    let mut registry = with_config(&rt, rt.alloc())?;
-    let tag = "a".repeat(rt.alloc(), 128)?;
-    let longest = format!(in rt.alloc(); "PUT /v2/team/app/manifests/{tag}")?;
-    let too_long = format!(in rt.alloc(); "PUT /v2/team/app/manifests/{tag}a")?;
-    let found = format!(in rt.alloc(); "GET /v2/team/app/manifests/{tag}")?;
-    let lost = format!(in rt.alloc(); "GET /v2/team/app/manifests/{tag}a")?;
+pub fn tag_lengths<M: Maker>(rt: &impl Abort, alloc: Global) -> Result<(), Fail> {
+    let mut registry = with_config::<M>(rt, alloc)?;
+    let tag = "a".repeat(alloc, 128)?;
+    let longest = format!(in alloc; "PUT /v2/team/app/manifests/{tag}")?;
+    let too_long = format!(in alloc; "PUT /v2/team/app/manifests/{tag}a")?;
+    let found = format!(in alloc; "GET /v2/team/app/manifests/{tag}")?;
+    let lost = format!(in alloc; "GET /v2/team/app/manifests/{tag}a")?;
     let dialogue = [
         send(
             "t1",
@@ -129,13 +127,15 @@ fn tag_lengths(rt: HostRuntime) -> Result<(), Fail> {
         ask("t1", lost.as_str(), MANIFEST_UNKNOWN),
         ask("t1", found.as_str(), manifest!("{bare}", "191", "<bare>")),
     ];
-    talk(&rt, rt.alloc(), &mut registry, dialogue.as_slice())
+    talk(rt, alloc, &mut registry, dialogue.as_slice())
 }
 
 /// The tags go with the manifest, and do not come back with it.
-#[test]
-fn deleted_manifest_takes_its_tags(rt: HostRuntime) -> Result<(), Fail> {
-    let mut registry = with_config(&rt, rt.alloc())?;
+pub fn deleted_manifest_takes_its_tags<M: Maker>(
+    rt: &impl Abort,
+    alloc: Global,
+) -> Result<(), Fail> {
+    let mut registry = with_config::<M>(rt, alloc)?;
     let stored = stored!("team/app", "{bare}");
     let dialogue = [
         send("t1", "PUT /v2/team/app/manifests/v1", "<bare>", stored),
@@ -164,24 +164,26 @@ fn deleted_manifest_takes_its_tags(rt: HostRuntime) -> Result<(), Fail> {
         ),
         ask("t2", "DELETE /v2/other/blobs/{abc}", ACCESS_DENIED),
     ];
-    talk(&rt, rt.alloc(), &mut registry, dialogue.as_slice())
+    talk(rt, alloc, &mut registry, dialogue.as_slice())
 }
 
 /// A manifest of 4,194,305 bytes is refused and the connection goes on; one byte less is read.
-#[test]
-fn large_manifest_and_unreadable_head(rt: HostRuntime) -> Result<(), Fail> {
-    let mut registry = setting(rt.alloc())?;
+pub fn large_manifest_and_unreadable_head<M: Maker>(
+    rt: &impl Abort,
+    alloc: Global,
+) -> Result<(), Fail> {
+    let mut registry = setting::<M>(alloc)?;
     let base = "GET /v2/ HTTP/1.1\r\nHost: r\r\nAuthorization: Bearer t1\r\n\r\n";
     for (length, reply) in [
         (4_194_305, CONTENT_TOO_LARGE),
         (4_194_304, INVALID_MANIFEST),
     ] {
-        let body = "a".repeat(rt.alloc(), length)?;
-        let input = format!(in rt.alloc();
+        let body = "a".repeat(alloc, length)?;
+        let input = format!(in alloc;
             "PUT /v2/team/app/manifests/v1 HTTP/1.1\r\nHost: r\r\nAuthorization: Bearer t1\r\nContent-Length: {length}\r\n\r\n{body}{base}"
         )?;
-        let served = serve(rt.alloc(), &mut registry, input.as_bytes());
-        let expected = format!(in rt.alloc(); "{reply}{BASE}")?;
+        let served = serve(alloc, &mut registry, input.as_bytes());
+        let expected = format!(in alloc; "{reply}{BASE}")?;
         assert_eq!(rt;
             str::from_utf8(served.output.as_slice())?,
             expected.as_str()
@@ -189,7 +191,7 @@ fn large_manifest_and_unreadable_head(rt: HostRuntime) -> Result<(), Fail> {
         assert_eq!(rt; served.end, End::Closed);
     }
     let unreadable = serve(
-        rt.alloc(),
+        alloc,
         &mut registry,
         b"GET /v2/ HTTP/1.1\r\nHost: r\r\na b: c\r\n\r\n",
     );
@@ -205,9 +207,8 @@ fn large_manifest_and_unreadable_head(rt: HostRuntime) -> Result<(), Fail> {
 }
 
 /// A layer that is fetched elsewhere need not be in the repository; a size is a whole number.
-#[test]
-fn descriptors_with_urls(rt: HostRuntime) -> Result<(), Fail> {
-    let mut registry = with_config(&rt, rt.alloc())?;
+pub fn descriptors_with_urls<M: Maker>(rt: &impl Abort, alloc: Global) -> Result<(), Fail> {
+    let mut registry = with_config::<M>(rt, alloc)?;
     let put = "PUT /v2/team/app/manifests/v1";
     for (size, urls, reply) in [
         (
@@ -219,25 +220,24 @@ fn descriptors_with_urls(rt: HostRuntime) -> Result<(), Fail> {
         ("3.0", r#"["http://r/a"]"#, INVALID_MANIFEST),
         ("-1", r#"["http://r/a"]"#, INVALID_MANIFEST),
     ] {
-        let layers = format!(in rt.alloc();
+        let layers = format!(in alloc;
             "\"layers\":[{{\"mediaType\":\"a/b\",\"digest\":\"{{abc}}\",\"size\":{size},\"urls\":{urls}}}]"
         )?;
         let body =
             r#"{"schemaVersion":2,"artifactType":"application/x.sbom","config":{"mediaType":"application/vnd.oci.empty.v1+json","digest":"{config}","size":2},<layers>,"subject":{"mediaType":"application/vnd.oci.image.manifest.v1+json","digest":"{abc}","size":3}}"#.replace(
-                rt.alloc(),
+                alloc,
                 "<layers>",
                 layers.as_str(),
             )?;
         let push = send("t1", put, body.as_str(), reply);
-        talk(&rt, rt.alloc(), &mut registry, &[push])?;
+        talk(rt, alloc, &mut registry, &[push])?;
     }
     Ok(())
 }
 
 /// A tag goes without its manifest, and a blob without the manifest that names it.
-#[test]
-fn tags_and_blobs_deleted_apart(rt: HostRuntime) -> Result<(), Fail> {
-    let mut registry = with_config(&rt, rt.alloc())?;
+pub fn tags_and_blobs_deleted_apart<M: Maker>(rt: &impl Abort, alloc: Global) -> Result<(), Fail> {
+    let mut registry = with_config::<M>(rt, alloc)?;
     let stored = stored!("team/app", "{bare}");
     let dialogue = [
         send("t1", "PUT /v2/team/app/manifests/v1", "<bare>", stored),
@@ -265,5 +265,5 @@ fn tags_and_blobs_deleted_apart(rt: HostRuntime) -> Result<(), Fail> {
             MANIFEST_BLOB_UNKNOWN,
         ),
     ];
-    talk(&rt, rt.alloc(), &mut registry, dialogue.as_slice())
+    talk(rt, alloc, &mut registry, dialogue.as_slice())
 }

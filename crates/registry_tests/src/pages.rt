@@ -1,13 +1,15 @@
 use crate::dialogue::{ask, send, talk};
 use crate::replies::{INVALID_PAGE_SIZE, created, stored, tags};
-use crate::setting::{Registry, setting};
+use crate::setting::{Maker, setting};
+use registry_model::Keeper;
+use registry_service::Service;
 use std::alloc::Global;
 use std::process::Abort;
 use std::test::Fail;
 
 /// The setting, with a manifest in `team/app` on which four tags stand.
-fn tagged(rt: &impl Abort, alloc: Global) -> Result<Registry, Fail> {
-    let mut registry = setting(alloc)?;
+fn tagged<M: Maker>(rt: &impl Abort, alloc: Global) -> Result<Service<M::Kept>, Fail> {
+    let mut registry = setting::<M>(alloc)?;
     let stored = stored!("team/app", "{bare}");
     let pushes = [
         send(
@@ -26,10 +28,10 @@ fn tagged(rt: &impl Abort, alloc: Global) -> Result<Registry, Fail> {
 }
 
 /// Asks for the pages with these queries, each with its reply.
-fn list(
+fn list<K: Keeper>(
     rt: &impl Abort,
     alloc: Global,
-    registry: &mut Registry,
+    registry: &mut Service<K>,
     pages: &[(&str, &str)],
 ) -> Result<(), Fail> {
     for (query, reply) in pages {
@@ -41,9 +43,8 @@ fn list(
 
 /// Tags come in byte order; a page begins behind `last`, which need not be a tag, and has a link to
 /// the next where more follow.
-#[test]
-fn tag_pages(rt: HostRuntime) -> Result<(), Fail> {
-    let mut registry = tagged(&rt, rt.alloc())?;
+pub fn tag_pages<M: Maker>(rt: &impl Abort, alloc: Global) -> Result<(), Fail> {
+    let mut registry = tagged::<M>(rt, alloc)?;
     let all = tags!("45", "[\"B\",\"a\",\"b\",\"v1\"]");
     let pages = [
         ("", all),
@@ -55,14 +56,13 @@ fn tag_pages(rt: HostRuntime) -> Result<(), Fail> {
         ("?n=99", all),
         ("?n=x", INVALID_PAGE_SIZE),
     ];
-    list(&rt, rt.alloc(), &mut registry, pages.as_slice())
+    list(rt, alloc, &mut registry, pages.as_slice())
 }
 
 /// The size of a page is a number of up to 19 digits; where it is empty it bounds nothing. The first
 /// pair of a key counts.
-#[test]
-fn page_sizes_read_as_numbers(rt: HostRuntime) -> Result<(), Fail> {
-    let mut registry = tagged(&rt, rt.alloc())?;
+pub fn page_sizes_read_as_numbers<M: Maker>(rt: &impl Abort, alloc: Global) -> Result<(), Fail> {
+    let mut registry = tagged::<M>(rt, alloc)?;
     let all = tags!("45", "[\"B\",\"a\",\"b\",\"v1\"]");
     let pages = [
         ("?n=02", tags!("36", "[\"B\",\"a\"]", "n=2&last=a")),
@@ -77,13 +77,12 @@ fn page_sizes_read_as_numbers(rt: HostRuntime) -> Result<(), Fail> {
         ("?last=v1", tags!("29", "[]")),
         ("?%6e=1&last=", tags!("32", "[\"B\"]", "n=1&last=B")),
     ];
-    list(&rt, rt.alloc(), &mut registry, pages.as_slice())
+    list(rt, alloc, &mut registry, pages.as_slice())
 }
 
 /// A repository without tags, and HEAD of a page.
-#[test]
-fn pages_without_tags_or_body(rt: HostRuntime) -> Result<(), Fail> {
-    let mut registry = tagged(&rt, rt.alloc())?;
+pub fn pages_without_tags_or_body<M: Maker>(rt: &impl Abort, alloc: Global) -> Result<(), Fail> {
+    let mut registry = tagged::<M>(rt, alloc)?;
     let dialogue = [
         ask(
             "t1",
@@ -96,5 +95,5 @@ fn pages_without_tags_or_body(rt: HostRuntime) -> Result<(), Fail> {
             "HTTP/1.1 200 OK\r\nContent-Length: 36\r\nContent-Type: application/json\r\nLink: </v2/team/app/tags/list?n=2&last=a>; rel=\"next\"\r\n\r\n",
         ),
     ];
-    talk(&rt, rt.alloc(), &mut registry, dialogue.as_slice())
+    talk(rt, alloc, &mut registry, dialogue.as_slice())
 }

@@ -1,11 +1,12 @@
-use crate::setting::{ABC, HELLO, Registry, Served, created, found, serve, setting};
+use crate::setting::{ABC, HELLO, Maker, Served, created, found, serve, setting};
 use oci_names::{RepoName, Token};
 use registry_http::{End, serve_connection};
-use registry_model::{AdminCommand, Level, MapKeeper, Quota};
+use registry_model::{AdminCommand, Keeper, Level, Quota};
 use registry_service::Service;
 use std::alloc::Global;
 use std::io;
 use std::io::{Read, Write};
+use std::process::Abort;
 use std::test::Fail;
 
 /// The sha256 digest of 200,000 bytes `k`.
@@ -91,8 +92,8 @@ fn chunked_replies(alloc: Global) -> Result<String, Fail> {
 }
 
 /// Serves the input, cut into two reads.
-fn serve_cut(alloc: Global, input: &[u8], at: usize) -> Result<Served, Fail> {
-    let mut registry = setting(alloc)?;
+fn serve_cut<M: Maker>(alloc: Global, input: &[u8], at: usize) -> Result<Served, Fail> {
+    let mut registry = setting::<M>(alloc)?;
     let (first, second) = input.split_at(at.min(input.len()));
     let mut reader = Cut { first, second };
     let mut output = Vec::new(alloc);
@@ -101,8 +102,8 @@ fn serve_cut(alloc: Global, input: &[u8], at: usize) -> Result<Served, Fail> {
 }
 
 /// Serves the input in reads of one size.
-fn serve_pieces(alloc: Global, left: &[u8], size: usize) -> Result<Served, Fail> {
-    let mut registry = setting(alloc)?;
+fn serve_pieces<M: Maker>(alloc: Global, left: &[u8], size: usize) -> Result<Served, Fail> {
+    let mut registry = setting::<M>(alloc)?;
     let mut reader = Pieces { left, size };
     let mut output = Vec::new(alloc);
     let end = serve_connection(alloc, &mut registry, &mut reader, &mut output);
@@ -110,17 +111,16 @@ fn serve_pieces(alloc: Global, left: &[u8], size: usize) -> Result<Served, Fail>
 }
 
 /// Wherever the input is cut into two reads, and in reads of several sizes, the same is written.
-#[test]
-fn whole_input_in_all_cuts(rt: HostRuntime) -> Result<(), Fail> {
-    let input = whole_requests(rt.alloc())?;
-    let wanted = whole_replies(rt.alloc())?;
+pub fn whole_input_in_all_cuts<M: Maker>(rt: &impl Abort, alloc: Global) -> Result<(), Fail> {
+    let input = whole_requests(alloc)?;
+    let wanted = whole_replies(alloc)?;
     for at in 1..input.len() + 1 {
-        let served = serve_cut(rt.alloc(), input.as_bytes(), at)?;
+        let served = serve_cut::<M>(alloc, input.as_bytes(), at)?;
         assert_eq!(rt; served.end, End::Closed, "at {at}");
         assert_eq!(rt; served.output.as_slice(), wanted.as_bytes(), "at {at}");
     }
     for size in [1, 2, 7, 100] {
-        let served = serve_pieces(rt.alloc(), input.as_bytes(), size)?;
+        let served = serve_pieces::<M>(alloc, input.as_bytes(), size)?;
         assert_eq!(rt; served.end, End::Closed, "in reads of {size}");
         assert_eq!(rt;
             served.output.as_slice(),
@@ -131,17 +131,16 @@ fn whole_input_in_all_cuts(rt: HostRuntime) -> Result<(), Fail> {
     Ok(())
 }
 
-#[test]
-fn chunked_input_in_all_cuts(rt: HostRuntime) -> Result<(), Fail> {
-    let input = chunked_requests(rt.alloc())?;
-    let wanted = chunked_replies(rt.alloc())?;
+pub fn chunked_input_in_all_cuts<M: Maker>(rt: &impl Abort, alloc: Global) -> Result<(), Fail> {
+    let input = chunked_requests(alloc)?;
+    let wanted = chunked_replies(alloc)?;
     for at in 1..input.len() + 1 {
-        let served = serve_cut(rt.alloc(), input.as_bytes(), at)?;
+        let served = serve_cut::<M>(alloc, input.as_bytes(), at)?;
         assert_eq!(rt; served.end, End::Closed, "at {at}");
         assert_eq!(rt; served.output.as_slice(), wanted.as_bytes(), "at {at}");
     }
     for size in [1, 2, 7, 100] {
-        let served = serve_pieces(rt.alloc(), input.as_bytes(), size)?;
+        let served = serve_pieces::<M>(alloc, input.as_bytes(), size)?;
         assert_eq!(rt; served.end, End::Closed, "in reads of {size}");
         assert_eq!(rt;
             served.output.as_slice(),
@@ -153,7 +152,7 @@ fn chunked_input_in_all_cuts(rt: HostRuntime) -> Result<(), Fail> {
 }
 
 /// Makes a repository with a quota that these tests do not meet.
-fn add(registry: &mut Registry, name: &RepoName) -> Result<(), Fail> {
+fn add<K: Keeper>(registry: &mut Service<K>, name: &RepoName) -> Result<(), Fail> {
     let quota = Quota::new(1_000_000_000).ok_or("a quota")?;
     registry
         .admin(&AdminCommand::AddRepo { name, quota })
@@ -161,7 +160,7 @@ fn add(registry: &mut Registry, name: &RepoName) -> Result<(), Fail> {
     Ok(())
 }
 
-fn grant(registry: &mut Registry, token: &Token, name: &RepoName) -> Result<(), Fail> {
+fn grant<K: Keeper>(registry: &mut Service<K>, token: &Token, name: &RepoName) -> Result<(), Fail> {
     let level = Level::Push;
     registry
         .admin(&AdminCommand::Grant { token, name, level })
@@ -170,8 +169,8 @@ fn grant(registry: &mut Registry, token: &Token, name: &RepoName) -> Result<(), 
 }
 
 /// The repository `team/app`, to which `t1` may push.
-fn wide(alloc: Global) -> Result<Registry, Fail> {
-    let mut registry = Service::new(MapKeeper::new(alloc));
+fn wide<M: Maker>(alloc: Global) -> Result<Service<M::Kept>, Fail> {
+    let mut registry = Service::new(M::keeper(alloc).ok_or("a keeper")?);
     let app = RepoName::parse(alloc, "team/app").map_err(|_| "a name")?;
     let token = Token::parse(alloc, "t1").map_err(|_| "a token")?;
     add(&mut registry, &app)?;
@@ -213,17 +212,16 @@ fn long_push(alloc: Global, chunk: usize) -> Result<String, Fail> {
 }
 
 /// A body that is longer than a read, and than the room for one, in reads of several sizes.
-#[test]
-fn body_longer_than_a_read(rt: HostRuntime) -> Result<(), Fail> {
+pub fn body_longer_than_a_read<M: Maker>(rt: &impl Abort, alloc: Global) -> Result<(), Fail> {
     for chunk in [0, 1_000, 40_000] {
-        let input = long_push(rt.alloc(), chunk)?;
+        let input = long_push(alloc, chunk)?;
         for size in [999, 4_096, 65_536, 65_537, 131_072, 1_000_000] {
-            let mut registry = wide(rt.alloc())?;
+            let mut registry = wide::<M>(alloc)?;
             let left = input.as_bytes();
             let mut reader = Pieces { left, size };
-            let mut output = Vec::new(rt.alloc());
-            let end = serve_connection(rt.alloc(), &mut registry, &mut reader, &mut output);
-            let first = created(rt.alloc(), LONG)?;
+            let mut output = Vec::new(alloc);
+            let end = serve_connection(alloc, &mut registry, &mut reader, &mut output);
+            let first = created(alloc, LONG)?;
             assert_eq!(rt; end, End::Closed, "{chunk}, {size}");
             assert_eq!(rt;
                 output.len(),
@@ -262,38 +260,36 @@ impl Write for Full {
 
 /// A writer that takes no more bytes ends the connection like one that fails: of the reply in hand,
 /// of 72 bytes, exactly so many went out.
-#[test]
-fn writer_takes_no_more(rt: HostRuntime) -> Result<(), Fail> {
+pub fn writer_takes_no_more<M: Maker>(rt: &impl Abort, alloc: Global) -> Result<(), Fail> {
     let twice: &[u8] =
         b"GET /v2/ HTTP/1.1\r\nHost: r\r\nAuthorization: Bearer t1\r\n\r\nGET /v2/ HTTP/1.1\r\nHost: r\r\nAuthorization: Bearer t1\r\n\r\n";
     for (room, written) in [(0, 0), (1, 1), (71, 71), (72, 0), (100, 28), (143, 71)] {
-        let mut registry = setting(rt.alloc())?;
+        let mut registry = setting::<M>(alloc)?;
         let mut reader = twice;
-        let end = serve_connection(rt.alloc(), &mut registry, &mut reader, &mut Full(room));
+        let end = serve_connection(alloc, &mut registry, &mut reader, &mut Full(room));
         assert_eq!(rt; end, End::WriteFailed { written }, "at {room}");
     }
-    let mut registry = setting(rt.alloc())?;
+    let mut registry = setting::<M>(alloc)?;
     let mut reader = twice;
-    let end = serve_connection(rt.alloc(), &mut registry, &mut reader, &mut Full(144));
+    let end = serve_connection(alloc, &mut registry, &mut reader, &mut Full(144));
     assert_eq!(rt; end, End::Closed);
     Ok(())
 }
 
 /// The empty blob, by a length of 0 and by no chunk.
-#[test]
-fn empty_blob(rt: HostRuntime) -> Result<(), Fail> {
+pub fn empty_blob<M: Maker>(rt: &impl Abort, alloc: Global) -> Result<(), Fail> {
     let empty = "sha256:e3b0c44298fc1c149afbf4c8996fb92427ae41e4649b934ca495991b7852b855";
     for framing in [
         "Content-Length: 0\r\n\r\n",
         "Transfer-Encoding: chunked\r\n\r\n0\r\n\r\n",
     ] {
-        let mut registry = setting(rt.alloc())?;
-        let input = format!(in rt.alloc();
+        let mut registry = setting::<M>(alloc)?;
+        let input = format!(in alloc;
             "POST /v2/team/app/blobs/uploads/?digest={empty} HTTP/1.1\r\nHost: r\r\nAuthorization: Bearer t1\r\n{framing}GET /v2/team/app/blobs/{empty} HTTP/1.1\r\nHost: r\r\nAuthorization: Bearer t1\r\n\r\n"
         )?;
-        let mut wanted = created(rt.alloc(), empty)?;
-        wanted.push_str(found(rt.alloc(), empty, "")?.as_str())?;
-        let served = serve(rt.alloc(), &mut registry, input.as_bytes());
+        let mut wanted = created(alloc, empty)?;
+        wanted.push_str(found(alloc, empty, "")?.as_str())?;
+        let served = serve(alloc, &mut registry, input.as_bytes());
         assert_eq!(rt; served.end, End::Closed);
         assert_eq!(rt; served.output.as_slice(), wanted.as_bytes());
     }

@@ -1,15 +1,16 @@
 use crate::dialogue::{ask, send, talk, using};
 use crate::replies::{QUOTA_EXCEEDED, accepted, blob, created, holds};
-use crate::setting::{Registry, setting};
+use crate::setting::{Maker, setting};
 use oci_names::RepoName;
 use registry_model::{AdminCommand, Quota};
+use registry_service::Service;
 use std::alloc::Global;
 use std::process::Abort;
 use std::test::Fail;
 
 /// The setting, with `team/app` filled to its quota of 1,000 bytes by two blobs.
-fn full(rt: &impl Abort, alloc: Global) -> Result<Registry, Fail> {
-    let mut registry = setting(alloc)?;
+fn full<M: Maker>(rt: &impl Abort, alloc: Global) -> Result<Service<M::Kept>, Fail> {
+    let mut registry = setting::<M>(alloc)?;
     let long = "a".repeat(alloc, 998)?;
     let pushes = [
         send(
@@ -31,9 +32,8 @@ fn full(rt: &impl Abort, alloc: Global) -> Result<Registry, Fail> {
 
 /// Over the quota nothing is added; what is there, what is empty and a session without bytes are
 /// within it.
-#[test]
-fn quota_of_pushes(rt: HostRuntime) -> Result<(), Fail> {
-    let mut registry = full(&rt, rt.alloc())?;
+pub fn quota_of_pushes<M: Maker>(rt: &impl Abort, alloc: Global) -> Result<(), Fail> {
+    let mut registry = full::<M>(rt, alloc)?;
     let dialogue = [
         send(
             "t1",
@@ -71,16 +71,18 @@ fn quota_of_pushes(rt: HostRuntime) -> Result<(), Fail> {
             accepted!("team/app", "1", "0-0"),
         ),
     ];
-    talk(&rt, rt.alloc(), &mut registry, dialogue.as_slice())?;
-    let registry = using(&rt, rt.alloc(), registry, "team/app", 1000)?;
+    talk(rt, alloc, &mut registry, dialogue.as_slice())?;
+    let registry = using(rt, alloc, registry, "team/app", 1000)?;
     drop(registry);
     Ok(())
 }
 
 /// The quota bounds mounts, manifests and closes too; each that is refused changes nothing.
-#[test]
-fn quota_of_mounts_manifests_and_closes(rt: HostRuntime) -> Result<(), Fail> {
-    let mut registry = full(&rt, rt.alloc())?;
+pub fn quota_of_mounts_manifests_and_closes<M: Maker>(
+    rt: &impl Abort,
+    alloc: Global,
+) -> Result<(), Fail> {
+    let mut registry = full::<M>(rt, alloc)?;
     let dialogue = [
         send(
             "t1",
@@ -122,20 +124,19 @@ fn quota_of_mounts_manifests_and_closes(rt: HostRuntime) -> Result<(), Fail> {
             created!("team/app", "{config}"),
         ),
     ];
-    talk(&rt, rt.alloc(), &mut registry, dialogue.as_slice())?;
-    let registry = using(&rt, rt.alloc(), registry, "team/app", 1000)?;
+    talk(rt, alloc, &mut registry, dialogue.as_slice())?;
+    let registry = using(rt, alloc, registry, "team/app", 1000)?;
     drop(registry);
     Ok(())
 }
 
 /// A quota may be set below what is used: then what adds nothing is still done.
-#[test]
-fn quota_below_use(rt: HostRuntime) -> Result<(), Fail> {
-    let mut registry = setting(rt.alloc())?;
+pub fn quota_below_use<M: Maker>(rt: &impl Abort, alloc: Global) -> Result<(), Fail> {
+    let mut registry = setting::<M>(alloc)?;
     let push = "POST /v2/team/app/blobs/uploads/?digest={abc}";
     let pushed = send("t1", push, "abc", created!("team/app", "{abc}"));
-    talk(&rt, rt.alloc(), &mut registry, &[pushed])?;
-    let name = RepoName::parse(rt.alloc(), "team/app")?;
+    talk(rt, alloc, &mut registry, &[pushed])?;
+    let name = RepoName::parse(alloc, "team/app")?;
     let quota = Quota::new(2).ok_or("a quota")?;
     registry.admin(&AdminCommand::SetQuota { name: &name, quota })?;
     let dialogue = [
@@ -157,8 +158,8 @@ fn quota_below_use(rt: HostRuntime) -> Result<(), Fail> {
         ),
         pushed,
     ];
-    talk(&rt, rt.alloc(), &mut registry, dialogue.as_slice())?;
-    let registry = using(&rt, rt.alloc(), registry, "team/app", 3)?;
+    talk(rt, alloc, &mut registry, dialogue.as_slice())?;
+    let registry = using(rt, alloc, registry, "team/app", 3)?;
     drop(registry);
     Ok(())
 }

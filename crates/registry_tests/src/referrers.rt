@@ -1,13 +1,14 @@
 use crate::dialogue::{ask, send, talk};
 use crate::replies::{DELETED, INVALID_DIGEST, created, referrers, stored};
-use crate::setting::{Registry, setting};
+use crate::setting::{Maker, setting};
+use registry_service::Service;
 use std::alloc::Global;
 use std::process::Abort;
 use std::test::Fail;
 
 /// The setting, with two manifests in `team/app` whose subject is `abc`.
-fn with_referrers(rt: &impl Abort, alloc: Global) -> Result<Registry, Fail> {
-    let mut registry = setting(alloc)?;
+fn with_referrers<M: Maker>(rt: &impl Abort, alloc: Global) -> Result<Service<M::Kept>, Fail> {
+    let mut registry = setting::<M>(alloc)?;
     let pushes = [
         send(
             "t1",
@@ -41,9 +42,8 @@ const BOTH: &str = referrers!(
 
 /// Referrers are listed for a digest that is there or not, never 404; the filter is told in a field
 /// also where nothing fits it.
-#[test]
-fn referrers_and_their_filter(rt: HostRuntime) -> Result<(), Fail> {
-    let mut registry = with_referrers(&rt, rt.alloc())?;
+pub fn referrers_and_their_filter<M: Maker>(rt: &impl Abort, alloc: Global) -> Result<(), Fail> {
+    let mut registry = with_referrers::<M>(rt, alloc)?;
     let filtered = "GET /v2/team/app/referrers/{abc}?artifactType=application/x.sbom";
     let dialogue = [
         ask("t1", "GET /v2/team/app/referrers/{abc}", BOTH),
@@ -75,13 +75,12 @@ fn referrers_and_their_filter(rt: HostRuntime) -> Result<(), Fail> {
             referrers!("88", ""),
         ),
     ];
-    talk(&rt, rt.alloc(), &mut registry, dialogue.as_slice())
+    talk(rt, alloc, &mut registry, dialogue.as_slice())
 }
 
 /// In a query a `+` is a space, and `%2B` is a `+`; the empty filter is none.
-#[test]
-fn artifact_type_filter_forms(rt: HostRuntime) -> Result<(), Fail> {
-    let mut registry = with_referrers(&rt, rt.alloc())?;
+pub fn artifact_type_filter_forms<M: Maker>(rt: &impl Abort, alloc: Global) -> Result<(), Fail> {
+    let mut registry = with_referrers::<M>(rt, alloc)?;
     let dialogue = [
         ask(
             "t1",
@@ -99,13 +98,12 @@ fn artifact_type_filter_forms(rt: HostRuntime) -> Result<(), Fail> {
         ),
         ask("t1", "GET /v2/team/app/referrers/{abc}?artifactType=", BOTH),
     ];
-    talk(&rt, rt.alloc(), &mut registry, dialogue.as_slice())
+    talk(rt, alloc, &mut registry, dialogue.as_slice())
 }
 
 /// An index has no artifact type but its own; its annotations are shown in byte order of their keys.
-#[test]
-fn index_that_refers(rt: HostRuntime) -> Result<(), Fail> {
-    let mut registry = setting(rt.alloc())?;
+pub fn index_that_refers<M: Maker>(rt: &impl Abort, alloc: Global) -> Result<(), Fail> {
+    let mut registry = setting::<M>(alloc)?;
     let index =
         r#"{"schemaVersion":2,"mediaType":"application/vnd.oci.image.index.v1+json","manifests":[],"annotations":{"b":"2","a":"1"},"subject":{"mediaType":"application/vnd.oci.image.manifest.v1+json","digest":"{abc}","size":3}}"#;
     let dialogue = [
@@ -129,5 +127,5 @@ fn index_that_refers(rt: HostRuntime) -> Result<(), Fail> {
             "HTTP/1.1 200 OK\r\nContent-Length: 281\r\nContent-Type: application/vnd.oci.image.index.v1+json\r\nDocker-Content-Digest: {index}\r\n\r\n",
         ),
     ];
-    talk(&rt, rt.alloc(), &mut registry, dialogue.as_slice())
+    talk(rt, alloc, &mut registry, dialogue.as_slice())
 }

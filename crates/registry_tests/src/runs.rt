@@ -1,9 +1,11 @@
-use crate::setting::{ABC, HELLO, setting};
+use crate::setting::{ABC, HELLO, Maker, setting};
 use oci_names::{RepoName, Token};
 use registry_model::{
     AdminCommand, AdminFault, Body, Level, Query, Quota, Reply, Request, Route, Status, Verb,
 };
 use registry_service::{Outcome, Step};
+use std::alloc::Global;
+use std::process::Abort;
 use std::test::Fail;
 
 const NO_QUERY: Query<'static> = Query {
@@ -59,16 +61,15 @@ fn length(reply: &Reply) -> usize {
 }
 
 /// To `t1` the replies are the same, whatever `t2` and the administrator do elsewhere in between.
-#[test]
-fn a_team_is_told_the_same(rt: HostRuntime) -> Result<(), Fail> {
+pub fn a_team_is_told_the_same<M: Maker>(rt: &impl Abort, alloc: Global) -> Result<(), Fail> {
     let alone = [
         push("t1", "team/app", ABC, b"abc"),
         fetch("t1", "team/app", HELLO),
         fetch("t1", "other", HELLO),
         fetch("t1", "team/app", ABC),
     ];
-    let third = RepoName::parse(rt.alloc(), "third").map_err(|_| "a name")?;
-    let second = Token::parse(rt.alloc(), "t2").map_err(|_| "a token")?;
+    let third = RepoName::parse(alloc, "third").map_err(|_| "a name")?;
+    let second = Token::parse(alloc, "t2").map_err(|_| "a token")?;
     let quota = Quota::new(7).ok_or("a quota")?;
     let among = [
         push("t2", "other", HELLO, b"hello"),
@@ -92,14 +93,10 @@ fn a_team_is_told_the_same(rt: HostRuntime) -> Result<(), Fail> {
             quota,
         }),
     ];
-    let mut lonely = setting(rt.alloc())?;
-    let first = lonely
-        .run(rt.alloc(), alone.as_slice())
-        .map_err(|_| "a run")?;
-    let mut shared = setting(rt.alloc())?;
-    let outcomes = shared
-        .run(rt.alloc(), among.as_slice())
-        .map_err(|_| "a run")?;
+    let mut lonely = setting::<M>(alloc)?;
+    let first = lonely.run(alloc, alone.as_slice()).map_err(|_| "a run")?;
+    let mut shared = setting::<M>(alloc)?;
+    let outcomes = shared.run(alloc, among.as_slice()).map_err(|_| "a run")?;
     assert_eq!(rt; first.len(), 4);
     assert_eq!(rt; outcomes.len(), 10);
     let own = [

@@ -1,7 +1,9 @@
 use oci_names::{RepoName, Token};
 use registry_http::{End, serve_connection};
-use registry_model::{AdminCommand, Level, MapKeeper, Quota};
+use registry_model::{AdminCommand, Keeper, Level, MapKeeper, Quota};
 use registry_service::Service;
+use registry_store::Store;
+use sqlite::MemStore;
 use std::alloc::Global;
 use std::io;
 use std::io::Read;
@@ -15,10 +17,38 @@ pub const HELLO: &str = "sha256:2cf24dba5fb0a30e26e83b2ac5b9e29e1b161e5c1fa7425e
 pub const ABC_512: &str =
     "sha512:ddaf35a193617abacc417349ae20413112e6fa4e89a97ea20a9eeee64b55d39a2192992a274fc1a836ba3c23a3feebbd454d4423643ce80e2a9ac94fa54ca49f";
 
-pub type Registry = Service<MapKeeper>;
+/// Makes the keepers that a row runs over.
+pub trait Maker {
+    type Kept: Keeper + Drop;
+
+    /// A keeper of no repositories and no grants; none for want of memory.
+    fn keeper(alloc: Global) -> Option<Self::Kept>;
+}
+
+/// Ordered maps.
+pub struct InMaps;
+
+impl Maker for InMaps {
+    type Kept = MapKeeper;
+
+    fn keeper(alloc: Global) -> Option<MapKeeper> {
+        Some(MapKeeper::new(alloc))
+    }
+}
+
+/// The tables of a database in memory.
+pub struct InTables;
+
+impl Maker for InTables {
+    type Kept = Store<MemStore>;
+
+    fn keeper(alloc: Global) -> Option<Store<MemStore>> {
+        Store::memory(alloc).ok()
+    }
+}
 
 /// Makes a repository of quota 1,000.
-fn add(registry: &mut Registry, name: &RepoName) -> Result<(), Fail> {
+pub fn add<K: Keeper>(registry: &mut Service<K>, name: &RepoName) -> Result<(), Fail> {
     let quota = Quota::new(1000).ok_or("a quota")?;
     registry
         .admin(&AdminCommand::AddRepo { name, quota })
@@ -27,8 +57,8 @@ fn add(registry: &mut Registry, name: &RepoName) -> Result<(), Fail> {
 }
 
 /// Gives a token a level.
-pub fn grant(
-    registry: &mut Registry,
+pub fn grant<K: Keeper>(
+    registry: &mut Service<K>,
     token: &Token,
     name: &RepoName,
     level: Level,
@@ -41,8 +71,8 @@ pub fn grant(
 
 /// Repositories `team/app`, `team/lib` and `other`; `t1` of level 3 on the first two, `t2` of level
 /// 2 on the third.
-pub fn setting(alloc: Global) -> Result<Registry, Fail> {
-    let mut registry = Service::new(MapKeeper::new(alloc));
+pub fn setting<M: Maker>(alloc: Global) -> Result<Service<M::Kept>, Fail> {
+    let mut registry = Service::new(M::keeper(alloc).ok_or("a keeper")?);
     let app = RepoName::parse(alloc, "team/app").map_err(|_| "a name")?;
     let lib = RepoName::parse(alloc, "team/lib").map_err(|_| "a name")?;
     let other = RepoName::parse(alloc, "other").map_err(|_| "a name")?;
@@ -65,7 +95,7 @@ pub struct Served {
 }
 
 /// Serves the input as one connection.
-pub fn serve(alloc: Global, registry: &mut Registry, input: &[u8]) -> Served {
+pub fn serve<K: Keeper>(alloc: Global, registry: &mut Service<K>, input: &[u8]) -> Served {
     let mut reader = input;
     let mut output = Vec::new(alloc);
     let end = serve_connection(alloc, registry, &mut reader, &mut output);
@@ -73,7 +103,12 @@ pub fn serve(alloc: Global, registry: &mut Registry, input: &[u8]) -> Served {
 }
 
 /// The reply to a request of `t1`, whose line and body are given.
-pub fn ask(alloc: Global, registry: &mut Registry, line: &str, body: &str) -> Result<Served, Fail> {
+pub fn ask<K: Keeper>(
+    alloc: Global,
+    registry: &mut Service<K>,
+    line: &str,
+    body: &str,
+) -> Result<Served, Fail> {
     let length = body.len();
     let input = format!(in alloc;
         "{line} HTTP/1.1\r\nHost: r\r\nAuthorization: Bearer t1\r\nContent-Length: {length}\r\n\r\n{body}"
@@ -82,9 +117,9 @@ pub fn ask(alloc: Global, registry: &mut Registry, line: &str, body: &str) -> Re
 }
 
 /// The push of a whole blob to `team/app` by `t1`.
-pub fn push(
+pub fn push<K: Keeper>(
     alloc: Global,
-    registry: &mut Registry,
+    registry: &mut Service<K>,
     digest: &str,
     body: &str,
 ) -> Result<Served, Fail> {
@@ -93,7 +128,11 @@ pub fn push(
 }
 
 /// The fetch of a blob of `team/app` by `t1`.
-pub fn fetch(alloc: Global, registry: &mut Registry, digest: &str) -> Result<Served, Fail> {
+pub fn fetch<K: Keeper>(
+    alloc: Global,
+    registry: &mut Service<K>,
+    digest: &str,
+) -> Result<Served, Fail> {
     let line = format!(in alloc; "GET /v2/team/app/blobs/{digest}")?;
     ask(alloc, registry, line.as_str(), "")
 }

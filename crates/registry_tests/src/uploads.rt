@@ -3,14 +3,18 @@ use crate::replies::{
     DIGEST_MISMATCH, INVALID_DIGEST, INVALID_RANGE, RANGE_LENGTH, TOO_MANY_UPLOADS, UPLOAD_UNKNOWN,
     accepted, blob, created, holds, out_of_order, referrers,
 };
-use crate::setting::setting;
+use crate::setting::{Maker, setting};
+use std::alloc::Global;
+use std::process::Abort;
 use std::test::Fail;
 
 /// A blob is mounted from one own repository into another and into its own; once it is there it
 /// stays as it is.
-#[test]
-fn mount_between_own_repositories(rt: HostRuntime) -> Result<(), Fail> {
-    let mut registry = setting(rt.alloc())?;
+pub fn mount_between_own_repositories<M: Maker>(
+    rt: &impl Abort,
+    alloc: Global,
+) -> Result<(), Fail> {
+    let mut registry = setting::<M>(alloc)?;
     let dialogue = [
         send(
             "t1",
@@ -39,17 +43,16 @@ fn mount_between_own_repositories(rt: HostRuntime) -> Result<(), Fail> {
             blob!("{abc}", "3", "abc"),
         ),
     ];
-    talk(&rt, rt.alloc(), &mut registry, dialogue.as_slice())?;
-    let registry = using(&rt, rt.alloc(), registry, "team/lib", 3)?;
+    talk(rt, alloc, &mut registry, dialogue.as_slice())?;
+    let registry = using(rt, alloc, registry, "team/lib", 3)?;
     drop(registry);
     Ok(())
 }
 
 /// What is no mount opens a session: a source that is no name, that is not there, that lacks the
 /// blob, or none. A digest beside `mount` is not looked at; a `mount` that is none is refused.
-#[test]
-fn mounts_that_open_a_session(rt: HostRuntime) -> Result<(), Fail> {
-    let mut registry = setting(rt.alloc())?;
+pub fn mounts_that_open_a_session<M: Maker>(rt: &impl Abort, alloc: Global) -> Result<(), Fail> {
+    let mut registry = setting::<M>(alloc)?;
     let dialogue = [
         ask(
             "t1",
@@ -92,13 +95,12 @@ fn mounts_that_open_a_session(rt: HostRuntime) -> Result<(), Fail> {
             accepted!("team/app", "7", "0-0"),
         ),
     ];
-    talk(&rt, rt.alloc(), &mut registry, dialogue.as_slice())
+    talk(rt, alloc, &mut registry, dialogue.as_slice())
 }
 
 /// Chunks in order; one that comes again is refused and leaves the session as it was.
-#[test]
-fn session_ranges(rt: HostRuntime) -> Result<(), Fail> {
-    let mut registry = setting(rt.alloc())?;
+pub fn session_ranges<M: Maker>(rt: &impl Abort, alloc: Global) -> Result<(), Fail> {
+    let mut registry = setting::<M>(alloc)?;
     let dialogue = [
         ask(
             "t1",
@@ -148,12 +150,14 @@ fn session_ranges(rt: HostRuntime) -> Result<(), Fail> {
             blob!("{hello}", "5", "hello"),
         ),
     ];
-    talk(&rt, rt.alloc(), &mut registry, dialogue.as_slice())
+    talk(rt, alloc, &mut registry, dialogue.as_slice())
 }
 
-#[test]
-fn failed_close_keeps_the_session(rt: HostRuntime) -> Result<(), Fail> {
-    let mut registry = setting(rt.alloc())?;
+pub fn failed_close_keeps_the_session<M: Maker>(
+    rt: &impl Abort,
+    alloc: Global,
+) -> Result<(), Fail> {
+    let mut registry = setting::<M>(alloc)?;
     let dialogue = [
         ask(
             "t1",
@@ -196,13 +200,15 @@ fn failed_close_keeps_the_session(rt: HostRuntime) -> Result<(), Fail> {
             created!("team/app", "{hello}"),
         ),
     ];
-    talk(&rt, rt.alloc(), &mut registry, dialogue.as_slice())
+    talk(rt, alloc, &mut registry, dialogue.as_slice())
 }
 
 /// Each repository counts its sessions from 1, and a number has no leading zero.
-#[test]
-fn session_numbers_per_repository(rt: HostRuntime) -> Result<(), Fail> {
-    let mut registry = setting(rt.alloc())?;
+pub fn session_numbers_per_repository<M: Maker>(
+    rt: &impl Abort,
+    alloc: Global,
+) -> Result<(), Fail> {
+    let mut registry = setting::<M>(alloc)?;
     let dialogue = [
         ask(
             "t2",
@@ -233,13 +239,12 @@ fn session_numbers_per_repository(rt: HostRuntime) -> Result<(), Fail> {
             holds!("team/lib", "1", "0-0"),
         ),
     ];
-    talk(&rt, rt.alloc(), &mut registry, dialogue.as_slice())
+    talk(rt, alloc, &mut registry, dialogue.as_slice())
 }
 
 /// The forms of `Content-Range`, a chunk without it, and a close that brings all bytes.
-#[test]
-fn content_range_forms(rt: HostRuntime) -> Result<(), Fail> {
-    let mut registry = setting(rt.alloc())?;
+pub fn content_range_forms<M: Maker>(rt: &impl Abort, alloc: Global) -> Result<(), Fail> {
+    let mut registry = setting::<M>(alloc)?;
     let patch = "PATCH /v2/team/app/blobs/uploads/1";
     let dialogue = [
         ask(
@@ -276,19 +281,18 @@ fn content_range_forms(rt: HostRuntime) -> Result<(), Fail> {
             created!("team/app", "{abc}"),
         ),
     ];
-    talk(&rt, rt.alloc(), &mut registry, dialogue.as_slice())
+    talk(rt, alloc, &mut registry, dialogue.as_slice())
 }
 
 /// The prefix and the suffix of `Content-Range` are allowed independently of each other; its numbers
 /// have up to 19 digits. A close without a body does not look at it.
-#[test]
-fn further_content_range_forms(rt: HostRuntime) -> Result<(), Fail> {
-    let mut registry = setting(rt.alloc())?;
+pub fn further_content_range_forms<M: Maker>(rt: &impl Abort, alloc: Global) -> Result<(), Fail> {
+    let mut registry = setting::<M>(alloc)?;
     let patch = "PATCH /v2/team/app/blobs/uploads/1";
     let open = accepted!("team/app", "1", "0-0");
     talk(
-        &rt,
-        rt.alloc(),
+        rt,
+        alloc,
         &mut registry,
         &[ask("t1", "POST /v2/team/app/blobs/uploads/", open)],
     )?;
@@ -313,7 +317,7 @@ fn further_content_range_forms(rt: HostRuntime) -> Result<(), Fail> {
         ),
     ] {
         let chunk = send_with("t1", patch, field, "hel", reply);
-        talk(&rt, rt.alloc(), &mut registry, &[chunk])?;
+        talk(rt, alloc, &mut registry, &[chunk])?;
     }
     let dialogue = [
         send_with(
@@ -333,20 +337,19 @@ fn further_content_range_forms(rt: HostRuntime) -> Result<(), Fail> {
             created!("team/app", "{hello}"),
         ),
     ];
-    talk(&rt, rt.alloc(), &mut registry, dialogue.as_slice())
+    talk(rt, alloc, &mut registry, dialogue.as_slice())
 }
 
 /// 1,000 sessions may be open in a repository, whatever is open in another.
-#[test]
-fn too_many_uploads(rt: HostRuntime) -> Result<(), Fail> {
-    let mut registry = setting(rt.alloc())?;
+pub fn too_many_uploads<M: Maker>(rt: &impl Abort, alloc: Global) -> Result<(), Fail> {
+    let mut registry = setting::<M>(alloc)?;
     let post = "POST /v2/team/app/blobs/uploads/";
     for number in 1_u64..1001 {
-        let reply = format!(in rt.alloc();
+        let reply = format!(in alloc;
             "HTTP/1.1 202 Accepted\r\nContent-Length: 0\r\nLocation: /v2/team/app/blobs/uploads/{number}\r\nRange: 0-0\r\n\r\n"
         )?;
         let opened = ask("t1", post, reply.as_str());
-        talk(&rt, rt.alloc(), &mut registry, &[opened])?;
+        talk(rt, alloc, &mut registry, &[opened])?;
     }
     let dialogue = [
         ask("t1", post, TOO_MANY_UPLOADS),
@@ -363,12 +366,11 @@ fn too_many_uploads(rt: HostRuntime) -> Result<(), Fail> {
         ask("t1", post, accepted!("team/app", "1001", "0-0")),
         ask("t1", post, TOO_MANY_UPLOADS),
     ];
-    talk(&rt, rt.alloc(), &mut registry, dialogue.as_slice())
+    talk(rt, alloc, &mut registry, dialogue.as_slice())
 }
 
-#[test]
-fn used_counts_session_and_blob(rt: HostRuntime) -> Result<(), Fail> {
-    let mut registry = setting(rt.alloc())?;
+pub fn used_counts_session_and_blob<M: Maker>(rt: &impl Abort, alloc: Global) -> Result<(), Fail> {
+    let mut registry = setting::<M>(alloc)?;
     let opening = [
         ask(
             "t1",
@@ -388,23 +390,22 @@ fn used_counts_session_and_blob(rt: HostRuntime) -> Result<(), Fail> {
             created!("team/app", "{abc}"),
         ),
     ];
-    talk(&rt, rt.alloc(), &mut registry, opening.as_slice())?;
-    let mut registry = using(&rt, rt.alloc(), registry, "team/app", 6)?;
+    talk(rt, alloc, &mut registry, opening.as_slice())?;
+    let mut registry = using(rt, alloc, registry, "team/app", 6)?;
     let closing = ask(
         "t1",
         "PUT /v2/team/app/blobs/uploads/1?digest={abc}",
         created!("team/app", "{abc}"),
     );
-    talk(&rt, rt.alloc(), &mut registry, &[closing])?;
-    let registry = using(&rt, rt.alloc(), registry, "team/app", 3)?;
+    talk(rt, alloc, &mut registry, &[closing])?;
+    let registry = using(rt, alloc, registry, "team/app", 3)?;
     drop(registry);
     Ok(())
 }
 
 /// A sha512 digest is verified and kept like a sha256 one; the same bytes under both count twice.
-#[test]
-fn sha512(rt: HostRuntime) -> Result<(), Fail> {
-    let mut registry = setting(rt.alloc())?;
+pub fn sha512<M: Maker>(rt: &impl Abort, alloc: Global) -> Result<(), Fail> {
+    let mut registry = setting::<M>(alloc)?;
     let pushes = [
         send(
             "t1",
@@ -419,8 +420,8 @@ fn sha512(rt: HostRuntime) -> Result<(), Fail> {
             created!("team/app", "{abc}"),
         ),
     ];
-    talk(&rt, rt.alloc(), &mut registry, pushes.as_slice())?;
-    let mut registry = using(&rt, rt.alloc(), registry, "team/app", 6)?;
+    talk(rt, alloc, &mut registry, pushes.as_slice())?;
+    let mut registry = using(rt, alloc, registry, "team/app", 6)?;
     let dialogue = [
         ask(
             "t1",
@@ -466,5 +467,5 @@ fn sha512(rt: HostRuntime) -> Result<(), Fail> {
             INVALID_DIGEST,
         ),
     ];
-    talk(&rt, rt.alloc(), &mut registry, dialogue.as_slice())
+    talk(rt, alloc, &mut registry, dialogue.as_slice())
 }
