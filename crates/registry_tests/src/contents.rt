@@ -46,19 +46,18 @@ pub fn with_three_links<M: Maker>(
     Ok(registry)
 }
 
-/// Each repository that holds the bytes uses them in full, and holds them until it deletes them itself.
-pub fn one_content_three_links<M: Maker>(rt: &impl Abort, alloc: Global) -> Result<(), Fail> {
-    let registry = with_three_links::<M>(rt, alloc)?;
-    let registry = using(rt, alloc, registry, "team/app", 3)?;
-    let registry = using(rt, alloc, registry, "other", 3)?;
-    let mut registry = using(rt, alloc, registry, "team/lib", 3)?;
+/// Deletes the two blobs of `t1`, and clears: the third repository has its own still.
+pub fn delete_own<K: Keeper>(
+    rt: &impl Abort,
+    alloc: Global,
+    registry: &mut Service<K>,
+) -> Result<(), Fail> {
     let deletions = [
         ask("t1", "DELETE /v2/team/app/blobs/{abc}", DELETED),
         ask("t1", "DELETE /v2/team/lib/blobs/{abc}", DELETED),
     ];
-    talk(rt, alloc, &mut registry, deletions.as_slice())?;
+    talk(rt, alloc, registry, deletions.as_slice())?;
     registry.admin(&AdminCommand::Clear)?;
-    let_second_delete(alloc, &mut registry)?;
     let dialogue = [
         ask("t1", "GET /v2/team/app/blobs/{abc}", BLOB_UNKNOWN),
         ask(
@@ -66,11 +65,35 @@ pub fn one_content_three_links<M: Maker>(rt: &impl Abort, alloc: Global) -> Resu
             "GET /v2/other/blobs/{abc}",
             blob!("{abc}", "3", "abc"),
         ),
+    ];
+    talk(rt, alloc, registry, dialogue.as_slice())
+}
+
+/// Deletes the blob of `t2`, to which that is granted first, and clears.
+pub fn delete_last<K: Keeper>(
+    rt: &impl Abort,
+    alloc: Global,
+    registry: &mut Service<K>,
+) -> Result<(), Fail> {
+    let_second_delete(alloc, registry)?;
+    let dialogue = [
         ask("t2", "DELETE /v2/other/blobs/{abc}", DELETED),
         ask("t2", "GET /v2/other/blobs/{abc}", BLOB_UNKNOWN),
     ];
-    talk(rt, alloc, &mut registry, dialogue.as_slice())?;
+    talk(rt, alloc, registry, dialogue.as_slice())?;
     registry.admin(&AdminCommand::Clear)?;
+    Ok(())
+}
+
+/// Each repository that holds the bytes uses them in full, and holds them until it deletes them
+/// itself; they can be pushed anew once they are gone from all.
+pub fn one_content_three_links<M: Maker>(rt: &impl Abort, alloc: Global) -> Result<(), Fail> {
+    let registry = with_three_links::<M>(rt, alloc)?;
+    let registry = using(rt, alloc, registry, "team/app", 3)?;
+    let registry = using(rt, alloc, registry, "other", 3)?;
+    let mut registry = using(rt, alloc, registry, "team/lib", 3)?;
+    delete_own(rt, alloc, &mut registry)?;
+    delete_last(rt, alloc, &mut registry)?;
     let registry = using(rt, alloc, registry, "other", 0)?;
     let mut registry = using(rt, alloc, registry, "team/lib", 0)?;
     let anew = send(

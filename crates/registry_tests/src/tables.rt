@@ -1,5 +1,6 @@
-//! The rows over the tables of a database in memory, but for those that serve a registry of its own for each
-//! place where an input may be cut.
+//! The rows over the tables of a database in memory, but for three that would take minutes:
+//! two that make a registry for each place where an input may be cut, and one that opens 1,000 upload
+//! sessions.
 
 use crate::setting::{InMaps, InTables};
 use crate::{
@@ -318,11 +319,6 @@ fn content_range_forms(rt: HostRuntime) -> Result<(), Fail> {
 #[test]
 fn further_content_range_forms(rt: HostRuntime) -> Result<(), Fail> {
     uploads::further_content_range_forms::<InTables>(&rt, rt.alloc())
-}
-
-#[test]
-fn too_many_uploads(rt: HostRuntime) -> Result<(), Fail> {
-    uploads::too_many_uploads::<InTables>(&rt, rt.alloc())
 }
 
 #[test]
