@@ -16,11 +16,24 @@ mod table;
 #[cfg(test)]
 mod tests;
 
-use databases::Databases;
+use databases::{Databases, Supposed};
 use failure::Failure;
 use sqlite::Unknown;
 use std::env;
 use std::process::ExitCode;
+
+/// Does what the words say, with the ends of the process, over databases of which `F` says what is
+/// supposed.
+fn run<F: Supposed>(rt: &HostRuntime, words: &[String]) -> u8 {
+    program::run_words(
+        rt,
+        &Databases::<F>::new(rt),
+        words,
+        &mut rt.stdin(),
+        &mut rt.stdout(),
+        &mut rt.stderr(),
+    )
+}
 
 fn main(rt: HostRuntime) -> ExitCode {
     let alloc = rt.alloc();
@@ -31,13 +44,5 @@ fn main(rt: HostRuntime) -> ExitCode {
         },
         Err(_) => return ExitCode::from(Failure::OutOfMemory.status()),
     };
-    let status = program::run_words(
-        &rt,
-        &Databases::<Unknown>::new(&rt),
-        words.as_slice(),
-        &mut rt.stdin(),
-        &mut rt.stdout(),
-        &mut rt.stderr(),
-    );
-    ExitCode::from(status)
+    ExitCode::from(run::<Unknown>(&rt, words.as_slice()))
 }
