@@ -46,12 +46,10 @@ fn of_opening(fault: OpenFault) -> Failure
     }
 }
 
-impl<F: Supposed> Opener for Databases<'_, F> {
+impl<F: Supposed> Opener<Store<FileStore<FileFrom<F>>>> for Databases<'_, F> {
     ghost use Rattle.registry_model.specs.Keeping.{State};
     ghost use Rattle.sqlite.specs.WalFiles.{image_at};
     ghost use Rattle.registry_cli.specs.Databases.{MayOpen};
-
-    type Kept = Store<FileStore<FileFrom<F>>>;
 
     ghost opens = { λ _ _ s. MayOpen (image_at F.Start) s };
 

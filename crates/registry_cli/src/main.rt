@@ -18,21 +18,41 @@ mod tests;
 
 use databases::{Databases, Supposed};
 use failure::Failure;
-use sqlite::Unknown;
+use opening::Opener;
+use registry_store::Store;
+use sqlite::{Alter, FileFrom, FileStore, Unknown};
+use sqlite_disk::Disk;
 use std::env;
 use std::process::ExitCode;
 
-/// Does what the words say, with the ends of the process, over databases of which `F` says what is
-/// supposed.
-fn run<F: Supposed>(rt: &HostRuntime, words: &[String]) -> u8 {
+/// Does what the words say, with the ends of the process, over the tables of databases.
+fn run_over<S: Alter + Drop, O: Opener<Store<S>>>(
+    rt: &HostRuntime,
+    opener: &O,
+    words: &[String],
+) -> u8 {
     program::run_words(
         rt,
-        &Databases::<F>::new(rt),
+        opener,
         words,
         &mut rt.stdin(),
         &mut rt.stdout(),
         &mut rt.stderr(),
     )
+}
+
+/// The same, over databases in files.
+fn run_in_files<D: Disk + Drop, O: Opener<Store<FileStore<D>>>>(
+    rt: &HostRuntime,
+    opener: &O,
+    words: &[String],
+) -> u8 {
+    run_over::<FileStore<D>, O>(rt, opener, words)
+}
+
+/// The same, over files of which `F` says what is supposed.
+fn run<F: Supposed>(rt: &HostRuntime, words: &[String]) -> u8 {
+    run_in_files::<FileFrom<F>, Databases<'_, F>>(rt, &Databases::<F>::new(rt), words)
 }
 
 fn main(rt: HostRuntime) -> ExitCode {

@@ -13,6 +13,7 @@ use crate::sockets::serve;
 use crate::stdio::{serve_from, serve_memory};
 use clap::Error;
 use clap::error::ErrorKind;
+use registry_model::Keeper;
 use std::alloc::Global;
 use std::convert::AsStr;
 use std::io::{Read, Write};
@@ -40,7 +41,7 @@ fn tell<W: Write, E: Write>(alloc: Global, error: &Error, out: &mut W, err: &mut
 }
 
 /// Opens the registry at a path, and carries an order out over it.
-fn run_order<O: Opener, W: Write, E: Write>(
+fn run_order<K: Keeper + Drop, O: Opener<K>, W: Write, E: Write>(
     alloc: Global,
     opener: &O,
     path: &str,
@@ -48,7 +49,7 @@ fn run_order<O: Opener, W: Write, E: Write>(
     out: &mut W,
     err: &mut E,
 ) -> u8
-    ensures runs { RunsOrder (OverSome O.Kept.is_honest O.Kept.state (O.opens opener.now)) result (record { held = W.contents out.old; held' = W.contents out.new }) }
+    ensures runs { RunsOrder (OverSome K.is_honest K.state (O.opens opener.now)) result (record { held = W.contents out.old; held' = W.contents out.new }) }
     ensures silent { 0 < result → result < 4 → IsSilent (record { held = W.contents out.old; held' = W.contents out.new }) }
     ensures status { result ≤ 4 }
 {
@@ -62,7 +63,7 @@ fn run_order<O: Opener, W: Write, E: Write>(
 }
 
 /// Opens the registry at a path, and serves one connection over it.
-fn run_stored<O: Opener, R: Read, W: Write, E: Write>(
+fn run_stored<K: Keeper + Drop, O: Opener<K>, R: Read, W: Write, E: Write>(
     alloc: Global,
     opener: &O,
     path: &str,
@@ -70,7 +71,7 @@ fn run_stored<O: Opener, R: Read, W: Write, E: Write>(
     out: &mut W,
     err: &mut E,
 ) -> u8
-    ensures runs { RunsStored (OverSome O.Kept.is_honest O.Kept.state (O.opens opener.now)) result (record {
+    ensures runs { RunsStored (OverSome K.is_honest K.state (O.opens opener.now)) result (record {
       left = R.remaining reader.old;
       left' = R.remaining reader.new;
       held = W.contents out.old;
@@ -91,11 +92,12 @@ fn run_stored<O: Opener, R: Read, W: Write, E: Write>(
 /// Opens the registry at a path, binds the address, and serves so many connections.
 fn run_server<
     T: AllocGlobal + Net<Listener = TcpListener, Stream = TcpStream>,
-    O: Opener,
+    K: Keeper + Drop,
+    O: Opener<K>,
     W: Write,
     E: Write,
 >(rt: &T, opener: &O, path: &str, address: &str, connections: u64, out: &mut W, err: &mut E) -> u8
-    ensures runs { RunsServer (OverSome O.Kept.is_honest O.Kept.state (O.opens opener.now)) result (record { held = W.contents out.old; held' = W.contents out.new }) }
+    ensures runs { RunsServer (OverSome K.is_honest K.state (O.opens opener.now)) result (record { held = W.contents out.old; held' = W.contents out.new }) }
     ensures failed { 0 < result → 3 ≤ result }
     ensures status { result ≤ 4 }
 {
@@ -126,13 +128,14 @@ fn run_server<
 /// with the words is told before a database is opened.
 pub fn run_words<
     T: AllocGlobal + Net<Listener = TcpListener, Stream = TcpStream>,
-    O: Opener,
+    K: Keeper + Drop,
+    O: Opener<K>,
     S: AsStr,
     R: Read,
     W: Write,
     E: Write,
 >(rt: &T, opener: &O, words: &[S], reader: &mut R, out: &mut W, err: &mut E) -> u8
-    ensures runs { RunsWords (OverSome O.Kept.is_honest O.Kept.state (O.opens opener.now)) result (record {
+    ensures runs { RunsWords (OverSome K.is_honest K.state (O.opens opener.now)) result (record {
       left = R.remaining reader.old;
       left' = R.remaining reader.new;
       held = W.contents out.old;

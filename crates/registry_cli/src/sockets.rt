@@ -56,13 +56,13 @@ pub fn serve_one<K: Keeper>(
 fn close<K: Keeper + Drop>(_service: Service<K>) {}
 
 /// The service, or another over the registry that is opened again where this one is spent.
-fn resume<O: Opener>(
+fn resume<K: Keeper + Drop, O: Opener<K>>(
     opener: &O,
     path: &str,
-    service: Service<O::Kept>,
-) -> Result<Service<O::Kept>, Failure>
-    ensures resumed { IfOk result (λ next. (next ≡ service) ⊎ (O.Kept.is_honest next → O.opens opener.now path.now (O.Kept.state next))) }
-    ensures fresh { IfOk result (λ next. (O.Kept.state next).spent ≡ false) }
+    service: Service<K>,
+) -> Result<Service<K>, Failure>
+    ensures resumed { IfOk result (λ next. (next ≡ service) ⊎ (K.is_honest next → O.opens opener.now path.now (K.state next))) }
+    ensures fresh { IfOk result (λ next. (K.state next).spent ≡ false) }
     ensures refused { IfErr result IsOfOpening }
 {
     if !service.spent() {
@@ -87,16 +87,16 @@ fn announce<W: Write>(out: &mut W) -> Result<(), Failure>
 
 /// Serves so many connections, one after the other. Where the service is spent after one, its
 /// database is closed and opened again before the next; a connection that fails ends nothing.
-fn serve_each<O: Opener, D: Entrance>(
+fn serve_each<K: Keeper + Drop, O: Opener<K>, D: Entrance>(
     alloc: Global,
     opener: &O,
     path: &str,
-    kept: O::Kept,
+    kept: K,
     entrance: &mut D,
     connections: u64,
 ) -> Result<(), Failure>
-    requires opened { O.Kept.is_honest kept → O.opens opener.now path.now (O.Kept.state kept) }
-    ensures served { OnOk result (Over O.Kept.is_honest O.Kept.state (O.opens opener.now path.now) ServesSome) }
+    requires opened { K.is_honest kept → O.opens opener.now path.now (K.state kept) }
+    ensures served { OnOk result (Over K.is_honest K.state (O.opens opener.now path.now) ServesSome) }
     ensures fails { IfErr result IsOfServing }
 {
     let mut service = Service::new(kept);
@@ -116,17 +116,17 @@ fn serve_each<O: Opener, D: Entrance>(
 /// Says on standard output that connections are taken, and serves so many, one after the other, over
 /// the registry that was opened at the path. The error is that the registry is not opened again, or
 /// that a connection cannot be taken or the line not be written.
-pub fn serve<O: Opener, D: Entrance, W: Write>(
+pub fn serve<K: Keeper + Drop, O: Opener<K>, D: Entrance, W: Write>(
     alloc: Global,
     opener: &O,
     path: &str,
-    kept: O::Kept,
+    kept: K,
     entrance: &mut D,
     connections: u64,
     out: &mut W,
 ) -> Result<(), Failure>
-    requires opened { O.Kept.is_honest kept → O.opens opener.now path.now (O.Kept.state kept) }
-    ensures { ServesAddress (Over O.Kept.is_honest O.Kept.state (O.opens opener.now path.now)) result (record { held = W.contents out.old; held' = W.contents out.new }) }
+    requires opened { K.is_honest kept → O.opens opener.now path.now (K.state kept) }
+    ensures { ServesAddress (Over K.is_honest K.state (O.opens opener.now path.now)) result (record { held = W.contents out.old; held' = W.contents out.new }) }
 {
     match announce(out) {
         Ok(()) => serve_each(alloc, opener, path, kept, entrance, connections),

@@ -75,9 +75,7 @@ fn prepared(alloc: Global) -> Result<MapKeeper, Failure> {
     Ok(pushed(alloc, granted, PUSH))
 }
 
-impl Opener for Shelf {
-    type Kept = MapKeeper;
-
+impl Opener<MapKeeper> for Shelf {
     ghost use Rattle.std.specs.Prelude.{⊤};
 
     ghost opens = { λ _ _ _. ⊤ };

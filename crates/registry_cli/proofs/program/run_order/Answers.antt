@@ -10,7 +10,7 @@ returns-in-Ok-clause-runs g c =
         c.args.path.now,
         record {
           last = carried.result.keeper;
-          says = λ honest. (g.O.Kept.Keeper.state c.in-Ok.kept, c.in-Ok.ensures.opened (carried.ensures.honest honest), carried.ensures.carries honest);
+          says = λ honest. (g.K.Keeper.state c.in-Ok.kept, c.in-Ok.ensures.opened (carried.ensures.honest honest), carried.ensures.carries honest);
         },
       ),
     )

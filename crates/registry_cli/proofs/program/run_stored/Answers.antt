@@ -8,6 +8,6 @@ returns-in-Ok-clause-runs g c =
       c.args.path.now,
       record {
         last = served.result.keeper;
-        says = λ honest. (g.O.Kept.Keeper.state c.in-Ok.kept, c.in-Ok.ensures.opened (served.ensures.honest honest), served.ensures.serves honest);
+        says = λ honest. (g.K.Keeper.state c.in-Ok.kept, c.in-Ok.ensures.opened (served.ensures.honest honest), served.ensures.serves honest);
       },
     )

@@ -4,13 +4,13 @@ use Rattle.registry_cli.proofs.sockets.serve_each.Goals as goal
 
 pub loop-init : goal.loop-init
 loop-init g c honest =
-    let k = g.O.Kept.Keeper in
+    let k = g.K.Keeper in
     let opens = g.O.Opener.opens c.args.opener.now c.args.path.now in
     subst (λ x. k.is_honest x → Since opens (k.state x)) (sym c.new-service.ensures) (λ h. since_opened opens _ (c.requires.opened h)) honest
 
 pub loop-preserved : goal.loop-preserved
 loop-preserved g c honest =
-    let k = g.O.Kept.Keeper in
+    let k = g.K.Keeper in
     let opens = g.O.Opener.opens c.args.opener.now c.args.path.now in
     let next = c.in-Ok.service in
     since_served opens (k.state next) (k.state c.serve_next.new.service) c.in-Ok-serve_next.field-0
