@@ -32,8 +32,6 @@ mod store;
 mod subjects;
 mod tag_pages;
 mod tags;
-#[cfg(test)]
-mod tests;
 mod uploads;
 mod version;
 mod written;

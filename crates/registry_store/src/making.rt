@@ -11,12 +11,14 @@ ghost use Rattle.registry_store.specs.Steps.{VersionComes, IsNew};
 use crate::opening::OpenFault;
 use registry_tables::make_tables;
 use sqlite::{Alter, Connection, Error, ErrorCode, Transaction};
+use sqlite_resolve::CompileError;
 
 /// Why tables are not made: a name that is taken is told apart.
 fn fault_in_making(error: Error) -> OpenFault {
     match error {
         Error::SqliteFailure(ErrorCode::OutOfMemory) => OpenFault::Memory,
         Error::SqliteFailure(ErrorCode::NameTaken) => OpenFault::NotARegistry,
+        Error::SqlInputError(CompileError::Exists) => OpenFault::NotARegistry,
         _ => OpenFault::Storage,
     }
 }

@@ -36,6 +36,8 @@ mod runs;
 #[cfg(test)]
 mod setting;
 #[cfg(test)]
+mod stores;
+#[cfg(test)]
 mod tables;
 #[cfg(test)]
 mod uploads;

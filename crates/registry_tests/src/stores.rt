@@ -2,10 +2,10 @@
 ghost use Rattle.std.specs.Prelude.{◌<◌, ◌≡◌, true};
 ghost use Rattle.oci_names.specs.Digest.{matches};
 
-use crate::Store;
 use oci_manifest::{Kind, read_manifest};
 use oci_names::{Digest, Fault, RepoName, Tag, Token, Verdict};
 use registry_model::{Keeper, Level, Quota, Usage};
+use registry_store::Store;
 use sqlite::MemStore;
 use std::alloc::Global;
 use std::process::Abort;
@@ -380,7 +380,7 @@ fn keeps_the_rest<K: Keeper>(
 
 /// How many contents there are, named or not.
 fn contents(keeper: Store<MemStore>) -> Result<i64, Fail> {
-    let mut conn = keeper.conn;
+    let mut conn = keeper.into_connection();
     let row = conn.query_row("SELECT COUNT(*) FROM registry_contents", &[])?;
     let count: i64 = row.get(0)?;
     Ok(count)
