@@ -38,7 +38,7 @@ bench: build
 
 # Requests a second and MB/s over standard input, beside `cat` and `sha256sum` of the same bytes (python3).
 bench-http: build
-	python3 bench/http.py
+	python3 bench/stdio.py
 
 fmt:
 	for crate in crates/*/; do (cd $$crate && rt fmt) || exit 1; done
