@@ -180,9 +180,3 @@ so_far_more first mid new ids at d low before taken kept survives = record {
   where
     early : HasCleanDisk new → HasCleanDisk mid
     early clean = omega (arith, survives.clean)
-
--- a content was not taken out
-pub so_far_kept : (first mid new : State) (ids : List ContentId) → GoneSoFar first mid ids → (HasCleanDisk new → IsReady mid → KeepsCommit mid new) → Survives mid new (λ _. ⊥) → HasCleanDisk new → IsReady first → KeepsCommit first new
-so_far_kept first mid new ids before kept survives clean ready =
-    let early : HasCleanDisk mid = omega (arith, survives.clean) in
-    commit_then first mid new (before.kept early ready) (kept clean (before.gone early ready).0)

@@ -28,6 +28,7 @@ pub mod ManifestReads
 pub mod InOrder
 pub mod WorldReads
 pub mod Kept
+pub mod Noted
 pub mod Chains
 pub mod TallyLemmas
 pub mod UsageReads
@@ -47,5 +48,6 @@ pub mod SessionBytes
 pub mod SessionWrites
 pub mod ReferrerBytes
 pub mod OpeningLemmas
+pub mod VersionAsked
 pub mod Naming
 pub mod Freed

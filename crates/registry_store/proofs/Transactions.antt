@@ -24,16 +24,16 @@ commits mid end t b shows = record {
 }
 
 -- it was rolled back
-pub back_dropped : (old first mid end : State) → IsSettled old → first.committed ≡ old.committed → KeepsCommit first mid → IsRolledBack mid end → IsBack old end
-back_dropped old first mid end s same kept undone is_open =
+pub undone_back : (old first mid end : State) → old.now ≡ old.committed → first.committed ≡ old.committed → KeepsCommit first mid → IsRolledBack mid end → IsBack old end
+undone_back old first mid end clean same kept undone is_open =
     let was = undone.was_open is_open in
     let here = kept.committed was in
-    ((undone.undone is_open).0 ∙ here ∙ same ∙ sym s.committed, (undone.undone is_open).1 ∙ here ∙ same)
+    ((undone.undone is_open).0 ∙ here ∙ same ∙ sym clean, (undone.undone is_open).1 ∙ here ∙ same)
 
 -- the commit failed
-pub back_failed : (old first mid end : State) (e : Error) → IsSettled old → first.committed ≡ old.committed → KeepsCommit first mid → IsTrue mid.in_transaction → FailsToCommit mid end e → IsBack old end
-back_failed old first mid end e s same kept inside (inl fails) = back_dropped old first mid end s same kept fails.3
-back_failed old first mid end e s same kept inside (inr late) = absurd (true≢false (inside_true ∙ late.1))
+pub failed_back : (old first mid end : State) (e : Error) → old.now ≡ old.committed → first.committed ≡ old.committed → KeepsCommit first mid → IsTrue mid.in_transaction → FailsToCommit mid end e → IsBack old end
+failed_back old first mid end e clean same kept inside (inl fails) = undone_back old first mid end clean same kept fails.3
+failed_back old first mid end e clean same kept inside (inr late) = absurd (true≢false (inside_true ∙ late.1))
   where
     inside_true : true ≡ mid.in_transaction
     inside_true = go mid.in_transaction inside
@@ -41,6 +41,13 @@ back_failed old first mid end e s same kept inside (inr late) = absurd (true≢f
         go : (b : Rattle.std.specs.Prelude.Bool) → IsTrue b → true ≡ b
         go true h = refl
         go false h = sym h
+
+-- the same of a store that was settled
+pub back_dropped : (old first mid end : State) → IsSettled old → first.committed ≡ old.committed → KeepsCommit first mid → IsRolledBack mid end → IsBack old end
+back_dropped old first mid end s same kept undone = undone_back old first mid end s.committed same kept undone
+
+pub back_failed : (old first mid end : State) (e : Error) → IsSettled old → first.committed ≡ old.committed → KeepsCommit first mid → IsTrue mid.in_transaction → FailsToCommit mid end e → IsBack old end
+back_failed old first mid end e s same kept inside failed = failed_back old first mid end e s.committed same kept inside failed
 
 -- a store that survived all of it survives, whatever was committed
 pub survives_all : (a b c : State) (P Q : Trees → Type 0) → Survives a b P → Survives b c Q → Survives a c (λ _. ⊤)

@@ -3,6 +3,7 @@ ghost use Rattle.sqlite.specs.State.{HasCleanDisk};
 ghost use Rattle.sqlite.specs.Held.{state};
 ghost use Rattle.registry_store.specs.Held.{world_in};
 
+use crate::noting::noted;
 use crate::store::Store;
 use crate::{
     appending, clearing, deletions, dropping, finishing, granting, mounting, putting,
@@ -27,42 +28,24 @@ impl<S: Alter> Keeper for Store<S> {
         if self.spent {
             return Err(Fault::Storage);
         }
-        match reading::known(&mut self.conn, token) {
-            Ok(found) => Ok(found),
-            Err(Fault::Memory) => Err(Fault::Memory),
-            Err(Fault::Storage) => {
-                self.spent = true;
-                Err(Fault::Storage)
-            }
-        }
+        let answer = reading::known(&mut self.conn, token);
+        noted(&mut self.spent, answer)
     }
 
     fn has_repo(&mut self, repo: &RepoName) -> Result<bool, Fault> {
         if self.spent {
             return Err(Fault::Storage);
         }
-        match reading::has_repo(&mut self.conn, repo) {
-            Ok(found) => Ok(found),
-            Err(Fault::Memory) => Err(Fault::Memory),
-            Err(Fault::Storage) => {
-                self.spent = true;
-                Err(Fault::Storage)
-            }
-        }
+        let answer = reading::has_repo(&mut self.conn, repo);
+        noted(&mut self.spent, answer)
     }
 
     fn level(&mut self, token: &Token, repo: &RepoName) -> Result<Option<Level>, Fault> {
         if self.spent {
             return Err(Fault::Storage);
         }
-        match reading::level(&mut self.conn, token, repo) {
-            Ok(found) => Ok(found),
-            Err(Fault::Memory) => Err(Fault::Memory),
-            Err(Fault::Storage) => {
-                self.spent = true;
-                Err(Fault::Storage)
-            }
-        }
+        let answer = reading::level(&mut self.conn, token, repo);
+        noted(&mut self.spent, answer)
     }
 
     fn blob(
@@ -74,28 +57,16 @@ impl<S: Alter> Keeper for Store<S> {
         if self.spent {
             return Err(Fault::Storage);
         }
-        match reading::blob(alloc, &mut self.conn, repo, digest) {
-            Ok(found) => Ok(found),
-            Err(Fault::Memory) => Err(Fault::Memory),
-            Err(Fault::Storage) => {
-                self.spent = true;
-                Err(Fault::Storage)
-            }
-        }
+        let answer = reading::blob(alloc, &mut self.conn, repo, digest);
+        noted(&mut self.spent, answer)
     }
 
     fn blob_size(&mut self, repo: &RepoName, digest: &Digest) -> Result<Option<u64>, Fault> {
         if self.spent {
             return Err(Fault::Storage);
         }
-        match reading::blob_size(&mut self.conn, repo, digest) {
-            Ok(found) => Ok(found),
-            Err(Fault::Memory) => Err(Fault::Memory),
-            Err(Fault::Storage) => {
-                self.spent = true;
-                Err(Fault::Storage)
-            }
-        }
+        let answer = reading::blob_size(&mut self.conn, repo, digest);
+        noted(&mut self.spent, answer)
     }
 
     fn manifest(
@@ -107,14 +78,8 @@ impl<S: Alter> Keeper for Store<S> {
         if self.spent {
             return Err(Fault::Storage);
         }
-        match reading::manifest(alloc, &mut self.conn, repo, digest) {
-            Ok(found) => Ok(found),
-            Err(Fault::Memory) => Err(Fault::Memory),
-            Err(Fault::Storage) => {
-                self.spent = true;
-                Err(Fault::Storage)
-            }
-        }
+        let answer = reading::manifest(alloc, &mut self.conn, repo, digest);
+        noted(&mut self.spent, answer)
     }
 
     fn manifest_size(
@@ -125,28 +90,16 @@ impl<S: Alter> Keeper for Store<S> {
         if self.spent {
             return Err(Fault::Storage);
         }
-        match reading::manifest_size(&mut self.conn, repo, digest) {
-            Ok(found) => Ok(found),
-            Err(Fault::Memory) => Err(Fault::Memory),
-            Err(Fault::Storage) => {
-                self.spent = true;
-                Err(Fault::Storage)
-            }
-        }
+        let answer = reading::manifest_size(&mut self.conn, repo, digest);
+        noted(&mut self.spent, answer)
     }
 
     fn tag(&mut self, alloc: Global, repo: &RepoName, tag: &Tag) -> Result<Option<Digest>, Fault> {
         if self.spent {
             return Err(Fault::Storage);
         }
-        match reading::tag(alloc, &mut self.conn, repo, tag) {
-            Ok(found) => Ok(found),
-            Err(Fault::Memory) => Err(Fault::Memory),
-            Err(Fault::Storage) => {
-                self.spent = true;
-                Err(Fault::Storage)
-            }
-        }
+        let answer = reading::tag(alloc, &mut self.conn, repo, tag);
+        noted(&mut self.spent, answer)
     }
 
     fn tags_after(
@@ -159,14 +112,8 @@ impl<S: Alter> Keeper for Store<S> {
         if self.spent {
             return Err(Fault::Storage);
         }
-        match reading::tags_after(alloc, &mut self.conn, repo, last, n) {
-            Ok(found) => Ok(found),
-            Err(Fault::Memory) => Err(Fault::Memory),
-            Err(Fault::Storage) => {
-                self.spent = true;
-                Err(Fault::Storage)
-            }
-        }
+        let answer = reading::tags_after(alloc, &mut self.conn, repo, last, n);
+        noted(&mut self.spent, answer)
     }
 
     fn manifests_of_subject(
@@ -178,28 +125,16 @@ impl<S: Alter> Keeper for Store<S> {
         if self.spent {
             return Err(Fault::Storage);
         }
-        match reading::manifests_of_subject(alloc, &mut self.conn, repo, digest) {
-            Ok(found) => Ok(found),
-            Err(Fault::Memory) => Err(Fault::Memory),
-            Err(Fault::Storage) => {
-                self.spent = true;
-                Err(Fault::Storage)
-            }
-        }
+        let answer = reading::manifests_of_subject(alloc, &mut self.conn, repo, digest);
+        noted(&mut self.spent, answer)
     }
 
     fn session_size(&mut self, repo: &RepoName, number: u64) -> Result<Option<u64>, Fault> {
         if self.spent {
             return Err(Fault::Storage);
         }
-        match reading::session_size(&mut self.conn, repo, number) {
-            Ok(found) => Ok(found),
-            Err(Fault::Memory) => Err(Fault::Memory),
-            Err(Fault::Storage) => {
-                self.spent = true;
-                Err(Fault::Storage)
-            }
-        }
+        let answer = reading::session_size(&mut self.conn, repo, number);
+        noted(&mut self.spent, answer)
     }
 
     fn session(
@@ -211,112 +146,64 @@ impl<S: Alter> Keeper for Store<S> {
         if self.spent {
             return Err(Fault::Storage);
         }
-        match reading::session_numbered(alloc, &mut self.conn, repo, number) {
-            Ok(found) => Ok(found),
-            Err(Fault::Memory) => Err(Fault::Memory),
-            Err(Fault::Storage) => {
-                self.spent = true;
-                Err(Fault::Storage)
-            }
-        }
+        let answer = reading::session_numbered(alloc, &mut self.conn, repo, number);
+        noted(&mut self.spent, answer)
     }
 
     fn sessions_open(&mut self, repo: &RepoName) -> Result<u64, Fault> {
         if self.spent {
             return Err(Fault::Storage);
         }
-        match reading::sessions_open(&mut self.conn, repo) {
-            Ok(found) => Ok(found),
-            Err(Fault::Memory) => Err(Fault::Memory),
-            Err(Fault::Storage) => {
-                self.spent = true;
-                Err(Fault::Storage)
-            }
-        }
+        let answer = reading::sessions_open(&mut self.conn, repo);
+        noted(&mut self.spent, answer)
     }
 
     fn last_number(&mut self, repo: &RepoName) -> Result<u64, Fault> {
         if self.spent {
             return Err(Fault::Storage);
         }
-        match reading::last_number(&mut self.conn, repo) {
-            Ok(found) => Ok(found),
-            Err(Fault::Memory) => Err(Fault::Memory),
-            Err(Fault::Storage) => {
-                self.spent = true;
-                Err(Fault::Storage)
-            }
-        }
+        let answer = reading::last_number(&mut self.conn, repo);
+        noted(&mut self.spent, answer)
     }
 
     fn usage(&mut self, repo: &RepoName) -> Result<Usage, Fault> {
         if self.spent {
             return Err(Fault::Storage);
         }
-        match reading::usage(self.alloc, &mut self.conn, repo) {
-            Ok(found) => Ok(found),
-            Err(Fault::Memory) => Err(Fault::Memory),
-            Err(Fault::Storage) => {
-                self.spent = true;
-                Err(Fault::Storage)
-            }
-        }
+        let answer = reading::usage(self.alloc, &mut self.conn, repo);
+        noted(&mut self.spent, answer)
     }
 
     fn usages(&mut self, alloc: Global) -> Result<Vec<(RepoName, Usage)>, Fault> {
         if self.spent {
             return Err(Fault::Storage);
         }
-        match reading::usages(alloc, &mut self.conn) {
-            Ok(found) => Ok(found),
-            Err(Fault::Memory) => Err(Fault::Memory),
-            Err(Fault::Storage) => {
-                self.spent = true;
-                Err(Fault::Storage)
-            }
-        }
+        let answer = reading::usages(alloc, &mut self.conn);
+        noted(&mut self.spent, answer)
     }
 
     fn put_blob(&mut self, repo: &RepoName, digest: &Digest, bytes: &[u8]) -> Result<(), Fault> {
         if self.spent {
             return Err(Fault::Storage);
         }
-        match putting::put_blob(self.alloc, &mut self.conn, repo, digest, bytes) {
-            Ok(()) => Ok(()),
-            Err(Fault::Memory) => Err(Fault::Memory),
-            Err(Fault::Storage) => {
-                self.spent = true;
-                Err(Fault::Storage)
-            }
-        }
+        let answer = putting::put_blob(self.alloc, &mut self.conn, repo, digest, bytes);
+        noted(&mut self.spent, answer)
     }
 
     fn open_session(&mut self, repo: &RepoName) -> Result<u64, Fault> {
         if self.spent {
             return Err(Fault::Storage);
         }
-        match sessions::open_session(&mut self.conn, repo) {
-            Ok(found) => Ok(found),
-            Err(Fault::Memory) => Err(Fault::Memory),
-            Err(Fault::Storage) => {
-                self.spent = true;
-                Err(Fault::Storage)
-            }
-        }
+        let answer = sessions::open_session(&mut self.conn, repo);
+        noted(&mut self.spent, answer)
     }
 
     fn append(&mut self, repo: &RepoName, number: u64, bytes: &[u8]) -> Result<(), Fault> {
         if self.spent {
             return Err(Fault::Storage);
         }
-        match appending::append(self.alloc, &mut self.conn, repo, number, bytes) {
-            Ok(()) => Ok(()),
-            Err(Fault::Memory) => Err(Fault::Memory),
-            Err(Fault::Storage) => {
-                self.spent = true;
-                Err(Fault::Storage)
-            }
-        }
+        let answer = appending::append(self.alloc, &mut self.conn, repo, number, bytes);
+        noted(&mut self.spent, answer)
     }
 
     fn finish(
@@ -329,28 +216,16 @@ impl<S: Alter> Keeper for Store<S> {
         if self.spent {
             return Err(Fault::Storage);
         }
-        match finishing::finish(self.alloc, &mut self.conn, repo, number, digest, bytes) {
-            Ok(()) => Ok(()),
-            Err(Fault::Memory) => Err(Fault::Memory),
-            Err(Fault::Storage) => {
-                self.spent = true;
-                Err(Fault::Storage)
-            }
-        }
+        let answer = finishing::finish(self.alloc, &mut self.conn, repo, number, digest, bytes);
+        noted(&mut self.spent, answer)
     }
 
     fn mount(&mut self, from: &RepoName, to: &RepoName, digest: &Digest) -> Result<(), Fault> {
         if self.spent {
             return Err(Fault::Storage);
         }
-        match mounting::mount(&mut self.conn, from, to, digest) {
-            Ok(()) => Ok(()),
-            Err(Fault::Memory) => Err(Fault::Memory),
-            Err(Fault::Storage) => {
-                self.spent = true;
-                Err(Fault::Storage)
-            }
-        }
+        let answer = mounting::mount(&mut self.conn, from, to, digest);
+        noted(&mut self.spent, answer)
     }
 
     fn put_manifest(
@@ -364,7 +239,7 @@ impl<S: Alter> Keeper for Store<S> {
         if self.spent {
             return Err(Fault::Storage);
         }
-        match putting_manifests::put_manifest(
+        let answer = putting_manifests::put_manifest(
             self.alloc,
             &mut self.conn,
             repo,
@@ -372,139 +247,79 @@ impl<S: Alter> Keeper for Store<S> {
             bytes,
             manifest,
             tag,
-        ) {
-            Ok(()) => Ok(()),
-            Err(Fault::Memory) => Err(Fault::Memory),
-            Err(Fault::Storage) => {
-                self.spent = true;
-                Err(Fault::Storage)
-            }
-        }
+        );
+        noted(&mut self.spent, answer)
     }
 
     fn delete_blob(&mut self, repo: &RepoName, digest: &Digest) -> Result<(), Fault> {
         if self.spent {
             return Err(Fault::Storage);
         }
-        match deletions::delete_blob(&mut self.conn, repo, digest) {
-            Ok(()) => Ok(()),
-            Err(Fault::Memory) => Err(Fault::Memory),
-            Err(Fault::Storage) => {
-                self.spent = true;
-                Err(Fault::Storage)
-            }
-        }
+        let answer = deletions::delete_blob(&mut self.conn, repo, digest);
+        noted(&mut self.spent, answer)
     }
 
     fn delete_manifest(&mut self, repo: &RepoName, digest: &Digest) -> Result<(), Fault> {
         if self.spent {
             return Err(Fault::Storage);
         }
-        match deletions::delete_manifest(&mut self.conn, repo, digest) {
-            Ok(()) => Ok(()),
-            Err(Fault::Memory) => Err(Fault::Memory),
-            Err(Fault::Storage) => {
-                self.spent = true;
-                Err(Fault::Storage)
-            }
-        }
+        let answer = deletions::delete_manifest(&mut self.conn, repo, digest);
+        noted(&mut self.spent, answer)
     }
 
     fn delete_tag(&mut self, repo: &RepoName, tag: &Tag) -> Result<(), Fault> {
         if self.spent {
             return Err(Fault::Storage);
         }
-        match deletions::delete_tag(&mut self.conn, repo, tag) {
-            Ok(()) => Ok(()),
-            Err(Fault::Memory) => Err(Fault::Memory),
-            Err(Fault::Storage) => {
-                self.spent = true;
-                Err(Fault::Storage)
-            }
-        }
+        let answer = deletions::delete_tag(&mut self.conn, repo, tag);
+        noted(&mut self.spent, answer)
     }
 
     fn set_repo(&mut self, name: &RepoName, quota: Quota) -> Result<(), Fault> {
         if self.spent {
             return Err(Fault::Storage);
         }
-        match setting::set_repo(&mut self.conn, name, quota) {
-            Ok(()) => Ok(()),
-            Err(Fault::Memory) => Err(Fault::Memory),
-            Err(Fault::Storage) => {
-                self.spent = true;
-                Err(Fault::Storage)
-            }
-        }
+        let answer = setting::set_repo(&mut self.conn, name, quota);
+        noted(&mut self.spent, answer)
     }
 
     fn drop_repo(&mut self, name: &RepoName) -> Result<(), Fault> {
         if self.spent {
             return Err(Fault::Storage);
         }
-        match dropping::drop_repo(&mut self.conn, name) {
-            Ok(()) => Ok(()),
-            Err(Fault::Memory) => Err(Fault::Memory),
-            Err(Fault::Storage) => {
-                self.spent = true;
-                Err(Fault::Storage)
-            }
-        }
+        let answer = dropping::drop_repo(&mut self.conn, name);
+        noted(&mut self.spent, answer)
     }
 
     fn grant(&mut self, token: &Token, name: &RepoName, level: Level) -> Result<(), Fault> {
         if self.spent {
             return Err(Fault::Storage);
         }
-        match granting::grant(&mut self.conn, token, name, level) {
-            Ok(()) => Ok(()),
-            Err(Fault::Memory) => Err(Fault::Memory),
-            Err(Fault::Storage) => {
-                self.spent = true;
-                Err(Fault::Storage)
-            }
-        }
+        let answer = granting::grant(&mut self.conn, token, name, level);
+        noted(&mut self.spent, answer)
     }
 
     fn revoke(&mut self, token: &Token, name: &RepoName) -> Result<(), Fault> {
         if self.spent {
             return Err(Fault::Storage);
         }
-        match granting::revoke(&mut self.conn, token, name) {
-            Ok(()) => Ok(()),
-            Err(Fault::Memory) => Err(Fault::Memory),
-            Err(Fault::Storage) => {
-                self.spent = true;
-                Err(Fault::Storage)
-            }
-        }
+        let answer = granting::revoke(&mut self.conn, token, name);
+        noted(&mut self.spent, answer)
     }
 
     fn drop_sessions(&mut self, name: &RepoName) -> Result<(), Fault> {
         if self.spent {
             return Err(Fault::Storage);
         }
-        match sessions::drop_sessions(&mut self.conn, name) {
-            Ok(()) => Ok(()),
-            Err(Fault::Memory) => Err(Fault::Memory),
-            Err(Fault::Storage) => {
-                self.spent = true;
-                Err(Fault::Storage)
-            }
-        }
+        let answer = sessions::drop_sessions(&mut self.conn, name);
+        noted(&mut self.spent, answer)
     }
 
     fn clear(&mut self) -> Result<(), Fault> {
         if self.spent {
             return Err(Fault::Storage);
         }
-        match clearing::clear(self.alloc, &mut self.conn) {
-            Ok(()) => Ok(()),
-            Err(Fault::Memory) => Err(Fault::Memory),
-            Err(Fault::Storage) => {
-                self.spent = true;
-                Err(Fault::Storage)
-            }
-        }
+        let answer = clearing::clear(self.alloc, &mut self.conn);
+        noted(&mut self.spent, answer)
     }
 }

@@ -18,6 +18,7 @@ mod making;
 mod manifests;
 mod mounting;
 mod names;
+mod noting;
 mod numbers;
 mod opening;
 mod pieces;
@@ -36,6 +37,6 @@ mod uploads;
 mod version;
 mod written;
 
-pub use opening::OpenFault;
+pub use opening::{OpenFault, take_up};
 pub use store::Store;
 pub use written::Written;

@@ -1,11 +1,13 @@
 //! The making of a registry's tables.
-ghost use Rattle.std.specs.Prelude.{◌≡◌, OnOk, IsTrue, ⊤};
+ghost use Rattle.std.specs.Prelude.{◌≡◌, OnOk, OnErr, IfErr, IsTrue, ⊤};
 ghost use Rattle.sqlite.specs.State.{HasCleanDisk, KeepsCommit, Survives};
 ghost use Rattle.sqlite.specs.Held.{state};
 ghost use Rattle.registry_tables.specs.Schema.{no_schema};
 ghost use Rattle.registry_tables.specs.Making.{IsEmptyWith};
 ghost use Rattle.registry_model.specs.World.{no_world};
-ghost use Rattle.registry_store.specs.Held.{IsReady, Makes};
+ghost use Rattle.registry_store.specs.Held.{IsReady, Makes, IsBack};
+ghost use Rattle.registry_store.specs.Opening.{IsIdle};
+ghost use Rattle.registry_store.specs.Asking.{IsUnnumbered};
 ghost use Rattle.registry_store.specs.Steps.{VersionComes, IsNew};
 
 use crate::opening::OpenFault;
@@ -14,7 +16,9 @@ use sqlite::{Alter, Connection, Error, ErrorCode, Transaction};
 use sqlite_resolve::CompileError;
 
 /// Why tables are not made: a name that is taken is told apart.
-fn fault_in_making(error: Error) -> OpenFault {
+fn fault_in_making(error: Error) -> OpenFault
+    ensures { IsUnnumbered result }
+{
     match error {
         Error::SqliteFailure(ErrorCode::OutOfMemory) => OpenFault::Memory,
         Error::SqliteFailure(ErrorCode::NameTaken) => OpenFault::NotARegistry,
@@ -25,8 +29,10 @@ fn fault_in_making(error: Error) -> OpenFault {
 
 /// Writes which schema the tables are.
 fn add_version<S: Alter>(tx: &mut Transaction<'_, S>) -> Result<(), Error>
+    requires begun { HasCleanDisk (state S.Store tx.old.conn.now) → IsTrue (state S.Store tx.old.conn.now).in_transaction }
     ensures added { HasCleanDisk (state S.Store tx.new.conn.now) → IsReady (state S.Store tx.old.conn.now) → OnOk result (VersionComes (state S.Store tx.old.conn.now) (state S.Store tx.new.conn.now)) }
-    ensures kept { HasCleanDisk (state S.Store tx.new.conn.now) → IsReady (state S.Store tx.old.conn.now) → KeepsCommit (state S.Store tx.old.conn.now) (state S.Store tx.new.conn.now) }
+    ensures inside { HasCleanDisk (state S.Store tx.new.conn.now) → OnOk result (IsTrue (state S.Store tx.new.conn.now).in_transaction) }
+    ensures kept { HasCleanDisk (state S.Store tx.new.conn.now) → KeepsCommit (state S.Store tx.old.conn.now) (state S.Store tx.new.conn.now) }
     ensures same_reference { tx.new.conn.ghost_name ≡ tx.old.conn.ghost_name }
     ensures survives { Survives (state S.Store tx.old.conn.now) (state S.Store tx.new.conn.now) (λ _. ⊥) }
 {
@@ -40,7 +46,8 @@ fn add_version<S: Alter>(tx: &mut Transaction<'_, S>) -> Result<(), Error>
 fn make<S: Alter>(tx: &mut Transaction<'_, S>) -> Result<(), Error>
     requires { HasCleanDisk (state S.Store tx.old.conn.now) → IsTrue (state S.Store tx.old.conn.now).in_transaction }
     ensures made { HasCleanDisk (state S.Store tx.new.conn.now) → IsEmptyWith no_schema (state S.Store tx.old.conn.now).now → OnOk result (IsNew (state S.Store tx.new.conn.now)) }
-    ensures kept { HasCleanDisk (state S.Store tx.new.conn.now) → IsEmptyWith no_schema (state S.Store tx.old.conn.now).now → KeepsCommit (state S.Store tx.old.conn.now) (state S.Store tx.new.conn.now) }
+    ensures inside { HasCleanDisk (state S.Store tx.new.conn.now) → OnOk result (IsTrue (state S.Store tx.new.conn.now).in_transaction) }
+    ensures kept { HasCleanDisk (state S.Store tx.new.conn.now) → KeepsCommit (state S.Store tx.old.conn.now) (state S.Store tx.new.conn.now) }
     ensures same_reference { tx.new.conn.ghost_name ≡ tx.old.conn.ghost_name }
     ensures survives { Survives (state S.Store tx.old.conn.now) (state S.Store tx.new.conn.now) (λ _. ⊥) }
 {
@@ -53,6 +60,7 @@ fn make<S: Alter>(tx: &mut Transaction<'_, S>) -> Result<(), Error>
 /// The same, in a transaction of its own.
 fn make_alone<S: Alter>(conn: &mut Connection<S>) -> Result<(), Error>
     ensures made { HasCleanDisk (state S.Store conn.new) → IsEmptyWith no_schema (state S.Store conn.old).now → OnOk result (Makes (state S.Store conn.new) no_world) }
+    ensures back { HasCleanDisk (state S.Store conn.new) → IsIdle (state S.Store conn.old) → OnErr result (IsBack (state S.Store conn.old) (state S.Store conn.new)) }
     ensures survives { Survives (state S.Store conn.old) (state S.Store conn.new) (λ _. ⊤) }
 {
     if !conn.is_autocommit() {
@@ -70,6 +78,8 @@ fn make_alone<S: Alter>(conn: &mut Connection<S>) -> Result<(), Error>
 /// grants. `NotARegistry`: one of their names is taken.
 pub(crate) fn create<S: Alter>(conn: &mut Connection<S>) -> Result<(), OpenFault>
     ensures made { HasCleanDisk (state S.Store conn.new) → IsEmptyWith no_schema (state S.Store conn.old).now → OnOk result (Makes (state S.Store conn.new) no_world) }
+    ensures back { HasCleanDisk (state S.Store conn.new) → IsIdle (state S.Store conn.old) → OnErr result (IsBack (state S.Store conn.old) (state S.Store conn.new)) }
+    ensures unnumbered { IfErr result IsUnnumbered }
     ensures survives { Survives (state S.Store conn.old) (state S.Store conn.new) (λ _. ⊤) }
 {
     match make_alone(conn) {

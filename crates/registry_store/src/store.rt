@@ -8,9 +8,9 @@ ghost use Rattle.sqlite.specs.WalFiles.{image_at};
 ghost use Rattle.registry_tables.specs.Schema.{no_schema};
 ghost use Rattle.registry_tables.specs.Making.{IsEmptyWith};
 ghost use Rattle.registry_model.specs.World.{no_world};
-ghost use Rattle.registry_store.specs.Held.{IsSettled, world_in};
+ghost use Rattle.registry_store.specs.Held.{IsSettled, IsBack, world_in};
 ghost use Rattle.registry_store.specs.Opening.{IsIdle, IsOurs, HoldsRegistry, SaysTwo, OpensOn};
-ghost use Rattle.registry_store.specs.Asking.{IsWanting};
+ghost use Rattle.registry_store.specs.Asking.{IsWanting, IsTold};
 
 use crate::opening::{OpenFault, fault_in_opening, take_up};
 use crate::written::Written;
@@ -62,8 +62,8 @@ impl Store<MemStore> {
 
 impl<S: Alter + Drop> Store<S> {
     /// The registry in the tables of a database: they are made where there are none. That no one else wrote
-    /// the tables is for the caller to know. A refusal hands the connection back: `Schema` where the tables
-    /// are of another schema than 2, `NotARegistry` where a name is taken by what is none of a registry's.
+    /// the tables is for the caller to know. A refusal hands the connection back, with the tables as they were
+    /// where it is open still: `Schema` where they are of another schema than 2, `NotARegistry` where a name is taken by what is none of a registry's.
     pub fn adopt(
         alloc: Global,
         mut conn: Connection<S>,
@@ -74,6 +74,8 @@ impl<S: Alter + Drop> Store<S> {
         ensures found { IfOk result (λ s. HasCleanDisk (state S.Store s.conn) → HoldsRegistry (state S.Store conn).now → (state S.Store s.conn).now ≡ (state S.Store conn).now) }
         ensures unspent { IfOk result (λ s. s.spent ≡ false) }
         ensures survives { IfOk result (λ s. Survives (state S.Store conn) (state S.Store s.conn) (λ _. ⊤)) }
+        ensures told { IfErr result (λ e. HasCleanDisk (state S.Store e.1) → IsTold (state S.Store conn) e.0) }
+        ensures refused { IfErr result (λ e. HasCleanDisk (state S.Store e.1) → IsBack (state S.Store conn) (state S.Store e.1)) }
         ensures wanting { IfErr result (λ e. HasCleanDisk (state S.Store e.1) → HoldsRegistry (state S.Store conn).now → SaysTwo (state S.Store conn).now → IsWanting e.0) }
     {
         match take_up(&mut conn) {

@@ -5,16 +5,17 @@ ghost use Rattle.sqlite.specs.State.{HasCleanDisk, IsUnchanged, Survives};
 ghost use Rattle.sqlite.specs.Held.{state};
 ghost use Rattle.sqlite.specs.Order.{column};
 ghost use Rattle.sqlite.specs.declared.types.Value.TheVariants.{Int};
-ghost use Rattle.registry_store.specs.Held.{HoldsTables, held};
+ghost use Rattle.registry_store.specs.Held.{HoldsTables, LeavesAsWas, held};
 ghost use Rattle.registry_store.specs.Opening.{SaysTwo};
-ghost use Rattle.registry_store.specs.Asking.{IsWanting, IsFailing};
+ghost use Rattle.registry_store.specs.Asking.{IsWanting, IsFailing, IsUnnumbered, ShowsAlone, AnswersVersion, IsOfSchema};
 
 use crate::opening::OpenFault;
 use sqlite::{Alter, Connection, Error, ErrorCode, Row};
 
 /// Why the version is not read: a text that the tables do not answer is told apart.
 fn fault_in_reading(error: Error) -> OpenFault
-    ensures { IsFailing error → IsWanting result }
+    ensures wanting { IsFailing error → IsWanting result }
+    ensures unnumbered { IsUnnumbered result }
 {
     match error {
         Error::SqliteFailure(ErrorCode::OutOfMemory) => OpenFault::Memory,
@@ -23,11 +24,13 @@ fn fault_in_reading(error: Error) -> OpenFault
     }
 }
 
-/// The versions that the tables say they are.
+/// The versions that the tables say they are. Whatever they are, nothing is written.
 fn version_rows<S: Alter>(conn: &mut Connection<S>) -> Result<Vec<Row>, Error>
     ensures shown { HasCleanDisk (state S.Store conn.new) → HoldsTables (state S.Store conn.old).now → IfOk result (λ rows. IsPermutation (map (λ r. column r 1 ∷ []) (held (state S.Store conn.old)).version) rows.items) }
     ensures same { HasCleanDisk (state S.Store conn.new) → HoldsTables (state S.Store conn.old).now → OnOk result (IsUnchanged (state S.Store conn.old) (state S.Store conn.new)) }
     ensures failing { HasCleanDisk (state S.Store conn.new) → HoldsTables (state S.Store conn.old).now → IfErr result IsFailing }
+    ensures left { HasCleanDisk (state S.Store conn.new) → LeavesAsWas (state S.Store conn.old) (state S.Store conn.new) }
+    ensures answered { HasCleanDisk (state S.Store conn.new) → IfOk result (λ rows. AnswersVersion (state S.Store conn.old) rows.items) }
     ensures survives { Survives (state S.Store conn.old) (state S.Store conn.new) (λ _. ⊤) }
 {
     conn.query_all("SELECT version FROM registry_schema", &[])
@@ -35,7 +38,9 @@ fn version_rows<S: Alter>(conn: &mut Connection<S>) -> Result<Vec<Row>, Error>
 
 /// The one version that the rows say, a whole number.
 fn version_in(rows: &[Row]) -> Result<i64, OpenFault>
-    ensures { rows.now ≡ (Int (pos 2) ∷ []) ∷ [] → IfOk result (λ n. n ≡ pos 2) × IfErr result IsWanting }
+    ensures two { rows.now ≡ (Int (pos 2) ∷ []) ∷ [] → IfOk result (λ n. n ≡ pos 2) × IfErr result IsWanting }
+    ensures alone { IfOk result (ShowsAlone rows.now) }
+    ensures unnumbered { IfErr result IsUnnumbered }
 {
     let [row] = rows else {
         return Err(OpenFault::NotARegistry);
@@ -52,6 +57,9 @@ pub(crate) fn read_version<S: Alter>(conn: &mut Connection<S>) -> Result<i64, Op
     ensures found { HasCleanDisk (state S.Store conn.new) → HoldsTables (state S.Store conn.old).now → SaysTwo (state S.Store conn.old).now → IfOk result (λ n. n ≡ pos 2) }
     ensures same { HasCleanDisk (state S.Store conn.new) → HoldsTables (state S.Store conn.old).now → OnOk result (IsUnchanged (state S.Store conn.old) (state S.Store conn.new)) }
     ensures wanting { HasCleanDisk (state S.Store conn.new) → HoldsTables (state S.Store conn.old).now → SaysTwo (state S.Store conn.old).now → IfErr result IsWanting }
+    ensures left { HasCleanDisk (state S.Store conn.new) → LeavesAsWas (state S.Store conn.old) (state S.Store conn.new) }
+    ensures told { HasCleanDisk (state S.Store conn.new) → IfOk result (IsOfSchema (state S.Store conn.old)) }
+    ensures unnumbered { IfErr result IsUnnumbered }
     ensures survives { Survives (state S.Store conn.old) (state S.Store conn.new) (λ _. ⊤) }
 {
     match version_rows(conn) {

@@ -3,7 +3,7 @@ use Rattle.std.proofs.lemmas.List.{take_all}
 use Rattle.sqlite.specs.Held.{state}
 use Rattle.registry_store.specs.Held.{held}
 use Rattle.registry_store.specs.Naming.{ContentsGone}
-use Rattle.registry_store.proofs.Freed.{so_far_none, so_far_more, so_far_kept}
+use Rattle.registry_store.proofs.Freed.{so_far_none, so_far_more}
 use Rattle.registry_store.proofs.clearing.take_contents.Goals as goal
 
 pub loop-id-init : goal.loop-id-init

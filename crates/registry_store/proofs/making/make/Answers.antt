@@ -1,7 +1,7 @@
 use Rattle.std.proofs.Common.{arith}
 use Rattle.sqlite.specs.State.{HasCleanDisk}
 use Rattle.sqlite.specs.Held.{state}
-use Rattle.registry_store.proofs.FreshTables.{then_new, holds_none}
+use Rattle.registry_store.proofs.FreshTables.{then_new}
 use Rattle.registry_tables.proofs.Selects.{commit_then}
 use Rattle.registry_store.proofs.making.make.Goals as goal
 
@@ -11,7 +11,6 @@ returns-in-Ok-clause-made g c clean empty =
     then_new (state g.S.Store c.make_tables.new.tx.conn.now) (state g.S.Store c.add_version.new.tx.conn.now) c.add_version.result (c.in-Ok.ensures.inside mid) (c.in-Ok.ensures.made mid empty) (λ ready. c.add_version.ensures.added clean ready)
 
 pub returns-in-Ok-clause-kept : goal.returns-in-Ok-clause-kept
-returns-in-Ok-clause-kept g c clean empty =
+returns-in-Ok-clause-kept g c clean =
     let mid : HasCleanDisk (state g.S.Store c.make_tables.new.tx.conn.now) = omega (arith, c.add_version.ensures.survives.clean) in
-    commit_then (state g.S.Store c.args.tx.now.conn.now) (state g.S.Store c.make_tables.new.tx.conn.now) (state g.S.Store c.add_version.new.tx.conn.now) (c.make_tables.ensures.kept mid)
-    (c.add_version.ensures.kept clean (record { inside = c.in-Ok.ensures.inside mid; holds = holds_none (state g.S.Store c.make_tables.new.tx.conn.now).now (c.in-Ok.ensures.made mid empty) }))
+    commit_then (state g.S.Store c.args.tx.now.conn.now) (state g.S.Store c.make_tables.new.tx.conn.now) (state g.S.Store c.add_version.new.tx.conn.now) (c.make_tables.ensures.kept mid) (c.add_version.ensures.kept clean)

@@ -5,7 +5,7 @@ use Rattle.sqlite.proofs.Callers.{survives_begin}
 use Rattle.registry_tables.specs.Schema.{no_schema}
 use Rattle.registry_tables.specs.Making.{IsEmptyWith}
 use Rattle.registry_store.proofs.FreshTables.{makes_none}
-use Rattle.registry_store.proofs.Transactions.{survives_all}
+use Rattle.registry_store.proofs.Transactions.{survives_all, undone_back, failed_back, told_err}
 use Rattle.registry_store.proofs.making.make_alone.Goals as goal
 
 pub returns-in-Ok-clause-made : goal.returns-in-Ok-clause-made
@@ -26,3 +26,21 @@ pub returns-in-Err-clause-survives : goal.returns-in-Err-clause-survives
 returns-in-Err-clause-survives g c =
     let same = c.conn-2-1.given.1 (sym (c.make.ensures.same_reference ∙ c.transaction-tx.ensures.same_reference)) in
     rw same (survives_all (state g.S.Store c.args.conn.now) (state g.S.Store c.make.new.tx.conn.now) (state g.S.Store c.commit.new.self.0) _ _ (survives_begin g.S.Store c.args.conn.now (state g.S.Store c.make.new.tx.conn.now) _ (rw (c.transaction-tx.ensures.begun) at c.make.ensures.survives)) c.commit.ensures.survives)
+
+pub returns-in-Err-clause-back : goal.returns-in-Err-clause-back
+returns-in-Err-clause-back g c clean idle =
+    let begun = c.transaction-tx.ensures.begun in
+    let same = c.conn-2-1.given.1 (sym (c.make.ensures.same_reference ∙ c.transaction-tx.ensures.same_reference)) in
+    let late : HasCleanDisk (state g.S.Store c.commit.new.self.0) = rw same at clean in
+    let mid : HasCleanDisk (state g.S.Store c.make.new.tx.conn.now) = omega (arith, c.commit.ensures.survives.clean) in
+    rw same (failed_back (state g.S.Store c.args.conn.now) (state g.S.Store c.transaction-tx.result.conn.now) (state g.S.Store c.make.new.tx.conn.now) (state g.S.Store c.commit.new.self.0) _ idle.committed (rw begun)
+    (c.make.ensures.kept mid) (c.in_ok-make.ensures.inside mid) (c.in-Err.ensures.err late))
+
+pub returns-in_err-make-clause-back : goal.returns-in_err-make-clause-back
+returns-in_err-make-clause-back g c clean idle =
+    let begun = c.transaction-tx.ensures.begun in
+    let same = c.conn-1.given.1 (sym (c.make.ensures.same_reference ∙ c.transaction-tx.ensures.same_reference)) in
+    let late : HasCleanDisk (state g.S.Store c.drop-tx.new.self.0) = rw same at clean in
+    let mid : HasCleanDisk (state g.S.Store c.make.new.tx.conn.now) = omega (arith, c.drop-tx.ensures.survives.clean) in
+    told_err c.from_residual.result (rw same (undone_back (state g.S.Store c.args.conn.now) (state g.S.Store c.transaction-tx.result.conn.now) (state g.S.Store c.make.new.tx.conn.now) (state g.S.Store c.drop-tx.new.self.0) idle.committed (rw begun)
+    (c.make.ensures.kept mid) (c.drop-tx.ensures.undone late)))

@@ -3,6 +3,7 @@ use Rattle.sqlite.specs.State.{HasCleanDisk}
 use Rattle.sqlite.specs.Held.{state}
 use Rattle.registry_store.proofs.OpeningLemmas.{is_marked, settled}
 use Rattle.registry_store.proofs.Stays.{stays_read}
+use Rattle.registry_store.proofs.VersionAsked.{back_left}
 use Rattle.registry_store.proofs.opening.take_up.Goals as goal
 
 pub returns-then-not-is_marked-clause-found : goal.returns-then-not-is_marked-clause-found
@@ -22,3 +23,9 @@ returns-then-not-is_marked-clause-wanting g c clean h says =
 pub returns-in-Ok-eq2-clause-found : goal.returns-in-Ok-eq2-clause-found
 returns-in-Ok-eq2-clause-found g c clean idle h =
     stays_read (state g.S.Store c.args.conn.now) (state g.S.Store c.read_version.new.conn) (settled (state g.S.Store c.args.conn.now) idle h) (c.in-Ok-eq2.ensures.same clean h.holds)
+
+pub returns-in-Ok-clause-back : goal.returns-in-Ok-clause-back
+returns-in-Ok-clause-back g c clean idle = back_left (state g.S.Store c.args.conn.now) (state g.S.Store c.read_version.new.conn) idle.committed (c.read_version.ensures.left clean)
+
+pub returns-in-Err-clause-back : goal.returns-in-Err-clause-back
+returns-in-Err-clause-back g c clean idle = back_left (state g.S.Store c.args.conn.now) (state g.S.Store c.read_version.new.conn) idle.committed (c.read_version.ensures.left clean)

@@ -1,20 +1,16 @@
-use Rattle.std.proofs.Common.{Err, ap, ◌≡◌, true, is_some, ◌≤◌, ◌+◌, length}
+use Rattle.std.proofs.Common.{◌≡◌, true, is_some, ◌≤◌, ◌+◌, length}
 use Rattle.registry_model.specs.Lookups.{append, session_at, bytes_or_none}
 use Rattle.registry_model.specs.Limits.{largest_blob}
-use Rattle.registry_store.proofs.Kept.{asked, wrote, stood}
+use Rattle.registry_store.proofs.Kept.{asked}
+use Rattle.sqlite.specs.Held.{state}
+use Rattle.registry_store.proofs.Noted.{write_told, written, unfailed}
 use Rattle.registry_store.proofs.keeper.StoreKeeper.append.Goals as goal
 
-pub append-requires : goal.append-requires
-append-requires g c = record { settled = λ clean. c.self.invariant c.if-self.false clean; is_open = asked g.S.Store c.self.inside.conn c.args.self.now c.self.inside.spent c.self.view_is (λ w. is_some (session_at w c.args.repo.now c.args.number) ≡ true) c.if-self.false c.requires.«open»; fits = asked g.S.Store c.self.inside.conn c.args.self.now c.self.inside.spent c.self.view_is (λ w. length (bytes_or_none (session_at w c.args.repo.now c.args.number)) + length c.args.bytes.now ≤ largest_blob) c.if-self.false c.requires.fits }
+pub append-answer-requires : goal.append-answer-requires
+append-answer-requires g c = record { settled = λ clean. c.self.invariant c.if-self.false clean; is_open = asked g.S.Store c.self.inside.conn c.args.self.now c.self.inside.spent c.self.view_is (λ w. is_some (session_at w c.args.repo.now c.args.number) ≡ true) c.if-self.false c.requires.«open»; fits = asked g.S.Store c.self.inside.conn c.args.self.now c.self.inside.spent c.self.view_is (λ w. length (bytes_or_none (session_at w c.args.repo.now c.args.number)) + length c.args.bytes.now ≤ largest_blob) c.if-self.false c.requires.fits }
 
 pub invariant_of-self : goal.invariant_of-self
-invariant_of-self g c unspent clean = (c.in-Ok.ensures.made clean).0
+invariant_of-self g c unspent clean = written c.append-answer.result (state g.S.Store c.self.inside.conn) (state g.S.Store c.append-answer.new.conn) _ (unfailed _ _ _ c.noted.ensures.noted unspent) (c.append-answer.ensures.made clean) (c.append-answer.ensures.memory clean)
 
-pub returns-in-Ok-clause-made : goal.returns-in-Ok-clause-made
-returns-in-Ok-clause-made g c clean = wrote g.S.Store c.self.inside.conn c.args.self.now c.self.inside.spent c.self.view_is c.append.new.conn (λ w. append w c.args.repo.now c.args.number c.args.bytes.now) c.if-self.false (c.in-Ok.ensures.made clean).1
-
-pub invariant_of-self-in-Err-Memory : goal.invariant_of-self-in-Err-Memory
-invariant_of-self-in-Err-Memory g c unspent clean = (c.in-Err-Memory.ensures.memory clean (ap Err c.in-Err-Memory.field-0-is)).0
-
-pub returns-in-Err-Memory-clause-made : goal.returns-in-Err-Memory-clause-made
-returns-in-Err-Memory-clause-made g c clean = stood g.S.Store c.self.inside.conn c.args.self.now c.self.inside.spent c.self.view_is c.append.new.conn (c.in-Err-Memory.ensures.memory clean (ap Err c.in-Err-Memory.field-0-is)).1
+pub returns-clause-made : goal.returns-clause-made
+returns-clause-made g c clean = write_told g.S.Store c.self.inside.conn c.args.self.now c.self.inside.spent c.self.view_is c.append-answer.new.conn (λ w. append w c.args.repo.now c.args.number c.args.bytes.now) c.noted.result c.append-answer.result c.noted.new.spent c.if-self.false c.noted.ensures.same c.noted.ensures.noted (c.append-answer.ensures.made clean) (c.append-answer.ensures.memory clean)

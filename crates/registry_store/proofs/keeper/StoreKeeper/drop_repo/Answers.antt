@@ -1,19 +1,13 @@
-use Rattle.std.proofs.Common.{Err, ap}
 use Rattle.registry_model.specs.Command.{drop_repo}
-use Rattle.registry_store.proofs.Kept.{wrote, stood}
+use Rattle.sqlite.specs.Held.{state}
+use Rattle.registry_store.proofs.Noted.{write_told, written, unfailed}
 use Rattle.registry_store.proofs.keeper.StoreKeeper.drop_repo.Goals as goal
 
-pub drop_repo-requires : goal.drop_repo-requires
-drop_repo-requires g c = record { settled = λ clean. c.self.invariant c.if-self.false clean }
+pub drop_repo-answer-requires : goal.drop_repo-answer-requires
+drop_repo-answer-requires g c = record { settled = λ clean. c.self.invariant c.if-self.false clean }
 
 pub invariant_of-self : goal.invariant_of-self
-invariant_of-self g c unspent clean = (c.in-Ok.ensures.made clean).0
+invariant_of-self g c unspent clean = written c.drop_repo-answer.result (state g.S.Store c.self.inside.conn) (state g.S.Store c.drop_repo-answer.new.conn) _ (unfailed _ _ _ c.noted.ensures.noted unspent) (c.drop_repo-answer.ensures.made clean) (c.drop_repo-answer.ensures.memory clean)
 
-pub returns-in-Ok-clause-made : goal.returns-in-Ok-clause-made
-returns-in-Ok-clause-made g c clean = wrote g.S.Store c.self.inside.conn c.args.self.now c.self.inside.spent c.self.view_is c.drop_repo.new.conn (λ w. drop_repo w c.args.name.now) c.if-self.false (c.in-Ok.ensures.made clean).1
-
-pub invariant_of-self-in-Err-Memory : goal.invariant_of-self-in-Err-Memory
-invariant_of-self-in-Err-Memory g c unspent clean = (c.in-Err-Memory.ensures.memory clean (ap Err c.in-Err-Memory.field-0-is)).0
-
-pub returns-in-Err-Memory-clause-made : goal.returns-in-Err-Memory-clause-made
-returns-in-Err-Memory-clause-made g c clean = stood g.S.Store c.self.inside.conn c.args.self.now c.self.inside.spent c.self.view_is c.drop_repo.new.conn (c.in-Err-Memory.ensures.memory clean (ap Err c.in-Err-Memory.field-0-is)).1
+pub returns-clause-made : goal.returns-clause-made
+returns-clause-made g c clean = write_told g.S.Store c.self.inside.conn c.args.self.now c.self.inside.spent c.self.view_is c.drop_repo-answer.new.conn (λ w. drop_repo w c.args.name.now) c.noted.result c.drop_repo-answer.result c.noted.new.spent c.if-self.false c.noted.ensures.same c.noted.ensures.noted (c.drop_repo-answer.ensures.made clean) (c.drop_repo-answer.ensures.memory clean)

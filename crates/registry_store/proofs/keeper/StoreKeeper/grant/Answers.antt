@@ -1,20 +1,16 @@
-use Rattle.std.proofs.Common.{Err, ap, ◌≡◌, true}
+use Rattle.std.proofs.Common.{◌≡◌, true}
 use Rattle.registry_model.specs.Command.{grant}
 use Rattle.registry_model.specs.World.{has_repo}
-use Rattle.registry_store.proofs.Kept.{asked, wrote, stood}
+use Rattle.registry_store.proofs.Kept.{asked}
+use Rattle.sqlite.specs.Held.{state}
+use Rattle.registry_store.proofs.Noted.{write_told, written, unfailed}
 use Rattle.registry_store.proofs.keeper.StoreKeeper.grant.Goals as goal
 
-pub grant-requires : goal.grant-requires
-grant-requires g c = record { settled = λ clean. c.self.invariant c.if-self.false clean; there = asked g.S.Store c.self.inside.conn c.args.self.now c.self.inside.spent c.self.view_is (λ w. has_repo w c.args.name.now ≡ true) c.if-self.false c.requires.there }
+pub grant-answer-requires : goal.grant-answer-requires
+grant-answer-requires g c = record { settled = λ clean. c.self.invariant c.if-self.false clean; there = asked g.S.Store c.self.inside.conn c.args.self.now c.self.inside.spent c.self.view_is (λ w. has_repo w c.args.name.now ≡ true) c.if-self.false c.requires.there }
 
 pub invariant_of-self : goal.invariant_of-self
-invariant_of-self g c unspent clean = (c.in-Ok.ensures.made clean).0
+invariant_of-self g c unspent clean = written c.grant-answer.result (state g.S.Store c.self.inside.conn) (state g.S.Store c.grant-answer.new.conn) _ (unfailed _ _ _ c.noted.ensures.noted unspent) (c.grant-answer.ensures.made clean) (c.grant-answer.ensures.memory clean)
 
-pub returns-in-Ok-clause-made : goal.returns-in-Ok-clause-made
-returns-in-Ok-clause-made g c clean = wrote g.S.Store c.self.inside.conn c.args.self.now c.self.inside.spent c.self.view_is c.grant.new.conn (λ w. grant w c.args.token.now c.args.name.now c.args.level) c.if-self.false (c.in-Ok.ensures.made clean).1
-
-pub invariant_of-self-in-Err-Memory : goal.invariant_of-self-in-Err-Memory
-invariant_of-self-in-Err-Memory g c unspent clean = (c.in-Err-Memory.ensures.memory clean (ap Err c.in-Err-Memory.field-0-is)).0
-
-pub returns-in-Err-Memory-clause-made : goal.returns-in-Err-Memory-clause-made
-returns-in-Err-Memory-clause-made g c clean = stood g.S.Store c.self.inside.conn c.args.self.now c.self.inside.spent c.self.view_is c.grant.new.conn (c.in-Err-Memory.ensures.memory clean (ap Err c.in-Err-Memory.field-0-is)).1
+pub returns-clause-made : goal.returns-clause-made
+returns-clause-made g c clean = write_told g.S.Store c.self.inside.conn c.args.self.now c.self.inside.spent c.self.view_is c.grant-answer.new.conn (λ w. grant w c.args.token.now c.args.name.now c.args.level) c.noted.result c.grant-answer.result c.noted.new.spent c.if-self.false c.noted.ensures.same c.noted.ensures.noted (c.grant-answer.ensures.made clean) (c.grant-answer.ensures.memory clean)

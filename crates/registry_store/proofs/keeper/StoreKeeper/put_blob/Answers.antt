@@ -1,20 +1,16 @@
-use Rattle.std.proofs.Common.{Err, ap, ◌≡◌, true}
+use Rattle.std.proofs.Common.{◌≡◌, true}
 use Rattle.registry_model.specs.Lookups.{put_blob}
 use Rattle.registry_model.specs.World.{has_repo}
-use Rattle.registry_store.proofs.Kept.{asked, wrote, stood}
+use Rattle.registry_store.proofs.Kept.{asked}
+use Rattle.sqlite.specs.Held.{state}
+use Rattle.registry_store.proofs.Noted.{write_told, written, unfailed}
 use Rattle.registry_store.proofs.keeper.StoreKeeper.put_blob.Goals as goal
 
-pub put_blob-requires : goal.put_blob-requires
-put_blob-requires g c = record { settled = λ clean. c.self.invariant c.if-self.false clean; there = asked g.S.Store c.self.inside.conn c.args.self.now c.self.inside.spent c.self.view_is (λ w. has_repo w c.args.repo.now ≡ true) c.if-self.false c.requires.there; matching = c.requires.matching; fits = c.requires.fits }
+pub put_blob-answer-requires : goal.put_blob-answer-requires
+put_blob-answer-requires g c = record { settled = λ clean. c.self.invariant c.if-self.false clean; there = asked g.S.Store c.self.inside.conn c.args.self.now c.self.inside.spent c.self.view_is (λ w. has_repo w c.args.repo.now ≡ true) c.if-self.false c.requires.there; matching = c.requires.matching; fits = c.requires.fits }
 
 pub invariant_of-self : goal.invariant_of-self
-invariant_of-self g c unspent clean = (c.in-Ok.ensures.made clean).0
+invariant_of-self g c unspent clean = written c.put_blob-answer.result (state g.S.Store c.self.inside.conn) (state g.S.Store c.put_blob-answer.new.conn) _ (unfailed _ _ _ c.noted.ensures.noted unspent) (c.put_blob-answer.ensures.made clean) (c.put_blob-answer.ensures.memory clean)
 
-pub returns-in-Ok-clause-made : goal.returns-in-Ok-clause-made
-returns-in-Ok-clause-made g c clean = wrote g.S.Store c.self.inside.conn c.args.self.now c.self.inside.spent c.self.view_is c.put_blob.new.conn (λ w. put_blob w c.args.repo.now c.args.digest.now c.args.bytes.now) c.if-self.false (c.in-Ok.ensures.made clean).1
-
-pub invariant_of-self-in-Err-Memory : goal.invariant_of-self-in-Err-Memory
-invariant_of-self-in-Err-Memory g c unspent clean = (c.in-Err-Memory.ensures.memory clean (ap Err c.in-Err-Memory.field-0-is)).0
-
-pub returns-in-Err-Memory-clause-made : goal.returns-in-Err-Memory-clause-made
-returns-in-Err-Memory-clause-made g c clean = stood g.S.Store c.self.inside.conn c.args.self.now c.self.inside.spent c.self.view_is c.put_blob.new.conn (c.in-Err-Memory.ensures.memory clean (ap Err c.in-Err-Memory.field-0-is)).1
+pub returns-clause-made : goal.returns-clause-made
+returns-clause-made g c clean = write_told g.S.Store c.self.inside.conn c.args.self.now c.self.inside.spent c.self.view_is c.put_blob-answer.new.conn (λ w. put_blob w c.args.repo.now c.args.digest.now c.args.bytes.now) c.noted.result c.put_blob-answer.result c.noted.new.spent c.if-self.false c.noted.ensures.same c.noted.ensures.noted (c.put_blob-answer.ensures.made clean) (c.put_blob-answer.ensures.memory clean)

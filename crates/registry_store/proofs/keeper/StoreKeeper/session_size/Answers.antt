@@ -1,23 +1,12 @@
-use Rattle.std.proofs.Common.{Bool, Err, ap, refl}
 use Rattle.registry_model.specs.Lookups.{session_size_at}
-use Rattle.registry_store.specs.Held.{is_storage}
-use Rattle.registry_store.proofs.Kept.{found, stood}
+use Rattle.registry_store.proofs.Noted.{read_told, unfailed}
 use Rattle.registry_store.proofs.keeper.StoreKeeper.session_size.Goals as goal
 
-pub session_size-requires : goal.session_size-requires
-session_size-requires g c = λ clean. c.self.invariant c.if-self.false clean
+pub session_size-answer-requires : goal.session_size-answer-requires
+session_size-answer-requires g c = λ clean. c.self.invariant c.if-self.false clean
 
 pub invariant_of-self : goal.invariant_of-self
-invariant_of-self g c unspent clean = (c.in-Ok.ensures.settled clean refl).0
+invariant_of-self g c unspent clean = (c.session_size-answer.ensures.settled clean (unfailed _ _ _ c.noted.ensures.noted unspent)).0
 
-pub returns-in-Ok-clause-found : goal.returns-in-Ok-clause-found
-returns-in-Ok-clause-found g c clean = (
-  found g.S.Store c.self.inside.conn c.args.self.now c.self.inside.spent c.self.view_is (λ w. session_size_at w c.args.repo.now c.args.number) _ (c.in-Ok.ensures.found clean),
-  stood g.S.Store c.self.inside.conn c.args.self.now c.self.inside.spent c.self.view_is c.session_size.new.conn (c.in-Ok.ensures.settled clean refl).1,
-)
-
-pub invariant_of-self-in-Err-Memory : goal.invariant_of-self-in-Err-Memory
-invariant_of-self-in-Err-Memory g c unspent clean = (c.in-Err-Memory.ensures.settled clean (ap (λ f. is_storage {A = Bool} (Err f)) c.in-Err-Memory.field-0-is)).0
-
-pub returns-in-Err-Memory-clause-found : goal.returns-in-Err-Memory-clause-found
-returns-in-Err-Memory-clause-found g c clean = stood g.S.Store c.self.inside.conn c.args.self.now c.self.inside.spent c.self.view_is c.session_size.new.conn (c.in-Err-Memory.ensures.settled clean (ap (λ f. is_storage {A = Bool} (Err f)) c.in-Err-Memory.field-0-is)).1
+pub returns-clause-found : goal.returns-clause-found
+returns-clause-found g c clean = read_told g.S.Store c.self.inside.conn c.args.self.now c.self.inside.spent c.self.view_is c.session_size-answer.new.conn _ (λ w. session_size_at w c.args.repo.now c.args.number) c.noted.result c.session_size-answer.result c.noted.new.spent c.noted.ensures.same c.noted.ensures.noted (c.session_size-answer.ensures.found clean) (c.session_size-answer.ensures.settled clean)

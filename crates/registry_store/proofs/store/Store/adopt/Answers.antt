@@ -10,3 +10,8 @@ invariant_of-result g c unspent clean =
       | inl bare ↦ (c.in-Ok.ensures.made clean bare).0
       | inr h ↦ (c.in-Ok.ensures.found clean (c.requires.idle early) h).0
     ]
+
+pub returns-in-Err-clause-refused : goal.returns-in-Err-clause-refused
+returns-in-Err-clause-refused g c clean =
+    let early : HasCleanDisk (state g.S.Store c.args.conn) = omega (arith, c.take_up.ensures.survives.clean) in
+    c.in-Err.ensures.back clean (c.requires.idle early)
