@@ -6,9 +6,14 @@ mod carrying;
 mod commands;
 mod databases;
 mod failure;
+#[cfg(test)]
+mod file_tests;
+mod files;
 mod line;
 mod opening;
 mod options;
+#[cfg(test)]
+mod order_tests;
 mod program;
 mod sockets;
 mod stdio;
@@ -16,44 +21,10 @@ mod table;
 #[cfg(test)]
 mod tests;
 
-use databases::{Databases, Supposed};
 use failure::Failure;
-use opening::Opener;
-use registry_store::Store;
-use sqlite::{Alter, FileFrom, FileStore, Unknown};
-use sqlite_disk::Disk;
+use sqlite::Unknown;
 use std::env;
 use std::process::ExitCode;
-
-/// Does what the words say, with the ends of the process, over the tables of databases.
-fn run_over<S: Alter + Drop, O: Opener<Store<S>>>(
-    rt: &HostRuntime,
-    opener: &O,
-    words: &[String],
-) -> u8 {
-    program::run_words(
-        rt,
-        opener,
-        words,
-        &mut rt.stdin(),
-        &mut rt.stdout(),
-        &mut rt.stderr(),
-    )
-}
-
-/// The same, over databases in files.
-fn run_in_files<D: Disk + Drop, O: Opener<Store<FileStore<D>>>>(
-    rt: &HostRuntime,
-    opener: &O,
-    words: &[String],
-) -> u8 {
-    run_over::<FileStore<D>, O>(rt, opener, words)
-}
-
-/// The same, over files of which `F` says what is supposed.
-fn run<F: Supposed>(rt: &HostRuntime, words: &[String]) -> u8 {
-    run_in_files::<FileFrom<F>, Databases<'_, F>>(rt, &Databases::<F>::new(rt), words)
-}
 
 fn main(rt: HostRuntime) -> ExitCode {
     let alloc = rt.alloc();
@@ -64,5 +35,12 @@ fn main(rt: HostRuntime) -> ExitCode {
         },
         Err(_) => return ExitCode::from(Failure::OutOfMemory.status()),
     };
-    ExitCode::from(run::<Unknown>(&rt, words.as_slice()))
+    let status = files::run::<Unknown, _, _, _, _>(
+        &rt,
+        words.as_slice(),
+        &mut rt.stdin(),
+        &mut rt.stdout(),
+        &mut rt.stderr(),
+    );
+    ExitCode::from(status)
 }

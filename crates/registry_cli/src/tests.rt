@@ -26,10 +26,10 @@ const MEMORY: [&str; 6] = [
 
 /// What the program wrote and answered.
 #[derive(Drop)]
-struct Outcome {
-    status: u8,
-    out: Vec<u8>,
-    err: Vec<u8>,
+pub(crate) struct Outcome {
+    pub(crate) status: u8,
+    pub(crate) out: Vec<u8>,
+    pub(crate) err: Vec<u8>,
 }
 
 /// Opens a registry in memory under every path: `team/app` with a quota of 1,000 bytes, on which `t1`
@@ -94,7 +94,8 @@ impl Opener<MapKeeper> for Shelf {
     }
 }
 
-fn run(rt: &HostRuntime, words: &[&str], input: &[u8]) -> Outcome {
+/// Runs the program over registries in memory.
+pub(crate) fn run(rt: &HostRuntime, words: &[&str], input: &[u8]) -> Outcome {
     let mut reader = input;
     let mut out = Vec::new(rt.alloc());
     let mut err = Vec::new(rt.alloc());
@@ -104,10 +105,10 @@ fn run(rt: &HostRuntime, words: &[&str], input: &[u8]) -> Outcome {
 }
 
 /// The push of the blob `abc`, the fetch of it, and the two replies (241 and 177 bytes).
-const PUSH: &[u8] =
+pub(crate) const PUSH: &[u8] =
     b"POST /v2/team/app/blobs/uploads/?digest=sha256:ba7816bf8f01cfea414140de5dae2223b00361a396177a9cb410ff61f20015ad HTTP/1.1\r\nHost: r\r\nAuthorization: Bearer t1\r\nContent-Length: 3\r\n\r\nabcGET /v2/team/app/blobs/sha256:ba7816bf8f01cfea414140de5dae2223b00361a396177a9cb410ff61f20015ad HTTP/1.1\r\nHost: r\r\nAuthorization: Bearer t1\r\n\r\n";
 
-const REPLIES: &[u8] =
+pub(crate) const REPLIES: &[u8] =
     b"HTTP/1.1 201 Created\r\nContent-Length: 0\r\nDocker-Content-Digest: sha256:ba7816bf8f01cfea414140de5dae2223b00361a396177a9cb410ff61f20015ad\r\nLocation: /v2/team/app/blobs/sha256:ba7816bf8f01cfea414140de5dae2223b00361a396177a9cb410ff61f20015ad\r\n\r\nHTTP/1.1 200 OK\r\nContent-Length: 3\r\nContent-Type: application/octet-stream\r\nDocker-Content-Digest: sha256:ba7816bf8f01cfea414140de5dae2223b00361a396177a9cb410ff61f20015ad\r\n\r\nabc";
 
 #[test]
@@ -257,194 +258,6 @@ fn a_failed_writer_is_a_failed_connection(rt: HostRuntime) -> Result<(), Fail> {
         err.as_slice(),
         b"registry: connection failure\n".as_slice()
     );
-    Ok(())
-}
-
-/// A case: the words, the exit status, the line on standard error and what is on standard output.
-type Case<'a> = (&'a [&'a str], u8, &'a [u8]);
-
-/// Orders over a database that are carried out or refused; nothing is on standard output.
-#[test]
-fn orders_are_carried_out_or_refused(rt: HostRuntime) -> Result<(), Fail> {
-    let cases: [Case; 14] = [
-        (
-            &["repo", "--db", "f", "--name", "team/lib", "--quota", "1000"],
-            0,
-            b"",
-        ),
-        (
-            &["repo", "--db", "f", "--name", "team/app", "--quota", "1000"],
-            1,
-            b"registry: repository already there\n",
-        ),
-        (
-            &["quota", "--db", "f", "--name", "team/app", "--quota", "0"],
-            0,
-            b"",
-        ),
-        (
-            &["quota", "--db", "f", "--name", "team/lib", "--quota", "0"],
-            1,
-            b"registry: no such repository\n",
-        ),
-        (&["drop", "--db", "f", "--name", "team/app"], 0, b""),
-        (
-            &["drop", "--db", "f", "--name", "nowhere"],
-            1,
-            b"registry: no such repository\n",
-        ),
-        (&["sessions", "--db", "f", "--name", "team/app"], 0, b""),
-        (
-            &["sessions", "--db", "f", "--name", "nowhere"],
-            1,
-            b"registry: no such repository\n",
-        ),
-        (
-            &[
-                "grant",
-                "--db",
-                "f",
-                "--token=-x",
-                "--name",
-                "team/app",
-                "--level",
-                "3",
-            ],
-            0,
-            b"",
-        ),
-        (
-            &[
-                "grant", "--db", "f", "--token", "t1", "--name", "nowhere", "--level", "1",
-            ],
-            1,
-            b"registry: no such repository\n",
-        ),
-        (
-            &["revoke", "--db", "f", "--token", "t1", "--name", "team/app"],
-            0,
-            b"",
-        ),
-        (
-            &["revoke", "--db", "f", "--token", "t9", "--name", "team/app"],
-            1,
-            b"registry: no such grant\n",
-        ),
-        (&["clear", "--db", "f"], 0, b""),
-        (
-            &["clear", "--db", "other"],
-            3,
-            b"registry: not a registry\n",
-        ),
-    ];
-    for (words, status, line) in cases {
-        let ran = run(&rt, words, b"");
-        assert_eq!(rt; ran.status, status, "at {words:?}");
-        assert_eq!(rt; ran.err.as_slice(), line, "at {words:?}");
-        assert_eq!(rt; ran.out.len(), 0);
-    }
-    Ok(())
-}
-
-/// Names are told before tokens, and both before the database is opened; then why it is not.
-#[test]
-fn words_are_told_before_the_database(rt: HostRuntime) -> Result<(), Fail> {
-    let cases: [Case; 8] = [
-        (
-            &[
-                "grant", "--db", "broken", "--token", "t,", "--name", "A", "--level", "1",
-            ],
-            2,
-            b"registry: invalid name\n",
-        ),
-        (
-            &[
-                "grant", "--db", "broken", "--token", "t,", "--name", "a", "--level", "1",
-            ],
-            2,
-            b"registry: invalid token\n",
-        ),
-        (
-            &["revoke", "--db", "broken", "--token", "t,", "--name", "a"],
-            2,
-            b"registry: invalid token\n",
-        ),
-        (
-            &["drop", "--db", "broken", "--name", "A"],
-            2,
-            b"registry: invalid name\n",
-        ),
-        (
-            &["usage", "--db", "broken"],
-            3,
-            b"registry: storage failure\n",
-        ),
-        (
-            &["usage", "--db", "old"],
-            3,
-            b"registry: schema 1 is not supported\n",
-        ),
-        (
-            &["stdio", "--db", "newer"],
-            3,
-            b"registry: schema -7 is not supported\n",
-        ),
-        (
-            &["serve", "--db", "other", "--listen", "nowhere"],
-            3,
-            b"registry: not a registry\n",
-        ),
-    ];
-    for (words, status, line) in cases {
-        let ran = run(&rt, words, b"");
-        assert_eq!(rt; ran.status, status, "at {words:?}");
-        assert_eq!(rt; ran.err.as_slice(), line, "at {words:?}");
-        assert_eq!(rt; ran.out.len(), 0);
-    }
-    Ok(())
-}
-
-/// Numbers out of their range and options that are missing are told before a name that is none.
-#[test]
-fn the_command_line_refuses_first(rt: HostRuntime) -> Result<(), Fail> {
-    let cases: [&[&str]; 10] = [
-        &[
-            "grant", "--db", "f", "--token", "t1", "--name", "A", "--level", "4",
-        ],
-        &[
-            "grant", "--db", "f", "--token", "t1", "--name", "A", "--level", "0",
-        ],
-        &[
-            "repo",
-            "--db",
-            "f",
-            "--name",
-            "A",
-            "--quota",
-            "9223372036854775808",
-        ],
-        &["repo", "--db", "f", "--name", "A", "--quota", "many"],
-        &["repo", "--db", "f", "--name", "A"],
-        &["repo", "--name", "A", "--quota", "1"],
-        &["usage"],
-        &["serve", "--db", "f"],
-        &[
-            "serve",
-            "--db",
-            "f",
-            "--listen",
-            "nowhere",
-            "--connections",
-            "9223372036854775808",
-        ],
-        &[],
-    ];
-    for words in cases {
-        let ran = run(&rt, words, b"");
-        assert_eq!(rt; ran.status, 2, "at {words:?}");
-        assert!(rt; ran.out.is_empty() && !ran.err.is_empty(), "at {words:?}");
-        assert!(rt; !ran.err.starts_with(b"registry: "), "at {words:?}");
-    }
     Ok(())
 }
 

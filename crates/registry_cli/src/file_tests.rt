@@ -1,0 +1,439 @@
+//! The program over database files, each test with files of its own in the folder that it is run in.
+use crate::databases::{Databases, Supposed};
+use crate::files::run;
+use crate::opening::Opener;
+use crate::order_tests::Case;
+use crate::sockets::serve_one;
+use crate::tests::Outcome;
+use registry_http::End;
+use registry_model::Keeper;
+use registry_service::Service;
+use registry_store::Store;
+use sqlite::{Alter, Connection, FileFrom, FileStore, Unknown};
+use sqlite_disk::Disk;
+use std::alloc::Global;
+use std::fs;
+use std::io::{Read, Write};
+use std::net::{TcpListener, TcpStream};
+use std::process::Abort;
+use std::test::Fail;
+
+const POST: &[u8] =
+    b"POST /v2/team/app/blobs/uploads/?digest=sha256:ba7816bf8f01cfea414140de5dae2223b00361a396177a9cb410ff61f20015ad HTTP/1.1\r\nHost: r\r\nAuthorization: Bearer t1\r\nContent-Length: 3\r\n\r\nabc";
+
+const CREATED: &[u8] =
+    b"HTTP/1.1 201 Created\r\nContent-Length: 0\r\nDocker-Content-Digest: sha256:ba7816bf8f01cfea414140de5dae2223b00361a396177a9cb410ff61f20015ad\r\nLocation: /v2/team/app/blobs/sha256:ba7816bf8f01cfea414140de5dae2223b00361a396177a9cb410ff61f20015ad\r\n\r\n";
+
+const GET: &[u8] =
+    b"GET /v2/team/app/blobs/sha256:ba7816bf8f01cfea414140de5dae2223b00361a396177a9cb410ff61f20015ad HTTP/1.1\r\nHost: r\r\nAuthorization: Bearer t1\r\n\r\n";
+
+const FOUND: &[u8] =
+    b"HTTP/1.1 200 OK\r\nContent-Length: 3\r\nContent-Type: application/octet-stream\r\nDocker-Content-Digest: sha256:ba7816bf8f01cfea414140de5dae2223b00361a396177a9cb410ff61f20015ad\r\n\r\nabc";
+
+/// Runs the program over database files.
+fn run_on<F: Supposed>(rt: &HostRuntime, words: &[&str], input: &[u8]) -> Outcome {
+    let mut reader = input;
+    let mut out = Vec::new(rt.alloc());
+    let mut err = Vec::new(rt.alloc());
+    let status = run::<F, _, _, _, _>(rt, words, &mut reader, &mut out, &mut err);
+    Outcome { status, out, err }
+}
+
+/// Runs an order, which writes nothing to standard output.
+fn order<F: Supposed>(
+    test: &impl Abort,
+    rt: &HostRuntime,
+    words: &[&str],
+    status: u8,
+    line: &[u8],
+) -> Result<(), Fail> {
+    let ran = run_on::<F>(rt, words, b"");
+    assert_eq!(test; ran.status, status, "at {words:?}");
+    assert_eq!(test; ran.err.as_slice(), line, "at {words:?}");
+    assert_eq!(test; ran.out.len(), 0);
+    Ok(())
+}
+
+/// Makes `team/app` with a quota of 1,000 bytes, and gives `t1` level 3 on it.
+fn set_up<F: Supposed>(test: &impl Abort, rt: &HostRuntime, path: &str) -> Result<(), Fail> {
+    let repo = [
+        "repo", "--db", path, "--name", "team/app", "--quota", "1000",
+    ];
+    order::<F>(test, rt, repo.as_slice(), 0, b"")?;
+    let grant = [
+        "grant", "--db", path, "--token", "t1", "--name", "team/app", "--level", "3",
+    ];
+    order::<F>(test, rt, grant.as_slice(), 0, b"")
+}
+
+/// Serves the input as one connection over the file.
+fn serves<F: Supposed>(
+    test: &impl Abort,
+    rt: &HostRuntime,
+    path: &str,
+    input: &[u8],
+    replies: &[u8],
+) -> Result<(), Fail> {
+    let ran = run_on::<F>(rt, &["stdio", "--db", path], input);
+    assert_eq!(test; ran.status, 0);
+    assert_eq!(test; ran.out.as_slice(), replies);
+    assert_eq!(test; ran.err.len(), 0);
+    Ok(())
+}
+
+fn statuses<F: Supposed>(test: &impl Abort, rt: &HostRuntime) -> Result<(), Fail> {
+    let again: [Case; 3] = [
+        (
+            &[
+                "repo",
+                "--db",
+                "statuses.db",
+                "--name",
+                "team/app",
+                "--quota",
+                "1000",
+            ],
+            1,
+            b"registry: repository already there\n",
+        ),
+        (
+            &[
+                "grant",
+                "--db",
+                "statuses.db",
+                "--token",
+                "t1",
+                "--name",
+                "nowhere",
+                "--level",
+                "1",
+            ],
+            1,
+            b"registry: no such repository\n",
+        ),
+        (
+            &[
+                "revoke",
+                "--db",
+                "statuses.db",
+                "--token",
+                "t2",
+                "--name",
+                "team/app",
+            ],
+            1,
+            b"registry: no such grant\n",
+        ),
+    ];
+    set_up::<F>(test, rt, "statuses.db")?;
+    for (words, status, line) in again {
+        order::<F>(test, rt, words, status, line)?;
+    }
+    let level = run_on::<F>(
+        rt,
+        &[
+            "grant",
+            "--db",
+            "statuses.db",
+            "--token",
+            "t1",
+            "--name",
+            "nowhere",
+            "--level",
+            "4",
+        ],
+        b"",
+    );
+    assert_eq!(test; level.status, 2);
+    assert!(test; level.out.is_empty() && !level.err.is_empty());
+    Ok(())
+}
+
+/// Orders over one file: what the first made is there for the others.
+#[test]
+fn administrator_statuses(rt: HostRuntime) -> Result<(), Fail> {
+    statuses::<Unknown>(&rt, &rt)
+}
+
+const USAGE: &[u8] =
+    b"                used               quota     blobs manifests      tags  sessions name\n                   3                1000         1         0         0         0 team/app\n";
+
+fn survives<F: Supposed>(test: &impl Abort, rt: &HostRuntime) -> Result<(), Fail> {
+    set_up::<F>(test, rt, "survives.db")?;
+    serves::<F>(test, rt, "survives.db", POST, CREATED)?;
+    serves::<F>(test, rt, "survives.db", GET, FOUND)?;
+    let usage = run_on::<F>(rt, &["usage", "--db", "survives.db"], b"");
+    assert_eq!(test; usage.status, 0);
+    assert_eq!(test; usage.out.as_slice(), USAGE);
+    Ok(())
+}
+
+/// What one run stores, the next one serves.
+#[test]
+fn a_store_survives(rt: HostRuntime) -> Result<(), Fail> {
+    survives::<Unknown>(&rt, &rt)
+}
+
+fn execute<S: Alter>(conn: &mut Connection<S>, batch: &str) -> Result<(), Fail> {
+    conn.execute_batch(batch)?;
+    Ok(())
+}
+
+/// The whole number that a query answers first.
+fn ask<S: Alter>(conn: &mut Connection<S>, query: &str) -> Result<i64, Fail> {
+    let row = conn.query_row(query, &[])?;
+    let number: i64 = row.get(0)?;
+    Ok(number)
+}
+
+/// Runs statements over a database file, which is made where there is none.
+fn write_by<F: Supposed>(rt: &HostRuntime, path: &str, batch: &str) -> Result<(), Fail> {
+    let Ok(mut conn) = Connection::open_from(rt, path, false, F::new()) else {
+        return Err(Fail::from("no database"));
+    };
+    execute(&mut conn, batch)?;
+    match conn.close() {
+        Ok(()) => Ok(()),
+        Err(_) => Err(Fail::from("the database is not closed")),
+    }
+}
+
+fn number_in<F: Supposed>(rt: &HostRuntime, path: &str, query: &str) -> Result<i64, Fail> {
+    let Ok(mut conn) = Connection::open_from(rt, path, false, F::new()) else {
+        return Err(Fail::from("no database"));
+    };
+    ask(&mut conn, query)
+}
+
+/// A database that is no registry of schema 2.
+struct Foreign {
+    path: &'static str,
+    batch: &'static str,
+    /// What the program says of it.
+    line: &'static [u8],
+    /// What the database answers, before and after.
+    query: &'static str,
+    number: i64,
+    objects: i64,
+}
+
+const TAKEN: &[u8] = b"registry: not a registry\n";
+
+const FOREIGN: [Foreign; 8] = [
+    Foreign {
+        path: "table.db",
+        batch: "CREATE TABLE registry_tags (x INTEGER) STRICT; INSERT INTO registry_tags (x) VALUES (5)",
+        line: TAKEN,
+        query: "SELECT x FROM registry_tags",
+        number: 5,
+        objects: 1,
+    },
+    Foreign {
+        path: "index.db",
+        batch: "CREATE TABLE t (x INTEGER) STRICT; CREATE INDEX registry_contents_sha256 ON t (x); INSERT INTO t (x) VALUES (6)",
+        line: TAKEN,
+        query: "SELECT x FROM t",
+        number: 6,
+        objects: 2,
+    },
+    Foreign {
+        path: "newer.db",
+        batch: "CREATE TABLE registry_schema (version INTEGER NOT NULL) STRICT; INSERT INTO registry_schema (version) VALUES (7)",
+        line: b"registry: schema 7 is not supported\n",
+        query: "SELECT version FROM registry_schema",
+        number: 7,
+        objects: 1,
+    },
+    Foreign {
+        path: "older.db",
+        batch: "CREATE TABLE registry_schema (version INTEGER NOT NULL) STRICT; INSERT INTO registry_schema (version) VALUES (1)",
+        line: b"registry: schema 1 is not supported\n",
+        query: "SELECT version FROM registry_schema",
+        number: 1,
+        objects: 1,
+    },
+    Foreign {
+        path: "word.db",
+        batch: "CREATE TABLE registry_schema (version TEXT NOT NULL) STRICT; INSERT INTO registry_schema (version) VALUES ('2')",
+        line: TAKEN,
+        query: "SELECT COUNT(*) FROM registry_schema",
+        number: 1,
+        objects: 1,
+    },
+    Foreign {
+        path: "no_row.db",
+        batch: "CREATE TABLE registry_schema (version INTEGER NOT NULL) STRICT",
+        line: TAKEN,
+        query: "SELECT COUNT(*) FROM registry_schema",
+        number: 0,
+        objects: 1,
+    },
+    Foreign {
+        path: "two_rows.db",
+        batch: "CREATE TABLE registry_schema (version INTEGER NOT NULL) STRICT; INSERT INTO registry_schema (version) VALUES (2); INSERT INTO registry_schema (version) VALUES (2)",
+        line: TAKEN,
+        query: "SELECT COUNT(*) FROM registry_schema",
+        number: 2,
+        objects: 1,
+    },
+    Foreign {
+        path: "column.db",
+        batch: "CREATE TABLE registry_schema (edition INTEGER NOT NULL) STRICT; INSERT INTO registry_schema (edition) VALUES (2)",
+        line: TAKEN,
+        query: "SELECT edition FROM registry_schema",
+        number: 2,
+        objects: 1,
+    },
+];
+
+fn is_refused<F: Supposed>(
+    test: &impl Abort,
+    rt: &HostRuntime,
+    foreign: &Foreign,
+) -> Result<(), Fail> {
+    let path = foreign.path;
+    write_by::<F>(rt, path, foreign.batch)?;
+    let ran = run_on::<F>(rt, &["usage", "--db", path], b"");
+    assert_eq!(test; ran.status, 3, "{path}");
+    assert_eq!(test; ran.err.as_slice(), foreign.line, "{path}");
+    assert_eq!(test; ran.out.len(), 0);
+    assert_eq!(test;
+        number_in::<F>(rt, path, foreign.query)?,
+        foreign.number,
+        "{path}"
+    );
+    assert_eq!(test;
+        number_in::<F>(rt, path, "SELECT COUNT(*) FROM sqlite_schema")?,
+        foreign.objects,
+        "{path}"
+    );
+    Ok(())
+}
+
+/// Databases that are none of a registry's, or of another schema, are told and left as they are.
+#[test]
+fn foreign_databases_are_refused(rt: HostRuntime) -> Result<(), Fail> {
+    for foreign in &FOREIGN {
+        is_refused::<Unknown>(&rt, &rt, foreign)?;
+    }
+    Ok(())
+}
+
+fn refuses_junk<F: Supposed>(test: &impl Abort, rt: &HostRuntime) -> Result<(), Fail> {
+    let mut junk = String::new(rt.alloc());
+    for _ in 0..300 {
+        junk.push_str("This is no database.")?;
+    }
+    fs::write(rt, "junk.db", junk.as_str())?;
+    let ran = run_on::<F>(rt, &["clear", "--db", "junk.db"], b"");
+    assert_eq!(test; ran.status, 3);
+    assert_eq!(test;
+        ran.err.as_slice(),
+        b"registry: storage failure\n".as_slice()
+    );
+    let left = fs::read_to_string(rt, "junk.db")?;
+    assert_eq!(test; left.as_str(), junk.as_str());
+    Ok(())
+}
+
+#[test]
+fn a_file_that_is_no_database_is_left(rt: HostRuntime) -> Result<(), Fail> {
+    refuses_junk::<Unknown>(&rt, &rt)
+}
+
+fn leaves_others_alone<F: Supposed>(test: &impl Abort, rt: &HostRuntime) -> Result<(), Fail> {
+    let path = "others.db";
+    write_by::<F>(
+        rt,
+        path,
+        "CREATE TABLE notes (x INTEGER) STRICT; INSERT INTO notes (x) VALUES (8)",
+    )?;
+    set_up::<F>(test, rt, path)?;
+    serves::<F>(test, rt, path, POST, CREATED)?;
+    serves::<F>(test, rt, path, GET, FOUND)?;
+    assert_eq!(test; number_in::<F>(rt, path, "SELECT x FROM notes")?, 8);
+    Ok(())
+}
+
+/// Tables of other names stay, and a registry behind them works as another does.
+#[test]
+fn tables_of_other_names_are_left_alone(rt: HostRuntime) -> Result<(), Fail> {
+    leaves_others_alone::<Unknown>(&rt, &rt)
+}
+
+/// Serves one connection, whose client closes its end, and reads what it was answered.
+fn served<K: Keeper>(
+    test: &impl Abort,
+    rt: &HostRuntime,
+    alloc: Global,
+    service: &mut Service<K>,
+    input: &[u8],
+) -> Result<Vec<u8>, Fail> {
+    let listener = TcpListener::bind(rt, "127.0.0.1:0")?;
+    let mut client = TcpStream::connect(rt, listener.local_addr()?)?;
+    client.write_all(input)?;
+    let end = serve_one(alloc, &listener, service)?;
+    assert_eq!(test; end, End::Closed);
+    let mut replies = Vec::new(alloc);
+    client.read_to_end(&mut replies)?;
+    Ok(replies)
+}
+
+/// Serves one connection over the registry that an opener finds at a path.
+fn served_from<K: Keeper + Drop, O: Opener<K>>(
+    test: &impl Abort,
+    rt: &HostRuntime,
+    opener: &O,
+    path: &str,
+    input: &[u8],
+) -> Result<Vec<u8>, Fail> {
+    let Ok(kept) = opener.open(path) else {
+        return Err(Fail::from("no registry"));
+    };
+    let mut service = Service::new(kept);
+    served(test, rt, rt.alloc(), &mut service, input)
+}
+
+/// The same, over the tables of databases.
+fn served_over<S: Alter + Drop, O: Opener<Store<S>>>(
+    test: &impl Abort,
+    rt: &HostRuntime,
+    opener: &O,
+    path: &str,
+    input: &[u8],
+) -> Result<Vec<u8>, Fail> {
+    served_from::<Store<S>, O>(test, rt, opener, path, input)
+}
+
+/// The same, over databases in files.
+fn served_in_files<D: Disk + Drop, O: Opener<Store<FileStore<D>>>>(
+    test: &impl Abort,
+    rt: &HostRuntime,
+    opener: &O,
+    path: &str,
+    input: &[u8],
+) -> Result<Vec<u8>, Fail> {
+    served_over::<FileStore<D>, O>(test, rt, opener, path, input)
+}
+
+fn on_loopback<F: Supposed>(test: &impl Abort, rt: &HostRuntime) -> Result<(), Fail> {
+    set_up::<F>(test, rt, "loopback.db")?;
+    let replies = served_in_files::<FileFrom<F>, Databases<'_, F>>(
+        test,
+        rt,
+        &Databases::<F>::new(rt),
+        "loopback.db",
+        b"GET /v2/ HTTP/1.1\r\nHost: r\r\nAuthorization: Bearer t1\r\nConnection: close\r\n\r\n",
+    )?;
+    assert_eq!(test;
+        replies.as_slice(),
+        b"HTTP/1.1 200 OK\r\nContent-Length: 2\r\nContent-Type: application/json\r\nConnection: close\r\n\r\n{}".as_slice()
+    );
+    Ok(())
+}
+
+/// A socket, a registry in a file, and one connection between them.
+#[test]
+fn one_connection_on_loopback(rt: HostRuntime) -> Result<(), Fail> {
+    on_loopback::<Unknown>(&rt, &rt)
+}
