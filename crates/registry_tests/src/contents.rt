@@ -46,8 +46,8 @@ pub fn with_three_links<M: Maker>(
     Ok(registry)
 }
 
-/// Deletes the two blobs of `t1`, and clears: the third repository has its own still.
-pub fn delete_own<K: Keeper>(
+/// Deletes the two blobs of `t1`.
+pub fn delete_two<K: Keeper>(
     rt: &impl Abort,
     alloc: Global,
     registry: &mut Service<K>,
@@ -56,7 +56,16 @@ pub fn delete_own<K: Keeper>(
         ask("t1", "DELETE /v2/team/app/blobs/{abc}", DELETED),
         ask("t1", "DELETE /v2/team/lib/blobs/{abc}", DELETED),
     ];
-    talk(rt, alloc, registry, deletions.as_slice())?;
+    talk(rt, alloc, registry, deletions.as_slice())
+}
+
+/// Deletes them, and clears: the third repository has its own still.
+pub fn delete_own<K: Keeper>(
+    rt: &impl Abort,
+    alloc: Global,
+    registry: &mut Service<K>,
+) -> Result<(), Fail> {
+    delete_two(rt, alloc, registry)?;
     registry.admin(&AdminCommand::Clear)?;
     let dialogue = [
         ask("t1", "GET /v2/team/app/blobs/{abc}", BLOB_UNKNOWN),

@@ -12,6 +12,8 @@ mod connections;
 #[cfg(test)]
 mod contents;
 #[cfg(test)]
+mod counts;
+#[cfg(test)]
 mod dialogue;
 #[cfg(test)]
 mod isolation;
@@ -29,6 +31,8 @@ mod pieces;
 mod quota;
 #[cfg(test)]
 mod referrers;
+#[cfg(test)]
+mod refusals;
 #[cfg(test)]
 mod replies;
 #[cfg(test)]

@@ -3,7 +3,7 @@
 use crate::setting::InMaps;
 use crate::{
     administrator, blobs, clients, connections, contents, isolation, manifests, pages, pieces,
-    quota, referrers, runs, uploads,
+    quota, referrers, refusals, runs, uploads,
 };
 use std::test::Fail;
 
@@ -134,7 +134,7 @@ fn pieces_outlive_anothers_blob(rt: HostRuntime) -> Result<(), Fail> {
 
 #[test]
 fn ungranted_and_absent_alike(rt: HostRuntime) -> Result<(), Fail> {
-    isolation::ungranted_and_absent_alike::<InMaps>(&rt, rt.alloc())
+    refusals::ungranted_and_absent_alike::<InMaps>(&rt, rt.alloc())
 }
 
 #[test]
@@ -144,17 +144,17 @@ fn nothing_of_others_is_seen_or_mounted(rt: HostRuntime) -> Result<(), Fail> {
 
 #[test]
 fn paths_and_names(rt: HostRuntime) -> Result<(), Fail> {
-    isolation::paths_and_names::<InMaps>(&rt, rt.alloc())
+    refusals::paths_and_names::<InMaps>(&rt, rt.alloc())
 }
 
 #[test]
 fn methods_of_each_form(rt: HostRuntime) -> Result<(), Fail> {
-    isolation::methods_of_each_form::<InMaps>(&rt, rt.alloc())
+    refusals::methods_of_each_form::<InMaps>(&rt, rt.alloc())
 }
 
 #[test]
 fn refusals_before_look_up(rt: HostRuntime) -> Result<(), Fail> {
-    isolation::refusals_before_look_up::<InMaps>(&rt, rt.alloc())
+    refusals::refusals_before_look_up::<InMaps>(&rt, rt.alloc())
 }
 
 #[test]

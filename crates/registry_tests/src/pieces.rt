@@ -1,4 +1,5 @@
-use crate::setting::{ABC, HELLO, Maker, Served, created, found, serve, setting};
+use crate::replies::DELETED;
+use crate::setting::{ABC, HELLO, Maker, Served, ask, created, found, serve, setting};
 use oci_names::{RepoName, Token};
 use registry_http::{End, serve_connection};
 use registry_model::{AdminCommand, Keeper, Level, Quota};
@@ -92,63 +93,79 @@ fn chunked_replies(alloc: Global) -> Result<String, Fail> {
 }
 
 /// Serves the input, cut into two reads.
-fn serve_cut<M: Maker>(alloc: Global, input: &[u8], at: usize) -> Result<Served, Fail> {
-    let mut registry = setting::<M>(alloc)?;
+fn serve_cut<K: Keeper>(
+    alloc: Global,
+    registry: &mut Service<K>,
+    input: &[u8],
+    at: usize,
+) -> Served {
     let (first, second) = input.split_at(at.min(input.len()));
     let mut reader = Cut { first, second };
     let mut output = Vec::new(alloc);
-    let end = serve_connection(alloc, &mut registry, &mut reader, &mut output);
-    Ok(Served { end, output })
+    let end = serve_connection(alloc, registry, &mut reader, &mut output);
+    Served { end, output }
 }
 
 /// Serves the input in reads of one size.
-fn serve_pieces<M: Maker>(alloc: Global, left: &[u8], size: usize) -> Result<Served, Fail> {
-    let mut registry = setting::<M>(alloc)?;
+fn serve_pieces<K: Keeper>(
+    alloc: Global,
+    registry: &mut Service<K>,
+    left: &[u8],
+    size: usize,
+) -> Served {
     let mut reader = Pieces { left, size };
     let mut output = Vec::new(alloc);
-    let end = serve_connection(alloc, &mut registry, &mut reader, &mut output);
-    Ok(Served { end, output })
+    let end = serve_connection(alloc, registry, &mut reader, &mut output);
+    Served { end, output }
+}
+
+/// What was pushed is deleted again.
+fn forget<K: Keeper>(
+    rt: &impl Abort,
+    alloc: Global,
+    registry: &mut Service<K>,
+    digest: &str,
+) -> Result<(), Fail> {
+    let line = format!(in alloc; "DELETE /v2/team/app/blobs/{digest}")?;
+    let served = ask(alloc, registry, line.as_str(), "")?;
+    assert_eq!(rt; served.output.as_slice(), DELETED.as_bytes());
+    Ok(())
 }
 
 /// Wherever the input is cut into two reads, and in reads of several sizes, the same is written.
+fn is_cut_anywhere<M: Maker>(
+    rt: &impl Abort,
+    alloc: Global,
+    input: &[u8],
+    wanted: &[u8],
+    digest: &str,
+) -> Result<(), Fail> {
+    let mut registry = setting::<M>(alloc)?;
+    for at in 1..input.len() + 1 {
+        let served = serve_cut(alloc, &mut registry, input, at);
+        assert_eq!(rt; served.end, End::Closed, "at {at}");
+        assert_eq!(rt; served.output.as_slice(), wanted, "at {at}");
+        forget(rt, alloc, &mut registry, digest)?;
+    }
+    for size in [1, 2, 7, 100] {
+        let served = serve_pieces(alloc, &mut registry, input, size);
+        assert_eq!(rt; served.end, End::Closed, "in reads of {size}");
+        assert_eq!(rt; served.output.as_slice(), wanted, "in reads of {size}");
+        forget(rt, alloc, &mut registry, digest)?;
+    }
+    Ok(())
+}
+
 pub fn whole_input_in_all_cuts<M: Maker>(rt: &impl Abort, alloc: Global) -> Result<(), Fail> {
     let input = whole_requests(alloc)?;
     let wanted = whole_replies(alloc)?;
-    for at in 1..input.len() + 1 {
-        let served = serve_cut::<M>(alloc, input.as_bytes(), at)?;
-        assert_eq!(rt; served.end, End::Closed, "at {at}");
-        assert_eq!(rt; served.output.as_slice(), wanted.as_bytes(), "at {at}");
-    }
-    for size in [1, 2, 7, 100] {
-        let served = serve_pieces::<M>(alloc, input.as_bytes(), size)?;
-        assert_eq!(rt; served.end, End::Closed, "in reads of {size}");
-        assert_eq!(rt;
-            served.output.as_slice(),
-            wanted.as_bytes(),
-            "in reads of {size}"
-        );
-    }
-    Ok(())
+    is_cut_anywhere::<M>(rt, alloc, input.as_bytes(), wanted.as_bytes(), ABC)
 }
 
 pub fn chunked_input_in_all_cuts<M: Maker>(rt: &impl Abort, alloc: Global) -> Result<(), Fail> {
     let input = chunked_requests(alloc)?;
     let wanted = chunked_replies(alloc)?;
-    for at in 1..input.len() + 1 {
-        let served = serve_cut::<M>(alloc, input.as_bytes(), at)?;
-        assert_eq!(rt; served.end, End::Closed, "at {at}");
-        assert_eq!(rt; served.output.as_slice(), wanted.as_bytes(), "at {at}");
-    }
-    for size in [1, 2, 7, 100] {
-        let served = serve_pieces::<M>(alloc, input.as_bytes(), size)?;
-        assert_eq!(rt; served.end, End::Closed, "in reads of {size}");
-        assert_eq!(rt;
-            served.output.as_slice(),
-            wanted.as_bytes(),
-            "in reads of {size}"
-        );
-    }
-    Ok(())
+    is_cut_anywhere::<M>(rt, alloc, input.as_bytes(), wanted.as_bytes(), HELLO)
 }
 
 /// Makes a repository with a quota that these tests do not meet.

@@ -131,7 +131,7 @@ fn keeps_sessions<K: Keeper>(
 }
 
 /// Opens a session where so many are open, and the last number is this one.
-fn open<K: Keeper>(
+pub fn open<K: Keeper>(
     rt: &impl Abort,
     keeper: &mut K,
     name: &RepoName,

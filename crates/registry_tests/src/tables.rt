@@ -1,12 +1,13 @@
-//! The rows over the tables of a database in memory, but for three that would take minutes:
-//! two that make a registry for each place where an input may be cut, and one that opens 1,000 upload
-//! sessions.
+//! The rows over the tables of a database in memory.
 
-use crate::setting::{InMaps, InTables};
+use crate::setting::{InMaps, InTables, setting};
+use crate::stores::open;
 use crate::{
     administrator, blobs, clients, connections, contents, isolation, manifests, pages, pieces,
-    quota, referrers, runs, uploads,
+    quota, referrers, refusals, runs, uploads,
 };
+use oci_names::RepoName;
+use registry_service::Service;
 use std::test::Fail;
 
 #[test]
@@ -136,7 +137,7 @@ fn pieces_outlive_anothers_blob(rt: HostRuntime) -> Result<(), Fail> {
 
 #[test]
 fn ungranted_and_absent_alike(rt: HostRuntime) -> Result<(), Fail> {
-    isolation::ungranted_and_absent_alike::<InTables>(&rt, rt.alloc())
+    refusals::ungranted_and_absent_alike::<InTables>(&rt, rt.alloc())
 }
 
 #[test]
@@ -146,17 +147,17 @@ fn nothing_of_others_is_seen_or_mounted(rt: HostRuntime) -> Result<(), Fail> {
 
 #[test]
 fn paths_and_names(rt: HostRuntime) -> Result<(), Fail> {
-    isolation::paths_and_names::<InTables>(&rt, rt.alloc())
+    refusals::paths_and_names::<InTables>(&rt, rt.alloc())
 }
 
 #[test]
 fn methods_of_each_form(rt: HostRuntime) -> Result<(), Fail> {
-    isolation::methods_of_each_form::<InTables>(&rt, rt.alloc())
+    refusals::methods_of_each_form::<InTables>(&rt, rt.alloc())
 }
 
 #[test]
 fn refusals_before_look_up(rt: HostRuntime) -> Result<(), Fail> {
-    isolation::refusals_before_look_up::<InTables>(&rt, rt.alloc())
+    refusals::refusals_before_look_up::<InTables>(&rt, rt.alloc())
 }
 
 #[test]
@@ -234,6 +235,16 @@ fn page_sizes_read_as_numbers(rt: HostRuntime) -> Result<(), Fail> {
 #[test]
 fn pages_without_tags_or_body(rt: HostRuntime) -> Result<(), Fail> {
     pages::pages_without_tags_or_body::<InTables>(&rt, rt.alloc())
+}
+
+#[test]
+fn whole_input_in_all_cuts(rt: HostRuntime) -> Result<(), Fail> {
+    pieces::whole_input_in_all_cuts::<InTables>(&rt, rt.alloc())
+}
+
+#[test]
+fn chunked_input_in_all_cuts(rt: HostRuntime) -> Result<(), Fail> {
+    pieces::chunked_input_in_all_cuts::<InTables>(&rt, rt.alloc())
 }
 
 #[test]
@@ -329,4 +340,16 @@ fn used_counts_session_and_blob(rt: HostRuntime) -> Result<(), Fail> {
 #[test]
 fn sha512(rt: HostRuntime) -> Result<(), Fail> {
     uploads::sha512::<InTables>(&rt, rt.alloc())
+}
+
+/// The sessions are opened by the keeper's own call: a request for each would take half a minute.
+#[test]
+fn too_many_uploads(rt: HostRuntime) -> Result<(), Fail> {
+    let name = RepoName::parse(rt.alloc(), "team/app")?;
+    let mut keeper = setting::<InTables>(rt.alloc())?.into_keeper();
+    for last in 0_u64..1000 {
+        assert_eq!(rt; open(&rt, &mut keeper, &name, last, last), Ok(last + 1));
+    }
+    let mut registry = Service::new(keeper);
+    uploads::one_upload_too_many(&rt, rt.alloc(), &mut registry)
 }

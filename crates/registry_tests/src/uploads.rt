@@ -4,6 +4,8 @@ use crate::replies::{
     accepted, blob, created, holds, out_of_order, referrers,
 };
 use crate::setting::{Maker, setting};
+use registry_model::Keeper;
+use registry_service::Service;
 use std::alloc::Global;
 use std::process::Abort;
 use std::test::Fail;
@@ -351,6 +353,16 @@ pub fn too_many_uploads<M: Maker>(rt: &impl Abort, alloc: Global) -> Result<(), 
         let opened = ask("t1", post, reply.as_str());
         talk(rt, alloc, &mut registry, &[opened])?;
     }
+    one_upload_too_many(rt, alloc, &mut registry)
+}
+
+/// `team/app` has the sessions 1 to 1,000: another is refused, until one of them ends.
+pub fn one_upload_too_many<K: Keeper>(
+    rt: &impl Abort,
+    alloc: Global,
+    registry: &mut Service<K>,
+) -> Result<(), Fail> {
+    let post = "POST /v2/team/app/blobs/uploads/";
     let dialogue = [
         ask("t1", post, TOO_MANY_UPLOADS),
         ask(
@@ -366,7 +378,7 @@ pub fn too_many_uploads<M: Maker>(rt: &impl Abort, alloc: Global) -> Result<(), 
         ask("t1", post, accepted!("team/app", "1001", "0-0")),
         ask("t1", post, TOO_MANY_UPLOADS),
     ];
-    talk(rt, alloc, &mut registry, dialogue.as_slice())
+    talk(rt, alloc, registry, dialogue.as_slice())
 }
 
 pub fn used_counts_session_and_blob<M: Maker>(rt: &impl Abort, alloc: Global) -> Result<(), Fail> {
