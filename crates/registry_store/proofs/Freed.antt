@@ -1,7 +1,7 @@
 -- Contents that nothing names go, and the world stays.
-use Rattle.std.proofs.Common.{◌≡◌, ◌∙◌, ◌<◌, ◌+◌, ℕ, ℤ, List, [], ◌∷◌, map, length, take, get_or, Bool, true, false, not, cond, Option, Some, None, Ok, Err, Result, OnOk, refl, sym, ap, subst, inl, arith}
+use Rattle.std.proofs.Common.{◌≡◌, ◌∙◌, ◌<◌, ◌+◌, ℕ, ℤ, List, [], ◌∷◌, length, take, get_or, Bool, true, false, not, cond, Option, Some, None, Ok, Err, Result, OnOk, refl, sym, ap, subst, inl, arith}
 use Rattle.std.specs.Prelude.{◌||◌, ◌&&◌, find, filter, option_map, IsTrue}
-use Rattle.std.specs.List.{list_any, AllByRecursion}
+use Rattle.std.specs.List.{AllByRecursion}
 use Rattle.std.specs.List.Sorted.{IsPermutation}
 use Rattle.std.specs.Ordering.{int_eq}
 use Rattle.std.specs.BTreeSet.{BTreeSet, keys}
@@ -17,7 +17,7 @@ use Rattle.sqlite_rules.specs.Edit.{id_in}
 use Rattle.sqlite_rules.proofs.ListLemmas.{all_from}
 use Rattle.sqlite_rules.proofs.TableLemmas.{int_is}
 use Rattle.oci_names.specs.Text.{Text}
-use Rattle.registry_tables.specs.Rows.{bytes_at, integer_at, integer, HaveIds}
+use Rattle.registry_tables.specs.Rows.{bytes_at, integer_at, integer}
 use Rattle.registry_tables.proofs.Ids.{rowid_test, int_eq_is, int_eq-sym}
 use Rattle.registry_tables.proofs.Selects.{commit_then, survives_both}
 use Rattle.registry_content.specs.declared.content_id.ContentId.{ContentId}

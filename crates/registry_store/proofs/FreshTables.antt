@@ -4,7 +4,6 @@ use Rattle.std.specs.Prelude.{find, option_map, IsTrue}
 use Rattle.sqlite.specs.Order.{Row}
 use Rattle.sqlite.specs.Tree.{has_rowid}
 use Rattle.sqlite.specs.Table.{Table}
-use Rattle.sqlite.specs.Schema.{Schema}
 use Rattle.sqlite.specs.Effect.{Database}
 use Rattle.registry_tables.specs.Schema.{fresh_schema, version_table, repos_table, grants_table, tags_table, contents_table, blob_links_table, manifest_links_table, uploads_table, pieces_table}
 use Rattle.registry_tables.specs.Layout.{tree_of, rows_of}
@@ -13,7 +12,7 @@ use Rattle.registry_tables.specs.Rows.{bytes_at}
 use Rattle.registry_tables.proofs.Fresh.{version_tree, repos_tree, grants_tree, tags_tree, contents_tree, blob_links_tree, manifest_links_tree, uploads_tree, pieces_tree}
 use Rattle.registry_content.proofs.Fresh.{empty_holds}
 use Rattle.registry_rows.specs.Tables.{Tables, AreTables, no_tables}
-use Rattle.registry_rows.specs.Registry.{IsRegistry, Agree}
+use Rattle.registry_rows.specs.Registry.{Agree}
 use Rattle.registry_store.specs.Known.{KnowsRegistry}
 use Rattle.registry_store.specs.Held.{tables_in, held, HoldsTables, IsReady, Makes}
 use Rattle.registry_store.specs.Steps.{VersionComes, IsNew}

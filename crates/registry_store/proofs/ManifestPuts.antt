@@ -1,5 +1,5 @@
 -- What a manifest and a tag that are put make of the world.
-use Rattle.std.proofs.Common.{◌≡◌, ◌∙◌, ℕ, ℤ, List, Bool, true, None, Some, Ok, Err, Result, OnOk, length, sym, ap, subst, refl}
+use Rattle.std.proofs.Common.{◌≡◌, ◌∙◌, ℕ, ℤ, List, true, None, Some, Ok, Err, Result, OnOk, length, sym, ap, subst, refl}
 use Rattle.std.specs.Prelude.{find, is_some, Option, option_map, false}
 use Rattle.sqlite.specs.Order.{Row}
 use Rattle.sqlite.specs.State.{State, Shows}
@@ -16,7 +16,7 @@ use Rattle.registry_rows.specs.Keys.{has_key}
 use Rattle.registry_rows.specs.Tables.{Tables}
 use Rattle.registry_rows.specs.Registry.{is_repo, Agree, IsRegistry}
 use Rattle.registry_rows.specs.World.{world_of}
-use Rattle.registry_rows.specs.Changes.{changed, with_digest, tag_columns, manifest_columns, Comes}
+use Rattle.registry_rows.specs.Changes.{with_digest, tag_columns, manifest_columns, Comes}
 use Rattle.registry_rows.proofs.Blobs.{update_same}
 use Rattle.registry_rows.proofs.Children.{some_is}
 use Rattle.registry_rows.proofs.Manifests.{manifest_there}

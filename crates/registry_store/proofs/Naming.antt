@@ -1,7 +1,6 @@
 -- Sets of contents, and which of them the tables name.
 use Rattle.std.proofs.Common.{◌≡◌, ◌∙◌, ◌<◌, ◌+◌, inl, inr, ℕ, ℤ, List, [], ◌∷◌, map, length, take, get_or, Bool, true, false, Ordering, Less, Equal, Greater, Ok, Err, Result, OnOk, refl, sym, ap}
 use Rattle.std.specs.Prelude.{◌||◌}
-use Rattle.std.specs.List.{list_any}
 use Rattle.std.specs.List.Sorted.{IsPermutation}
 use Rattle.std.specs.Ordering.{int_eq, match_ordering}
 use Rattle.std.specs.BTreeSet.{insert_key}

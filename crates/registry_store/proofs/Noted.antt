@@ -1,5 +1,5 @@
 -- What a call of the keeper tells, once a failure of the storage is noted.
-use Rattle.std.proofs.Common.{◌≡◌, ◌∙◌, Bool, true, false, true≢false, Ok, Err, Result, OnOk, IfOk, sym, ap, subst, refl}
+use Rattle.std.proofs.Common.{◌≡◌, ◌∙◌, Bool, true, false, true≢false, Ok, Err, Result, OnOk, IfOk, sym, subst, refl}
 use Rattle.std.specs.Prelude.{◌||◌}
 use Rattle.sqlite_trees.specs.declared.store.Store.{Ghosts}
 use Rattle.sqlite.specs.State as sqlite

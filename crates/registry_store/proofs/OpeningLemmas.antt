@@ -1,5 +1,5 @@
 -- What an opening finds out of the schema and of the one row that names it.
-use Rattle.std.proofs.Common.{◌≡◌, ◌∙◌, ℕ, zero, suc, Bool, true, false, List, [], ◌∷◌, Some, None, Ok, Err, IfOk, IfErr, inl, inr, refl, sym, ap, subst, arith}
+use Rattle.std.proofs.Common.{◌≡◌, ◌∙◌, ℕ, zero, suc, Bool, true, false, List, [], ◌∷◌, Some, None, Ok, Err, IfOk, IfErr, inl, inr, refl, sym, ap, subst}
 use Rattle.std.specs.Prelude.{is_some, slice_get, map, codes, pos}
 use Rattle.sqlite.specs.declared.types.Value.TheVariants.{Int}
 use Rattle.sqlite.specs.Order.{Row, column}
@@ -7,7 +7,7 @@ use Rattle.sqlite.specs.Table.{Table}
 use Rattle.sqlite.specs.Schema.{Schema}
 use Rattle.sqlite.specs.State.{State}
 use Rattle.sqlite_schema.specs.Names.{same_name}
-use Rattle.registry_tables.specs.Schema.{version_table, no_schema}
+use Rattle.registry_tables.specs.Schema.{version_table}
 use Rattle.registry_tables.specs.Layout.{Stands, placed}
 use Rattle.registry_store.specs.Held.{IsSettled, HoldsTables, held, tables_in}
 use Rattle.registry_store.specs.Opening.{IsIdle, HoldsRegistry, has_version_table, SaysTwo, MayFind, WereOurs, IsOurs}

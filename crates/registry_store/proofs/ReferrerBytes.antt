@@ -1,7 +1,7 @@
 -- The manifests on a subject with their bytes, from their rows.
-use Rattle.std.proofs.Common.{◌≡◌, ◌∙◌, ℕ, ℤ, List, [], ◌∷◌, ◌++◌, map, true, Ok, Err, Result, IfOk, sym, ap, refl}
+use Rattle.std.proofs.Common.{◌≡◌, ◌∙◌, ℕ, List, [], ◌∷◌, ◌++◌, map, true, Ok, Err, Result, IfOk, sym, ap, refl}
 use Rattle.std.specs.declared.alloc.Global.{Global}
-use Rattle.std.specs.Prelude.{Vec, Option, filter}
+use Rattle.std.specs.Prelude.{Vec, filter}
 use Rattle.std.proofs.lemmas.List.{map_push}
 use Rattle.sqlite.specs.Effect.{Database}
 use Rattle.sqlite_keyed.specs.Lists.{sort_by}

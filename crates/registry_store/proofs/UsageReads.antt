@@ -1,6 +1,6 @@
 -- What rows tell of what a repository holds and may hold.
 use Rattle.std.proofs.Common.{◌≡◌, ◌∙◌, ◌+◌, ℕ, filter, find, length, None, Some, Result, IfOk, refl, sym, ap}
-use Rattle.std.specs.Prelude.{Option, option_map, sum_by}
+use Rattle.std.specs.Prelude.{Option, option_map}
 use Rattle.std.specs.Option.{option_map_or}
 use Rattle.std.proofs.lemmas.Result.{IfOk-weaker}
 use Rattle.sqlite.specs.Order.{Row}

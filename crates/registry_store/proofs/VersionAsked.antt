@@ -14,9 +14,9 @@ use Rattle.sqlite_resolve.specs.Lowering.{Checked, and_then}
 use Rattle.sqlite_resolve.specs.Compile.{first, returning, meaning, planned, compiled, command, with_command}
 use Rattle.sqlite.specs.Listing.{understood, reads_listing, if_select, is_select, listing_schema}
 use Rattle.sqlite_resolve.specs.declared.error.CompileError.TheVariants.{NoSuchTable}
-use Rattle.std.specs.Prelude.{◌⊎◌, IfOk, IfErr, if◌then◌else◌}
+use Rattle.std.specs.Prelude.{IfOk, IfErr, if◌then◌else◌}
 use Rattle.std.proofs.Common.{inl, inr}
-use Rattle.sqlite.specs.State.{State, IsUnchanged, IsRolledBack, Shown, ShowsRows, FailsToQuery, FailsToShow, IsNotRun, IsStatement}
+use Rattle.sqlite.specs.State.{State, IsUnchanged, Shown, ShowsRows, FailsToQuery, FailsToShow, IsNotRun, IsStatement}
 use Rattle.sqlite.specs.Clock.{timed}
 use Rattle.sqlite.specs.declared.error.Error.{Error}
 use Rattle.sqlite.specs.Order.{Row}

@@ -1,6 +1,5 @@
 -- What the statement on the version makes of the tables.
 use Rattle.std.proofs.Common.{◌≡◌, ◌∙◌, ℕ, List, [], ◌∷◌, pos, Ok, Err, Result, OnOk, sym, ap, subst, refl}
-use Rattle.std.specs.Prelude.{◌/◌, length}
 use Rattle.sqlite.specs.declared.types.Value.TheVariants.{Null, Int}
 use Rattle.sqlite.specs.declared.error.Error.{Error}
 use Rattle.sqlite.specs.Order.{Row}
@@ -8,15 +7,15 @@ use Rattle.sqlite.specs.Cast.{cast_row}
 use Rattle.sqlite.specs.Ops.{unary}
 use Rattle.sqlite.specs.Schema.{Schema}
 use Rattle.sqlite.specs.Table.{Table}
-use Rattle.sqlite.specs.Term.{Term, lit}
-use Rattle.sqlite.specs.State.{State, Executes, ExecutesInside}
+use Rattle.sqlite.specs.Term.{lit}
+use Rattle.sqlite.specs.State.{State, ExecutesInside}
 use Rattle.registry_tables.specs.Schema.{version_table}
 use Rattle.registry_tables.specs.Layout.{tree_of, placed, rows_of}
 use Rattle.registry_tables.proofs.Writes.{either, inserts, adds_row, AddsRow, keeps_others}
 use Rattle.registry_rows.specs.Tables.{AreTables}
 use Rattle.registry_store.specs.VersionTexts.{version_add}
 use Rattle.registry_store.specs.Known.{KnowsRegistry}
-use Rattle.registry_store.specs.Held.{held, HoldsTables, IsReady}
+use Rattle.registry_store.specs.Held.{held, IsReady}
 use Rattle.registry_store.specs.Steps.{VersionComes}
 use Rattle.registry_store.proofs.Others.{only_version, contents_beside_version}
 

@@ -1,9 +1,8 @@
 -- Which contents the tables name, and what clearing leaves of them.
-use Rattle.std.specs.Prelude.{◌≡◌, ◌||◌, ℕ, ℤ, Bool, List, Option, None, if◌then◌else◌}
+use Rattle.std.specs.Prelude.{◌≡◌, ◌||◌, ℕ, ℤ, Bool, List, None, if◌then◌else◌}
 use Rattle.std.specs.List.{list_any}
 use Rattle.std.specs.Ordering.{int_eq}
 use Rattle.sqlite.specs.Order.{Row}
-use Rattle.oci_names.specs.Text.{Text}
 use Rattle.registry_tables.specs.Rows.{integer_at}
 use Rattle.registry_content.specs.declared.content_id.ContentId.{ContentId}
 use Rattle.registry_rows.specs.Tables.{Tables}

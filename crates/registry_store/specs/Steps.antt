@@ -1,5 +1,5 @@
 -- What the store's statements make of the tables.
-use Rattle.std.specs.Prelude.{◌≡◌, ℤ, pos, Bool, ◌∷◌, [], ◌&&◌, bytes_eq, ◌+◌, ℕ, List, Some, length}
+use Rattle.std.specs.Prelude.{◌≡◌, ℤ, pos, Bool, ◌∷◌, [], ◌&&◌, bytes_eq, ◌+◌, ℕ, Some, length}
 use Rattle.sqlite.specs.declared.types.Value.TheVariants.{Int}
 use Rattle.sqlite.specs.Order.{Row}
 use Rattle.sqlite.specs.State.{State}

@@ -1,10 +1,8 @@
 -- Empty files hold nothing yet.
 use Rattle.std.proofs.Common.{◌≡◌, List, [], ◌∷◌, inl, inr, refl, subst, arith}
 use Rattle.std.specs.List.{AllZip}
-use Rattle.sqlite.specs.Effect.{Database, IsDatabase}
 use Rattle.sqlite.specs.Order.{Row}
 use Rattle.sqlite.specs.Schema.{Schema}
-use Rattle.sqlite_trees.specs.Objects.{catalog_tree}
 use Rattle.sqlite_catalog.specs.Listing.{AreListed, IsTableRow, IsIndexRow, IsViewRow}
 use Rattle.registry_tables.specs.Schema.{no_schema}
 use Rattle.registry_store.specs.Opening.{WereOurs}

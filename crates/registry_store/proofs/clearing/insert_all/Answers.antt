@@ -1,4 +1,4 @@
-use Rattle.std.proofs.Common.{◌∙◌, ◌<◌, ◌≤◌, length, ap, sym, arith, pos}
+use Rattle.std.proofs.Common.{◌∙◌, ◌<◌, length, ap, sym, arith, pos}
 use Rattle.std.specs.Prelude.{◌||◌}
 use Rattle.std.specs.BTreeSet.{keys}
 use Rattle.std.proofs.lemmas.List.{take_all}

@@ -1,4 +1,4 @@
-use Rattle.std.proofs.Common.{◌≡◌, ◌∙◌, ◌<◌, length, arith, refl, subst, pos}
+use Rattle.std.proofs.Common.{◌∙◌, ◌<◌, length, arith, refl, subst, pos}
 use Rattle.std.proofs.lemmas.List.{take_all}
 use Rattle.sqlite.specs.Held.{state}
 use Rattle.registry_store.specs.Held.{held}

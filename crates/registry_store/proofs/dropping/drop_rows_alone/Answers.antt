@@ -1,9 +1,8 @@
-use Rattle.std.proofs.Common.{◌≡◌, ◌∙◌, arith, refl, sym, ap, subst, Ok, Err}
-use Rattle.std.specs.Prelude.{⊤, OnErr}
-use Rattle.sqlite.specs.State.{State, HasCleanDisk, Survives}
-use Rattle.sqlite.specs.Held.{Held, state}
+use Rattle.std.proofs.Common.{◌∙◌, arith, sym}
+use Rattle.sqlite.specs.State.{HasCleanDisk}
+use Rattle.sqlite.specs.Held.{state}
 use Rattle.sqlite.proofs.Callers.{survives_begin}
-use Rattle.registry_store.specs.Held.{IsSettled, IsReady, Commits, IsBack, held}
+use Rattle.registry_store.specs.Held.{IsReady}
 use Rattle.registry_store.proofs.Transactions.{ready, commits, back_dropped, back_failed, survives_all, told_err}
 use Rattle.registry_store.proofs.dropping.drop_rows_alone.Goals as goal
 

@@ -1,5 +1,3 @@
-use Rattle.std.proofs.Common.{◌∙◌, arith, sym}
-use Rattle.sqlite.specs.State.{HasCleanDisk}
 use Rattle.sqlite.specs.Held.{state}
 use Rattle.registry_store.proofs.OpeningLemmas.{is_marked, settled}
 use Rattle.registry_store.proofs.Stays.{stays_read}

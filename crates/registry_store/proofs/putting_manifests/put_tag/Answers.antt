@@ -1,4 +1,4 @@
-use Rattle.std.proofs.Common.{◌≡◌, ◌≢◌, ◌∙◌, arith, length, sym}
+use Rattle.std.proofs.Common.{◌≢◌, ◌∙◌, arith, length, sym}
 use Rattle.std.specs.Prelude.{filter}
 use Rattle.sqlite.specs.State.{HasCleanDisk}
 use Rattle.sqlite.specs.Held.{state}

@@ -1,4 +1,3 @@
-use Rattle.std.proofs.Common.{◌≡◌, Some, None, rules}
 use Rattle.sqlite.specs.Held.{state}
 use Rattle.registry_store.proofs.ManifestPuts.{no_tag}
 use Rattle.registry_store.proofs.putting_manifests.put_tag_if.Goals as goal

@@ -1,5 +1,4 @@
 use Rattle.registry_model.specs.Lookups.{manifest_at}
-use Rattle.registry_model.specs.Keeping.{manifest_shown}
 use Rattle.registry_store.proofs.Noted.{read_told, unfailed}
 use Rattle.registry_store.proofs.keeper.StoreKeeper.manifest.Goals as goal
 

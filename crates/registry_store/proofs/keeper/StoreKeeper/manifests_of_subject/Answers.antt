@@ -1,5 +1,4 @@
 use Rattle.registry_model.specs.Lookups.{manifests_on_at}
-use Rattle.registry_model.specs.Keeping.{entries_shown}
 use Rattle.registry_store.proofs.Noted.{read_told, unfailed}
 use Rattle.registry_store.proofs.keeper.StoreKeeper.manifests_of_subject.Goals as goal
 

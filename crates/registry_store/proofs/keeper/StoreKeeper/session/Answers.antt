@@ -1,5 +1,4 @@
 use Rattle.registry_model.specs.Lookups.{session_at}
-use Rattle.registry_model.specs.Keeping.{bytes_in}
 use Rattle.registry_store.proofs.Noted.{read_told, unfailed}
 use Rattle.registry_store.proofs.keeper.StoreKeeper.session.Goals as goal
 

@@ -1,5 +1,4 @@
 use Rattle.registry_model.specs.Lookups.{page_at}
-use Rattle.registry_model.specs.Keeping.{page_shown}
 use Rattle.registry_store.proofs.Noted.{read_told, unfailed}
 use Rattle.registry_store.proofs.keeper.StoreKeeper.tags_after.Goals as goal
 

@@ -1,5 +1,4 @@
 use Rattle.registry_model.specs.Lookups.{usages_of}
-use Rattle.registry_model.specs.Keeping.{usages_shown}
 use Rattle.registry_store.proofs.Noted.{read_told, unfailed}
 use Rattle.registry_store.proofs.keeper.StoreKeeper.usages.Goals as goal
 

@@ -4,7 +4,7 @@ use Rattle.std.proofs.lemmas.List.{take_all}
 use Rattle.sqlite.specs.State.{HasCleanDisk}
 use Rattle.sqlite.specs.Held.{state}
 use Rattle.registry_rows.specs.World.{content_at}
-use Rattle.registry_store.specs.Held.{held, tables_in}
+use Rattle.registry_store.specs.Held.{held}
 use Rattle.registry_store.proofs.Stays.{stays_then}
 use Rattle.registry_store.proofs.Transactions.{survives_all}
 use Rattle.registry_store.proofs.Chains.{stays_here, survives_here, passed_on, contents_more}

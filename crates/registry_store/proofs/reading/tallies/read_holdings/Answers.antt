@@ -1,7 +1,6 @@
-use Rattle.std.proofs.Common.{false, refl, arith, sym}
+use Rattle.std.proofs.Common.{false, refl, arith}
 use Rattle.sqlite.specs.State.{HasCleanDisk}
 use Rattle.sqlite.specs.Held.{state}
-use Rattle.registry_store.specs.Held.{StaysSettled, held}
 use Rattle.registry_store.proofs.Stays.{stays_then}
 use Rattle.registry_store.proofs.Chains.{passed_on}
 use Rattle.registry_store.proofs.Transactions.{survives_all}

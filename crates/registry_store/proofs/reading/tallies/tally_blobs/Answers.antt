@@ -1,4 +1,3 @@
-use Rattle.std.proofs.Common.{◌∙◌}
 use Rattle.sqlite.specs.Held.{state}
 use Rattle.registry_store.specs.Held.{held}
 use Rattle.registry_store.proofs.TallyLemmas.{tally_shown}
