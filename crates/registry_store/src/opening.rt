@@ -44,8 +44,8 @@ fn is_marked<S: Alter>(conn: &Connection<S>) -> bool
 }
 
 /// Makes the tables of a registry where no table says that they are there; else sees that they are of
-/// schema 2. Whatever the database is: a refusal leaves it as it was, where it is open still, and `Schema`
-/// names the one number that it says. `NotARegistry`: it says none, or a name is taken.
+/// schema 2. Whatever the database is: outside a transaction a refusal leaves it as it was, where it is open
+/// still, and `Schema` names the one number that it says. `NotARegistry`: it says none, or a name is taken.
 pub fn take_up<S: Alter>(conn: &mut Connection<S>) -> Result<(), OpenFault>
     ensures made { HasCleanDisk (state S.Store conn.new) → IsEmptyWith no_schema (state S.Store conn.old).now → OnOk result (Makes (state S.Store conn.new) no_world) }
     ensures found { HasCleanDisk (state S.Store conn.new) → IsIdle (state S.Store conn.old) → HoldsRegistry (state S.Store conn.old).now → OnOk result (StaysSettled (state S.Store conn.old) (state S.Store conn.new)) }

@@ -63,7 +63,8 @@ impl Store<MemStore> {
 impl<S: Alter + Drop> Store<S> {
     /// The registry in the tables of a database: they are made where there are none. That no one else wrote
     /// the tables is for the caller to know. A refusal hands the connection back, with the tables as they were
-    /// where it is open still: `Schema` where they are of another schema than 2, `NotARegistry` where a name is taken by what is none of a registry's.
+    /// where it is open still: `Schema` where they are of another schema than 2, `NotARegistry` where a name
+    /// is taken by what is none of a registry's.
     pub fn adopt(
         alloc: Global,
         mut conn: Connection<S>,
