@@ -22,6 +22,3 @@ pub use kind::Kind;
 pub use manifest::{Manifest, read_manifest};
 pub use referrers::{Referrer, referrers_text};
 pub use tags::tags_text;
-
-#[cfg(test)]
-mod tests;

@@ -13,8 +13,6 @@ pub mod reference;
 pub mod repo_name;
 pub mod session;
 pub mod tag;
-#[cfg(test)]
-mod tests;
 pub mod token;
 
 pub use digest::{Digest, Verdict};

@@ -11,8 +11,6 @@ mod listing;
 mod read;
 mod removal;
 mod search;
-#[cfg(test)]
-mod tests;
 
 pub use content_id::ContentId;
 pub use keep::{find_or_add, find_or_add_hashed};

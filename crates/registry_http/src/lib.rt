@@ -28,6 +28,3 @@ pub use connection::{serve_connection, spelling_is_unique};
 pub use ending::{End, FramingRefusal};
 pub use outgoing::WriteFault;
 pub use reply_text::write_reply;
-
-#[cfg(test)]
-mod tests;

@@ -13,16 +13,12 @@ pub mod numbers;
 pub mod page;
 pub mod quota;
 pub mod range;
-#[cfg(test)]
-mod range_tests;
 pub mod refusal;
 pub mod reply;
 mod repository;
 pub mod request;
 pub mod route;
 pub mod soundness;
-#[cfg(test)]
-mod tests;
 pub mod worked;
 
 pub use admin::{AdminCommand, AdminFault};
