@@ -24,10 +24,11 @@ build:
 	mkdir -p build
 	cp crates/registry_cli/out/registry_cli build/registry
 
-# The merge gate: every proof from nothing, the must-fail edits, the tests and the stored run. Four checks
-# at a time: by itself rt holds 11 GB free for registry_store, whose check takes 4, and waits for them.
+# The merge gate: every proof from nothing, the must-fail edits, the tests and the stored run. A check for
+# each processor, four at most: by itself rt holds 11 GB free for registry_store, whose check takes 7, and
+# waits for them.
 test:
-	RT_JOBS=4 rt ci
+	RT_JOBS=$$(( $$(nproc) < 4 ? $$(nproc) : 4 )) rt ci
 
 # A server's database file, looked at by another program: needs curl and sqlite3 beside python3.
 check-file: build

@@ -13,4 +13,6 @@ mod model;
 #[cfg(test)]
 mod names;
 #[cfg(test)]
+mod pages;
+#[cfg(test)]
 mod ranges;
