@@ -3,12 +3,15 @@
 
 A server is started on loopback over a new file, images are pushed with curl, the server is ended, and
 sqlite3 reads the file: it is sound, its tables, keys and indexes are those of docs/STORE.md, and the
-bytes that it keeps are the bytes that were pushed. Needs curl and sqlite3 (3.37 or newer, for STRICT);
-installs nothing.
+bytes that it keeps are the bytes that were pushed. Then a server whose files may not grow past a limit
+is pushed a blob that is larger: the write that the system refuses is answered 500, and on the next
+connection the database is opened again, with everything that was there and nothing of that blob.
+Needs curl and sqlite3 (3.37 or newer, for STRICT); installs nothing.
 """
 import hashlib
 import json
 import os
+import resource
 import shutil
 import socket
 import subprocess
@@ -76,9 +79,20 @@ def free_port():
 
 
 class Server:
-    def __init__(self, db):
+    """A server over the database, whose files may not grow past so many bytes where a limit is given."""
+
+    def __init__(self, db, limit=None):
         self.at = f"127.0.0.1:{free_port()}"
-        self.process = subprocess.Popen([REGISTRY, "serve", "--db", db, "--listen", self.at], stdout=subprocess.PIPE)
+        words = [REGISTRY, "serve", "--db", db, "--listen", self.at]
+        if limit is None:
+            self.process = subprocess.Popen(words, stdout=subprocess.PIPE)
+        else:
+            # Python ignores SIGXFSZ, and so does what it starts unless told otherwise: a write past the
+            # limit is then an error (EFBIG) and not the end of the process
+            def bound():
+                resource.setrlimit(resource.RLIMIT_FSIZE, (limit, limit))
+
+            self.process = subprocess.Popen(words, stdout=subprocess.PIPE, restore_signals=False, preexec_fn=bound)
         line = self.process.stdout.readline()
         say(line == b"registry: listening\n", "the server says that it listens")
 
@@ -91,10 +105,10 @@ class Server:
         ran = subprocess.run([*words, f"http://{self.at}{path}"], input=body or b"", capture_output=True, check=False)
         return ran.stdout[-3:].decode(), ran.stdout[:-3]
 
-    def push_blob(self, body):
+    def push_blob(self, body, wanted="201"):
         path = f"/v2/{REPO}/blobs/uploads/?digest={digest(body)}"
         status, _ = self.curl("POST", path, body, ["Content-Type: application/octet-stream"])
-        say(status == "201", f"a blob of {len(body)} bytes is pushed: {status}")
+        say(status == wanted, f"the push of a blob of {len(body)} bytes is answered {wanted}: {status}")
 
     def push_image(self, tag, layer):
         config = json.dumps({"architecture": "amd64", "os": "linux", "tag": tag}).encode()
@@ -155,27 +169,59 @@ def look_at_bytes(db, pushed):
     )
 
 
+def is_sound(db):
+    say(query(db, "PRAGMA integrity_check") == [{"integrity_check": "ok"}], "PRAGMA integrity_check says ok")
+    say(query(db, "PRAGMA foreign_key_check") == [], "PRAGMA foreign_key_check finds nothing")
+
+
+def administer(db):
+    registry("repo", "--db", db, "--name", REPO, "--quota", QUOTA)
+    registry("grant", "--db", db, "--token", "t1", "--name", REPO, "--level", "3")
+
+
+def look_at_a_new_file(db):
+    administer(db)
+    server = Server(db)
+    try:
+        layer = bytes(i * 7 % 251 for i in range(300_000))
+        pushed = server.push_image("v1", layer) | server.push_image("v2", b"a second layer")
+        # the same layer again: it is kept once
+        pushed |= server.push_image("v3", layer)
+    finally:
+        server.end()
+    look_at_tables(db)
+    look_at_bytes(db, pushed)
+    is_sound(db)
+
+
+def refuse_a_write(db):
+    """A file may have 4 MiB; the second blob has 6."""
+    administer(db)
+    server = Server(db, limit=4 << 20)
+    before, after = b"before the fault", b"after the fault"
+    try:
+        server.push_blob(before)
+        # each curl is a connection of its own
+        server.push_blob(bytes(i * 11 % 241 for i in range(6 << 20)), wanted="500")
+        say(server.process.poll() is None, "the server goes on")
+        for body, wanted in ((before, "200"), (after, "404")):
+            status, _ = server.curl("GET", f"/v2/{REPO}/blobs/{digest(body)}")
+            say(status == wanted, f"on the next connection a blob of {len(body)} bytes is answered {wanted}: {status}")
+        server.push_blob(after)
+    finally:
+        server.end()
+    look_at_bytes(db, {before, after})
+    is_sound(db)
+
+
 def main():
     lacking = [it for it in ("curl", "sqlite3") if shutil.which(it) is None]
     if lacking or not os.path.exists(REGISTRY):
         print(f"check-file needs {' and '.join(lacking) or 'build/registry'}", file=sys.stderr)
         return 2
     with tempfile.TemporaryDirectory() as room:
-        db = os.path.join(room, "registry.db")
-        registry("repo", "--db", db, "--name", REPO, "--quota", QUOTA)
-        registry("grant", "--db", db, "--token", "t1", "--name", REPO, "--level", "3")
-        server = Server(db)
-        try:
-            layer = bytes(i * 7 % 251 for i in range(300_000))
-            pushed = server.push_image("v1", layer) | server.push_image("v2", b"a second layer")
-            # the same layer again: it is kept once
-            pushed |= server.push_image("v3", layer)
-        finally:
-            server.end()
-        look_at_tables(db)
-        look_at_bytes(db, pushed)
-        say(query(db, "PRAGMA integrity_check") == [{"integrity_check": "ok"}], "PRAGMA integrity_check says ok")
-        say(query(db, "PRAGMA foreign_key_check") == [], "PRAGMA foreign_key_check finds nothing")
+        look_at_a_new_file(os.path.join(room, "new.db"))
+        refuse_a_write(os.path.join(room, "full.db"))
     print(f"{say.wrong} wrong" if say.wrong else "the file is as it should be")
     return 1 if say.wrong else 0
 
