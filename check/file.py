@@ -5,7 +5,8 @@ A server is started on loopback over a new file, images are pushed with curl, th
 sqlite3 reads the file: it is sound, its tables, keys and indexes are those of docs/STORE.md, and the
 bytes that it keeps are the bytes that were pushed. Then a server whose files may not grow past a limit
 is pushed a blob that is larger: the write that the system refuses is answered 500, and on the next
-connection the database is opened again, with everything that was there and nothing of that blob.
+connection the database is opened again, with everything that was there and nothing of that blob. Over
+standard input, and where an order is refused so, the program ends with status 3.
 Needs curl and sqlite3 (3.37 or newer, for STRICT); installs nothing.
 """
 import hashlib
@@ -78,21 +79,24 @@ def free_port():
         return it.getsockname()[1]
 
 
-class Server:
-    """A server over the database, whose files may not grow past so many bytes where a limit is given."""
+def bounded(limit):
+    """How a program is started whose files may not grow past so many bytes; as it is, where no limit is given."""
+    if limit is None:
+        return {}
 
+    # Python ignores SIGXFSZ, and so does what it starts unless told otherwise: a write past the limit is then
+    # an error (EFBIG) and not the end of the process
+    def bound():
+        resource.setrlimit(resource.RLIMIT_FSIZE, (limit, limit))
+
+    return {"restore_signals": False, "preexec_fn": bound}
+
+
+class Server:
     def __init__(self, db, limit=None):
         self.at = f"127.0.0.1:{free_port()}"
         words = [REGISTRY, "serve", "--db", db, "--listen", self.at]
-        if limit is None:
-            self.process = subprocess.Popen(words, stdout=subprocess.PIPE)
-        else:
-            # Python ignores SIGXFSZ, and so does what it starts unless told otherwise: a write past the
-            # limit is then an error (EFBIG) and not the end of the process
-            def bound():
-                resource.setrlimit(resource.RLIMIT_FSIZE, (limit, limit))
-
-            self.process = subprocess.Popen(words, stdout=subprocess.PIPE, restore_signals=False, preexec_fn=bound)
+        self.process = subprocess.Popen(words, stdout=subprocess.PIPE, **bounded(limit))
         line = self.process.stdout.readline()
         say(line == b"registry: listening\n", "the server says that it listens")
 
@@ -214,6 +218,26 @@ def refuse_a_write(db):
     is_sound(db)
 
 
+def refuse_in_one_connection(db):
+    """A service whose storage has failed answers nothing else, and the program says so at its end."""
+    administer(db)
+    body = bytes(i * 11 % 241 for i in range(6 << 20))
+    fields = "Host: r\r\nAuthorization: Bearer t1\r\n"
+    push = f"POST /v2/{REPO}/blobs/uploads/?digest={digest(body)} HTTP/1.1\r\n{fields}Content-Length: {len(body)}\r\n\r\n"
+    base = b"GET /v2/ HTTP/1.1\r\nHost: r\r\n\r\n"
+    failed = b"HTTP/1.1 500 Internal Server Error\r\nContent-Length: 0\r\n\r\n"
+    stopped = (3, b"registry: storage failure\n")
+    ran = subprocess.run([REGISTRY, "stdio", "--db", db], input=push.encode() + body + base, capture_output=True, **bounded(4 << 20))
+    say(ran.stdout == failed * 2, "a push that cannot be written is answered 500, and so is what follows it")
+    say((ran.returncode, ran.stderr) == stopped, "stdio ends with status 3 and says why")
+    words = [REGISTRY, "repo", "--db", db, "--name", "late", "--quota", "5"]
+    ran = subprocess.run(words, capture_output=True, **bounded(4096))
+    say((ran.returncode, ran.stderr) == stopped, "so does an order that cannot be written")
+    ran = subprocess.run([REGISTRY, "usage", "--db", db], capture_output=True)
+    rows = [line.split() for line in ran.stdout.decode().splitlines()[1:]]
+    say(rows == [["0", QUOTA, "0", "0", "0", "0", REPO]], "nothing came of either")
+
+
 def main():
     lacking = [it for it in ("curl", "sqlite3") if shutil.which(it) is None]
     if lacking or not os.path.exists(REGISTRY):
@@ -222,6 +246,7 @@ def main():
     with tempfile.TemporaryDirectory() as room:
         look_at_a_new_file(os.path.join(room, "new.db"))
         refuse_a_write(os.path.join(room, "full.db"))
+        refuse_in_one_connection(os.path.join(room, "one.db"))
     print(f"{say.wrong} wrong" if say.wrong else "the file is as it should be")
     return 1 if say.wrong else 0
 
