@@ -3,21 +3,22 @@ ghost use Rattle.std.specs.Prelude.{◌≡◌, OnOk, OnErr, IfErr, IsTrue, ⊤};
 ghost use Rattle.sqlite.specs.State.{HasCleanDisk, KeepsCommit, Survives};
 ghost use Rattle.sqlite.specs.Held.{state};
 ghost use Rattle.registry_tables.specs.Schema.{no_schema};
-ghost use Rattle.registry_tables.specs.Making.{IsEmptyWith};
+ghost use Rattle.registry_tables.specs.Making.{IsEmptyWith, IsOther};
 ghost use Rattle.registry_model.specs.World.{no_world};
 ghost use Rattle.registry_store.specs.Held.{IsReady, Makes, IsBack};
 ghost use Rattle.registry_store.specs.Opening.{IsIdle};
-ghost use Rattle.registry_store.specs.Asking.{IsUnnumbered};
+ghost use Rattle.registry_store.specs.Asking.{IsUnnumbered, IsWanting};
 ghost use Rattle.registry_store.specs.Steps.{VersionComes, IsNew};
 
-use crate::opening::OpenFault;
+use crate::opening::{OpenFault, fault_in_opening};
 use registry_tables::make_tables;
 use sqlite::{Alter, Connection, Error, ErrorCode, Transaction};
 use sqlite_resolve::CompileError;
 
 /// Why tables are not made: a name that is taken is told apart.
 fn fault_in_making(error: Error) -> OpenFault
-    ensures { IsUnnumbered result }
+    ensures unnumbered { IsUnnumbered result }
+    ensures wanting { IsOther error → IsWanting result }
 {
     match error {
         Error::SqliteFailure(ErrorCode::OutOfMemory) => OpenFault::Memory,
@@ -28,9 +29,10 @@ fn fault_in_making(error: Error) -> OpenFault
 }
 
 /// Writes which schema the tables are.
-fn add_version<S: Alter>(tx: &mut Transaction<'_, S>) -> Result<(), Error>
+fn add_version<S: Alter>(tx: &mut Transaction<'_, S>) -> Result<(), OpenFault>
     requires begun { HasCleanDisk (state S.Store tx.old.conn.now) → IsTrue (state S.Store tx.old.conn.now).in_transaction }
     ensures added { HasCleanDisk (state S.Store tx.new.conn.now) → IsReady (state S.Store tx.old.conn.now) → OnOk result (VersionComes (state S.Store tx.old.conn.now) (state S.Store tx.new.conn.now)) }
+    ensures wanting { IfErr result IsWanting }
     ensures inside { HasCleanDisk (state S.Store tx.new.conn.now) → OnOk result (IsTrue (state S.Store tx.new.conn.now).in_transaction) }
     ensures kept { HasCleanDisk (state S.Store tx.new.conn.now) → KeepsCommit (state S.Store tx.old.conn.now) (state S.Store tx.new.conn.now) }
     ensures same_reference { tx.new.conn.ghost_name ≡ tx.old.conn.ghost_name }
@@ -38,14 +40,16 @@ fn add_version<S: Alter>(tx: &mut Transaction<'_, S>) -> Result<(), Error>
 {
     match tx.execute("INSERT INTO registry_schema (version) VALUES (2)", &[]) {
         Ok(_) => Ok(()),
-        Err(error) => Err(error),
+        Err(error) => Err(fault_in_opening(error)),
     }
 }
 
-/// Makes the tables, with the version.
-fn make<S: Alter>(tx: &mut Transaction<'_, S>) -> Result<(), Error>
+/// Makes the tables, with the version. `NotARegistry`: one of their names is taken.
+fn make<S: Alter>(tx: &mut Transaction<'_, S>) -> Result<(), OpenFault>
     requires { HasCleanDisk (state S.Store tx.old.conn.now) → IsTrue (state S.Store tx.old.conn.now).in_transaction }
     ensures made { HasCleanDisk (state S.Store tx.new.conn.now) → IsEmptyWith no_schema (state S.Store tx.old.conn.now).now → OnOk result (IsNew (state S.Store tx.new.conn.now)) }
+    ensures wanting { HasCleanDisk (state S.Store tx.new.conn.now) → IsEmptyWith no_schema (state S.Store tx.old.conn.now).now → IfErr result IsWanting }
+    ensures unnumbered { IfErr result IsUnnumbered }
     ensures inside { HasCleanDisk (state S.Store tx.new.conn.now) → OnOk result (IsTrue (state S.Store tx.new.conn.now).in_transaction) }
     ensures kept { HasCleanDisk (state S.Store tx.new.conn.now) → KeepsCommit (state S.Store tx.old.conn.now) (state S.Store tx.new.conn.now) }
     ensures same_reference { tx.new.conn.ghost_name ≡ tx.old.conn.ghost_name }
@@ -53,37 +57,26 @@ fn make<S: Alter>(tx: &mut Transaction<'_, S>) -> Result<(), Error>
 {
     match make_tables(tx) {
         Ok(()) => add_version(tx),
-        Err(error) => Err(error),
+        Err(error) => Err(fault_in_making(error)),
     }
 }
 
-/// The same, in a transaction of its own.
-fn make_alone<S: Alter>(conn: &mut Connection<S>) -> Result<(), Error>
+/// Makes the tables, all or none, in a transaction of its own. In an empty database they stand for the world
+/// without repositories and grants. `NotARegistry`: one of their names is taken, so the database is not empty.
+pub(crate) fn create<S: Alter>(conn: &mut Connection<S>) -> Result<(), OpenFault>
     ensures made { HasCleanDisk (state S.Store conn.new) → IsEmptyWith no_schema (state S.Store conn.old).now → OnOk result (Makes (state S.Store conn.new) no_world) }
+    ensures wanting { HasCleanDisk (state S.Store conn.new) → IsEmptyWith no_schema (state S.Store conn.old).now → IfErr result IsWanting }
     ensures back { HasCleanDisk (state S.Store conn.new) → IsIdle (state S.Store conn.old) → OnErr result (IsBack (state S.Store conn.old) (state S.Store conn.new)) }
+    ensures unnumbered { IfErr result IsUnnumbered }
     ensures survives { Survives (state S.Store conn.old) (state S.Store conn.new) (λ _. ⊤) }
 {
     if !conn.is_autocommit() {
-        return Err(Error::SqliteFailure(ErrorCode::TransactionState));
+        return Err(OpenFault::Storage);
     }
     let mut tx = conn.transaction();
     make(&mut tx)?;
     match tx.commit() {
         Ok(()) => Ok(()),
-        Err(error) => Err(error),
-    }
-}
-
-/// Makes the tables, all or none. In an empty database they stand for the world without repositories and
-/// grants. `NotARegistry`: one of their names is taken.
-pub(crate) fn create<S: Alter>(conn: &mut Connection<S>) -> Result<(), OpenFault>
-    ensures made { HasCleanDisk (state S.Store conn.new) → IsEmptyWith no_schema (state S.Store conn.old).now → OnOk result (Makes (state S.Store conn.new) no_world) }
-    ensures back { HasCleanDisk (state S.Store conn.new) → IsIdle (state S.Store conn.old) → OnErr result (IsBack (state S.Store conn.old) (state S.Store conn.new)) }
-    ensures unnumbered { IfErr result IsUnnumbered }
-    ensures survives { Survives (state S.Store conn.old) (state S.Store conn.new) (λ _. ⊤) }
-{
-    match make_alone(conn) {
-        Ok(()) => Ok(()),
-        Err(error) => Err(fault_in_making(error)),
+        Err(error) => Err(fault_in_opening(error)),
     }
 }

@@ -7,7 +7,7 @@ ghost use Rattle.registry_tables.specs.Making.{IsEmptyWith};
 ghost use Rattle.registry_model.specs.World.{no_world};
 ghost use Rattle.registry_store.specs.Held.{IsSettled, StaysSettled, Makes, IsBack};
 ghost use Rattle.registry_store.specs.Opening.{IsIdle, HoldsRegistry, SaysTwo, has_version_table};
-ghost use Rattle.registry_store.specs.Asking.{IsWanting, IsTold};
+ghost use Rattle.registry_store.specs.Asking.{IsWanting, IsTold, IsUnnumbered};
 
 use crate::making::create;
 use crate::version::read_version;
@@ -26,9 +26,10 @@ pub enum OpenFault {
     NotARegistry,
 }
 
-/// Why a file is not opened: want of memory is told apart from all others.
+/// Why a database fails in its opening: want of memory is told apart from all others.
 pub(crate) fn fault_in_opening(error: Error) -> OpenFault
-    ensures { IsWanting result }
+    ensures wanting { IsWanting result }
+    ensures unnumbered { IsUnnumbered result }
 {
     match error {
         Error::SqliteFailure(ErrorCode::OutOfMemory) => OpenFault::Memory,
@@ -46,9 +47,11 @@ fn is_marked<S: Alter>(conn: &Connection<S>) -> bool
 /// Makes the tables of a registry where no table says that they are there; else sees that they are of
 /// schema 2. Whatever the database is: outside a transaction a refusal leaves it as it was, where it is open
 /// still, and `Schema` names the one number that it says. `NotARegistry`: it says none, or a name is taken.
+/// An empty database, and a registry's of schema 2, are refused for want of memory or a failure alone.
 pub fn take_up<S: Alter>(conn: &mut Connection<S>) -> Result<(), OpenFault>
     ensures made { HasCleanDisk (state S.Store conn.new) → IsEmptyWith no_schema (state S.Store conn.old).now → OnOk result (Makes (state S.Store conn.new) no_world) }
     ensures found { HasCleanDisk (state S.Store conn.new) → IsIdle (state S.Store conn.old) → HoldsRegistry (state S.Store conn.old).now → OnOk result (StaysSettled (state S.Store conn.old) (state S.Store conn.new)) }
+    ensures unmade { HasCleanDisk (state S.Store conn.new) → IsEmptyWith no_schema (state S.Store conn.old).now → IfErr result IsWanting }
     ensures wanting { HasCleanDisk (state S.Store conn.new) → HoldsRegistry (state S.Store conn.old).now → SaysTwo (state S.Store conn.old).now → IfErr result IsWanting }
     ensures told { HasCleanDisk (state S.Store conn.new) → IfErr result (IsTold (state S.Store conn.old)) }
     ensures back { HasCleanDisk (state S.Store conn.new) → IsIdle (state S.Store conn.old) → OnErr result (IsBack (state S.Store conn.old) (state S.Store conn.new)) }

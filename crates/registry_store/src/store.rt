@@ -45,10 +45,11 @@ impl<S: Alter> Model for Store<S> {
 }
 
 impl Store<MemStore> {
-    /// A registry in memory, without repositories and grants.
+    /// A registry in memory, without repositories and grants. Its refusal is want of memory or a failure.
     pub fn memory(alloc: Global) -> Result<Store<MemStore>, OpenFault>
-        ensures empty { IfOk result (λ s. HasCleanDisk (state over_memory s.conn) → world_in (state over_memory s.conn) ≡ no_world) }
+        ensures empty { IfOk result (λ s. world_in (state over_memory s.conn) ≡ no_world) }
         ensures unspent { IfOk result (λ s. s.spent ≡ false) }
+        ensures wanting { IfErr result IsWanting }
     {
         let Ok(conn) = Connection::open_in_memory(alloc) else {
             return Err(OpenFault::Memory);
@@ -64,7 +65,7 @@ impl<S: Alter + Drop> Store<S> {
     /// The registry in the tables of a database: they are made where there are none. That no one else wrote
     /// the tables is for the caller to know. A refusal hands the connection back, with the tables as they were
     /// where it is open still: `Schema` where they are of another schema than 2, `NotARegistry` where a name
-    /// is taken by what is none of a registry's.
+    /// is taken by what is none of a registry's. An empty database is refused with neither.
     pub fn adopt(
         alloc: Global,
         mut conn: Connection<S>,
@@ -77,6 +78,7 @@ impl<S: Alter + Drop> Store<S> {
         ensures survives { IfOk result (λ s. Survives (state S.Store conn) (state S.Store s.conn) (λ _. ⊤)) }
         ensures told { IfErr result (λ e. HasCleanDisk (state S.Store e.1) → IsTold (state S.Store conn) e.0) }
         ensures refused { IfErr result (λ e. HasCleanDisk (state S.Store e.1) → IsBack (state S.Store conn) (state S.Store e.1)) }
+        ensures unmade { IfErr result (λ e. HasCleanDisk (state S.Store e.1) → IsEmptyWith no_schema (state S.Store conn).now → IsWanting e.0) }
         ensures wanting { IfErr result (λ e. HasCleanDisk (state S.Store e.1) → HoldsRegistry (state S.Store conn).now → SaysTwo (state S.Store conn).now → IsWanting e.0) }
     {
         match take_up(&mut conn) {

@@ -1,7 +1,7 @@
 -- Rows that are taken out of a table to which foreign keys refer: what their actions are, and that they find nothing where no row is a
 -- child.
-use Rattle.std.proofs.Common.{◌≡◌, ◌≢◌, ◌⊎◌, inl, inr, arith, ℕ, zero, suc, ℤ, ◌<◌, List, [], ◌∷◌, map, Bool, true, false, cond, not, None, Some, Ok, length, get_or, refl, sym, ap, subst, ◌∙◌, true≢false, All}
-use Rattle.std.specs.Prelude.{filter, Option, find, ◌&&◌, ◌==◌, unwrap_or, IsTrue}
+use Rattle.std.proofs.Common.{◌≡◌, ◌⊎◌, inl, inr, arith, ℕ, zero, suc, ℤ, List, [], ◌∷◌, map, Bool, true, false, cond, None, Some, refl, sym, ap, subst, ◌∙◌, true≢false, All}
+use Rattle.std.specs.Prelude.{filter, Option, ◌&&◌, ◌==◌, unwrap_or}
 use Rattle.std.specs.List.{AllByRecursion, list_any, flat_map, filter_map, cons_option}
 use Rattle.std.specs.List.Sorted.{IsPermutation}
 use Rattle.std.proofs.lemmas.List.Sorted.{All-permutation}
@@ -9,9 +9,9 @@ use Rattle.sqlite.specs.Order.{Row, column}
 use Rattle.sqlite.specs.Schema.{Schema}
 use Rattle.sqlite.specs.Table.{Table}
 use Rattle.sqlite.specs.Term.{Term, col}
-use Rattle.sqlite.specs.Edit.{Edit, edit_of}
+use Rattle.sqlite.specs.Edit.{edit_of}
 use Rattle.sqlite.specs.Rowids.TheVariants.{Given}
-use Rattle.sqlite.specs.Tree.{Trees, rowid, has_rowid}
+use Rattle.sqlite.specs.Tree.{Trees, rowid}
 use Rattle.sqlite.specs.State.{State}
 use Rattle.sqlite_rules.specs.Calls.{ids_of}
 use Rattle.sqlite_rules.specs.Edit.{Applies, taken_by, row_at, id_in}

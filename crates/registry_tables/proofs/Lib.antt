@@ -9,3 +9,4 @@ pub mod Updates
 pub mod Children
 pub mod Pages
 pub mod MakeLemmas
+pub mod Refusals

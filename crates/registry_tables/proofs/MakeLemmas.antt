@@ -18,7 +18,7 @@ use Rattle.registry_tables.specs.Making.{MakesTable, MakesIndex, IsEmptyWith, st
 use Rattle.registry_tables.proofs.Selects.{means_command}
 use Rattle.registry_tables.proofs.Writes.{went, same_value, at_place}
 
-statement_is : (text : List ℕ) (r : Result Compiled CompileError) → statement_in text r ≡ Some text → statement_of text r ≡ text
+pub statement_is : (text : List ℕ) (r : Result Compiled CompileError) → statement_in text r ≡ Some text → statement_of text r ≡ text
 statement_is text (Ok c) e = cc
 statement_is text (Err x) e = absurd cc
 

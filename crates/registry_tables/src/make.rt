@@ -1,5 +1,5 @@
 //! The making of the tables.
-ghost use Rattle.std.specs.Prelude.{◌≡◌, ℕ, IsTrue, OnOk};
+ghost use Rattle.std.specs.Prelude.{◌≡◌, ℕ, IsTrue, OnOk, IfErr};
 ghost use Rattle.sqlite.specs.State.{HasCleanDisk, KeepsCommit, Survives};
 ghost use Rattle.sqlite.specs.Held.{state};
 ghost use Rattle.sqlite.specs.Change.{created, indexed};
@@ -7,7 +7,7 @@ ghost use Rattle.sqlite_schema.specs.declared.schema.Index.{Index};
 ghost use Rattle.sqlite.specs.Table.{Table};
 ghost use Rattle.sqlite.specs.Schema.{Schema};
 ghost use Rattle.registry_tables.specs.Schema.{no_schema, fresh_schema};
-ghost use Rattle.registry_tables.specs.Making.{MakesTable, MakesIndex, IsEmptyWith, shared_tables, linked_tables};
+ghost use Rattle.registry_tables.specs.Making.{MakesTable, MakesIndex, IsEmptyWith, IsOther, shared_tables, linked_tables};
 
 use sqlite::{Alter, Error, Transaction};
 
@@ -16,6 +16,8 @@ fn create<S: Alter>(tx: &mut Transaction<'_, S>, text: &str) -> Result<(), Error
     requires { HasCleanDisk (state S.Store tx.old.conn.now) → IsTrue (state S.Store tx.old.conn.now).in_transaction }
     ensures made { HasCleanDisk (state S.Store tx.new.conn.now) → OnOk result ((schema : Schema) (table : Table) → MakesTable schema text.now table → IsEmptyWith schema (state S.Store tx.old.conn.now).now → IsEmptyWith (created schema table) (state S.Store tx.new.conn.now).now) }
     ensures indexed { HasCleanDisk (state S.Store tx.new.conn.now) → OnOk result ((schema : Schema) (at : ℕ) (table : Table) (index : Index) → MakesIndex schema text.now at table index → IsEmptyWith schema (state S.Store tx.old.conn.now).now → IsEmptyWith (indexed schema table index) (state S.Store tx.new.conn.now).now) }
+    ensures unmade { HasCleanDisk (state S.Store tx.new.conn.now) → IfErr result (λ e. (schema : Schema) (table : Table) → MakesTable schema text.now table → IsEmptyWith schema (state S.Store tx.old.conn.now).now → IsOther e) }
+    ensures unindexed { HasCleanDisk (state S.Store tx.new.conn.now) → IfErr result (λ e. (schema : Schema) (at : ℕ) (table : Table) (index : Index) → MakesIndex schema text.now at table index → IsEmptyWith schema (state S.Store tx.old.conn.now).now → IsOther e) }
     ensures inside { HasCleanDisk (state S.Store tx.new.conn.now) → OnOk result (IsTrue (state S.Store tx.new.conn.now).in_transaction) }
     ensures kept { HasCleanDisk (state S.Store tx.new.conn.now) → KeepsCommit (state S.Store tx.old.conn.now) (state S.Store tx.new.conn.now) }
     ensures same_reference { tx.new.conn.ghost_name ≡ tx.old.conn.ghost_name }
@@ -29,6 +31,7 @@ fn create<S: Alter>(tx: &mut Transaction<'_, S>, text: &str) -> Result<(), Error
 fn make_shared<S: Alter>(tx: &mut Transaction<'_, S>) -> Result<(), Error>
     requires { HasCleanDisk (state S.Store tx.old.conn.now) → IsTrue (state S.Store tx.old.conn.now).in_transaction }
     ensures made { HasCleanDisk (state S.Store tx.new.conn.now) → IsEmptyWith no_schema (state S.Store tx.old.conn.now).now → OnOk result (IsEmptyWith shared_tables (state S.Store tx.new.conn.now).now) }
+    ensures unmade { HasCleanDisk (state S.Store tx.new.conn.now) → IsEmptyWith no_schema (state S.Store tx.old.conn.now).now → IfErr result IsOther }
     ensures inside { HasCleanDisk (state S.Store tx.new.conn.now) → OnOk result (IsTrue (state S.Store tx.new.conn.now).in_transaction) }
     ensures kept { HasCleanDisk (state S.Store tx.new.conn.now) → KeepsCommit (state S.Store tx.old.conn.now) (state S.Store tx.new.conn.now) }
     ensures same_reference { tx.new.conn.ghost_name ≡ tx.old.conn.ghost_name }
@@ -56,6 +59,7 @@ fn make_shared<S: Alter>(tx: &mut Transaction<'_, S>) -> Result<(), Error>
 fn make_links<S: Alter>(tx: &mut Transaction<'_, S>) -> Result<(), Error>
     requires { HasCleanDisk (state S.Store tx.old.conn.now) → IsTrue (state S.Store tx.old.conn.now).in_transaction }
     ensures made { HasCleanDisk (state S.Store tx.new.conn.now) → IsEmptyWith shared_tables (state S.Store tx.old.conn.now).now → OnOk result (IsEmptyWith linked_tables (state S.Store tx.new.conn.now).now) }
+    ensures unmade { HasCleanDisk (state S.Store tx.new.conn.now) → IsEmptyWith shared_tables (state S.Store tx.old.conn.now).now → IfErr result IsOther }
     ensures inside { HasCleanDisk (state S.Store tx.new.conn.now) → OnOk result (IsTrue (state S.Store tx.new.conn.now).in_transaction) }
     ensures kept { HasCleanDisk (state S.Store tx.new.conn.now) → KeepsCommit (state S.Store tx.old.conn.now) (state S.Store tx.new.conn.now) }
     ensures same_reference { tx.new.conn.ghost_name ≡ tx.old.conn.ghost_name }
@@ -79,6 +83,7 @@ fn make_links<S: Alter>(tx: &mut Transaction<'_, S>) -> Result<(), Error>
 fn make_uploads<S: Alter>(tx: &mut Transaction<'_, S>) -> Result<(), Error>
     requires { HasCleanDisk (state S.Store tx.old.conn.now) → IsTrue (state S.Store tx.old.conn.now).in_transaction }
     ensures made { HasCleanDisk (state S.Store tx.new.conn.now) → IsEmptyWith linked_tables (state S.Store tx.old.conn.now).now → OnOk result (IsEmptyWith fresh_schema (state S.Store tx.new.conn.now).now) }
+    ensures unmade { HasCleanDisk (state S.Store tx.new.conn.now) → IsEmptyWith linked_tables (state S.Store tx.old.conn.now).now → IfErr result IsOther }
     ensures inside { HasCleanDisk (state S.Store tx.new.conn.now) → OnOk result (IsTrue (state S.Store tx.new.conn.now).in_transaction) }
     ensures kept { HasCleanDisk (state S.Store tx.new.conn.now) → KeepsCommit (state S.Store tx.old.conn.now) (state S.Store tx.new.conn.now) }
     ensures same_reference { tx.new.conn.ghost_name ≡ tx.old.conn.ghost_name }
@@ -108,6 +113,7 @@ fn make_uploads<S: Alter>(tx: &mut Transaction<'_, S>) -> Result<(), Error>
 pub fn make_tables<S: Alter>(tx: &mut Transaction<'_, S>) -> Result<(), Error>
     requires { HasCleanDisk (state S.Store tx.old.conn.now) → IsTrue (state S.Store tx.old.conn.now).in_transaction }
     ensures made { HasCleanDisk (state S.Store tx.new.conn.now) → IsEmptyWith no_schema (state S.Store tx.old.conn.now).now → OnOk result (IsEmptyWith fresh_schema (state S.Store tx.new.conn.now).now) }
+    ensures unmade { HasCleanDisk (state S.Store tx.new.conn.now) → IsEmptyWith no_schema (state S.Store tx.old.conn.now).now → IfErr result IsOther }
     ensures inside { HasCleanDisk (state S.Store tx.new.conn.now) → OnOk result (IsTrue (state S.Store tx.new.conn.now).in_transaction) }
     ensures kept { HasCleanDisk (state S.Store tx.new.conn.now) → KeepsCommit (state S.Store tx.old.conn.now) (state S.Store tx.new.conn.now) }
     ensures same_reference { tx.new.conn.ghost_name ≡ tx.old.conn.ghost_name }

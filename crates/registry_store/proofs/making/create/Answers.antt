@@ -6,7 +6,7 @@ use Rattle.registry_tables.specs.Schema.{no_schema}
 use Rattle.registry_tables.specs.Making.{IsEmptyWith}
 use Rattle.registry_store.proofs.FreshTables.{makes_none}
 use Rattle.registry_store.proofs.Transactions.{survives_all, undone_back, failed_back, told_err}
-use Rattle.registry_store.proofs.making.make_alone.Goals as goal
+use Rattle.registry_store.proofs.making.create.Goals as goal
 
 pub returns-in-Ok-clause-made : goal.returns-in-Ok-clause-made
 returns-in-Ok-clause-made g c clean bare =
