@@ -14,7 +14,6 @@ ghost use Rattle.registry_store.specs.Asking.{IsWanting, IsTold};
 
 use crate::opening::{OpenFault, fault_in_opening, take_up};
 use crate::written::Written;
-use oci_names::Fault;
 use sqlite::{Alter, Connection, FileFrom, FileStore, MemStore};
 use std::alloc::Global;
 use std::marker::Model;
@@ -118,14 +117,6 @@ impl<F: Written> Store<FileStore<FileFrom<F>>> {
         match Store::adopt(rt.alloc(), conn) {
             Ok(store) => Ok(store),
             Err((fault, _)) => Err(fault),
-        }
-    }
-
-    /// Copies the log into the database file and closes both.
-    pub fn close(self) -> Result<(), Fault> {
-        match self.conn.close() {
-            Ok(()) => Ok(()),
-            Err(_) => Err(Fault::Storage),
         }
     }
 }
