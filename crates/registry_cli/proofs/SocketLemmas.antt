@@ -1,5 +1,5 @@
 -- Connections since a registry was last opened.
-use Rattle.std.proofs.Common.{◌≡◌, ◌⊎◌, ℕ, suc, false, Result, Ok, Err, inl, inr, refl, sym, subst}
+use Rattle.std.proofs.Common.{◌≡◌, ◌⊎◌, suc, false, Result, Ok, Err, inl, inr, refl, sym, subst}
 use Rattle.registry_model.specs.Keeping.{State}
 use Rattle.registry_http.specs.declared.ending.End.{End}
 use Rattle.registry_cli.specs.Sockets.{Connects, ServesSome, ServesAddress}

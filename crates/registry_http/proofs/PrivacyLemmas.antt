@@ -1,12 +1,12 @@
 -- Requests that are answered one after the other are a run.
-use Rattle.std.proofs.Common.{◌≡◌, ◌∙◌, List, [], ◌∷◌, map, refl, ap}
+use Rattle.std.proofs.Common.{◌≡◌, List, [], ◌∷◌, map, refl}
 use Rattle.oci_names.specs.Text.{Text}
 use Rattle.registry_model.specs.Answer.{Answer}
 use Rattle.registry_model.specs.Keeping.{State}
 use Rattle.registry_model.specs.Runs.{told, TakesAll}
 use Rattle.registry_model.proofs.RunLaws.{run_says}
 use Rattle.registry_http.specs.Spelling.{Item}
-use Rattle.registry_http.specs.Serving.{Run, text_for}
+use Rattle.registry_http.specs.Serving.{Run}
 use Rattle.registry_http.specs.Privacy.{step_of, texts_of, IsPrivateRun}
 
 -- answers whose texts these are, and which the steps come to

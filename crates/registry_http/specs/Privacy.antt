@@ -4,7 +4,7 @@ use Rattle.oci_names.specs.Text.{Text}
 use Rattle.registry_model.specs.Answer.{Answer}
 use Rattle.registry_model.specs.Keeping.{State}
 use Rattle.registry_model.specs.Team.{Step, asks}
-use Rattle.registry_model.specs.Runs.{Outcome, told, RunSays}
+use Rattle.registry_model.specs.Runs.{told, RunSays}
 use Rattle.registry_http.specs.Asking.{ask_in}
 use Rattle.registry_http.specs.Spelling.{Item}
 use Rattle.registry_http.specs.Serving.{text_for}

@@ -1,5 +1,4 @@
-use Rattle.std.proofs.Common.{inl, inr}
-use Rattle.registry_cli.proofs.ProgramLemmas.{untouched_memory, untouched_telling}
+use Rattle.std.proofs.Common.{inl}
 use Rattle.registry_cli.proofs.program.run_words.Goals as goal
 
 pub returns-in-Ok-Memory-clause-runs : goal.returns-in-Ok-Memory-clause-runs

@@ -1,8 +1,7 @@
-use Rattle.std.proofs.Common.{◌≡◌, ◌∙◌, ◌+◌, List, ◌∷◌, ◌++◌, drop, ap, sym, subst, append_assoc}
+use Rattle.std.proofs.Common.{◌≡◌, ◌∙◌, ◌+◌, ◌∷◌, ◌++◌, drop, ap, sym, subst, append_assoc}
 use Rattle.std.specs.Io.KnownBytes.{Appends}
 use Rattle.std.proofs.lemmas.List.{at_drop_more}
 use Rattle.oci_names.specs.Text.{Text}
-use Rattle.registry_model.specs.declared.quota.Usage.{Usage}
 use Rattle.registry_cli.specs.Table.{newline, row_of, rows_of}
 use Rattle.registry_cli.proofs.TableLemmas.{appends_more}
 use Rattle.registry_cli.proofs.table.write_rows.Goals as goal
