@@ -1,34 +1,69 @@
-# What a fresh checkout is asked for. `rt` is the command of the Rattle kit (see the README).
-DEMO = registry stdio --memory --repo team/app=1000 --grant t1=team/app=3
-A = sha256:ba7816bf8f01cfea414140de5dae2223b00361a396177a9cb410ff61f20015ad
-REQUEST_FIELDS = Host: r\r\nAuthorization: Bearer t1\r\n
-# The empty config of the Image Specification, and an SBOM's manifest (379 bytes) whose subject is the blob.
-O = sha256:44136fa355b3678a1146ad16f7e8649e94fb4fc21fe77e8310c060f61caaff8a
-SBOM = {"schemaVersion":2,"artifactType":"application/x.sbom","config":{"mediaType":"application/vnd.oci.empty.v1+json","digest":"$(O)","size":2},"layers":[],"subject":{"mediaType":"application/vnd.oci.image.manifest.v1+json","digest":"$(A)","size":3}}
+# What a fresh checkout is asked for. `rt` is the command of the Rattle kit (see the README); `make help` says
+# what each target is for.
 
-.PHONY: demo build test fmt clean check-file bench bench-http
+# The crates, and those of them that each stands on, as crates.txt has them.
+CRATES := $(shell sed -n 's/^\([a-z0-9_]*\)[^:]*:.*/\1/p' crates.txt)
+below = $(filter $(CRATES),$(shell sed -n 's/^$(1)[^:]*://p' crates.txt))
+PROCESSORS := $(shell nproc)
+# The first run: a registry in memory, with one repository and one token.
+DEMO := stdio --memory --repo team/app=1000 --grant t1=team/app=3
 
-# Builds, then pushes the blob `abc` and fetches it: both replies, byte for byte. Then a manifest that
-# refers to it, and the list of its referrers.
-demo: build
-	@echo '$$ $(DEMO)' >&2
-	@printf 'POST /v2/team/app/blobs/uploads/?digest=$(A) HTTP/1.1\r\n$(REQUEST_FIELDS)Content-Length: 3\r\n\r\nabcGET /v2/team/app/blobs/$(A) HTTP/1.1\r\n$(REQUEST_FIELDS)\r\n' | build/$(DEMO)
-	@echo
-	@echo '$$ $(DEMO)   # the config, a manifest, and who refers to the blob' >&2
-	@printf 'POST /v2/team/app/blobs/uploads/?digest=$(O) HTTP/1.1\r\n$(REQUEST_FIELDS)Content-Length: 2\r\n\r\n{}PUT /v2/team/app/manifests/sbom HTTP/1.1\r\n$(REQUEST_FIELDS)Content-Length: 379\r\n\r\n$(SBOM)GET /v2/team/app/referrers/$(A) HTTP/1.1\r\n$(REQUEST_FIELDS)\r\n' | build/$(DEMO)
+.PHONY: help demo build try test check edits check-file bench bench-http fmt clean
+
+# Minutes are those of four processors that do nothing else; docs/PERFORMANCE.md has what was measured.
+help:
+	@echo 'make demo            a push and a pull of the blob `abc`, then a manifest and its referrers (3 min, 2 GB;'
+	@echo '                     at once after make build)'
+	@echo 'make build           proves the program and all below it; leaves build/registry (20 min, 12 GB)'
+	@echo 'make test            the merge gate: every proof from nothing, edits, tests (50 min, 16 GB)'
+	@echo 'make try ARGS=".."   runs the program unproved, for a first look: make try ARGS="--help" (3 min, 2 GB)'
+	@echo 'make check CRATE=x   proves one crate over what earlier checks kept (seconds after an edit)'
+	@echo 'make edits CRATE=x   tries the must-fail edits of one crate (20 to 60 s each)'
+	@echo 'make check-file      a server'"'"'s file after pushes by curl, looked at by sqlite3'
+	@echo 'make bench           requests a second over loopback, beside docker-registry where installed'
+	@echo 'make bench-http      requests a second over standard input, beside cat and sha256sum'
+	@echo 'make fmt, make clean lays out the sources; removes what was built'
+
+# demo/requests.http on one connection, and the five replies, byte for byte. Without a build, the same
+# program runs unproved.
+demo:
+	@echo '$$ registry $(DEMO) < demo/requests.http' >&2
+	@if [ -x build/registry ]; then build/registry $(DEMO) < demo/requests.http; else \
+	  echo 'This run is not proved yet: `make build` proves it (20 minutes on four processors, 12 GB).' >&2; \
+	  cd crates/registry_cli && rt try -- $(DEMO) < ../../demo/requests.http; fi
 	@echo
 
 # Proves the program and everything below it, and leaves the executable as build/registry.
 build:
+	@echo 'Proves some 800 functions: 20 minutes on four processors, up to 12 GB of memory.' >&2
+	$(MAKE) --no-print-directory --jobs=$(PROCESSORS) prove-registry_cli
 	cd crates/registry_cli && rt run -- --version
 	mkdir -p build
 	cp crates/registry_cli/out/registry_cli build/registry
 
-# The merge gate: every proof from nothing, the must-fail edits, the tests and the stored run. A check for
-# each processor, four at most: by itself rt holds 11 GB free for registry_store, whose check takes 7, and
-# waits for them.
+# Each crate after those that it stands on, so that independent ones are proved side by side.
+define prove
+.PHONY: prove-$(1)
+prove-$(1): $(addprefix prove-,$(call below,$(1)))
+	cd crates/$(1) && rt check --jobs 2
+endef
+$(foreach crate,$(CRATES),$(eval $(call prove,$(crate))))
+
+# The program unproved: a command, or for SECONDS_OF_TRY a server. Name files by whole paths.
+SECONDS_OF_TRY = 600
+try:
+	cd crates/registry_cli && rt try --seconds $(SECONDS_OF_TRY) -- $(ARGS)
+
+check:
+	cd crates/$(CRATE) && rt check
+
+edits:
+	rt must-fail $(CRATE)
+
+# The merge gate. A check for each processor, four at most: by itself rt waits until more memory is free than
+# its checks take.
 test:
-	RT_JOBS=$$(( $$(nproc) < 4 ? $$(nproc) : 4 )) rt ci
+	RT_JOBS=$$(( $(PROCESSORS) < 4 ? $(PROCESSORS) : 4 )) rt ci
 
 # A server's database file, looked at by another program: needs curl and sqlite3 beside python3.
 check-file: build
