@@ -1,12 +1,12 @@
-pub mod Order
+pub mod LastKey
 pub mod Texts
 pub mod Documents
 pub mod Descriptors
 pub mod Replies
-pub mod Written
+pub mod WrittenTexts
 pub mod Parts
 pub mod DescriptorLaws
 pub mod RuleLaws
 pub mod ManifestLaws
 pub mod FaultLaws
-pub mod Answering
+pub mod FoundOrRefused

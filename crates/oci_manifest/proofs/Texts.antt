@@ -12,7 +12,7 @@ use Rattle.serde_json.proofs.Views.{Entry}
 use Rattle.oci_names.specs.Text.{Text}
 use Rattle.oci_manifest.specs.Part.{◌>>=◌}
 use Rattle.oci_manifest.specs.Member.{Pairs, pairs_of, IsInByteOrder, has_items, texts_of}
-use Rattle.oci_manifest.proofs.Order.{names, IsAbove, goes_last, above_front, names-append_one}
+use Rattle.oci_manifest.proofs.LastKey.{names, IsAbove, goes_last, above_front, names-append_one}
 
 pub filled : (vs : List Value) → 1 ≤ length vs → true ≡ has_items (items_view vs)
 filled [] h = absurd (omega arith)

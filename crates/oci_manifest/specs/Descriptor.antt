@@ -15,7 +15,11 @@ pub record DescriptorShown : Type 0 where
   pub elsewhere : Bool
 
 abbrev pub descriptor_shown : Descriptor → DescriptorShown
-descriptor_shown d = record { media_type = string_bytes d.media_type; digest = d.digest; elsewhere = d.elsewhere }
+descriptor_shown d = record {
+  media_type = string_bytes d.media_type;
+  digest = d.digest;
+  elsewhere = d.elsewhere;
+}
 
 abbrev pub descriptors_shown : List Descriptor → List DescriptorShown
 descriptors_shown ds = map descriptor_shown ds

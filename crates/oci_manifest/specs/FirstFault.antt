@@ -29,4 +29,6 @@ pub record FirstFault (d : Data) (fault : ManifestFault) : Type 0 where
 
 -- the bytes are no JSON text, or their document breaks a rule
 abbrev pub Refuses : Text → ManifestFault → Type 0
-Refuses bytes fault = ((fault ≡ NotJson) × ((d : Data) → ¬ (IsJson bytes d))) ⊎ ((d : Data) × IsJson bytes d × FirstFault d fault)
+Refuses bytes fault =
+    ((fault ≡ NotJson) × ((d : Data) → ¬ (IsJson bytes d)))
+    ⊎ ((d : Data) × IsJson bytes d × FirstFault d fault)

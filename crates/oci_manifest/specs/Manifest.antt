@@ -29,7 +29,9 @@ if_two n = if n == 2 then Some tt else None
 
 -- the whole number 2
 abbrev pub version_of : Data → Option ⊤
-version_of d = option_and_then if_two (option_and_then as_u64 (option_and_then as_number (get (codes "schemaVersion") d)))
+version_of d =
+    option_and_then if_two
+    (option_and_then as_u64 (option_and_then as_number (get (codes "schemaVersion") d)))
 
 -- what a manifest names: a config and layers, or other manifests
 pub data BodyShown : Type 0 where
@@ -50,8 +52,12 @@ unless_present None shown = Some shown
 unless_present (Some other) shown = None
 
 abbrev pub body_from : Option Data → Data → Option BodyShown
-body_from (Some config) d = option_and_then (λ layers. unless_present (present_at (codes "manifests") d) (image config layers)) (list_at (codes "layers") d)
-body_from None d = option_and_then (λ manifests. unless_present (present_at (codes "layers") d) (index manifests)) (list_at (codes "manifests") d)
+body_from (Some config) d =
+    option_and_then (λ layers. unless_present (present_at (codes "manifests") d) (image config layers))
+    (list_at (codes "layers") d)
+body_from None d =
+    option_and_then (λ manifests. unless_present (present_at (codes "layers") d) (index manifests))
+    (list_at (codes "manifests") d)
 
 -- an image manifest has a config, an index has none
 abbrev pub body_of : Data → Option BodyShown
@@ -76,18 +82,24 @@ abbrev pub contents_shown : Contents → ContentsShown
 contents_shown c = record { config_type = option_map string_bytes c.config_type; needs = c.needs.items }
 
 abbrev pub image_contents : DescriptorShown → List DescriptorShown → ContentsShown
-image_contents config layers = record { config_type = Some config.media_type; needs = needed (config ∷ layers) }
+image_contents config layers = record {
+  config_type = Some config.media_type;
+  needs = needed (config ∷ layers);
+}
 
 abbrev pub index_contents : List DescriptorShown → ContentsShown
 index_contents manifests = record { config_type = None; needs = [] }
 
 -- each is a descriptor; an index needs no blob
 abbrev pub contents_of : BodyShown → Option ContentsShown
-contents_of (image config layers) = option_and_then (λ first. option_map (image_contents first) (descriptors_of layers)) (descriptor_of config)
+contents_of (image config layers) =
+    option_and_then (λ first. option_map (image_contents first) (descriptors_of layers))
+    (descriptor_of config)
 contents_of (index manifests) = option_map index_contents (descriptors_of manifests)
 
 abbrev pub subject_of : Data → Option (Option Text)
-subject_of d = option_map (option_map (λ n. n.digest)) (if_present descriptor_of (present_at (codes "subject") d))
+subject_of d =
+    option_map (option_map (λ n. n.digest)) (if_present descriptor_of (present_at (codes "subject") d))
 
 -- the manifest's own type where it is not empty, or else the config's
 abbrev pub artifact_type_of : Option Text → Option Text → Option Text

@@ -1,4 +1,5 @@
--- Members of an object, in the form that is asked for. A member that is null counts as absent where it is optional (profile).
+-- Members of an object, in the form that is asked for. A member that is null counts as absent where it is
+-- optional (profile).
 use Rattle.std.specs.Cmp.Lexicographic.{slice_cmp}
 use Rattle.std.specs.Ordering.{nat_cmp}
 use Rattle.std.specs.List.Sorted.{IsStrictlySortedBy}

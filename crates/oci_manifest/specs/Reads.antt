@@ -1,5 +1,6 @@
--- What bytes say as a manifest, in the words of the OCI Image Specification 1.1: a relation, and no way of reading.
--- A member that is null counts as absent where it is optional; of equal keys the last counts (profile).
+-- What bytes say as a manifest, in the words of the OCI Image Specification 1.1: a relation, and no way of
+-- reading. A member that is null counts as absent where it is optional; of equal keys the last counts
+-- (profile).
 use Rattle.std.specs.Prelude.{◌≡◌, ◌≢◌, ℕ, ◌<◌, ◌^◌, List, [], ◌∷◌, codes, IsUtf8, Bool, true, false, Option, Some, None, ⊤, ◌⊎◌}
 use Rattle.serde_json.specs.Data.{Data, null, number, unsigned, string, array, object, Items, no_items, item, Members}
 use Rattle.serde_json.specs.Read.{read}
@@ -65,19 +66,27 @@ AreDescriptors no_items (n ∷ ns) = ⊥
 AreDescriptors (item d ds) [] = ⊥
 AreDescriptors (item d ds) (n ∷ ns) = IsDescriptor d n × AreDescriptors ds ns
 
--- ---- manifests (manifest.md, Image Manifest Property Descriptions; image-index.md, Image Index Property Descriptions)
+-- ---- manifests
+-- (manifest.md, Image Manifest Property Descriptions; image-index.md, Image Index Property Descriptions)
 
 -- config and layers, and no manifests; or manifests, and neither config nor layers (profile)
 abbrev pub HasBody : Data → BodyShown → Type 0
-HasBody d (image config layers) = Has d (codes "config") config × (config ≢ null) × HasList d (codes "layers") layers × Lacks d (codes "manifests")
-HasBody d (index manifests) = Lacks d (codes "config") × HasList d (codes "manifests") manifests × Lacks d (codes "layers")
+HasBody d (image config layers) =
+    Has d (codes "config") config × (config ≢ null) × HasList d (codes "layers") layers
+    × Lacks d (codes "manifests")
+HasBody d (index manifests) =
+    Lacks d (codes "config") × HasList d (codes "manifests") manifests × Lacks d (codes "layers")
 
--- its descriptors say this; the needed digests are those of the config and the layers, and an index needs none (profile)
+-- its descriptors say this; the needed digests are those of the config and the layers, and an index needs
+-- none (profile)
 abbrev pub Holds : BodyShown → ContentsShown → Type 0
 Holds (image config layers) c =
-    (first : DescriptorShown) × (others : List DescriptorShown) × IsDescriptor config first × AreDescriptors layers others
+    (first : DescriptorShown) × (others : List DescriptorShown) × IsDescriptor config first
+    × AreDescriptors layers others
     × (c.config_type ≡ Some first.media_type) × (c.needs ≡ needed (first ∷ others))
-Holds (index manifests) c = (others : List DescriptorShown) × AreDescriptors manifests others × (c.config_type ≡ None) × (c.needs ≡ [])
+Holds (index manifests) c =
+    (others : List DescriptorShown) × AreDescriptors manifests others × (c.config_type ≡ None)
+    × (c.needs ≡ [])
 
 -- when used, it is the kind's media type; an empty one counts as not used (profile)
 abbrev pub FitsKind : Kind → Option Text → Type 0
@@ -90,12 +99,15 @@ HasOwnType k d = (o : Option Text) × HasText d (codes "mediaType") o × FitsKin
 -- a descriptor of another manifest
 abbrev pub HasSubject : Data → Option Text → Type 0
 HasSubject d None = Lacks d (codes "subject")
-HasSubject d (Some digest) = (v : Data) × (n : DescriptorShown) × Has d (codes "subject") v × IsDescriptor v n × (n.digest ≡ digest)
+HasSubject d (Some digest) =
+    (v : Data) × (n : DescriptorShown) × Has d (codes "subject") v × IsDescriptor v n × (n.digest ≡ digest)
 
--- the type shown is the manifest's own, or else the config's (OCI Distribution Specification 1.1, Listing Referrers)
+-- the type shown is the manifest's own, or else the config's (OCI Distribution Specification 1.1, Listing
+-- Referrers)
 abbrev pub ShowsType : Option Text → Option Text → Option Text → Type 0
 ShowsType own config_type o =
-    ((text : Text) × (own ≡ Some text) × (text ≢ []) × (o ≡ Some text)) ⊎ (((own ≡ None) ⊎ (own ≡ Some [])) × (o ≡ config_type))
+    ((text : Text) × (own ≡ Some text) × (text ≢ []) × (o ≡ Some text))
+    ⊎ (((own ≡ None) ⊎ (own ≡ Some [])) × (o ≡ config_type))
 
 pub record Says (d : Data) (m : ManifestShown) : Type 0 where
   pub is_object : (ms : Members) × (d ≡ object ms)
@@ -109,7 +121,8 @@ pub record Says (d : Data) (m : ManifestShown) : Type 0 where
   pub needs : m.needs ≡ contents.needs
   pub annotations : HasTexts d (codes "annotations") m.annotations
   pub subject : HasSubject d m.subject
-  pub artifact_type : (own : Option Text) × HasText d (codes "artifactType") own × ShowsType own contents.config_type m.artifact_type
+  pub artifact_type : (own : Option Text) × HasText d (codes "artifactType") own
+      × ShowsType own contents.config_type m.artifact_type
 
 -- the UTF-8 text of one JSON value, nesting at most 127 deep
 abbrev pub IsJson : Text → Data → Type 0

@@ -19,7 +19,13 @@ pub record ReferrerShown : Type 0 where
   pub annotations : Pairs
 
 abbrev pub referrer_shown : Referrer → ReferrerShown
-referrer_shown r = record { digest = r.digest; kind = r.kind; size = r.size; artifact_type = option_map string_bytes r.artifact_type; annotations = pairs_of r.annotations.entries }
+referrer_shown r = record {
+  digest = r.digest;
+  kind = r.kind;
+  size = r.size;
+  artifact_type = option_map string_bytes r.artifact_type;
+  annotations = pairs_of r.annotations.entries;
+}
 
 abbrev pub referrers_shown : List Referrer → List ReferrerShown
 referrers_shown rs = map referrer_shown rs
@@ -41,11 +47,15 @@ artifact_type_line (Some text) = codes "\"artifactType\":" ++ (quoted text ++ co
 abbrev pub referrer_line : ReferrerShown → Text
 referrer_line r =
     codes "{" ++ (annotations_line r.annotations ++ (artifact_type_line r.artifact_type
-    ++ (codes "\"digest\":" ++ (quoted r.digest ++ (codes ",\"mediaType\":" ++ (quoted (media_type_of r.kind) ++ (codes ",\"size\":" ++ (decimal r.size ++ codes "}"))))))))
+    ++ (codes "\"digest\":" ++ (quoted r.digest
+    ++ (codes ",\"mediaType\":" ++ (quoted (media_type_of r.kind)
+    ++ (codes ",\"size\":" ++ (decimal r.size ++ codes "}"))))))))
 
 -- {"manifests":[REFERRER,..],"mediaType":"application/vnd.oci.image.index.v1+json","schemaVersion":2}
 abbrev pub referrers_line : List ReferrerShown → Text
-referrers_line rs = codes "{\"manifests\":[" ++ (with_commas (map referrer_line rs) ++ codes "],\"mediaType\":\"application/vnd.oci.image.index.v1+json\",\"schemaVersion\":2}")
+referrers_line rs =
+    codes "{\"manifests\":[" ++ (with_commas (map referrer_line rs)
+    ++ codes "],\"mediaType\":\"application/vnd.oci.image.index.v1+json\",\"schemaVersion\":2}")
 
 -- ---- for private clauses: the value that is written
 
@@ -60,10 +70,14 @@ put_texts key [] ms = ms
 put_texts key (p ∷ ps) ms = put key (object (text_members (p ∷ ps))) ms
 
 abbrev pub fixed_members : Text → Kind → ℕ → Members
-fixed_members digest kind size = member (codes "digest") (string digest) (member (codes "mediaType") (string (media_type_of kind)) (member (codes "size") (number (unsigned size)) no_members))
+fixed_members digest kind size =
+    member (codes "digest") (string digest) (member (codes "mediaType") (string (media_type_of kind))
+    (member (codes "size") (number (unsigned size)) no_members))
 
 abbrev pub referrer_data : ReferrerShown → Data
-referrer_data r = object (put_texts (codes "annotations") r.annotations (put_text (codes "artifactType") r.artifact_type (fixed_members r.digest r.kind r.size)))
+referrer_data r =
+    object (put_texts (codes "annotations") r.annotations
+    (put_text (codes "artifactType") r.artifact_type (fixed_members r.digest r.kind r.size)))
 
 abbrev pub referrer_items : List ReferrerShown → Items
 referrer_items rs = items_of (map referrer_data rs)
@@ -71,4 +85,5 @@ referrer_items rs = items_of (map referrer_data rs)
 abbrev pub referrers_data : List ReferrerShown → Data
 referrers_data rs =
     object (member (codes "manifests") (array (referrer_items rs))
-    (member (codes "mediaType") (string (codes "application/vnd.oci.image.index.v1+json")) (member (codes "schemaVersion") (number (unsigned 2)) no_members)))
+    (member (codes "mediaType") (string (codes "application/vnd.oci.image.index.v1+json"))
+    (member (codes "schemaVersion") (number (unsigned 2)) no_members)))

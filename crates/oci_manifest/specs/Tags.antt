@@ -7,9 +7,12 @@ use Rattle.oci_manifest.specs.Member.{text_items}
 
 -- {"name":NAME,"tags":[TAG,..]}
 abbrev pub tags_line : Text → List Text → Text
-tags_line name tags = codes "{\"name\":" ++ (quoted name ++ (codes ",\"tags\":[" ++ (with_commas (map quoted tags) ++ codes "]}")))
+tags_line name tags =
+    codes "{\"name\":"
+    ++ (quoted name ++ (codes ",\"tags\":[" ++ (with_commas (map quoted tags) ++ codes "]}")))
 
 -- ---- for private clauses: the value that is written
 
 abbrev pub tags_data : Text → List Text → Data
-tags_data name tags = object (member (codes "name") (string name) (member (codes "tags") (array (text_items tags)) no_members))
+tags_data name tags =
+    object (member (codes "name") (string name) (member (codes "tags") (array (text_items tags)) no_members))

@@ -1,7 +1,7 @@
 //! Image manifests and indexes read from bytes, and the JSON texts of a registry's replies.
 //!
-//! `read_manifest` answers exactly what `specs/Manifest.antt` reads in the bytes, or the first rule that fails.
-//! `referrers_text`, `tags_text` and `error_text` give the exact bytes of the replies.
+//! `read_manifest` answers exactly what `specs/Manifest.antt` reads in the bytes, or the first rule that
+//! fails. `referrers_text`, `tags_text` and `error_text` give the exact bytes of the replies.
 #![tactic(auto)]
 
 mod body;

@@ -177,7 +177,8 @@ impl Digest {
 
     /// The sha256 digest of the bytes. The only fault is `NameFault::Memory`.
     pub fn of_sha256(alloc: Global, bytes: &[u8]) -> Result<Digest, NameFault>
-        ensures { MatchResult result (λ digest. digest ≡ sha256_digest bytes.now) (λ fault. fault ≡ NameFault.Memory) }
+        ensures { MatchResult result (λ digest. digest ≡ sha256_digest bytes.now)
+            (λ fault. fault ≡ NameFault.Memory) }
     {
         let encoded = hex::encode(alloc, Sha256::digest(bytes))?;
         let text = format!(in alloc; "sha256:{encoded}")?;
@@ -186,7 +187,8 @@ impl Digest {
 
     /// The sha512 digest of the bytes. The only fault is `NameFault::Memory`.
     pub fn of_sha512(alloc: Global, bytes: &[u8]) -> Result<Digest, NameFault>
-        ensures { MatchResult result (λ digest. digest ≡ sha512_digest bytes.now) (λ fault. fault ≡ NameFault.Memory) }
+        ensures { MatchResult result (λ digest. digest ≡ sha512_digest bytes.now)
+            (λ fault. fault ≡ NameFault.Memory) }
     {
         let encoded = hex::encode(alloc, Sha512::digest(bytes))?;
         let text = format!(in alloc; "sha512:{encoded}")?;

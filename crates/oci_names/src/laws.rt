@@ -43,7 +43,8 @@ pub fn token_grammar()
 /// A text writes the session number n exactly where it is the decimal of n, from 1 to
 /// 9,223,372,036,854,775,807.
 pub fn session_number_decimal()
-    ensures { (t : List ℕ) (n : ℕ) → (session_number_of t ≡ Some n) ↔ ((t ≡ decimal n) × (1 ≤ n) × (n < 2 ^ 63)) }
+    ensures { (t : List ℕ) (n : ℕ)
+        → (session_number_of t ≡ Some n) ↔ ((t ≡ decimal n) × (1 ≤ n) × (n < 2 ^ 63)) }
 {}
 
 /// The digest texts of bytes are digests.
@@ -55,6 +56,7 @@ pub fn digests_of_bytes()
 /// A verdict is `Matches` exactly where the digest is one of the two digests of the bytes, and then
 /// `matches` holds.
 pub fn verdicts()
-    ensures decides { (d b : List ℕ) → (verdict_of d b ≡ Verdict.Matches) ↔ ((d ≡ sha256_digest b) ⊎ (d ≡ sha512_digest b)) }
+    ensures decides { (d b : List ℕ)
+        → (verdict_of d b ≡ Verdict.Matches) ↔ ((d ≡ sha256_digest b) ⊎ (d ≡ sha512_digest b)) }
     ensures matches { (d b : List ℕ) → verdict_of d b ≡ Verdict.Matches → matches d b ≡ true }
 {}

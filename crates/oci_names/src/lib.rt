@@ -19,6 +19,6 @@ pub use digest::{Digest, Verdict};
 pub use fault::{Fault, NameFault};
 pub use reference::Reference;
 pub use repo_name::RepoName;
-pub use session::session_number;
+pub use session::{LARGEST_SESSION_NUMBER, session_number};
 pub use tag::Tag;
 pub use token::Token;

@@ -8,7 +8,7 @@ use std::alloc::Global;
 use std::marker::Model;
 
 /// The most bytes of a repository name.
-const MAX_LEN: usize = 255;
+pub const LONGEST_REPO_NAME: usize = 255;
 
 /// How far a path has been read.
 #[derive(Clone, Copy)]
@@ -62,7 +62,7 @@ fn is_name(text: &str) -> bool
     ensures test { result ≡ is_repo_name text.now }
     ensures grammar { IsTrue result ↔ IsRepoName text.now }
 {
-    text.len() <= MAX_LEN && has_path(text)
+    text.len() <= LONGEST_REPO_NAME && has_path(text)
 }
 
 /// A repository name (OCI Distribution Specification 1.1, Pulling manifests): words of `[a-z0-9]`

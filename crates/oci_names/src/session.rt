@@ -3,8 +3,8 @@ ghost use Rattle.std.specs.Prelude.{◌≡◌, slice_index};
 ghost use Rattle.oci_names.specs.Byte.{is_between};
 ghost use Rattle.oci_names.specs.SessionNumber.{session_number_of};
 
-/// The greatest session number.
-const MAX: u64 = 9_223_372_036_854_775_807;
+/// The largest number of an upload session (profile).
+pub const LARGEST_SESSION_NUMBER: u64 = 9_223_372_036_854_775_807;
 
 fn begins_with_nonzero_digit(text: &[u8]) -> bool
     ensures { result ≡ is_between 49 57 (slice_index text.now 0) }
@@ -21,7 +21,7 @@ pub fn session_number(text: &str) -> Option<u64>
         return None;
     }
     match text.parse::<u64>() {
-        Ok(number) if number <= MAX => Some(number),
+        Ok(number) if number <= LARGEST_SESSION_NUMBER => Some(number),
         _ => None,
     }
 }

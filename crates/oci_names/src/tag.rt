@@ -9,7 +9,7 @@ use std::alloc::Global;
 use std::marker::Model;
 
 /// The most bytes of a tag.
-const MAX_LEN: usize = 128;
+pub const LONGEST_TAG: usize = 128;
 
 /// `[a-zA-Z0-9_]`
 fn is_start(byte: u8) -> bool
@@ -44,7 +44,7 @@ fn is_tag_text(text: &str) -> bool
     ensures test { result ≡ is_tag text.now }
     ensures grammar { IsTrue result ↔ IsTag text.now }
 {
-    text.len() <= MAX_LEN && has_characters(text.as_bytes())
+    text.len() <= LONGEST_TAG && has_characters(text.as_bytes())
 }
 
 /// A tag (OCI Distribution Specification 1.1, Pulling manifests):

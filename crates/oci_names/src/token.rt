@@ -8,7 +8,7 @@ use std::alloc::Global;
 use std::marker::Model;
 
 /// The most bytes of a token.
-const MAX_LEN: usize = 200;
+pub const LONGEST_TOKEN: usize = 200;
 
 /// How far a token has been read.
 #[derive(Clone, Copy)]
@@ -58,7 +58,7 @@ fn is_token_text(text: &str) -> bool
     ensures test { result ≡ is_token text.now }
     ensures grammar { IsTrue result ↔ IsToken text.now }
 {
-    text.len() <= MAX_LEN && has_b64token(text)
+    text.len() <= LONGEST_TOKEN && has_b64token(text)
 }
 
 /// A bearer token (RFC 6750, section 2.1, `b64token`) of at most 200 bytes (profile).

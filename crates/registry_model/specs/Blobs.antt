@@ -1,5 +1,5 @@
--- Blobs: look-up, deletion and whole push (OCI Distribution Specification 1.1, Pulling blobs, Deleting Blobs and
--- Pushing a blob monolithically).
+-- Blobs: look-up, deletion and whole push (OCI Distribution Specification 1.1, Pulling blobs, Deleting Blobs
+-- and Pushing a blob monolithically).
 use Rattle.std.specs.Prelude.{ℕ, ◌++◌, Bool, not, ◌&&◌, nat_lt, length, Option, Some, None, is_some, option_map, codes, if◌then◌else◌}
 use Rattle.std.specs.FinMap.{get, insert, remove}
 use Rattle.oci_names.specs.Text.{Text}
@@ -17,7 +17,11 @@ blob_named r digest = if is_digest digest then get r.blobs digest else None
 
 -- a blob's bytes, or what HEAD leaves of them (RFC 9110, section 9.3.2)
 abbrev pub blob_reply : Text → Content → Answer
-blob_reply digest body = record (bare_answer OK) { digest = Some digest; content_type = Some (codes "application/octet-stream"); body = body }
+blob_reply digest body = record (bare_answer OK) {
+  digest = Some digest;
+  content_type = Some (codes "application/octet-stream");
+  body = body;
+}
 
 abbrev pub found_blob : Text → Option Text → Outcome
 found_blob digest None = refuses BlobUnknown
@@ -39,18 +43,24 @@ abbrev pub without_blob : Repo → Text → Repo
 without_blob r digest = record r { blobs = remove r.blobs digest }
 
 abbrev pub delete_blob : Repo → Text → Outcome
-delete_blob r digest = if is_some (blob_named r digest) then makes (bare_answer Accepted) (without_blob r digest) else refuses BlobUnknown
+delete_blob r digest =
+    if is_some (blob_named r digest) then makes (bare_answer Accepted) (without_blob r digest)
+    else refuses BlobUnknown
 
 -- a digest that is there keeps its bytes
 abbrev pub with_blob : Repo → Text → Text → Repo
-with_blob r digest bytes = if is_some (get r.blobs digest) then r else record r { blobs = insert r.blobs digest bytes }
+with_blob r digest bytes =
+    if is_some (get r.blobs digest) then r else record r { blobs = insert r.blobs digest bytes }
 
 -- where a blob is fetched
 abbrev pub blob_location : Text → Text → Text
 blob_location name digest = codes "/v2/" ++ name ++ codes "/blobs/" ++ digest
 
 abbrev pub created_blob : Text → Text → Answer
-created_blob name digest = record (bare_answer Created) { location = Some (blob_location name digest); digest = Some digest }
+created_blob name digest = record (bare_answer Created) {
+  location = Some (blob_location name digest);
+  digest = Some digest;
+}
 
 -- a digest that bytes can be verified against
 abbrev pub can_verify : Text → Bool

@@ -30,7 +30,8 @@ keeps w = record { world = w; spent = false }
 -- a request that was answered got the definitions' answer and made their change; where memory was wanting
 -- nothing changed; of a keeper that is lost nothing is known
 abbrev pub DoesAs : Kind → State → Ask → Answer → State → Type 0
-DoesAs answered s q a s' = (s.spent ≡ false) × (a ≡ reply_to s.world q) × (s' ≡ keeps (after_request s.world q))
+DoesAs answered s q a s' =
+    (s.spent ≡ false) × (a ≡ reply_to s.world q) × (s' ≡ keeps (after_request s.world q))
 DoesAs missed s q a s' = (s.spent ≡ false) × (a ≡ busy_answer) × (s' ≡ s)
 DoesAs lost s q a s' = (a ≡ failed_answer) × (s'.spent ≡ true)
 
@@ -56,7 +57,8 @@ outcome_of None = Ok tt
 outcome_of (Some e) = Err e
 
 abbrev pub CarriesOutAs : Kind → State → AdminCommand → Result (Unit {0}) AdminFault → State → Type 0
-CarriesOutAs answered s a r s' = (s.spent ≡ false) × (r ≡ outcome_of (refusal_of s.world a)) × (s' ≡ keeps (after_command s.world a))
+CarriesOutAs answered s a r s' =
+    (s.spent ≡ false) × (r ≡ outcome_of (refusal_of s.world a)) × (s' ≡ keeps (after_command s.world a))
 CarriesOutAs missed s a r s' = (s.spent ≡ false) × (s' ≡ s)
 CarriesOutAs lost s a r s' = s'.spent ≡ true
 

@@ -48,8 +48,10 @@ form_by third second last before_third before_second =
     if bytes_eq second (codes "tags") && bytes_eq last (codes "list") then tags (name_in before_second)
     else (if bytes_eq second (codes "manifests") then manifest (name_in before_second) last
     else (if bytes_eq second (codes "referrers") then referrers (name_in before_second) last
-    else (if bytes_eq third (codes "blobs") && bytes_eq second (codes "uploads") then (if bytes_eq last [] then uploads (name_in before_third) else session (name_in before_third) last)
-    else (if bytes_eq second (codes "blobs") && bytes_eq last (codes "uploads") then uploads (name_in before_second)
+    else (if bytes_eq third (codes "blobs") && bytes_eq second (codes "uploads")
+    then (if bytes_eq last [] then uploads (name_in before_third) else session (name_in before_third) last)
+    else (if bytes_eq second (codes "blobs") && bytes_eq last (codes "uploads")
+    then uploads (name_in before_second)
     else (if bytes_eq second (codes "blobs") then blob (name_in before_second) last
     else no_form)))))
 

@@ -25,4 +25,3 @@ pub mod Doing
 pub mod Team
 pub mod Runs
 pub mod Worked
-pub mod Maps

@@ -1,5 +1,5 @@
--- What a keeper's reads find, and what its writes make, by names. Nothing is found where the repository is not there, and
--- a write to one that is not there makes nothing.
+-- What a keeper's reads find, and what its writes make, by names. Nothing is found where the repository is
+-- not there, and a write to one that is not there makes nothing.
 use Rattle.std.specs.Prelude.{ℕ, List, [], ◌++◌, map, false, Option, Some, None, length, option_map}
 use Rattle.std.specs.Option.{option_and_then, option_map_or}
 use Rattle.std.specs.FinMap.{get, len, entries}
@@ -30,7 +30,8 @@ abbrev pub manifest_at : World → Text → Text → Option (Kind × Text)
 manifest_at w name digest = option_map (λ bytes. (kind_in bytes, bytes)) (manifest_bytes_at w name digest)
 
 abbrev pub manifest_size_at : World → Text → Text → Option (Kind × ℕ)
-manifest_size_at w name digest = option_map (λ bytes. (kind_in bytes, length bytes)) (manifest_bytes_at w name digest)
+manifest_size_at w name digest =
+    option_map (λ bytes. (kind_in bytes, length bytes)) (manifest_bytes_at w name digest)
 
 abbrev pub tag_at : World → Text → Text → Option Text
 tag_at w name tag = option_and_then (λ r. get r.tags tag) (repo_at w name)
@@ -79,7 +80,9 @@ bytes_or_none None = []
 bytes_or_none (Some bytes) = bytes
 
 abbrev pub append : World → Text → ℕ → Text → World
-append w name number more = update_repo w name (λ r. appended r number (bytes_or_none (get r.sessions number) ++ more)) (repo_at w name)
+append w name number more =
+    update_repo w name (λ r. appended r number (bytes_or_none (get r.sessions number) ++ more))
+    (repo_at w name)
 
 abbrev pub finish : World → Text → ℕ → Text → Text → World
 finish w name number digest bytes = update_repo w name (λ r. finished r number digest bytes) (repo_at w name)
@@ -90,10 +93,12 @@ with_mounted digest (Some bytes) r = with_blob r digest bytes
 
 -- the bytes that the other repository has
 abbrev pub mount : World → Text → Text → Text → World
-mount w source name digest = update_repo w name (with_mounted digest (blob_at w source digest)) (repo_at w name)
+mount w source name digest =
+    update_repo w name (with_mounted digest (blob_at w source digest)) (repo_at w name)
 
 abbrev pub put_manifest : World → Text → Text → Text → Option Text → World
-put_manifest w name digest bytes tag = update_repo w name (λ r. with_manifest r digest bytes tag) (repo_at w name)
+put_manifest w name digest bytes tag =
+    update_repo w name (λ r. with_manifest r digest bytes tag) (repo_at w name)
 
 abbrev pub delete_blob : World → Text → Text → World
 delete_blob w name digest = update_repo w name (λ r. without_blob r digest) (repo_at w name)

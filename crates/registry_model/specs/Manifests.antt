@@ -1,5 +1,6 @@
--- Manifests by tag and by digest (OCI Distribution Specification 1.1, Pulling manifests, Pushing Manifests, Pushing
--- Manifests with Subject, Deleting tags and Deleting Manifests; the order of refusals is the profile's).
+-- Manifests by tag and by digest (OCI Distribution Specification 1.1, Pulling manifests, Pushing Manifests,
+-- Pushing Manifests with Subject, Deleting tags and Deleting Manifests; the order of refusals is the
+-- profile's).
 use Rattle.std.specs.Prelude.{ℕ, ◌==◌, ◌-◌, List, ◌++◌, Bool, true, false, not, ◌||◌, nat_lt, length, take, drop, Option, Some, None, is_some, option_map, codes, bytes_eq, if◌then◌else◌, Result, Ok, Err}
 use Rattle.std.specs.Option.{option_and_then}
 use Rattle.std.specs.List.{before_first, list_all, prefix_len, suffix_len}
@@ -25,14 +26,16 @@ use Rattle.registry_model.specs.Outcome.{Outcome, refuses, tells, makes, within_
 
 -- a tag names what it was set to, a digest itself, and any other text nothing
 abbrev pub reference_digest : Repo → Text → Option Text
-reference_digest r reference = if is_tag reference then get r.tags reference else (if is_digest reference then Some reference else None)
+reference_digest r reference =
+    if is_tag reference then get r.tags reference else (if is_digest reference then Some reference else None)
 
 pub record Found : Type 0 where
   pub digest : Text
   pub bytes : Text
 
 abbrev pub manifest_of_digest : Repo → Text → Option Found
-manifest_of_digest r digest = option_map (λ bytes. record { digest = digest; bytes = bytes }) (get r.manifests digest)
+manifest_of_digest r digest =
+    option_map (λ bytes. record { digest = digest; bytes = bytes }) (get r.manifests digest)
 
 abbrev pub manifest_named : Repo → Text → Option Found
 manifest_named r reference = option_and_then (manifest_of_digest r) (reference_digest r reference)
@@ -47,7 +50,11 @@ kind_in bytes = kind_or_image (manifest_in bytes)
 
 -- a manifest's bytes, or what HEAD leaves of them
 abbrev pub manifest_reply : Text → Kind → Content → Answer
-manifest_reply digest kind body = record (bare_answer OK) { digest = Some digest; content_type = Some (media_type_of kind); body = body }
+manifest_reply digest kind body = record (bare_answer OK) {
+  digest = Some digest;
+  content_type = Some (media_type_of kind);
+  body = body;
+}
 
 abbrev pub found_manifest : Option Found → Outcome
 found_manifest None = refuses ManifestUnknown
@@ -76,16 +83,25 @@ without_tag r tag = record r { tags = remove r.tags tag }
 
 -- the manifest, and each tag that names it
 abbrev pub without_manifest : Repo → Text → Repo
-without_manifest r digest = record r { manifests = remove r.manifests digest; tags = retain_keys r.tags (λ tag. not (is_text digest (get r.tags tag))) }
+without_manifest r digest = record r {
+  manifests = remove r.manifests digest;
+  tags = retain_keys r.tags (λ tag. not (is_text digest (get r.tags tag)));
+}
 
 abbrev pub delete_tag : Repo → Text → Outcome
-delete_tag r tag = if is_some (get r.tags tag) then makes (bare_answer Accepted) (without_tag r tag) else refuses ManifestUnknown
+delete_tag r tag =
+    if is_some (get r.tags tag) then makes (bare_answer Accepted) (without_tag r tag)
+    else refuses ManifestUnknown
 
 abbrev pub delete_digest : Repo → Text → Outcome
-delete_digest r digest = if is_some (get r.manifests digest) then makes (bare_answer Accepted) (without_manifest r digest) else refuses ManifestUnknown
+delete_digest r digest =
+    if is_some (get r.manifests digest) then makes (bare_answer Accepted) (without_manifest r digest)
+    else refuses ManifestUnknown
 
 abbrev pub delete_manifest : Repo → Text → Outcome
-delete_manifest r reference = if is_tag reference then delete_tag r reference else (if is_digest reference then delete_digest r reference else refuses ManifestUnknown)
+delete_manifest r reference =
+    if is_tag reference then delete_tag r reference
+    else (if is_digest reference then delete_digest r reference else refuses ManifestUnknown)
 
 -- ---- push
 
@@ -102,7 +118,9 @@ is_semicolon b = b == 59
 -- absent, empty, or the kind's media type, in any case and with any parameters (RFC 9110, section 8.3)
 abbrev pub content_type_fits : Option Text → Kind → Bool
 content_type_fits None kind = true
-content_type_fits (Some value) kind = length value == 0 || str_eq_ignore_ascii_case (without_blanks (before_first is_semicolon value)) (media_type_of kind)
+content_type_fits (Some value) kind =
+    length value == 0
+    || str_eq_ignore_ascii_case (without_blanks (before_first is_semicolon value)) (media_type_of kind)
 
 -- a manifest is kept under the digest by which it was pushed; one pushed by tag under its sha256 (profile)
 abbrev pub pushed_digest : Text → Text → Text
@@ -113,7 +131,8 @@ pushed_tag reference = if is_tag reference then Some reference else None
 
 -- a digest that is there keeps its bytes
 abbrev pub with_bytes : Repo → Text → Text → Repo
-with_bytes r digest bytes = if is_some (get r.manifests digest) then r else record r { manifests = insert r.manifests digest bytes }
+with_bytes r digest bytes =
+    if is_some (get r.manifests digest) then r else record r { manifests = insert r.manifests digest bytes }
 
 abbrev pub with_tag : Repo → Option Text → Text → Repo
 with_tag r None digest = r
@@ -127,7 +146,11 @@ abbrev pub manifest_location : Text → Text → Text
 manifest_location name digest = codes "/v2/" ++ name ++ codes "/manifests/" ++ digest
 
 abbrev pub created_manifest : Text → Text → Option Text → Answer
-created_manifest name digest subject = record (bare_answer Created) { location = Some (manifest_location name digest); digest = Some digest; subject = subject }
+created_manifest name digest subject = record (bare_answer Created) {
+  location = Some (manifest_location name digest);
+  digest = Some digest;
+  subject = subject;
+}
 
 -- every needed blob is in the repository
 abbrev pub has_needs : Repo → List Text → Bool
@@ -138,7 +161,8 @@ push_read r name reference content_type body (Err e) = refuses InvalidManifest
 push_read r name reference content_type body (Ok m) =
     if not (content_type_fits content_type m.kind) then refuses InvalidManifest
     else (if not (has_needs r m.needs) then refuses ManifestBlobUnknown
-    else within_quota r (with_manifest r (pushed_digest reference body) body (pushed_tag reference)) (created_manifest name (pushed_digest reference body) m.subject))
+    else within_quota r (with_manifest r (pushed_digest reference body) body (pushed_tag reference))
+    (created_manifest name (pushed_digest reference body) m.subject))
 
 abbrev pub push_manifest : Repo → Text → Text → Option Text → Text → Outcome
 push_manifest r name reference content_type body =

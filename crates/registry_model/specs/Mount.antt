@@ -1,5 +1,5 @@
--- Mounting a blob from another repository (OCI Distribution Specification 1.1, Mounting a blob from another repository;
--- which repositories may be named is the profile's).
+-- Mounting a blob from another repository (OCI Distribution Specification 1.1, Mounting a blob from another
+-- repository; which repositories may be named is the profile's).
 use Rattle.std.specs.Prelude.{Bool, not, ◌&&◌, Option, Some, None, is_some, if◌then◌else◌}
 use Rattle.std.specs.Option.{option_and_then}
 use Rattle.std.specs.FinMap.{get}
@@ -19,7 +19,8 @@ may_read grants name = is_repo_name name && is_some (get grants name)
 -- the blob in the repository named as the source, where the token may read there
 abbrev pub source : Grants → (Text → Option Repo) → Option Text → Text → Option Text
 source grants repos None digest = None
-source grants repos (Some name) digest = if may_read grants name then option_and_then (λ r. get r.blobs digest) (repos name) else None
+source grants repos (Some name) digest =
+    if may_read grants name then option_and_then (λ r. get r.blobs digest) (repos name) else None
 
 -- the source's blob becomes the repository's; without one an upload is opened
 abbrev pub mounted : Repo → Text → Text → Option Text → Outcome
@@ -28,4 +29,5 @@ mounted r name digest (Some bytes) = within_quota r (with_blob r digest bytes) (
 
 abbrev pub mount_blob : Grants → (Text → Option Repo) → Repo → Text → Text → Option Text → Outcome
 mount_blob grants repos r name digest from_name =
-    if not (is_digest digest) then refuses InvalidDigest else mounted r name digest (source grants repos from_name digest)
+    if not (is_digest digest) then refuses InvalidDigest
+    else mounted r name digest (source grants repos from_name digest)

@@ -1,5 +1,5 @@
--- What a request asks of the repository of its path (OCI Distribution Specification 1.1, Endpoints; the levels are the
--- profile's).
+-- What a request asks of the repository of its path (OCI Distribution Specification 1.1, Endpoints; the
+-- levels are the profile's).
 use Rattle.std.specs.Prelude.{ℕ, Option, Some, None, codes}
 use Rattle.oci_names.specs.Text.{Text}
 use Rattle.registry_model.specs.declared.level.Level.{Level}
@@ -78,7 +78,8 @@ operation_on no_form verb keys content_type range = None
 operation_on base verb keys content_type range = None
 operation_on (blob name digest) verb keys content_type range = on_blob verb digest
 operation_on (uploads name) verb keys content_type range = on_uploads verb keys
-operation_on (session name reference) verb keys content_type range = on_session verb reference keys.digest range
+operation_on (session name reference) verb keys content_type range =
+    on_session verb reference keys.digest range
 operation_on (manifest name reference) verb keys content_type range = on_manifest verb reference content_type
 operation_on (tags name) verb keys content_type range = on_tags verb keys
 operation_on (referrers name digest) verb keys content_type range = on_referrers verb digest keys

@@ -1,4 +1,5 @@
--- What a request comes to in the repository of its path: a reply, and what the repository becomes, where it changes.
+-- What a request comes to in the repository of its path: a reply, and what the repository becomes, where it
+-- changes.
 use Rattle.std.specs.Prelude.{Option, Some, None, if◌then◌else◌}
 use Rattle.registry_model.specs.declared.refusal.Refusal.{Refusal}
 use Rattle.registry_model.specs.declared.refusal.Refusal.TheVariants.{AccessDenied, QuotaExceeded}

@@ -30,7 +30,13 @@ manifests_on r digest = filter (has_subject digest) (entries r.manifests)
 
 -- a manifest's descriptor, with its artifact type and its annotations
 abbrev pub shown_as : Text × Text → Result ManifestShown ManifestFault → Option ReferrerShown
-shown_as entry (Ok m) = Some (record { digest = entry.0; kind = m.kind; size = length entry.1; artifact_type = m.artifact_type; annotations = m.annotations })
+shown_as entry (Ok m) = Some (record {
+  digest = entry.0;
+  kind = m.kind;
+  size = length entry.1;
+  artifact_type = m.artifact_type;
+  annotations = m.annotations;
+})
 shown_as entry (Err e) = None
 
 abbrev pub referrer_in : Text × Text → Option ReferrerShown
@@ -54,9 +60,14 @@ filters_named None = None
 filters_named (Some wanted) = Some (codes "artifactType")
 
 abbrev pub referrers_reply : Option Text → List ReferrerShown → Answer
-referrers_reply wanted referrers = record (bare_answer OK) { content_type = Some (media_type_of Index); filters = filters_named wanted; body = sent (referrers_line referrers) }
+referrers_reply wanted referrers = record (bare_answer OK) {
+  content_type = Some (media_type_of Index);
+  filters = filters_named wanted;
+  body = sent (referrers_line referrers);
+}
 
 abbrev pub list_referrers : Repo → Text → Option Text → Outcome
 list_referrers r digest artifact_type =
     if not (is_digest digest) then refuses InvalidDigest
-    else (let wanted = filter_in artifact_type in tells (referrers_reply wanted (referrers_of r digest wanted)))
+    else (let wanted = filter_in artifact_type in
+    tells (referrers_reply wanted (referrers_of r digest wanted)))

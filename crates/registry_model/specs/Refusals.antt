@@ -1,4 +1,5 @@
--- The refusals' statuses, codes and messages (OCI Distribution Specification 1.1, Error Codes; messages: profile).
+-- The refusals' statuses, codes and messages (OCI Distribution Specification 1.1, Error Codes; messages:
+-- profile).
 use Rattle.std.specs.Prelude.{◌++◌, codes}
 use Rattle.oci_names.specs.Text.{Text}
 use Rattle.registry_model.specs.declared.refusal.Refusal.{Refusal}

@@ -45,8 +45,8 @@ TakesAll s (st ∷ steps) [] s' = ⊥
 
 -- ---- what remains of a list of steps
 
--- the steps that were answered before the first storage failure, with their outcomes; those for which memory was
--- wanting are left out
+-- the steps that were answered before the first storage failure, with their outcomes; those for which memory
+-- was wanting are left out
 abbrev pub kept_as : Kind → Step → Outcome → List (Step × Outcome) → List (Step × Outcome)
 kept_as answered st o others = (st, o) ∷ others
 kept_as missed st o others = others
@@ -93,15 +93,17 @@ replies w (q ∷ requests) = reply_to w q ∷ replies (after_request w q) reques
 
 -- the team is told what it would be told in its own view, alone
 abbrev pub IsToldAlone : World → Team → List (Step × Outcome) → Type 0
-IsToldAlone w team pairs = map (λ p. p.1) (own team pairs) ≡ replies (view w team) (map (λ p. p.0) (own team pairs))
+IsToldAlone w team pairs =
+    map (λ p. p.1) (own team pairs) ≡ replies (view w team) (map (λ p. p.0) (own team pairs))
 
 -- isolation: so it is for each team whose steps are its own or aside
 abbrev pub IsPrivate : World → List Step → List Outcome → Type 0
 IsPrivate w steps outcomes =
-    (team : Team) → IsTeamOf w team → All (OwnOrAside w steps team) steps → IsToldAlone w team (kept steps outcomes)
+    (team : Team) → IsTeamOf w team → All (OwnOrAside w steps team) steps
+    → IsToldAlone w team (kept steps outcomes)
 
--- what a run says: one outcome for each step; up to the first storage failure they are the definitions'; and each
--- team is told what it would be told alone
+-- what a run says: one outcome for each step; up to the first storage failure they are the definitions'; and
+-- each team is told what it would be told alone
 pub record RunSays (s : State) (steps : List Step) (outcomes : List Outcome) (s' : State) : Type 0 where
   pub count : length outcomes ≡ length steps
   pub lost_to_the_end : LostToTheEnd outcomes

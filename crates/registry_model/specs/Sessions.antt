@@ -1,5 +1,5 @@
--- Upload sessions (OCI Distribution Specification 1.1, Pushing a blob in chunks and Pushing blobs; their numbers, limits
--- and order of refusals are the profile's).
+-- Upload sessions (OCI Distribution Specification 1.1, Pushing a blob in chunks and Pushing blobs; their
+-- numbers, limits and order of refusals are the profile's).
 use Rattle.std.specs.Prelude.{ℕ, ◌+◌, ◌-◌, ◌==◌, [], ◌++◌, Bool, not, ◌||◌, nat_lt, nat_le, length, Option, Some, None, option_map, codes, decimal, if◌then◌else◌}
 use Rattle.std.specs.Option.{option_and_then}
 use Rattle.std.specs.FinMap.{get, insert, remove, len}
@@ -24,7 +24,8 @@ pub record Session : Type 0 where
   pub bytes : Text
 
 abbrev pub session_numbered : Repo → ℕ → Option Session
-session_numbered r number = option_map (λ bytes. record { number = number; bytes = bytes }) (get r.sessions number)
+session_numbered r number =
+    option_map (λ bytes. record { number = number; bytes = bytes }) (get r.sessions number)
 
 -- the session whose number the text is
 abbrev pub session_named : Repo → Text → Option Session
@@ -40,11 +41,16 @@ abbrev pub session_range : ℕ → Text
 session_range size = codes "0-" ++ decimal (size - 1)
 
 abbrev pub session_reply : Status → Text → ℕ → ℕ → Answer
-session_reply status name number size = record (bare_answer status) { location = Some (session_location name number); range = Some (session_range size) }
+session_reply status name number size = record (bare_answer status) {
+  location = Some (session_location name number);
+  range = Some (session_range size);
+}
 
 -- the refusal that says where the session stands
 abbrev pub refuses_order : Text → ℕ → ℕ → Outcome
-refuses_order name number size = tells (record (refused RangeOutOfOrder) { location = Some (session_location name number); range = Some (session_range size) })
+refuses_order name number size =
+    tells (record (refused RangeOutOfOrder)
+    { location = Some (session_location name number); range = Some (session_range size) })
 
 -- ---- opening
 
@@ -56,7 +62,9 @@ abbrev pub opened : Repo → Repo
 opened r = record r { last = r.last + 1; sessions = insert r.sessions (r.last + 1) [] }
 
 abbrev pub open_session : Repo → Text → Outcome
-open_session r name = if is_full r then refuses TooManyUploads else makes (session_reply Accepted name (r.last + 1) 0) (opened r)
+open_session r name =
+    if is_full r then refuses TooManyUploads
+    else makes (session_reply Accepted name (r.last + 1) 0) (opened r)
 
 -- ---- status
 
@@ -84,7 +92,8 @@ append_to r name range body None = refuses UploadUnknown
 append_to r name range body (Some s) =
     range_checked (range_verdict range (length s.bytes) (length body)) name s.number (length s.bytes)
     (if nat_lt largest_blob (length s.bytes + length body) then refuses ContentTooLarge
-    else within_quota r (appended r s.number (s.bytes ++ body)) (session_reply Accepted name s.number (length s.bytes + length body)))
+    else within_quota r (appended r s.number (s.bytes ++ body))
+    (session_reply Accepted name s.number (length s.bytes + length body)))
 
 -- PATCH
 abbrev pub append_chunk : Repo → Text → Text → Option Text → Text → Outcome
@@ -115,4 +124,5 @@ close_to r name (Some digest) range body (Some s) = close_with r name digest ran
 
 -- PUT
 abbrev pub close_session : Repo → Text → Text → Option Text → Option Text → Text → Outcome
-close_session r name reference digest range body = close_to r name digest range body (session_named r reference)
+close_session r name reference digest range body =
+    close_to r name digest range body (session_named r reference)

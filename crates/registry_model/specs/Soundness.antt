@@ -18,7 +18,8 @@ pub record IsSoundRepo (r : Repo) : Type 0 where
   -- each manifest reads as one
   pub reads : (digest bytes : Text) → get r.manifests digest ≡ Some bytes → IsOk (manifest_in bytes)
   -- sessions have numbers from 1 to the last, there are at most 1,000, and each has at most 67,108,864 bytes
-  pub numbers : (number : ℕ) (bytes : Text) → get r.sessions number ≡ Some bytes → (1 ≤ number) × (number ≤ r.last) × (length bytes ≤ largest_blob)
+  pub numbers : (number : ℕ) (bytes : Text) → get r.sessions number ≡ Some bytes
+      → (1 ≤ number) × (number ≤ r.last) × (length bytes ≤ largest_blob)
   pub open_sessions : len r.sessions ≤ most_sessions
   pub used_fits : used r ≤ largest
   pub last_fits : r.last ≤ largest
@@ -27,4 +28,5 @@ pub record IsSoundRepo (r : Repo) : Type 0 where
 -- every repository is sound, and each granted name is a repository
 pub record IsSound (w : World) : Type 0 where
   pub repos : (name : Text) (r : Repo) → repo_at w name ≡ Some r → IsSoundRepo r
-  pub grants : (token name : Text) (level : Level) → level_at w token name ≡ Some level → has_repo w name ≡ true
+  pub grants : (token name : Text) (level : Level) → level_at w token name ≡ Some level
+      → has_repo w name ≡ true

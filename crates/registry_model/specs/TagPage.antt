@@ -1,5 +1,5 @@
--- Pages of tags (OCI Distribution Specification 1.1, Listing Tags; the order is by bytes, and what a page number may be
--- is the profile's).
+-- Pages of tags (OCI Distribution Specification 1.1, Listing Tags; the order is by bytes, and what a page
+-- number may be is the profile's).
 use Rattle.std.specs.Prelude.{ℕ, ◌==◌, List, [], ◌++◌, Bool, false, ◌&&◌, nat_lt, length, take, filter, Option, Some, None, option_map, codes, decimal, if◌then◌else◌}
 use Rattle.std.specs.List.{last_or}
 use Rattle.std.specs.Ordering.{is_lt}
@@ -33,13 +33,16 @@ pub record Page : Type 0 where
   pub more : Bool
 
 abbrev pub page_behind : Repo → Text → Option ℕ → Page
-page_behind r last n = let tags = tags_behind r last in record { tags = first_of n tags; more = more_than n tags }
+page_behind r last n =
+    let tags = tags_behind r last in record { tags = first_of n tags; more = more_than n tags }
 
 -- ---- the reply
 
 -- where the next page begins (RFC 8288)
 abbrev pub next_link : Text → ℕ → Text → Text
-next_link name n last = codes "</v2/" ++ name ++ codes "/tags/list?n=" ++ decimal n ++ codes "&last=" ++ last ++ codes ">; rel=\"next\""
+next_link name n last =
+    codes "</v2/" ++ name ++ codes "/tags/list?n=" ++ decimal n ++ codes "&last=" ++ last
+    ++ codes ">; rel=\"next\""
 
 abbrev pub link_by : Text → Option ℕ → Option Text → Option Text
 link_by name (Some n) (Some last) = Some (next_link name n last)
@@ -49,7 +52,11 @@ abbrev pub link_behind : Text → Option ℕ → Page → Option Text
 link_behind name n page = if page.more then link_by name n (last_or None page.tags) else None
 
 abbrev pub tags_reply : Text → Option ℕ → Page → Answer
-tags_reply name n page = record (bare_answer OK) { content_type = Some (codes "application/json"); link = link_behind name n page; body = sent (tags_line name page.tags) }
+tags_reply name n page = record (bare_answer OK) {
+  content_type = Some (codes "application/json");
+  link = link_behind name n page;
+  body = sent (tags_line name page.tags);
+}
 
 -- a page size that is missing or empty bounds nothing
 abbrev pub size_in : Option Text → Option (Option ℕ)

@@ -18,7 +18,9 @@ pub record Team : Type 0 where
 
 -- every name on which a token of the team has a level is a name of the team
 abbrev pub IsTeamOf : World → Team → Type 0
-IsTeamOf w team = (token name : Text) → team.tokens token ≡ true → is_some (level_at w token name) ≡ true → team.names name ≡ true
+IsTeamOf w team =
+    (token name : Text) → team.tokens token ≡ true → is_some (level_at w token name) ≡ true
+    → team.names name ≡ true
 
 -- the grants of the team's tokens alone, and the repositories of its names alone
 abbrev pub view : World → Team → World
@@ -65,11 +67,12 @@ MayNotPush w steps (Some u) (Some name) = NeverPushes w steps u name
 abbrev pub IsElsewhere : Team → Form → Type 0
 IsElsewhere team form = IfSome (addressed form) (λ name. team.names name ≡ false)
 
--- by the first world and the whole list: the step is the team's own, or it is aside: elsewhere, or a reading, or
--- under a token that may not push there
+-- by the first world and the whole list: the step is the team's own, or it is aside: elsewhere, or a reading,
+-- or under a token that may not push there
 abbrev pub OwnOrAside : World → List Step → Team → Step → Type 0
 OwnOrAside w steps team (asks q) =
-    (is_own team q.token ≡ true) ⊎ IsElsewhere team q.form ⊎ (is_reading q.verb ≡ true) ⊎ MayNotPush w steps q.token (addressed q.form)
+    (is_own team q.token ≡ true) ⊎ IsElsewhere team q.form ⊎ (is_reading q.verb ≡ true)
+    ⊎ MayNotPush w steps q.token (addressed q.form)
 OwnOrAside w steps team (orders (AddRepo name quota)) = team.names name.now ≡ false
 OwnOrAside w steps team (orders (SetQuota name quota)) = team.names name.now ≡ false
 OwnOrAside w steps team (orders (DropRepo name)) = team.names name.now ≡ false

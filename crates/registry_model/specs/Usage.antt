@@ -6,7 +6,8 @@ use Rattle.registry_model.specs.World.{Repo}
 
 -- the lengths of the blobs, of the manifests and of the open sessions, whether or not bytes are shared
 abbrev pub used : Repo → ℕ
-used r = sum_by length (values r.blobs) + sum_by length (values r.manifests) + sum_by length (values r.sessions)
+used r =
+    sum_by length (values r.blobs) + sum_by length (values r.manifests) + sum_by length (values r.sessions)
 
 -- more than before, and more than the quota
 abbrev pub is_over : ℕ → ℕ → ℕ → Bool

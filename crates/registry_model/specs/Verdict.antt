@@ -1,6 +1,6 @@
 -- What a request is answered: the order of refusals, and then the operation's own answer (OCI Distribution
--- Specification 1.1; the order and the levels are the profile's). One function of the token's grants and of look-ups of
--- repositories gives it, so that two worlds in which these agree give one answer.
+-- Specification 1.1; the order and the levels are the profile's). One function of the token's grants and of
+-- look-ups of repositories gives it, so that two worlds in which these agree give one answer.
 use Rattle.std.specs.Prelude.{Bool, codes, Option, Some, None, nat_le, if◌then◌else◌}
 use Rattle.std.specs.FinMap.{get}
 use Rattle.oci_names.specs.Text.{Text}
@@ -33,14 +33,18 @@ operate grants repos r name (pushes_blob digest) body = blobs.push_blob r name d
 operate grants repos r name opens_session body = sessions.open_session r name
 operate grants repos r name (mounts_blob digest source) body = mount_blob grants repos r name digest source
 operate grants repos r name (reads_session reference) body = sessions.read_session r name reference
-operate grants repos r name (appends_chunk reference range) body = sessions.append_chunk r name reference range body
-operate grants repos r name (closes_session reference digest range) body = sessions.close_session r name reference digest range body
+operate grants repos r name (appends_chunk reference range) body =
+    sessions.append_chunk r name reference range body
+operate grants repos r name (closes_session reference digest range) body =
+    sessions.close_session r name reference digest range body
 operate grants repos r name (reads_manifest reference) body = manifests.read_manifest r reference
 operate grants repos r name (sizes_manifest reference) body = manifests.size_manifest r reference
 operate grants repos r name (deletes_manifest reference) body = manifests.delete_manifest r reference
-operate grants repos r name (pushes_manifest reference content_type) body = manifests.push_manifest r name reference content_type body
+operate grants repos r name (pushes_manifest reference content_type) body =
+    manifests.push_manifest r name reference content_type body
 operate grants repos r name (lists_tags n last) body = page.list_tags r name n last
-operate grants repos r name (lists_referrers digest artifact_type) body = subjects.list_referrers r digest artifact_type
+operate grants repos r name (lists_referrers digest artifact_type) body =
+    subjects.list_referrers r digest artifact_type
 
 -- ---- the order of refusals
 
@@ -54,15 +58,20 @@ allows grants name operation = nat_le (rank (needed operation)) (rank_of (get gr
 abbrev pub granted : Grants → (Text → Option Repo) → Text → Form → Option Operation → Text → Outcome
 granted grants repos name form None body = not_allowed form
 granted grants repos name form (Some operation) body =
-    if allows grants name operation then in_repo (repos name) (λ r. operate grants repos r name operation body) else refuses AccessDenied
+    if allows grants name operation
+    then in_repo (repos name) (λ r. operate grants repos r name operation body) else refuses AccessDenied
 
 -- a request on the repository of a name
 abbrev pub decide : Grants → (Text → Option Repo) → Text → Ask → Outcome
-decide grants repos name q = if is_repo_name name then granted grants repos name q.form (operation_of q) q.body else refuses InvalidName
+decide grants repos name q =
+    if is_repo_name name then granted grants repos name q.form (operation_of q) q.body
+    else refuses InvalidName
 
 -- whether the registry is there for the token (OCI Distribution Specification 1.1, Determining Support)
 abbrev pub base_outcome : Outcome
-base_outcome = tells (record (bare_answer OK) { content_type = Some (codes "application/json"); body = sent (codes "{}") })
+base_outcome =
+    tells (record (bare_answer OK)
+    { content_type = Some (codes "application/json"); body = sent (codes "{}") })
 
 abbrev pub at_base : Verb → Outcome
 at_base Get = base_outcome
@@ -90,7 +99,8 @@ verdict grants repos q = if is_known grants then served grants repos q else refu
 -- a text that is no token counts as none
 abbrev pub judged : World → Option Text → Ask → Outcome
 judged w None q = refuses TokenRequired
-judged w (Some token) q = if is_token token then verdict (w.grants token) (repo_at w) q else refuses TokenRequired
+judged w (Some token) q =
+    if is_token token then verdict (w.grants token) (repo_at w) q else refuses TokenRequired
 
 -- ---- the answer, and the world after it: only the path's repository may change
 

@@ -36,7 +36,14 @@ no_world = record { repos = empty; grants = λ token. empty }
 
 -- an empty repository
 abbrev pub new_repo : ℕ → Repo
-new_repo quota = record { blobs = empty; manifests = empty; tags = empty; sessions = empty; last = 0; quota = quota }
+new_repo quota = record {
+  blobs = empty;
+  manifests = empty;
+  tags = empty;
+  sessions = empty;
+  last = 0;
+  quota = quota;
+}
 
 -- ---- look-ups
 
@@ -64,4 +71,6 @@ update_repo w name change None = w
 update_repo w name change (Some r) = with_repo w name (change r)
 
 abbrev pub with_grants : World → Text → Grants → World
-with_grants w token grants = record w { grants = λ other. if bytes_eq other token then grants else w.grants other }
+with_grants w token grants = record w {
+  grants = λ other. if bytes_eq other token then grants else w.grants other;
+}

@@ -32,19 +32,24 @@ pub trait Keeper {
 
     /// Whether the token has a grant.
     fn known(&mut self, token: &Token) -> Result<bool, Fault>
-        ensures found { is_honest self.new → Reads result (is_known ((state self.old).world.grants token.now)) (state self.old) (state self.new) }
+        ensures found { is_honest self.new
+            → Reads result (is_known ((state self.old).world.grants token.now))
+            (state self.old) (state self.new) }
         ensures spends { Spends result (state self.old) (state self.new) }
         ensures honest { is_honest self.new → is_honest self.old };
 
     /// Whether the repository is there.
     fn has_repo(&mut self, repo: &RepoName) -> Result<bool, Fault>
-        ensures found { is_honest self.new → Reads result (has_repo (state self.old).world repo.now) (state self.old) (state self.new) }
+        ensures found { is_honest self.new
+            → Reads result (has_repo (state self.old).world repo.now) (state self.old) (state self.new) }
         ensures spends { Spends result (state self.old) (state self.new) }
         ensures honest { is_honest self.new → is_honest self.old };
 
     /// The level of a token on a repository, where it has one.
     fn level(&mut self, token: &Token, repo: &RepoName) -> Result<Option<Level>, Fault>
-        ensures found { is_honest self.new → Reads result (level_at (state self.old).world token.now repo.now) (state self.old) (state self.new) }
+        ensures found { is_honest self.new
+            → Reads result (level_at (state self.old).world token.now repo.now)
+            (state self.old) (state self.new) }
         ensures spends { Spends result (state self.old) (state self.new) }
         ensures honest { is_honest self.new → is_honest self.old };
 
@@ -55,13 +60,17 @@ pub trait Keeper {
         repo: &RepoName,
         digest: &Digest,
     ) -> Result<Option<Vec<u8>>, Fault>
-        ensures found { is_honest self.new → ReadsBy bytes_in result (blob_at (state self.old).world repo.now digest.now) (state self.old) (state self.new) }
+        ensures found { is_honest self.new
+            → ReadsBy bytes_in result (blob_at (state self.old).world repo.now digest.now)
+            (state self.old) (state self.new) }
         ensures spends { Spends result (state self.old) (state self.new) }
         ensures honest { is_honest self.new → is_honest self.old };
 
     /// The length of a blob in bytes. Reads no blob.
     fn blob_size(&mut self, repo: &RepoName, digest: &Digest) -> Result<Option<u64>, Fault>
-        ensures found { is_honest self.new → Reads result (blob_size_at (state self.old).world repo.now digest.now) (state self.old) (state self.new) }
+        ensures found { is_honest self.new
+            → Reads result (blob_size_at (state self.old).world repo.now digest.now)
+            (state self.old) (state self.new) }
         ensures spends { Spends result (state self.old) (state self.new) }
         ensures honest { is_honest self.new → is_honest self.old };
 
@@ -72,7 +81,9 @@ pub trait Keeper {
         repo: &RepoName,
         digest: &Digest,
     ) -> Result<Option<(Kind, Vec<u8>)>, Fault>
-        ensures found { is_honest self.new → ReadsBy manifest_shown result (manifest_at (state self.old).world repo.now digest.now) (state self.old) (state self.new) }
+        ensures found { is_honest self.new
+            → ReadsBy manifest_shown result (manifest_at (state self.old).world repo.now digest.now)
+            (state self.old) (state self.new) }
         ensures spends { Spends result (state self.old) (state self.new) }
         ensures honest { is_honest self.new → is_honest self.old };
 
@@ -82,13 +93,17 @@ pub trait Keeper {
         repo: &RepoName,
         digest: &Digest,
     ) -> Result<Option<(Kind, u64)>, Fault>
-        ensures found { is_honest self.new → Reads result (manifest_size_at (state self.old).world repo.now digest.now) (state self.old) (state self.new) }
+        ensures found { is_honest self.new
+            → Reads result (manifest_size_at (state self.old).world repo.now digest.now)
+            (state self.old) (state self.new) }
         ensures spends { Spends result (state self.old) (state self.new) }
         ensures honest { is_honest self.new → is_honest self.old };
 
     /// The digest that a tag names.
     fn tag(&mut self, alloc: Global, repo: &RepoName, tag: &Tag) -> Result<Option<Digest>, Fault>
-        ensures found { is_honest self.new → Reads result (tag_at (state self.old).world repo.now tag.now) (state self.old) (state self.new) }
+        ensures found { is_honest self.new
+            → Reads result (tag_at (state self.old).world repo.now tag.now)
+            (state self.old) (state self.new) }
         ensures spends { Spends result (state self.old) (state self.new) }
         ensures honest { is_honest self.new → is_honest self.old };
 
@@ -101,7 +116,9 @@ pub trait Keeper {
         last: &str,
         n: Option<u64>,
     ) -> Result<(Vec<Tag>, bool), Fault>
-        ensures found { is_honest self.new → ReadsBy page_shown result (page_at (state self.old).world repo.now last.now n) (state self.old) (state self.new) }
+        ensures found { is_honest self.new
+            → ReadsBy page_shown result (page_at (state self.old).world repo.now last.now n)
+            (state self.old) (state self.new) }
         ensures spends { Spends result (state self.old) (state self.new) }
         ensures honest { is_honest self.new → is_honest self.old };
 
@@ -113,13 +130,17 @@ pub trait Keeper {
         repo: &RepoName,
         digest: &Digest,
     ) -> Result<Vec<(Digest, Vec<u8>)>, Fault>
-        ensures found { is_honest self.new → ReadsBy entries_shown result (manifests_on_at (state self.old).world repo.now digest.now) (state self.old) (state self.new) }
+        ensures found { is_honest self.new
+            → ReadsBy entries_shown result (manifests_on_at (state self.old).world repo.now digest.now)
+            (state self.old) (state self.new) }
         ensures spends { Spends result (state self.old) (state self.new) }
         ensures honest { is_honest self.new → is_honest self.old };
 
     /// The length in bytes of an open upload session. Reads no byte of it.
     fn session_size(&mut self, repo: &RepoName, number: u64) -> Result<Option<u64>, Fault>
-        ensures found { is_honest self.new → Reads result (session_size_at (state self.old).world repo.now number) (state self.old) (state self.new) }
+        ensures found { is_honest self.new
+            → Reads result (session_size_at (state self.old).world repo.now number)
+            (state self.old) (state self.new) }
         ensures spends { Spends result (state self.old) (state self.new) }
         ensures honest { is_honest self.new → is_honest self.old };
 
@@ -130,31 +151,40 @@ pub trait Keeper {
         repo: &RepoName,
         number: u64,
     ) -> Result<Option<Vec<u8>>, Fault>
-        ensures found { is_honest self.new → ReadsBy bytes_in result (session_at (state self.old).world repo.now number) (state self.old) (state self.new) }
+        ensures found { is_honest self.new
+            → ReadsBy bytes_in result (session_at (state self.old).world repo.now number)
+            (state self.old) (state self.new) }
         ensures spends { Spends result (state self.old) (state self.new) }
         ensures honest { is_honest self.new → is_honest self.old };
 
     /// How many upload sessions are open; 0 where the repository is not there.
     fn sessions_open(&mut self, repo: &RepoName) -> Result<u64, Fault>
-        ensures found { is_honest self.new → Reads result (sessions_open_at (state self.old).world repo.now) (state self.old) (state self.new) }
+        ensures found { is_honest self.new
+            → Reads result (sessions_open_at (state self.old).world repo.now)
+            (state self.old) (state self.new) }
         ensures spends { Spends result (state self.old) (state self.new) }
         ensures honest { is_honest self.new → is_honest self.old };
 
     /// The last number that an upload session got; 0 where none did.
     fn last_number(&mut self, repo: &RepoName) -> Result<u64, Fault>
-        ensures found { is_honest self.new → Reads result (last_number_at (state self.old).world repo.now) (state self.old) (state self.new) }
+        ensures found { is_honest self.new
+            → Reads result (last_number_at (state self.old).world repo.now)
+            (state self.old) (state self.new) }
         ensures spends { Spends result (state self.old) (state self.new) }
         ensures honest { is_honest self.new → is_honest self.old };
 
     /// What a repository holds and may hold. Reads no blob and no manifest.
     fn usage(&mut self, repo: &RepoName) -> Result<Usage, Fault>
-        ensures found { is_honest self.new → Reads result (usage_at (state self.old).world repo.now) (state self.old) (state self.new) }
+        ensures found { is_honest self.new
+            → Reads result (usage_at (state self.old).world repo.now) (state self.old) (state self.new) }
         ensures spends { Spends result (state self.old) (state self.new) }
         ensures honest { is_honest self.new → is_honest self.old };
 
     /// What each repository holds and may hold, in byte order of names.
     fn usages(&mut self, alloc: Global) -> Result<Vec<(RepoName, Usage)>, Fault>
-        ensures found { is_honest self.new → ReadsBy usages_shown result (usages_of (state self.old).world) (state self.old) (state self.new) }
+        ensures found { is_honest self.new
+            → ReadsBy usages_shown result (usages_of (state self.old).world)
+            (state self.old) (state self.new) }
         ensures spends { Spends result (state self.old) (state self.new) }
         ensures honest { is_honest self.new → is_honest self.old };
 
@@ -162,10 +192,13 @@ pub trait Keeper {
     /// match (`Digest::verifies` tells); of at most 67,108,864 bytes. A digest that is there keeps its
     /// bytes.
     fn put_blob(&mut self, repo: &RepoName, digest: &Digest, bytes: &[u8]) -> Result<(), Fault>
-        requires there { is_honest self.old → (state self.old).spent ≡ false → has_repo (state self.old).world repo.now ≡ true }
+        requires there { is_honest self.old → (state self.old).spent ≡ false
+            → has_repo (state self.old).world repo.now ≡ true }
         requires matching { matches digest.now bytes.now ≡ true }
         requires fits { length bytes.now ≤ largest_blob }
-        ensures made { is_honest self.new → Writes result (put_blob (state self.old).world repo.now digest.now bytes.now) (state self.old) (state self.new) }
+        ensures made { is_honest self.new
+            → Writes result (put_blob (state self.old).world repo.now digest.now bytes.now)
+            (state self.old) (state self.new) }
         ensures spends { Spends result (state self.old) (state self.new) }
         ensures honest { is_honest self.new → is_honest self.old };
 
@@ -173,19 +206,29 @@ pub trait Keeper {
     /// 1,000 are open (`sessions_open` tells), and the last number is below 9,223,372,036,854,775,807
     /// (`last_number` tells).
     fn open_session(&mut self, repo: &RepoName) -> Result<u64, Fault>
-        requires there { is_honest self.old → (state self.old).spent ≡ false → has_repo (state self.old).world repo.now ≡ true }
-        requires few { is_honest self.old → (state self.old).spent ≡ false → sessions_open_at (state self.old).world repo.now < most_sessions }
-        requires below { is_honest self.old → (state self.old).spent ≡ false → last_number_at (state self.old).world repo.now < largest }
-        ensures made { is_honest self.new → WritesBy (λ n. n) result (last_number_at (state self.old).world repo.now + 1) (open_session (state self.old).world repo.now) (state self.old) (state self.new) }
+        requires there { is_honest self.old → (state self.old).spent ≡ false
+            → has_repo (state self.old).world repo.now ≡ true }
+        requires few { is_honest self.old → (state self.old).spent ≡ false
+            → sessions_open_at (state self.old).world repo.now < most_sessions }
+        requires below { is_honest self.old → (state self.old).spent ≡ false
+            → last_number_at (state self.old).world repo.now < largest }
+        ensures made { is_honest self.new
+            → WritesBy (λ n. n) result (last_number_at (state self.old).world repo.now + 1)
+            (open_session (state self.old).world repo.now) (state self.old) (state self.new) }
         ensures spends { Spends result (state self.old) (state self.new) }
         ensures honest { is_honest self.new → is_honest self.old };
 
     /// Puts bytes behind those of an open upload session (`session_size` tells), which then has at most
     /// 67,108,864. Touches none that it has.
     fn append(&mut self, repo: &RepoName, number: u64, bytes: &[u8]) -> Result<(), Fault>
-        requires open { is_honest self.old → (state self.old).spent ≡ false → is_some (session_at (state self.old).world repo.now number) ≡ true }
-        requires fits { is_honest self.old → (state self.old).spent ≡ false → length (bytes_or_none (session_at (state self.old).world repo.now number)) + length bytes.now ≤ largest_blob }
-        ensures made { is_honest self.new → Writes result (append (state self.old).world repo.now number bytes.now) (state self.old) (state self.new) }
+        requires open { is_honest self.old → (state self.old).spent ≡ false
+            → is_some (session_at (state self.old).world repo.now number) ≡ true }
+        requires fits { is_honest self.old → (state self.old).spent ≡ false
+            → length (bytes_or_none (session_at (state self.old).world repo.now number)) + length bytes.now
+            ≤ largest_blob }
+        ensures made { is_honest self.new
+            → Writes result (append (state self.old).world repo.now number bytes.now)
+            (state self.old) (state self.new) }
         ensures spends { Spends result (state self.old) (state self.new) }
         ensures honest { is_honest self.new → is_honest self.old };
 
@@ -198,18 +241,25 @@ pub trait Keeper {
         digest: &Digest,
         bytes: &[u8],
     ) -> Result<(), Fault>
-        requires open { is_honest self.old → (state self.old).spent ≡ false → is_some (session_at (state self.old).world repo.now number) ≡ true }
+        requires open { is_honest self.old → (state self.old).spent ≡ false
+            → is_some (session_at (state self.old).world repo.now number) ≡ true }
         requires matching { matches digest.now bytes.now ≡ true }
         requires fits { length bytes.now ≤ largest_blob }
-        ensures made { is_honest self.new → Writes result (finish (state self.old).world repo.now number digest.now bytes.now) (state self.old) (state self.new) }
+        ensures made { is_honest self.new
+            → Writes result (finish (state self.old).world repo.now number digest.now bytes.now)
+            (state self.old) (state self.new) }
         ensures spends { Spends result (state self.old) (state self.new) }
         ensures honest { is_honest self.new → is_honest self.old };
 
     /// Adds a blob that another repository has (`blob_size` tells), or the same one.
     fn mount(&mut self, from: &RepoName, to: &RepoName, digest: &Digest) -> Result<(), Fault>
-        requires there { is_honest self.old → (state self.old).spent ≡ false → has_repo (state self.old).world to.now ≡ true }
-        requires source { is_honest self.old → (state self.old).spent ≡ false → is_some (blob_at (state self.old).world from.now digest.now) ≡ true }
-        ensures made { is_honest self.new → Writes result (mount (state self.old).world from.now to.now digest.now) (state self.old) (state self.new) }
+        requires there { is_honest self.old → (state self.old).spent ≡ false
+            → has_repo (state self.old).world to.now ≡ true }
+        requires source { is_honest self.old → (state self.old).spent ≡ false
+            → is_some (blob_at (state self.old).world from.now digest.now) ≡ true }
+        ensures made { is_honest self.new
+            → Writes result (mount (state self.old).world from.now to.now digest.now)
+            (state self.old) (state self.new) }
         ensures spends { Spends result (state self.old) (state self.new) }
         ensures honest { is_honest self.new → is_honest self.old };
 
@@ -224,72 +274,99 @@ pub trait Keeper {
         manifest: &Manifest,
         tag: Option<&Tag>,
     ) -> Result<(), Fault>
-        requires there { is_honest self.old → (state self.old).spent ≡ false → has_repo (state self.old).world repo.now ≡ true }
+        requires there { is_honest self.old → (state self.old).spent ≡ false
+            → has_repo (state self.old).world repo.now ≡ true }
         requires matching { matches digest.now bytes.now ≡ true }
         requires reads { manifest_in bytes.now ≡ Ok (shown manifest.now) }
         requires fits { length bytes.now ≤ largest_manifest }
-        ensures made { is_honest self.new → Writes result (put_manifest (state self.old).world repo.now digest.now bytes.now (text_in tag.entry)) (state self.old) (state self.new) }
+        ensures made { is_honest self.new
+            → Writes result
+            (put_manifest (state self.old).world repo.now digest.now bytes.now (text_in tag.entry))
+            (state self.old) (state self.new) }
         ensures spends { Spends result (state self.old) (state self.new) }
         ensures honest { is_honest self.new → is_honest self.old };
 
     /// Takes a blob away (`blob_size` tells that it is there).
     fn delete_blob(&mut self, repo: &RepoName, digest: &Digest) -> Result<(), Fault>
-        requires there { is_honest self.old → (state self.old).spent ≡ false → is_some (blob_at (state self.old).world repo.now digest.now) ≡ true }
-        ensures made { is_honest self.new → Writes result (delete_blob (state self.old).world repo.now digest.now) (state self.old) (state self.new) }
+        requires there { is_honest self.old → (state self.old).spent ≡ false
+            → is_some (blob_at (state self.old).world repo.now digest.now) ≡ true }
+        ensures made { is_honest self.new
+            → Writes result (delete_blob (state self.old).world repo.now digest.now)
+            (state self.old) (state self.new) }
         ensures spends { Spends result (state self.old) (state self.new) }
         ensures honest { is_honest self.new → is_honest self.old };
 
     /// Takes a manifest away (`manifest_size` tells that it is there), and each tag that names it.
     fn delete_manifest(&mut self, repo: &RepoName, digest: &Digest) -> Result<(), Fault>
-        requires there { is_honest self.old → (state self.old).spent ≡ false → is_some (manifest_at (state self.old).world repo.now digest.now) ≡ true }
-        ensures made { is_honest self.new → Writes result (delete_manifest (state self.old).world repo.now digest.now) (state self.old) (state self.new) }
+        requires there { is_honest self.old → (state self.old).spent ≡ false
+            → is_some (manifest_at (state self.old).world repo.now digest.now) ≡ true }
+        ensures made { is_honest self.new
+            → Writes result (delete_manifest (state self.old).world repo.now digest.now)
+            (state self.old) (state self.new) }
         ensures spends { Spends result (state self.old) (state self.new) }
         ensures honest { is_honest self.new → is_honest self.old };
 
     /// Takes a tag away (`tag` tells that it is there).
     fn delete_tag(&mut self, repo: &RepoName, tag: &Tag) -> Result<(), Fault>
-        requires there { is_honest self.old → (state self.old).spent ≡ false → is_some (tag_at (state self.old).world repo.now tag.now) ≡ true }
-        ensures made { is_honest self.new → Writes result (delete_tag (state self.old).world repo.now tag.now) (state self.old) (state self.new) }
+        requires there { is_honest self.old → (state self.old).spent ≡ false
+            → is_some (tag_at (state self.old).world repo.now tag.now) ≡ true }
+        ensures made { is_honest self.new
+            → Writes result (delete_tag (state self.old).world repo.now tag.now)
+            (state self.old) (state self.new) }
         ensures spends { Spends result (state self.old) (state self.new) }
         ensures honest { is_honest self.new → is_honest self.old };
 
     /// Makes an empty repository, or sets the quota of one that is there and changes nothing else.
     fn set_repo(&mut self, name: &RepoName, quota: Quota) -> Result<(), Fault>
-        ensures made { is_honest self.new → Writes result (set_repo (state self.old).world name.now quota.bytes) (state self.old) (state self.new) }
+        ensures made { is_honest self.new
+            → Writes result (set_repo (state self.old).world name.now quota.bytes)
+            (state self.old) (state self.new) }
         ensures spends { Spends result (state self.old) (state self.new) }
         ensures honest { is_honest self.new → is_honest self.old };
 
     /// Takes a repository that is there away, with what it holds and every level on it.
     fn drop_repo(&mut self, name: &RepoName) -> Result<(), Fault>
-        requires there { is_honest self.old → (state self.old).spent ≡ false → has_repo (state self.old).world name.now ≡ true }
-        ensures made { is_honest self.new → Writes result (drop_repo (state self.old).world name.now) (state self.old) (state self.new) }
+        requires there { is_honest self.old → (state self.old).spent ≡ false
+            → has_repo (state self.old).world name.now ≡ true }
+        ensures made { is_honest self.new
+            → Writes result (drop_repo (state self.old).world name.now) (state self.old) (state self.new) }
         ensures spends { Spends result (state self.old) (state self.new) }
         ensures honest { is_honest self.new → is_honest self.old };
 
     /// Gives a token a level on a repository that is there, in the place of the one that it has.
     fn grant(&mut self, token: &Token, name: &RepoName, level: Level) -> Result<(), Fault>
-        requires there { is_honest self.old → (state self.old).spent ≡ false → has_repo (state self.old).world name.now ≡ true }
-        ensures made { is_honest self.new → Writes result (grant (state self.old).world token.now name.now level) (state self.old) (state self.new) }
+        requires there { is_honest self.old → (state self.old).spent ≡ false
+            → has_repo (state self.old).world name.now ≡ true }
+        ensures made { is_honest self.new
+            → Writes result (grant (state self.old).world token.now name.now level)
+            (state self.old) (state self.new) }
         ensures spends { Spends result (state self.old) (state self.new) }
         ensures honest { is_honest self.new → is_honest self.old };
 
     /// Takes the level of a token on a repository away (`level` tells that it has one).
     fn revoke(&mut self, token: &Token, name: &RepoName) -> Result<(), Fault>
-        requires granted { is_honest self.old → (state self.old).spent ≡ false → is_some (level_at (state self.old).world token.now name.now) ≡ true }
-        ensures made { is_honest self.new → Writes result (revoke (state self.old).world token.now name.now) (state self.old) (state self.new) }
+        requires granted { is_honest self.old → (state self.old).spent ≡ false
+            → is_some (level_at (state self.old).world token.now name.now) ≡ true }
+        ensures made { is_honest self.new
+            → Writes result (revoke (state self.old).world token.now name.now)
+            (state self.old) (state self.new) }
         ensures spends { Spends result (state self.old) (state self.new) }
         ensures honest { is_honest self.new → is_honest self.old };
 
     /// Ends every open upload session of a repository that is there; the last number stays.
     fn drop_sessions(&mut self, name: &RepoName) -> Result<(), Fault>
-        requires there { is_honest self.old → (state self.old).spent ≡ false → has_repo (state self.old).world name.now ≡ true }
-        ensures made { is_honest self.new → Writes result (drop_sessions (state self.old).world name.now) (state self.old) (state self.new) }
+        requires there { is_honest self.old → (state self.old).spent ≡ false
+            → has_repo (state self.old).world name.now ≡ true }
+        ensures made { is_honest self.new
+            → Writes result (drop_sessions (state self.old).world name.now)
+            (state self.old) (state self.new) }
         ensures spends { Spends result (state self.old) (state self.new) }
         ensures honest { is_honest self.new → is_honest self.old };
 
     /// Frees what no repository holds any more; the world stays.
     fn clear(&mut self) -> Result<(), Fault>
-        ensures made { is_honest self.new → Writes result ((state self.old).world) (state self.old) (state self.new) }
+        ensures made { is_honest self.new
+            → Writes result ((state self.old).world) (state self.old) (state self.new) }
         ensures spends { Spends result (state self.old) (state self.new) }
         ensures honest { is_honest self.new → is_honest self.old };
 }

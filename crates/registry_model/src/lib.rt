@@ -1,21 +1,19 @@
 //! What a registry means: requests and replies as values, the world that they are answered in, and
 //! who keeps that world. The service above asks a `Keeper`, whose calls are those of a plain map of
-//! repositories that hold whole bytes of their own; `MapKeeper` is that map.
+//! repositories that hold whole bytes of their own.
 #![tactic(auto)]
 
 pub mod admin;
 pub mod keeper;
-mod kept;
 pub mod laws;
 pub mod level;
-mod maps;
+pub mod limits;
 pub mod numbers;
 pub mod page;
 pub mod quota;
 pub mod range;
 pub mod refusal;
 pub mod reply;
-mod repository;
 pub mod request;
 pub mod route;
 pub mod soundness;
@@ -24,7 +22,9 @@ pub mod worked;
 pub use admin::{AdminCommand, AdminFault};
 pub use keeper::Keeper;
 pub use level::Level;
-pub use maps::MapKeeper;
+pub use limits::{
+    LARGEST_BLOB, LARGEST_MANIFEST, LARGEST_QUOTA, LARGEST_SESSION_NUMBER, MOST_SESSIONS,
+};
 pub use numbers::number;
 pub use page::page_link;
 pub use quota::{Quota, Usage};

@@ -8,7 +8,8 @@ use std::alloc::{AllocError, Global};
 
 /// The pages of so many tags each.
 fn pages_of(alloc: Global, name: &RepoName, n: u64) -> Result<String, AllocError>
-    ensures { IfOk result (λ s. string_bytes s ≡ codes "/v2/" ++ name.now ++ codes "/tags/list?n=" ++ decimal n) }
+    ensures { IfOk result
+        (λ s. string_bytes s ≡ codes "/v2/" ++ name.now ++ codes "/tags/list?n=" ++ decimal n) }
 {
     let mut path = String::from_str(alloc, "/v2/")?;
     path.push_str(name.as_str())?;
@@ -33,7 +34,8 @@ fn written(alloc: Global, name: &RepoName, n: u64, last: &Tag) -> Result<String,
 /// The value of `Link` on a page of `n` tags that ends with `last` and behind which more follow
 /// (OCI Distribution Specification 1.1, Listing Tags; RFC 8288). The only fault is `Fault::Memory`.
 pub fn page_link(alloc: Global, name: &RepoName, n: u64, last: &Tag) -> Result<String, Fault>
-    ensures { MatchResult result (λ s. string_bytes s ≡ next_link name.now n last.now) (λ fault. fault ≡ Fault.Memory) }
+    ensures { MatchResult result (λ s. string_bytes s ≡ next_link name.now n last.now)
+        (λ fault. fault ≡ Fault.Memory) }
 {
     match written(alloc, name, n, last) {
         Ok(link) => Ok(link),

@@ -1,6 +1,8 @@
 ghost use Rattle.std.specs.Prelude.{◌≡◌, ◌≤◌, ◌<◌, IsNone, IsSomeAnd};
 ghost use Rattle.registry_model.specs.Usage.{is_over};
 
+use crate::limits::LARGEST_QUOTA;
+
 /// The most bytes that a repository may use: 0 to 9,223,372,036,854,775,807 (profile).
 #[derive(Clone, Copy, Debug, PartialEq, Eq)]
 pub struct Quota {
@@ -14,7 +16,7 @@ impl Quota {
         ensures within { bytes < 9223372036854775808 → IsSomeAnd result (λ q. q.bytes ≡ bytes) }
         ensures past { 9223372036854775808 ≤ bytes → IsNone result }
     {
-        if bytes < 9_223_372_036_854_775_808 {
+        if bytes <= LARGEST_QUOTA {
             Some(Quota { bytes })
         } else {
             None

@@ -39,7 +39,8 @@ fn find_byte(text: &[u8], byte: u8) -> Option<usize>
 fn split_at_byte(text: &[u8], byte: u8) -> Option<Parts<'_>>
     ensures { MatchOption result
         ((list_any (λ b. b == byte) text.now ≡ false) × (before_first (λ b. b == byte) text.now ≡ text.now))
-        (λ parts. (list_any (λ b. b == byte) text.now ≡ true) × (parts.before.now ≡ before_first (λ b. b == byte) text.now)
+        (λ parts. (list_any (λ b. b == byte) text.now ≡ true)
+        × (parts.before.now ≡ before_first (λ b. b == byte) text.now)
         × (parts.behind.now ≡ after_first (λ b. b == byte) text.now)) }
 {
     match find_byte(text, byte) {

@@ -17,7 +17,8 @@ use crate::{AdminCommand, AdminFault};
 /// that is refused.
 pub fn a_refusal_gives_the_world_back()
     ensures requests { (w : World) (q : Ask) → 400 ≤ code_of (reply_to w q).status → after_request w q ≡ w }
-    ensures commands { (w : World) (a : AdminCommand) (e : AdminFault) → refusal_of w a ≡ Some e → after_command w a ≡ w }
+    ensures commands { (w : World) (a : AdminCommand) (e : AdminFault) → refusal_of w a ≡ Some e
+        → after_command w a ≡ w }
 {}
 
 /// The world without repositories and grants, with which a registry begins, is sound.

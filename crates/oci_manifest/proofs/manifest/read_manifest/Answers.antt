@@ -1,4 +1,4 @@
-use Rattle.oci_manifest.proofs.Answering.{gives_by_rules, gives_no_document, gives_found, gives_only, gives_fault}
+use Rattle.oci_manifest.proofs.FoundOrRefused.{gives_by_rules, gives_no_document, gives_found, gives_only, gives_fault}
 use Rattle.oci_manifest.proofs.manifest.read_manifest.Goals as goal
 
 pub returns-in_err-value-clause-only : goal.returns-in_err-value-clause-only

@@ -2,7 +2,7 @@ use Rattle.std.proofs.Common.{◌≡◌, string_bytes, subst, ap, ◌∙◌}
 use Rattle.serde_json.specs.View.{view}
 use Rattle.serde_json.specs.Data.{string}
 use Rattle.oci_manifest.proofs.Texts.{TextEntry}
-use Rattle.oci_manifest.proofs.Written.{Written, written_one}
+use Rattle.oci_manifest.proofs.WrittenTexts.{Written, written_one}
 use Rattle.oci_manifest.proofs.referrers.texts_value.Goals as goal
 
 pub loop-key-preserved : goal.loop-key-preserved

@@ -1,4 +1,4 @@
-use Rattle.oci_manifest.proofs.Written.{Written}
+use Rattle.oci_manifest.proofs.WrittenTexts.{Written}
 use Rattle.oci_manifest.proofs.referrers.texts_value.Given as goal
 
 abbrev pub invariant-loop-key : goal.invariant-loop-key

@@ -10,7 +10,7 @@ pub returns-in-Ok : goal.returns-in-Ok
 returns-in-Ok c =
     session_number_of-read c.args.text.now c.parse.result c.in-Ok.number
     (ap (λ t. is_between 49 57 (slice_index t 0)) (sym c.as_bytes.ensures.value) ∙ sym c.begins_with_nonzero_digit.ensures ∙ c.if-not-begins_with_nonzero_digit.false)
-    c.parse.ensures.value.0 c.in-Ok.is c.if-number-le-MAX.true
+    c.parse.ensures.value.0 c.in-Ok.is c.if-number-le-LARGEST_SESSION_NUMBER.true
 
 -- src/session.rt:17:1
 pub returns-in_default-2 : goal.returns-in_default-2

@@ -4,7 +4,7 @@ use Rattle.std.proofs.lemmas.Int.Digits.{digits_value_more}
 use Rattle.std.proofs.lemmas.List.Folds.{list_all_more}
 use Rattle.std.specs.Char.{is_ascii_digit}
 use Rattle.std.proofs.lemmas.Str.{digit_value_digit}
-use Rattle.registry_model.proofs.TextLemmas.{no_number}
+use Rattle.registry_model.proofs.PlacesAndDigits.{no_number}
 use Rattle.registry_model.proofs.numbers.number.Goals as goal
 
 few_digits : (n i : ℕ) → n < 10 ^ i → i ≤ 18 → n < 1000000000000000000

@@ -1,5 +1,5 @@
 use Rattle.std.proofs.Common.{◌∙◌, sym}
-use Rattle.registry_model.proofs.TextLemmas.{digits_all}
+use Rattle.registry_model.proofs.PlacesAndDigits.{digits_all}
 use Rattle.registry_model.proofs.range.are_digits.Goals as goal
 
 pub returns : goal.returns

@@ -1,5 +1,5 @@
 use Rattle.std.proofs.Common.{◌∙◌, ◌+◌, ◌==◌, ap, take, drop, arith}
-use Rattle.registry_model.proofs.TextLemmas.{some_place, no_place, behind, all_before, placed, not_placed}
+use Rattle.registry_model.proofs.PlacesAndDigits.{some_place, no_place, behind, all_before, placed, not_placed}
 use Rattle.registry_model.proofs.range.split_at_byte.Goals as goal
 
 pub returns-in-Some : goal.returns-in-Some

@@ -1,6 +1,6 @@
 use Rattle.std.proofs.Common.{◌∙◌, sym, ap}
 use Rattle.registry_model.specs.Range.{is_whole_length, ends_of, ends_fit}
-use Rattle.registry_model.proofs.TextLemmas.{whole_range, cut_range, bad_range}
+use Rattle.registry_model.proofs.PlacesAndDigits.{whole_range, cut_range, bad_range}
 use Rattle.registry_model.proofs.range.verdict_on.Goals as goal
 
 pub returns-in-None : goal.returns-in-None

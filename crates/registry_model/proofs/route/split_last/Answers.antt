@@ -1,5 +1,5 @@
 use Rattle.std.proofs.Common.{arith, sym, ◌∙◌}
-use Rattle.registry_model.proofs.RouteLemmas.{split, whole}
+use Rattle.registry_model.proofs.LastSlash.{split, whole}
 use Rattle.registry_model.proofs.route.split_last.Goals as goal
 
 pub returns-in-Some-clause-before : goal.returns-in-Some-clause-before

@@ -1,4 +1,4 @@
-use Rattle.registry_model.proofs.SoundLemmasWorlds.{sound_after_request}
+use Rattle.registry_model.proofs.SoundWorlds.{sound_after_request}
 use Rattle.registry_model.proofs.soundness.an_answer_keeps_a_sound_world_sound.Goals as goal
 
 pub returns : goal.returns

@@ -6,7 +6,7 @@ use Rattle.registry_model.specs.Verdict.{changed}
 use Rattle.registry_model.specs.Blobs.{found_blob, found_size}
 use Rattle.registry_model.specs.Operation as op
 use Rattle.registry_model.specs.Worked.{app, abc_digest, holding_abc}
-use Rattle.registry_model.proofs.WorkedLemmas.{abc, in_app, matched, takes_abc, found_abc}
+use Rattle.registry_model.proofs.WorkedRequests.{abc, in_app, matched, takes_abc, found_abc}
 use Rattle.registry_model.proofs.worked.a_blob_is_pushed_and_pulled.Goals as goal
 
 pub returns : goal.returns

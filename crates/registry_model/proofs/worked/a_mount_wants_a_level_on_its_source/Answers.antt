@@ -9,7 +9,7 @@ use Rattle.registry_model.specs.World.{Repo, repo_at, new_repo}
 use Rattle.registry_model.specs.Mount.{mounted}
 use Rattle.registry_model.specs.Operation as op
 use Rattle.registry_model.specs.Worked.{app, abc_digest}
-use Rattle.registry_model.proofs.WorkedLemmas.{in_app, takes_abc, found_abc, opens, new_open}
+use Rattle.registry_model.proofs.WorkedRequests.{in_app, takes_abc, found_abc, opens, new_open}
 use Rattle.registry_model.proofs.worked.a_mount_wants_a_level_on_its_source.Goals as goal
 
 pub returns : goal.returns

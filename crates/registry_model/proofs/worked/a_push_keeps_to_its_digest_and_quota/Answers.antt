@@ -2,7 +2,7 @@ use Rattle.std.proofs.Common.{◌∙◌, refl, ap}
 use Rattle.registry_model.specs.World.{new_repo}
 use Rattle.registry_model.specs.Operation as op
 use Rattle.registry_model.specs.Worked.{app, abc_digest, hello_digest, md5_digest, holding_abc}
-use Rattle.registry_model.proofs.WorkedLemmas.{abc, in_app, matched, unmatched, takes_abc, refuses_abc, keeps_abc}
+use Rattle.registry_model.proofs.WorkedRequests.{abc, in_app, matched, unmatched, takes_abc, refuses_abc, keeps_abc}
 use Rattle.registry_model.proofs.worked.a_push_keeps_to_its_digest_and_quota.Goals as goal
 
 pub returns : goal.returns

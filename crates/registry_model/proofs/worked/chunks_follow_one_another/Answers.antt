@@ -5,7 +5,7 @@ use Rattle.registry_model.specs.declared.reply.Status.TheVariants.{Accepted}
 use Rattle.registry_model.specs.Sessions.{show_session, session_reply}
 use Rattle.registry_model.specs.Operation as op
 use Rattle.registry_model.specs.Worked.{app, in_session}
-use Rattle.registry_model.proofs.WorkedLemmas.{in_app, numbered, held, at_session, keeps_chunk}
+use Rattle.registry_model.proofs.WorkedRequests.{in_app, numbered, held, at_session, keeps_chunk}
 use Rattle.registry_model.proofs.worked.chunks_follow_one_another.Goals as goal
 
 pub returns : goal.returns

@@ -10,8 +10,8 @@ use Rattle.registry_model.specs.Blobs.{without_blob}
 use Rattle.registry_model.specs.Manifests.{without_manifest, found_manifest, manifest_of_digest}
 use Rattle.registry_model.specs.Operation as op
 use Rattle.registry_model.specs.Worked.{abc_digest, holding_abc, two_tags}
-use Rattle.registry_model.proofs.SoundLemmas.{total_texts}
-use Rattle.registry_model.proofs.WorkedLemmas.{in_app, found_abc, tag_goes}
+use Rattle.registry_model.proofs.TextOrder.{text_total}
+use Rattle.registry_model.proofs.WorkedRequests.{in_app, found_abc, tag_goes}
 use Rattle.registry_model.proofs.worked.deletions_take_away.Goals as goal
 
 pub returns : goal.returns
@@ -21,13 +21,13 @@ returns c = record {
       ∙ ap (λ o. cond (is_some o) (makes (bare_answer Accepted) (without_blob (holding_abc 1000) abc_digest)) (refuses BlobUnknown)) (found_abc 1000));
   blob_gone = λ w s. let r = without_blob (holding_abc 1000) abc_digest in ap (λ o. o.reply) (
       in_app w r s (op.deletes_blob abc_digest) []
-      ∙ ap (λ o. cond (is_some o) (makes (bare_answer Accepted) (without_blob r abc_digest)) (refuses BlobUnknown)) (get-remove total_texts (holding_abc 1000).blobs abc_digest abc_digest));
+      ∙ ap (λ o. cond (is_some o) (makes (bare_answer Accepted) (without_blob r abc_digest)) (refuses BlobUnknown)) (get-remove text_total (holding_abc 1000).blobs abc_digest abc_digest));
   manifest_goes = λ w bytes s. ap (λ o. o.reply) (
       in_app w (two_tags bytes) s (op.deletes_manifest abc_digest) []
-      ∙ ap (λ o. cond (is_some o) (makes (bare_answer Accepted) (without_manifest (two_tags bytes) abc_digest)) (refuses ManifestUnknown)) (get-from_entries total_texts ((abc_digest, bytes) ∷ []) abc_digest));
+      ∙ ap (λ o. cond (is_some o) (makes (bare_answer Accepted) (without_manifest (two_tags bytes) abc_digest)) (refuses ManifestUnknown)) (get-from_entries text_total ((abc_digest, bytes) ∷ []) abc_digest));
   manifest_gone = λ w bytes s. let r = without_manifest (two_tags bytes) abc_digest in ap (λ o. o.reply) (
       in_app w r s (op.deletes_manifest abc_digest) []
-      ∙ ap (λ o. cond (is_some o) (makes (bare_answer Accepted) (without_manifest r abc_digest)) (refuses ManifestUnknown)) (get-remove total_texts (two_tags bytes).manifests abc_digest abc_digest));
+      ∙ ap (λ o. cond (is_some o) (makes (bare_answer Accepted) (without_manifest r abc_digest)) (refuses ManifestUnknown)) (get-remove text_total (two_tags bytes).manifests abc_digest abc_digest));
   tag_gone = λ w bytes s. let r = without_manifest (two_tags bytes) abc_digest in ap (λ o. o.reply) (
       in_app w r s (op.reads_manifest (codes "v2")) [] ∙ ap (λ o. found_manifest (option_and_then (manifest_of_digest r) o)) (tag_goes bytes));
   no_reference = λ w r s. ap (λ o. o.reply) (in_app w r s (op.reads_manifest (codes "-x")) []);

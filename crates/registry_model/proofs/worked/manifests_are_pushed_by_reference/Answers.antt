@@ -4,7 +4,7 @@ use Rattle.oci_manifest.specs.Manifest.{manifest_in}
 use Rattle.registry_model.specs.Manifests.{push_read}
 use Rattle.registry_model.specs.Operation as op
 use Rattle.registry_model.specs.Worked.{app, abc_digest, md5_digest}
-use Rattle.registry_model.proofs.WorkedLemmas.{in_app, unequal}
+use Rattle.registry_model.proofs.WorkedRequests.{in_app, unequal}
 use Rattle.registry_model.proofs.worked.manifests_are_pushed_by_reference.Goals as goal
 
 pub returns : goal.returns

@@ -8,18 +8,18 @@ use Rattle.registry_model.specs.Outcome.{tells}
 use Rattle.registry_model.specs.Referrers.{has_subject, referrer_in, is_wanted, referrers_reply}
 use Rattle.registry_model.specs.Operation as op
 use Rattle.registry_model.specs.Worked.{abc_digest}
-use Rattle.registry_model.proofs.SoundLemmas.{total_texts}
-use Rattle.registry_model.proofs.WorkedLemmas.{in_app, entries_of}
+use Rattle.registry_model.proofs.TextOrder.{text_total}
+use Rattle.registry_model.proofs.WorkedRequests.{in_app, entries_of}
 use Rattle.registry_model.proofs.worked.referrers_are_listed.Goals as goal
 
 pub returns : goal.returns
 returns c = record {
   none = λ w s. ap (λ o. o.reply) (
       in_app w (new_repo 1000) s (op.lists_referrers abc_digest None) []
-      ∙ ap (λ es. tells (referrers_reply None (filter (is_wanted None) (filter_map referrer_in (filter (has_subject abc_digest) es))))) (entries_of {X = Text} total_texts []));
+      ∙ ap (λ es. tells (referrers_reply None (filter (is_wanted None) (filter_map referrer_in (filter (has_subject abc_digest) es))))) (entries_of {X = Text} text_total []));
   filtered = λ w s. ap (λ o. o.reply) (
       in_app w (new_repo 1000) s (op.lists_referrers abc_digest (Some (codes "application/x.sbom"))) []
       ∙ ap (λ es. tells (referrers_reply (Some (codes "application/x.sbom")) (filter (is_wanted (Some (codes "application/x.sbom"))) (filter_map referrer_in (filter (has_subject abc_digest) es)))))
-      (entries_of {X = Text} total_texts []));
+      (entries_of {X = Text} text_total []));
   no_digest = λ w r s. ap (λ o. o.reply) (in_app w r s (op.lists_referrers (codes "sha256:12") None) []);
 }

@@ -7,7 +7,7 @@ use Rattle.registry_model.specs.Form as form
 use Rattle.registry_model.specs.declared.level.Level.TheVariants.{Pull, Push}
 use Rattle.registry_model.specs.Operation as op
 use Rattle.registry_model.specs.Worked.{app, t1, abc_digest}
-use Rattle.registry_model.proofs.WorkedLemmas.{some_len, known, apart}
+use Rattle.registry_model.proofs.WorkedRequests.{some_len, known, apart}
 use Rattle.registry_model.proofs.worked.refusals_come_in_order.Goals as goal
 
 pub returns : goal.returns

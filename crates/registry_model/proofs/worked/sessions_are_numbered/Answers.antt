@@ -10,7 +10,7 @@ use Rattle.registry_model.specs.Verdict.{changed}
 use Rattle.registry_model.specs.Sessions.{show_session}
 use Rattle.registry_model.specs.Operation as op
 use Rattle.registry_model.specs.Worked.{app, in_session}
-use Rattle.registry_model.proofs.WorkedLemmas.{in_app, numbered, opens, opens_none, new_open, many_full, last_full}
+use Rattle.registry_model.proofs.WorkedRequests.{in_app, numbered, opens, opens_none, new_open, many_full, last_full}
 use Rattle.registry_model.proofs.worked.sessions_are_numbered.Goals as goal
 
 pub returns : goal.returns

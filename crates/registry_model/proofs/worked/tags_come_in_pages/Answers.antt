@@ -5,7 +5,7 @@ use Rattle.registry_model.specs.Outcome.{tells}
 use Rattle.registry_model.specs.TagPage.{tags_reply}
 use Rattle.registry_model.specs.Operation as op
 use Rattle.registry_model.specs.Worked.{app, four_tags}
-use Rattle.registry_model.proofs.WorkedLemmas.{in_app, paged}
+use Rattle.registry_model.proofs.WorkedRequests.{in_app, paged}
 use Rattle.registry_model.proofs.worked.tags_come_in_pages.Goals as goal
 
 pub returns : goal.returns

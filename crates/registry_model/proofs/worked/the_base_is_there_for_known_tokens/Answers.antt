@@ -4,7 +4,7 @@ use Rattle.registry_model.specs.declared.refusal.Refusal.TheVariants.{TokenRequi
 use Rattle.registry_model.specs.World.{repo_at}
 use Rattle.registry_model.specs.Outcome.{refuses}
 use Rattle.registry_model.specs.Verdict.{served, base_outcome}
-use Rattle.registry_model.proofs.WorkedLemmas.{unknown, apart}
+use Rattle.registry_model.proofs.WorkedRequests.{unknown, apart}
 use Rattle.registry_model.proofs.worked.the_base_is_there_for_known_tokens.Goals as goal
 
 pub returns : goal.returns

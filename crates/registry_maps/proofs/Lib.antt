@@ -1,0 +1,3 @@
+pub mod SeenMaps
+pub mod SeenRepositories
+pub mod SeenWorlds

@@ -1,0 +1,16 @@
+use Rattle.std.proofs.Common.{◌≡◌, ◌∙◌, sym, ap, rules, map}
+use Rattle.oci_names.specs.Text.{Text}
+use Rattle.registry_maps.specs.declared.repository.Repository.{Repository}
+use Rattle.registry_model.specs.World.{Repo}
+use Rattle.registry_model.specs.Usage.{usage_of}
+use Rattle.registry_maps.specs.Maps.{repo_of}
+use Rattle.registry_model.proofs.TextOrder.{text_total, exact_texts}
+use Rattle.registry_maps.proofs.SeenMaps.{entries_seen, shown_again}
+use Rattle.registry_maps.proofs.map_keeper.MapKeeper.all_usages.Goals as goal
+
+pub returns : goal.returns
+returns c =
+    let m = c.args.self.now.repos in
+    let all = entries_seen text_total exact_texts repo_of m c.iter-name-items.ensures.ordered in
+    let found : c.loop-name.all.items ≡ map (λ (e : Text × Repository). (e.0, usage_of (repo_of e.1))) m.entries = search rules in
+    found ∙ sym (ap (map (λ (e : Text × Repo). (e.0, usage_of e.1))) all ∙ shown_again repo_of usage_of m.entries)

@@ -1,0 +1,384 @@
+//! The keeper over ordered maps.
+ghost use Rattle.std.specs.Prelude.{◌≡◌, true, IfOk};
+ghost use Rattle.std.specs.FinMap.{insert, remove};
+ghost use Rattle.registry_model.specs.World.{no_world};
+ghost use Rattle.registry_model.specs.Doing.{keeps};
+ghost use Rattle.registry_model.specs.Lookups.{usages_of};
+ghost use Rattle.registry_model.specs.Keeping.{usages_shown};
+ghost use Rattle.registry_maps.specs.Maps.{levels_in, world_of, Makes, or_memory};
+
+use crate::repository::Repository;
+use oci_manifest::{Kind, Manifest};
+use oci_names::{Digest, Fault, RepoName, Tag, Token};
+use registry_model::{Keeper, Level, Quota, Usage};
+use std::alloc::{AllocError, Global};
+use std::collections::BTreeMap;
+
+/// A keeper over ordered maps, whose bytes lie in memory. It never answers `Fault::Storage`.
+#[derive(Drop)]
+pub struct MapKeeper {
+    alloc: Global,
+    repos: BTreeMap<RepoName, Repository>,
+    grants: BTreeMap<Token, BTreeMap<RepoName, Level>>,
+}
+
+/// The only fault is want of memory.
+fn or_memory<T>(made: Result<T, AllocError>) -> Result<T, Fault>
+    ensures { result ≡ or_memory made }
+{
+    match made {
+        Ok(value) => Ok(value),
+        Err(_) => Err(Fault::Memory),
+    }
+}
+
+/// Sets the level on a repository.
+fn set_level(
+    levels: &mut BTreeMap<RepoName, Level>,
+    name: &RepoName,
+    level: Level,
+) -> Result<(), AllocError>
+    ensures { Makes result (insert (levels_in levels.old.entries) name.now level)
+        (levels_in levels.old.entries) (levels_in levels.new.entries) }
+{
+    let key = name.clone()?;
+    levels.insert(key, level)?;
+    Ok(())
+}
+
+/// Takes the level on a repository away; the other levels are to stay.
+fn take_level(levels: &mut BTreeMap<RepoName, Level>, name: &RepoName) -> bool
+    ensures stays { result ≡ true }
+    ensures taken { levels_in levels.new.entries ≡ remove (levels_in levels.old.entries) name.now }
+{
+    levels.remove(name);
+    true
+}
+
+impl MapKeeper {
+    /// A keeper of the empty world, whose maps grow by this allocator; takes no memory.
+    pub fn new(alloc: Global) -> MapKeeper
+        ensures { ⟦<MapKeeper as Keeper>⟧.state result ≡ keeps no_world }
+    {
+        MapKeeper {
+            alloc,
+            repos: BTreeMap::new(alloc),
+            grants: BTreeMap::new(alloc),
+        }
+    }
+
+    /// What each repository holds, in byte order of names.
+    fn all_usages(&self, alloc: Global) -> Result<Vec<(RepoName, Usage)>, AllocError>
+        ensures { IfOk result
+            (λ all. usages_shown all ≡ usages_of (world_of self.now.repos self.now.grants)) }
+    {
+        let mut all = Vec::new(alloc);
+        for (name, repository) in self.repos.iter() {
+            all.push((name.clone()?, repository.usage()))?;
+        }
+        Ok(all)
+    }
+}
+
+impl Keeper for MapKeeper {
+    ghost use Rattle.std.specs.Prelude.{⊤};
+    ghost use Rattle.registry_maps.specs.Maps.{state_of};
+
+    ghost state = { λ k. state_of k.repos k.grants };
+
+    ghost is_honest = { λ _. ⊤ };
+
+    fn spent(&self) -> bool {
+        false
+    }
+
+    fn known(&mut self, token: &Token) -> Result<bool, Fault> {
+        match self.grants.get(token) {
+            Some(levels) => Ok(!levels.is_empty()),
+            None => Ok(false),
+        }
+    }
+
+    fn has_repo(&mut self, repo: &RepoName) -> Result<bool, Fault> {
+        Ok(self.repos.contains_key(repo))
+    }
+
+    fn level(&mut self, token: &Token, repo: &RepoName) -> Result<Option<Level>, Fault> {
+        match self.grants.get(token) {
+            Some(levels) => Ok(levels.get(repo).copied()),
+            None => Ok(None),
+        }
+    }
+
+    fn blob(
+        &mut self,
+        alloc: Global,
+        repo: &RepoName,
+        digest: &Digest,
+    ) -> Result<Option<Vec<u8>>, Fault> {
+        match self.repos.get(repo) {
+            Some(repository) => or_memory(repository.blob(alloc, digest)),
+            None => Ok(None),
+        }
+    }
+
+    fn blob_size(&mut self, repo: &RepoName, digest: &Digest) -> Result<Option<u64>, Fault> {
+        match self.repos.get(repo) {
+            Some(repository) => Ok(repository.blob_size(digest)),
+            None => Ok(None),
+        }
+    }
+
+    fn manifest(
+        &mut self,
+        alloc: Global,
+        repo: &RepoName,
+        digest: &Digest,
+    ) -> Result<Option<(Kind, Vec<u8>)>, Fault> {
+        match self.repos.get(repo) {
+            Some(repository) => or_memory(repository.manifest(alloc, digest)),
+            None => Ok(None),
+        }
+    }
+
+    fn manifest_size(
+        &mut self,
+        repo: &RepoName,
+        digest: &Digest,
+    ) -> Result<Option<(Kind, u64)>, Fault> {
+        match self.repos.get(repo) {
+            Some(repository) => Ok(repository.manifest_size(digest)),
+            None => Ok(None),
+        }
+    }
+
+    fn tag(&mut self, _alloc: Global, repo: &RepoName, tag: &Tag) -> Result<Option<Digest>, Fault> {
+        match self.repos.get(repo) {
+            Some(repository) => or_memory(repository.tag(tag)),
+            None => Ok(None),
+        }
+    }
+
+    fn tags_after(
+        &mut self,
+        alloc: Global,
+        repo: &RepoName,
+        last: &str,
+        n: Option<u64>,
+    ) -> Result<(Vec<Tag>, bool), Fault> {
+        match self.repos.get(repo) {
+            Some(repository) => or_memory(repository.tags_after(alloc, last, n)),
+            None => Ok((Vec::new(alloc), false)),
+        }
+    }
+
+    fn manifests_of_subject(
+        &mut self,
+        alloc: Global,
+        repo: &RepoName,
+        digest: &Digest,
+    ) -> Result<Vec<(Digest, Vec<u8>)>, Fault> {
+        match self.repos.get(repo) {
+            Some(repository) => or_memory(repository.manifests_of_subject(alloc, digest)),
+            None => Ok(Vec::new(alloc)),
+        }
+    }
+
+    fn session_size(&mut self, repo: &RepoName, number: u64) -> Result<Option<u64>, Fault> {
+        match self.repos.get(repo) {
+            Some(repository) => Ok(repository.session_size(number)),
+            None => Ok(None),
+        }
+    }
+
+    fn session(
+        &mut self,
+        alloc: Global,
+        repo: &RepoName,
+        number: u64,
+    ) -> Result<Option<Vec<u8>>, Fault> {
+        match self.repos.get(repo) {
+            Some(repository) => or_memory(repository.session(alloc, number)),
+            None => Ok(None),
+        }
+    }
+
+    fn sessions_open(&mut self, repo: &RepoName) -> Result<u64, Fault> {
+        match self.repos.get(repo) {
+            Some(repository) => Ok(repository.sessions_open()),
+            None => Ok(0),
+        }
+    }
+
+    fn last_number(&mut self, repo: &RepoName) -> Result<u64, Fault> {
+        match self.repos.get(repo) {
+            Some(repository) => Ok(repository.last_number()),
+            None => Ok(0),
+        }
+    }
+
+    fn usage(&mut self, repo: &RepoName) -> Result<Usage, Fault> {
+        match self.repos.get(repo) {
+            Some(repository) => Ok(repository.usage()),
+            None => Ok(Usage {
+                used: 0,
+                quota: 0,
+                blobs: 0,
+                manifests: 0,
+                tags: 0,
+                sessions: 0,
+            }),
+        }
+    }
+
+    fn usages(&mut self, alloc: Global) -> Result<Vec<(RepoName, Usage)>, Fault> {
+        or_memory(self.all_usages(alloc))
+    }
+
+    fn put_blob(&mut self, repo: &RepoName, digest: &Digest, bytes: &[u8]) -> Result<(), Fault> {
+        let alloc = self.alloc;
+        match self.repos.get_mut(repo) {
+            Some(repository) => or_memory(repository.put_blob(alloc, digest, bytes)),
+            None => Ok(()),
+        }
+    }
+
+    fn open_session(&mut self, repo: &RepoName) -> Result<u64, Fault> {
+        let alloc = self.alloc;
+        match self.repos.get_mut(repo) {
+            Some(repository) => or_memory(repository.open_session(alloc)),
+            None => Ok(0),
+        }
+    }
+
+    fn append(&mut self, repo: &RepoName, number: u64, bytes: &[u8]) -> Result<(), Fault> {
+        match self.repos.get_mut(repo) {
+            Some(repository) => or_memory(repository.append(number, bytes)),
+            None => Ok(()),
+        }
+    }
+
+    fn finish(
+        &mut self,
+        repo: &RepoName,
+        number: u64,
+        digest: &Digest,
+        bytes: &[u8],
+    ) -> Result<(), Fault> {
+        let alloc = self.alloc;
+        match self.repos.get_mut(repo) {
+            Some(repository) => or_memory(repository.finish(alloc, number, digest, bytes)),
+            None => Ok(()),
+        }
+    }
+
+    fn mount(&mut self, from: &RepoName, to: &RepoName, digest: &Digest) -> Result<(), Fault> {
+        let alloc = self.alloc;
+        let Some(source) = self.repos.get(from) else {
+            return Ok(());
+        };
+        let Ok(found) = source.blob(alloc, digest) else {
+            return Err(Fault::Memory);
+        };
+        let Some(bytes) = found else {
+            return Ok(());
+        };
+        match self.repos.get_mut(to) {
+            Some(repository) => or_memory(repository.put_blob(alloc, digest, &bytes)),
+            None => Ok(()),
+        }
+    }
+
+    fn put_manifest(
+        &mut self,
+        repo: &RepoName,
+        digest: &Digest,
+        bytes: &[u8],
+        manifest: &Manifest,
+        tag: Option<&Tag>,
+    ) -> Result<(), Fault> {
+        let alloc = self.alloc;
+        match self.repos.get_mut(repo) {
+            Some(repository) => or_memory(repository.put_manifest(
+                alloc, digest, bytes, manifest, tag,
+            )),
+            None => Ok(()),
+        }
+    }
+
+    fn delete_blob(&mut self, repo: &RepoName, digest: &Digest) -> Result<(), Fault> {
+        if let Some(repository) = self.repos.get_mut(repo) {
+            repository.delete_blob(digest);
+        }
+        Ok(())
+    }
+
+    fn delete_manifest(&mut self, repo: &RepoName, digest: &Digest) -> Result<(), Fault> {
+        if let Some(repository) = self.repos.get_mut(repo) {
+            repository.delete_manifest(digest);
+        }
+        Ok(())
+    }
+
+    fn delete_tag(&mut self, repo: &RepoName, tag: &Tag) -> Result<(), Fault> {
+        if let Some(repository) = self.repos.get_mut(repo) {
+            repository.delete_tag(tag);
+        }
+        Ok(())
+    }
+
+    fn set_repo(&mut self, name: &RepoName, quota: Quota) -> Result<(), Fault> {
+        if let Some(repository) = self.repos.get_mut(name) {
+            repository.quota = quota.bytes;
+            return Ok(());
+        }
+        let Ok(key) = name.clone() else {
+            return Err(Fault::Memory);
+        };
+        match self.repos.insert(key, Repository::new(self.alloc, quota)) {
+            Ok(_) => Ok(()),
+            Err(_) => Err(Fault::Memory),
+        }
+    }
+
+    fn drop_repo(&mut self, name: &RepoName) -> Result<(), Fault> {
+        self.repos.remove(name);
+        self.grants.retain(|_, levels| take_level(levels, name));
+        Ok(())
+    }
+
+    fn grant(&mut self, token: &Token, name: &RepoName, level: Level) -> Result<(), Fault> {
+        if let Some(levels) = self.grants.get_mut(token) {
+            return or_memory(set_level(levels, name, level));
+        }
+        let Ok(key) = token.clone() else {
+            return Err(Fault::Memory);
+        };
+        let mut levels = BTreeMap::new(self.alloc);
+        let Ok(()) = set_level(&mut levels, name, level) else {
+            return Err(Fault::Memory);
+        };
+        match self.grants.insert(key, levels) {
+            Ok(_) => Ok(()),
+            Err(_) => Err(Fault::Memory),
+        }
+    }
+
+    fn revoke(&mut self, token: &Token, name: &RepoName) -> Result<(), Fault> {
+        if let Some(levels) = self.grants.get_mut(token) {
+            take_level(levels, name);
+        }
+        Ok(())
+    }
+
+    fn drop_sessions(&mut self, name: &RepoName) -> Result<(), Fault> {
+        if let Some(repository) = self.repos.get_mut(name) {
+            repository.drop_sessions();
+        }
+        Ok(())
+    }
+
+    fn clear(&mut self) -> Result<(), Fault> {
+        Ok(())
+    }
+}
