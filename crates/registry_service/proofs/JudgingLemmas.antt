@@ -13,7 +13,7 @@ use Rattle.registry_model.specs.Outcome.{Outcome, refuses, in_repo}
 use Rattle.registry_model.specs.Operation.{Operation, operation_of, needed, rank, rank_of}
 use Rattle.registry_model.specs.Verdict.{operate, allows, granted, decide}
 use Rattle.registry_model.specs.Keeping.{State}
-use Rattle.registry_service.specs.Results.{Comes, Operates}
+use Rattle.registry_operations.specs.Operating.{Comes, Operates}
 
 -- an operation whose keeper's state was the same before
 pub same_start : (r : Result Reply Fault) (name : Text) (act : State → Repo → Outcome) (s t s' : State) → t ≡ s → Operates r name (act t) t s' → Operates r name (act s) s s'

@@ -1,14 +1,3 @@
-pub mod OperatingLemmas
 pub mod JudgingLemmas
-pub mod QuotaLemmas
-pub mod BlobLemmas
-pub mod ComingLemmas
-pub mod UploadLemmas
-pub mod ClosingLemmas
-pub mod MountLemmas
-pub mod Outcomes
-pub mod ManifestLemmas
-pub mod PushLemmas
-pub mod ListingLemmas
 pub mod DoingLemmas
 pub mod RunLemmas

@@ -1,9 +1,3 @@
 pub mod Operations
-pub mod Results
-pub mod Quota
-pub mod Uploads
-pub mod Mounting
-pub mod Finding
-pub mod Push
-pub mod Listing
+pub mod AdminCommands
 pub mod Steps

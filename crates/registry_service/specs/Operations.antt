@@ -13,10 +13,13 @@ shown_operation operation.OpenSession = model.opens_session
 shown_operation (operation.MountBlob digest source) = model.mounts_blob digest.now (text_in source)
 shown_operation (operation.ReadSession reference) = model.reads_session reference.now
 shown_operation (operation.AppendChunk reference range) = model.appends_chunk reference.now (text_in range)
-shown_operation (operation.CloseSession reference digest range) = model.closes_session reference.now (text_in digest) (text_in range)
+shown_operation (operation.CloseSession reference digest range) =
+    model.closes_session reference.now (text_in digest) (text_in range)
 shown_operation (operation.ReadManifest reference) = model.reads_manifest reference.now
 shown_operation (operation.SizeManifest reference) = model.sizes_manifest reference.now
 shown_operation (operation.DeleteManifest reference) = model.deletes_manifest reference.now
-shown_operation (operation.PushManifest reference content_type) = model.pushes_manifest reference.now (text_in content_type)
+shown_operation (operation.PushManifest reference content_type) =
+    model.pushes_manifest reference.now (text_in content_type)
 shown_operation (operation.ListTags n last) = model.lists_tags (text_in n) (text_in last)
-shown_operation (operation.ListReferrers digest artifact_type) = model.lists_referrers digest.now (text_in artifact_type)
+shown_operation (operation.ListReferrers digest artifact_type) =
+    model.lists_referrers digest.now (text_in artifact_type)

@@ -1,26 +1,24 @@
-ghost use Rattle.std.specs.Prelude.{◌≡◌, false, None, IfOk, IsOkAnd};
+ghost use Rattle.std.specs.Prelude.{◌≡◌, None, IsOkAnd};
 ghost use Rattle.registry_model.specs.declared.refusal.Refusal.TheVariants.{TokenRequired};
 ghost use Rattle.registry_model.specs.World.{repo_at};
 ghost use Rattle.registry_model.specs.Form.{form_of};
-ghost use Rattle.registry_model.specs.Outcome.{in_repo};
 ghost use Rattle.registry_model.specs.Answer.{answer_of, refused};
 ghost use Rattle.registry_model.specs.Ask.{ask_of};
 ghost use Rattle.registry_model.specs.Verdict.{operate, not_allowed, at_base, decide, reply_to, after_request};
-ghost use Rattle.registry_model.specs.Doing.{kind_of, answered};
 ghost use Rattle.registry_model.specs.Keeping.{Spends, WritesBy};
-ghost use Rattle.registry_service.specs.Results.{Comes};
+ghost use Rattle.registry_operations.specs.Operating.{Comes, IsUnspent, Answers, OperatesWith};
 ghost use Rattle.registry_service.specs.Operations.{shown_operation};
 
-use crate::blobs::{delete_blob, push_blob, read_blob, size_blob};
-use crate::closing::close_session;
-use crate::listing::{list_referrers, list_tags};
-use crate::manifest_push::push_manifest;
-use crate::manifests::{delete_manifest, read_manifest, size_manifest};
-use crate::mounting::mount_blob;
 use crate::operation::{Operation, allowed_methods, allows, find_operation};
-use crate::uploads::{append_chunk, open_session, read_session};
 use oci_names::{Fault, NameFault, RepoName, Token};
 use registry_model::{Body, Keeper, Refusal, Reply, Request, Route, Status, Verb};
+use registry_operations::blobs::{delete_blob, push_blob, read_blob, size_blob};
+use registry_operations::listing::{list_referrers, list_tags};
+use registry_operations::manifest_push::push_manifest;
+use registry_operations::manifests::{delete_manifest, read_manifest, size_manifest};
+use registry_operations::mounting::mount_blob;
+use registry_operations::session_close::close_session;
+use registry_operations::uploads::{append_chunk, open_session, read_session};
 use std::alloc::Global;
 
 /// The reply to an operation that the token may do.
@@ -32,10 +30,10 @@ fn operate<K: Keeper>(
     operation: Operation,
     body: &[u8],
 ) -> Result<Reply, Fault>
-    ensures comes { K.is_honest keeper.new → Comes result name.now (in_repo (repo_at (K.state keeper.old).world name.now)
-        (λ r. operate ((K.state keeper.old).world.grants token.now) (repo_at (K.state keeper.old).world) r name.now (shown_operation operation.entry) body.now))
-        (K.state keeper.old) (K.state keeper.new) }
-    ensures answers { IfOk result (λ reply. kind_of (answer_of reply) ≡ answered) }
+    ensures comes { K.is_honest keeper.new → OperatesWith result name.now
+        (λ w r. operate (w.grants token.now) (repo_at w) r name.now (shown_operation operation.entry)
+        body.now) (K.state keeper.old) (K.state keeper.new) }
+    ensures answers { Answers result }
     ensures spends { Spends result (K.state keeper.old) (K.state keeper.new) }
     ensures honest { K.is_honest keeper.new → K.is_honest keeper.old }
 {
@@ -93,10 +91,11 @@ fn decide<K: Keeper>(
     name: &str,
     request: &Request,
 ) -> Result<Reply, Fault>
-    requires { (K.state keeper.old).spent ≡ false }
+    requires { IsUnspent (K.state keeper.old) }
     ensures comes { K.is_honest keeper.new → Comes result name.now
-        (decide ((K.state keeper.old).world.grants token.now) (repo_at (K.state keeper.old).world) name.now (ask_of request.now)) (K.state keeper.old) (K.state keeper.new) }
-    ensures answers { IfOk result (λ reply. kind_of (answer_of reply) ≡ answered) }
+        (decide ((K.state keeper.old).world.grants token.now) (repo_at (K.state keeper.old).world) name.now
+        (ask_of request.now)) (K.state keeper.old) (K.state keeper.new) }
+    ensures answers { Answers result }
     ensures spends { Spends result (K.state keeper.old) (K.state keeper.new) }
     ensures honest { K.is_honest keeper.new → K.is_honest keeper.old }
 {
@@ -133,11 +132,14 @@ fn base_reply(method: Verb) -> Reply
 
 /// The reply to a request, or why there is none.
 pub fn judge<K: Keeper>(keeper: &mut K, alloc: Global, request: &Request) -> Result<Reply, Fault>
-    ensures comes { K.is_honest keeper.new → WritesBy answer_of result (reply_to (K.state keeper.old).world (ask_of request.now))
-        (after_request (K.state keeper.old).world (ask_of request.now)) (K.state keeper.old) (K.state keeper.new) }
-    ensures answers { IfOk result (λ reply. kind_of (answer_of reply) ≡ answered) }
+    ensures comes { K.is_honest keeper.new → WritesBy answer_of result
+        (reply_to (K.state keeper.old).world (ask_of request.now))
+        (after_request (K.state keeper.old).world (ask_of request.now))
+        (K.state keeper.old) (K.state keeper.new) }
+    ensures answers { Answers result }
     ensures spends { Spends result (K.state keeper.old) (K.state keeper.new) }
-    ensures no_token { request.now.token ≡ None → (K.state keeper.old).spent ≡ false → IsOkAnd result (λ r. answer_of r ≡ refused TokenRequired) }
+    ensures no_token { request.now.token ≡ None → IsUnspent (K.state keeper.old) →
+        IsOkAnd result (λ r. answer_of r ≡ refused TokenRequired) }
     ensures honest { K.is_honest keeper.new → K.is_honest keeper.old }
 {
     if keeper.spent() {

@@ -3,21 +3,11 @@
 //! changed, or the end at a storage failure.
 #![tactic(auto)]
 
-mod blobs;
-mod closing;
-mod commands;
-mod content_type;
+mod admin_commands;
 mod judging;
-mod listing;
-mod manifest_push;
-mod manifests;
-mod mounting;
 mod operation;
-mod quota;
-mod replies;
 pub mod run;
 pub mod service;
-mod uploads;
 
 pub use registry_model::{AdminCommand, AdminFault};
 pub use run::{Outcome, Step};

@@ -58,7 +58,8 @@ fn find_on_blob(method: Verb, digest: &str) -> Option<Operation<'_>>
 
 /// What a POST asks for: a mount, the push of a whole blob, or an upload session.
 fn find_post<'a>(query: &Query<'a>) -> Operation<'a>
-    ensures { shown_operation result ≡ post_by (text_in query.now.mount) (text_in query.now.«from») (text_in query.now.digest) }
+    ensures { shown_operation result ≡ post_by (text_in query.now.mount) (text_in query.now.«from»)
+        (text_in query.now.digest) }
 {
     match query.mount {
         Some(digest) => {
@@ -87,7 +88,8 @@ fn find_on_session<'a>(
     digest: Option<&'a str>,
     range: Option<&'a [u8]>,
 ) -> Option<Operation<'a>>
-    ensures { option_map shown_operation result ≡ on_session method reference.now (text_in digest.entry) (text_in range.entry) }
+    ensures { option_map shown_operation result ≡ on_session method reference.now (text_in digest.entry)
+        (text_in range.entry) }
 {
     match method {
         Verb::Get => Some(Operation::ReadSession(reference)),
@@ -107,7 +109,8 @@ fn find_on_manifest<'a>(
     reference: &'a str,
     content_type: Option<&'a [u8]>,
 ) -> Option<Operation<'a>>
-    ensures { option_map shown_operation result ≡ on_manifest method reference.now (text_in content_type.entry) }
+    ensures { option_map shown_operation result ≡ on_manifest method reference.now
+        (text_in content_type.entry) }
 {
     match method {
         Verb::Get => Some(Operation::ReadManifest(reference)),

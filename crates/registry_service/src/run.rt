@@ -24,7 +24,8 @@ pub enum Outcome {
 impl<K: Keeper> Service<K> {
     /// One step.
     fn take(&mut self, alloc: Global, step: &Step) -> Outcome
-        ensures takes { K.is_honest self.new → Takes (K.state self.old) (shown_step step.now) (shown_outcome result) (K.state self.new) }
+        ensures takes { K.is_honest self.new →
+            Takes (K.state self.old) (shown_step step.now) (shown_outcome result) (K.state self.new) }
         ensures honest { K.is_honest self.new → K.is_honest self.old }
     {
         match step {
@@ -43,7 +44,8 @@ impl<K: Keeper> Service<K> {
     /// changed; no other fault comes.
     pub fn run(&mut self, alloc: Global, steps: &[Step]) -> Result<Vec<Outcome>, Fault>
         ensures says { K.is_honest self.new → IfOk result (λ outcomes.
-            RunSays (K.state self.old) (map shown_step steps.now) (map shown_outcome outcomes.items) (K.state self.new)) }
+            RunSays (K.state self.old) (map shown_step steps.now) (map shown_outcome outcomes.items)
+            (K.state self.new)) }
         ensures err { IfErr result (λ fault. (fault ≡ Fault.Memory) × (self.new ≡ self.old)) }
         ensures honest { K.is_honest self.new → K.is_honest self.old }
     {

@@ -1,10 +1,10 @@
-ghost use Rattle.std.specs.Prelude.{◌≡◌, ℕ, false, None};
+ghost use Rattle.std.specs.Prelude.{◌≡◌, false, None};
 ghost use Rattle.registry_model.specs.declared.refusal.Refusal.TheVariants.{TokenRequired};
 ghost use Rattle.registry_model.specs.Answer.{answer_of, refused};
 ghost use Rattle.registry_model.specs.Ask.{ask_of};
 ghost use Rattle.registry_model.specs.Doing.{Does, SpendsAs, CarriesOut, kind_of, outcome_kind};
 
-use crate::commands::carry_out;
+use crate::admin_commands::apply_command;
 use crate::judging::judge;
 use oci_names::Fault;
 use registry_model::{AdminCommand, AdminFault, Keeper, Reply, Request};
@@ -52,9 +52,11 @@ impl<K: Keeper> Service<K> {
     /// memory was wanting, and nothing has changed; or it is 500, and the service is spent. A request
     /// with no token is answered `TokenRequired` as long as the service is not spent.
     pub fn handle(&mut self, alloc: Global, request: &Request) -> Reply
-        ensures does { K.is_honest self.new → Does (K.state self.old) (ask_of request.now) (answer_of result) (K.state self.new) }
+        ensures does { K.is_honest self.new →
+            Does (K.state self.old) (ask_of request.now) (answer_of result) (K.state self.new) }
         ensures spends { SpendsAs (kind_of (answer_of result)) (K.state self.old) (K.state self.new) }
-        ensures no_token { request.now.token ≡ None → (K.state self.old).spent ≡ false → answer_of result ≡ refused TokenRequired }
+        ensures no_token { request.now.token ≡ None → (K.state self.old).spent ≡ false →
+            answer_of result ≡ refused TokenRequired }
         ensures honest { K.is_honest self.new → K.is_honest self.old }
     {
         match judge(&mut self.keeper, alloc, request) {
@@ -68,10 +70,11 @@ impl<K: Keeper> Service<K> {
     ///
     /// A command that is refused, or for which memory was wanting, changes nothing.
     pub fn admin(&mut self, command: &AdminCommand) -> Result<(), AdminFault>
-        ensures does { K.is_honest self.new → CarriesOut (K.state self.old) command.now result (K.state self.new) }
+        ensures does { K.is_honest self.new →
+            CarriesOut (K.state self.old) command.now result (K.state self.new) }
         ensures spends { SpendsAs (outcome_kind result) (K.state self.old) (K.state self.new) }
         ensures honest { K.is_honest self.new → K.is_honest self.old }
     {
-        carry_out(&mut self.keeper, command)
+        apply_command(&mut self.keeper, command)
     }
 }

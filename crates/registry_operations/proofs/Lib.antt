@@ -1,0 +1,10 @@
+pub mod RepoOutcomes
+pub mod DigestLemmas
+pub mod QuotaLemmas
+pub mod BlobLemmas
+pub mod UploadLemmas
+pub mod SessionCloseLemmas
+pub mod MountLemmas
+pub mod ManifestLemmas
+pub mod PushLemmas
+pub mod ListingLemmas

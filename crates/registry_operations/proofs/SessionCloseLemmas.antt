@@ -1,0 +1,91 @@
+-- The end of an upload session in a repository that is there.
+use Rattle.std.proofs.Common.{◌≡◌, ◌∙◌, ℕ, ◌+◌, [], ◌∷◌, ◌++◌, length, Bool, true, false, cond, not, None, Some, refl, sym, ap, arith}
+use Rattle.std.specs.Prelude.{Option, nat_lt}
+use Rattle.std.specs.Option.{option_and_then, option_map_or}
+use Rattle.std.specs.FinMap.{get}
+use Rattle.oci_names.specs.Text.{Text}
+use Rattle.oci_names.specs.Digest.{matches}
+use Rattle.registry_model.specs.declared.range.RangeVerdict.{RangeVerdict}
+use Rattle.registry_model.specs.declared.refusal.Refusal.TheVariants.{InvalidDigest, DigestMismatch, ContentTooLarge, QuotaExceeded}
+use Rattle.registry_model.specs.World.{World}
+use Rattle.registry_model.specs.Limits.{largest_blob}
+use Rattle.registry_model.specs.Answer.{Answer}
+use Rattle.registry_model.specs.Outcome.{refuses, tells, makes, within_quota}
+use Rattle.registry_model.specs.Blobs.{can_verify, created_blob}
+use Rattle.registry_model.specs.Sessions.{finished, range_checked, last_range_verdict, close_to, close_session}
+use Rattle.registry_model.specs.Lookups.{bytes_or_none}
+use Rattle.registry_operations.specs.Quota.{grows_over, new_length, blob_grows_over}
+use Rattle.registry_operations.specs.Uploads.{upload_at, chunk_refusal, bytes_so_far, finish_with}
+use Rattle.registry_operations.specs.declared.uploads.Upload.{Upload}
+use Rattle.registry_operations.specs.Digests.{verifiable_in}
+use Rattle.registry_operations.proofs.DigestLemmas.{some_by, none_by}
+use Rattle.registry_operations.proofs.QuotaLemmas.{finish_over}
+use Rattle.registry_operations.proofs.UploadLemmas.{Found, named, chunk_refused, chunk_taken}
+
+-- ---- the end
+
+module _ (w : World) (name : Text) (number size : ℕ) (f : Found w name number size) (digest bytes : Text) where
+  over : (b : Bool) → b ≡ blob_grows_over w name digest (length bytes) size → grows_over f.repo (new_length (get f.repo.blobs digest) (length bytes)) (length f.bytes) ≡ b
+  over b e =
+      ap (grows_over f.repo (new_length (get f.repo.blobs digest) (length bytes))) f.long
+      ∙ sym (e ∙ ap (λ o. option_map_or (λ r. grows_over r (new_length (option_and_then (λ r. get r.blobs digest) o) (length bytes)) size) o (nat_lt size (new_length (option_and_then (λ r. get r.blobs digest) o) (length bytes)))) f.at)
+
+  finishes : matches digest bytes ≡ true → finish_with f.repo name number digest bytes
+      ≡ cond (grows_over f.repo (new_length (get f.repo.blobs digest) (length bytes)) (length f.bytes)) (refuses QuotaExceeded) (makes (created_blob name digest) (finished f.repo number digest bytes))
+  finishes m =
+      ap (λ b. cond (not b) (refuses DigestMismatch) (within_quota f.repo (finished f.repo number digest bytes) (created_blob name digest))) m
+      ∙ ap (λ b. cond b (refuses QuotaExceeded) (makes (created_blob name digest) (finished f.repo number digest bytes))) (finish_over f.repo number digest bytes f.bytes f.there)
+
+  pub finish_refused : matches digest bytes ≡ true → (b : Bool) → b ≡ blob_grows_over w name digest (length bytes) size → b ≡ true
+      → finish_with f.repo name number digest bytes ≡ refuses QuotaExceeded
+  finish_refused m b e t = finishes m ∙ ap (λ x. cond x (refuses QuotaExceeded) (makes (created_blob name digest) (finished f.repo number digest bytes))) (over b e ∙ t)
+
+  pub finish_taken : matches digest bytes ≡ true → (b : Bool) → b ≡ blob_grows_over w name digest (length bytes) size → b ≡ false
+      → finish_with f.repo name number digest bytes ≡ makes (created_blob name digest) (finished f.repo number digest bytes)
+  finish_taken m b e t = finishes m ∙ ap (λ x. cond x (refuses QuotaExceeded) (makes (created_blob name digest) (finished f.repo number digest bytes))) (over b e ∙ t)
+
+no_bytes : (t : Text) → length t ≡ 0 → t ≡ []
+no_bytes [] e = refl
+no_bytes (b ∷ t) e = absurd (omega arith)
+
+module _ (w : World) (name : Text) (number size : ℕ) (f : Found w name number size) where
+  -- what is so far in the session
+  pub so_far : bytes_so_far f.repo number ≡ f.bytes
+  so_far = ap bytes_or_none f.there
+
+  -- a session with no bytes: the chunk is all
+  pub none_so_far : (digest body : Text) → size ≡ 0 → finish_with f.repo name number digest (bytes_so_far f.repo number ++ body) ≡ finish_with f.repo name number digest body
+  none_so_far digest body e = ap (λ t. finish_with f.repo name number digest (t ++ body)) (so_far ∙ no_bytes f.bytes (f.long ∙ e))
+
+module _ (w : World) (name reference : Text) (u : Upload) (f : Found w name u.number u.size) (e : Some u ≡ upload_at w name reference) (range : Option Text) (body : Text) where
+  closing : (digest : Text) → close_session f.repo name reference (Some digest) range body
+      ≡ cond (not (can_verify digest)) (refuses InvalidDigest) (range_checked (last_range_verdict range u.size body) name u.number u.size
+      (cond (nat_lt largest_blob (u.size + length body)) (refuses ContentTooLarge) (finish_with f.repo name u.number digest (bytes_so_far f.repo u.number ++ body))))
+  closing digest =
+      ap (close_to f.repo name (Some digest) range body) (named w name reference u f e)
+      ∙ ap (λ n. cond (not (can_verify digest)) (refuses InvalidDigest) (range_checked (last_range_verdict range n body) name u.number n
+      (cond (nat_lt largest_blob (n + length body)) (refuses ContentTooLarge) (finish_with f.repo name u.number digest (f.bytes ++ body))))) f.long
+      ∙ ap (λ t. cond (not (can_verify digest)) (refuses InvalidDigest) (range_checked (last_range_verdict range u.size body) name u.number u.size
+      (cond (nat_lt largest_blob (u.size + length body)) (refuses ContentTooLarge) (finish_with f.repo name u.number digest (t ++ body))))) (sym (so_far w name u.number u.size f))
+
+  pub bad_digest : (text : Text) → None ≡ verifiable_in text → close_session f.repo name reference (Some text) range body ≡ refuses InvalidDigest
+  bad_digest text none =
+      closing text ∙ ap (λ b. cond (not b) (refuses InvalidDigest) (range_checked (last_range_verdict range u.size body) name u.number u.size
+      (cond (nat_lt largest_blob (u.size + length body)) (refuses ContentTooLarge) (finish_with f.repo name u.number text (bytes_so_far f.repo u.number ++ body))))) (none_by text (can_verify text) none)
+
+  module _ (digest text : Text) (read : Some digest ≡ verifiable_in text) (v : RangeVerdict) (is : v ≡ last_range_verdict range u.size body) where
+    verified : close_session f.repo name reference (Some text) range body
+        ≡ range_checked v name u.number u.size (cond (nat_lt largest_blob (u.size + length body)) (refuses ContentTooLarge) (finish_with f.repo name u.number digest (bytes_so_far f.repo u.number ++ body)))
+    verified =
+        let h = some_by digest text (can_verify text) read in
+        closing text
+        ∙ ap (λ b. cond (not b) (refuses InvalidDigest) (range_checked (last_range_verdict range u.size body) name u.number u.size
+        (cond (nat_lt largest_blob (u.size + length body)) (refuses ContentTooLarge) (finish_with f.repo name u.number text (bytes_so_far f.repo u.number ++ body))))) h.0
+        ∙ ap (λ x. range_checked x name u.number u.size (cond (nat_lt largest_blob (u.size + length body)) (refuses ContentTooLarge) (finish_with f.repo name u.number text (bytes_so_far f.repo u.number ++ body)))) (sym is)
+        ∙ ap (λ t. range_checked v name u.number u.size (cond (nat_lt largest_blob (u.size + length body)) (refuses ContentTooLarge) (finish_with f.repo name u.number t (bytes_so_far f.repo u.number ++ body)))) (sym h.1)
+
+    pub put_refused : (a : Answer) → Some a ≡ chunk_refusal v name u (length body) → close_session f.repo name reference (Some text) range body ≡ tells a
+    put_refused a h = verified ∙ chunk_refused v name u (length body) (finish_with f.repo name u.number digest (bytes_so_far f.repo u.number ++ body)) a h
+
+    pub put_taken : None ≡ chunk_refusal v name u (length body) → close_session f.repo name reference (Some text) range body ≡ finish_with f.repo name u.number digest (bytes_so_far f.repo u.number ++ body)
+    put_taken h = verified ∙ chunk_taken v name u (length body) (finish_with f.repo name u.number digest (bytes_so_far f.repo u.number ++ body)) h

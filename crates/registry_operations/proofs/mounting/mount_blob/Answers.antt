@@ -1,0 +1,55 @@
+use Rattle.std.proofs.Common.{◌≡◌, ◌∙◌, Some, refl, sym, subst}
+use Rattle.registry_model.specs.World.{repo_at}
+use Rattle.registry_model.specs.Ask.{text_in}
+use Rattle.registry_model.specs.Lookups.{blob_at, blob_size_at}
+use Rattle.registry_model.specs.Mount as mounts
+use Rattle.registry_model.specs.Sessions as sessions
+use Rattle.registry_operations.specs.Operating.{OperatesWith}
+use Rattle.registry_operations.proofs.RepoOutcomes.{there_is, told, same_act}
+use Rattle.registry_operations.proofs.DigestLemmas.{digest_absent, digest_found}
+use Rattle.registry_operations.proofs.MountLemmas.{source_has, invalid_mount, opens_instead, mounts_from}
+use Rattle.registry_operations.proofs.mounting.mount_blob.Goals as goal
+
+pub returns-in_default-clause-comes : goal.returns-in_default-clause-comes
+returns-in_default-clause-comes g c honest =
+    let s = g.K.Keeper.state c.args.keeper.now in
+    let name = c.args.name.now in
+    let here = there_is (repo_at s.world name) (c.requires.there honest) in
+    told s _ name (λ r. mounts.mount_blob (s.world.grants c.args.token.now) (repo_at s.world) r name c.args.digest.now (text_in c.args.«from»)) here.0 here.1 _ _ c.refusal.ensures c.requires.unspent refl
+    (invalid_mount s.world here.0 c.args.token.now name c.args.digest.now (text_in c.args.«from»)
+    (digest_absent c.in_ok-wanted.field-0 c.args.digest.now c.in_default.not-Some c.in_ok-wanted.ensures))
+
+pub mount_from-requires-clause-source : goal.mount_from-requires-clause-source
+mount_from-requires-clause-source g c honest =
+    let s = g.K.Keeper.state c.args.keeper.now in
+    let u = c.in-Some-2.source in
+    let asked = c.in_ok-find_source.ensures.found honest in
+    subst (λ x. blob_size_at x.world u.name c.in-Some.wanted ≡ Some u.size) (sym asked.1) (source_has s.world c.args.token.now c.in-Some.wanted (text_in c.args.«from») u (sym c.in-Some-2.is ∙ asked.0))
+
+pub returns-in-None-clause-comes : goal.returns-in-None-clause-comes
+returns-in-None-clause-comes g c honest =
+    let s = g.K.Keeper.state c.args.keeper.now in
+    let name = c.args.name.now in
+    let between = c.open_session.ensures.honest honest in
+    let asked = c.in_ok-find_source.ensures.found between in
+    let here = there_is (repo_at s.world name) (c.requires.there (c.in_ok-find_source.ensures.honest between)) in
+    let read = digest_found c.in_ok-wanted.field-0 c.in-Some.wanted c.args.digest.now c.in-Some.is c.in_ok-wanted.ensures in
+    same_act c.open_session.result name (λ r. sessions.open_session r name)
+    (λ r. mounts.mount_blob (s.world.grants c.args.token.now) (repo_at s.world) r name c.args.digest.now (text_in c.args.«from»)) s _ _ here.0 asked.1 here.1
+    (opens_instead s.world here.0 c.args.token.now name c.in-Some.wanted c.args.digest.now (text_in c.args.«from») read.0 read.1 (sym c.in-None.is ∙ asked.0))
+    (c.open_session.ensures.comes honest)
+
+pub returns-in-Some-2-clause-comes : goal.returns-in-Some-2-clause-comes
+returns-in-Some-2-clause-comes g c honest =
+    let s = g.K.Keeper.state c.args.keeper.now in
+    let name = c.args.name.now in
+    let u = c.in-Some-2.source in
+    let between = c.mount_from.ensures.honest honest in
+    let asked = c.in_ok-find_source.ensures.found between in
+    let here = there_is (repo_at s.world name) (c.requires.there (c.in_ok-find_source.ensures.honest between)) in
+    let read = digest_found c.in_ok-wanted.field-0 c.in-Some.wanted c.args.digest.now c.in-Some.is c.in_ok-wanted.ensures in
+    same_act c.mount_from.result name (λ r. mounts.mounted r name c.in-Some.wanted (blob_at s.world u.name c.in-Some.wanted))
+    (λ r. mounts.mount_blob (s.world.grants c.args.token.now) (repo_at s.world) r name c.args.digest.now (text_in c.args.«from»)) s s _ here.0 refl here.1
+    (mounts_from s.world here.0 c.args.token.now name c.in-Some.wanted c.args.digest.now (text_in c.args.«from») u read.0 read.1 (sym c.in-Some-2.is ∙ asked.0))
+    (subst (λ x. OperatesWith c.mount_from.result name (λ w r. mounts.mounted r name c.in-Some.wanted (blob_at w u.name c.in-Some.wanted)) x (g.K.Keeper.state c.mount_from.new.keeper)) asked.1
+    (c.mount_from.ensures.comes honest))
