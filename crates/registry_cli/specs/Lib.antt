@@ -1,12 +1,1 @@
-pub mod Failures
-pub mod Levels
-pub mod Setting
-pub mod Program
-pub mod Reading
-pub mod Table
-pub mod Commands
-pub mod Carrying
-pub mod Stored
-pub mod Sockets
-pub mod Running
 pub mod Databases

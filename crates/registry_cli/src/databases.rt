@@ -1,8 +1,7 @@
 //! Registries that lie in database files.
-ghost use Rattle.registry_cli.specs.Failures.{IsOfOpening};
+ghost use Rattle.registry_program.specs.Failures.{IsOfOpening};
 
-use crate::failure::Failure;
-use crate::opening::Opener;
+use registry_program::{Failure, Opener};
 use registry_store::{OpenFault, Store, Written};
 use sqlite::{FileFrom, FileStore, Unknown};
 use std::marker::PhantomData;

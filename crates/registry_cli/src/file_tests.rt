@@ -1,34 +1,11 @@
 //! The program over database files, each test with files of its own in the folder that it is run in.
-use crate::databases::{Databases, Supposed};
+use crate::databases::Supposed;
 use crate::files::run;
-use crate::opening::Opener;
-use crate::order_tests::Case;
-use crate::sockets::serve_one;
-use crate::tests::Outcome;
-use registry_http::End;
-use registry_model::Keeper;
-use registry_service::Service;
-use registry_store::Store;
-use sqlite::{Alter, Connection, FileFrom, FileStore, Unknown};
-use sqlite_disk::Disk;
-use std::alloc::Global;
+use crate::tests::{Outcome, PUSH, REPLIES, USAGE, words_in};
+use sqlite::{Alter, Connection, Unknown};
 use std::fs;
-use std::io::{Read, Write};
-use std::net::{TcpListener, TcpStream};
 use std::process::Abort;
 use std::test::Fail;
-
-const POST: &[u8] =
-    b"POST /v2/team/app/blobs/uploads/?digest=sha256:ba7816bf8f01cfea414140de5dae2223b00361a396177a9cb410ff61f20015ad HTTP/1.1\r\nHost: r\r\nAuthorization: Bearer t1\r\nContent-Length: 3\r\n\r\nabc";
-
-const CREATED: &[u8] =
-    b"HTTP/1.1 201 Created\r\nContent-Length: 0\r\nDocker-Content-Digest: sha256:ba7816bf8f01cfea414140de5dae2223b00361a396177a9cb410ff61f20015ad\r\nLocation: /v2/team/app/blobs/sha256:ba7816bf8f01cfea414140de5dae2223b00361a396177a9cb410ff61f20015ad\r\n\r\n";
-
-const GET: &[u8] =
-    b"GET /v2/team/app/blobs/sha256:ba7816bf8f01cfea414140de5dae2223b00361a396177a9cb410ff61f20015ad HTTP/1.1\r\nHost: r\r\nAuthorization: Bearer t1\r\n\r\n";
-
-const FOUND: &[u8] =
-    b"HTTP/1.1 200 OK\r\nContent-Length: 3\r\nContent-Type: application/octet-stream\r\nDocker-Content-Digest: sha256:ba7816bf8f01cfea414140de5dae2223b00361a396177a9cb410ff61f20015ad\r\n\r\nabc";
 
 /// Runs the program over database files.
 fn run_on<F: Supposed>(rt: &HostRuntime, words: &[&str], input: &[u8]) -> Outcome {
@@ -55,7 +32,11 @@ fn order<F: Supposed>(
 }
 
 /// Makes `team/app` with a quota of 1,000 bytes, and gives `t1` level 3 on it.
-fn set_up<F: Supposed>(test: &impl Abort, rt: &HostRuntime, path: &str) -> Result<(), Fail> {
+pub(crate) fn set_up<F: Supposed>(
+    test: &impl Abort,
+    rt: &HostRuntime,
+    path: &str,
+) -> Result<(), Fail> {
     let repo = [
         "repo", "--db", path, "--name", "team/app", "--quota", "1000",
     ];
@@ -81,69 +62,33 @@ fn serves<F: Supposed>(
     Ok(())
 }
 
+/// Orders that are refused where `team/app` is there, with the line on standard error.
+const REFUSED: [(&str, &[u8]); 3] = [
+    (
+        "repo --db statuses.db --name team/app --quota 1000",
+        b"registry: repository already there\n",
+    ),
+    (
+        "grant --db statuses.db --token t1 --name nowhere --level 1",
+        b"registry: no such repository\n",
+    ),
+    (
+        "revoke --db statuses.db --token t2 --name team/app",
+        b"registry: no such grant\n",
+    ),
+];
+
 fn statuses<F: Supposed>(test: &impl Abort, rt: &HostRuntime) -> Result<(), Fail> {
-    let again: [Case; 3] = [
-        (
-            &[
-                "repo",
-                "--db",
-                "statuses.db",
-                "--name",
-                "team/app",
-                "--quota",
-                "1000",
-            ],
-            1,
-            b"registry: repository already there\n",
-        ),
-        (
-            &[
-                "grant",
-                "--db",
-                "statuses.db",
-                "--token",
-                "t1",
-                "--name",
-                "nowhere",
-                "--level",
-                "1",
-            ],
-            1,
-            b"registry: no such repository\n",
-        ),
-        (
-            &[
-                "revoke",
-                "--db",
-                "statuses.db",
-                "--token",
-                "t2",
-                "--name",
-                "team/app",
-            ],
-            1,
-            b"registry: no such grant\n",
-        ),
-    ];
     set_up::<F>(test, rt, "statuses.db")?;
-    for (words, status, line) in again {
-        order::<F>(test, rt, words, status, line)?;
+    for (words, line) in REFUSED {
+        let words = words_in(rt.alloc(), words)?;
+        order::<F>(test, rt, words.as_slice(), 1, line)?;
     }
-    let level = run_on::<F>(
-        rt,
-        &[
-            "grant",
-            "--db",
-            "statuses.db",
-            "--token",
-            "t1",
-            "--name",
-            "nowhere",
-            "--level",
-            "4",
-        ],
-        b"",
-    );
+    let words = words_in(
+        rt.alloc(),
+        "grant --db statuses.db --token t1 --name nowhere --level 4",
+    )?;
+    let level = run_on::<F>(rt, words.as_slice(), b"");
     assert_eq!(test; level.status, 2);
     assert!(test; level.out.is_empty() && !level.err.is_empty());
     Ok(())
@@ -155,13 +100,17 @@ fn administrator_statuses(rt: HostRuntime) -> Result<(), Fail> {
     statuses::<Unknown>(&rt, &rt)
 }
 
-const USAGE: &[u8] =
-    b"                used               quota     blobs manifests      tags  sessions name\n                   3                1000         1         0         0         0 team/app\n";
+/// Makes a registry in the file, and serves a push and then a fetch, each as one connection.
+fn serves_a_push<F: Supposed>(test: &impl Abort, rt: &HostRuntime, path: &str) -> Result<(), Fail> {
+    let (post, get) = PUSH.split_at(181);
+    let (created, found) = REPLIES.split_at(241);
+    set_up::<F>(test, rt, path)?;
+    serves::<F>(test, rt, path, post, created)?;
+    serves::<F>(test, rt, path, get, found)
+}
 
 fn survives<F: Supposed>(test: &impl Abort, rt: &HostRuntime) -> Result<(), Fail> {
-    set_up::<F>(test, rt, "survives.db")?;
-    serves::<F>(test, rt, "survives.db", POST, CREATED)?;
-    serves::<F>(test, rt, "survives.db", GET, FOUND)?;
+    serves_a_push::<F>(test, rt, "survives.db")?;
     let usage = run_on::<F>(rt, &["usage", "--db", "survives.db"], b"");
     assert_eq!(test; usage.status, 0);
     assert_eq!(test; usage.out.as_slice(), USAGE);
@@ -230,7 +179,9 @@ const FOREIGN: [Foreign; 8] = [
     },
     Foreign {
         path: "index.db",
-        batch: "CREATE TABLE t (x INTEGER) STRICT; CREATE INDEX registry_contents_sha256 ON t (x); INSERT INTO t (x) VALUES (6)",
+        batch: "CREATE TABLE t (x INTEGER) STRICT; \
+            CREATE INDEX registry_contents_sha256 ON t (x); \
+            INSERT INTO t (x) VALUES (6)",
         line: TAKEN,
         query: "SELECT x FROM t",
         number: 6,
@@ -238,7 +189,8 @@ const FOREIGN: [Foreign; 8] = [
     },
     Foreign {
         path: "newer.db",
-        batch: "CREATE TABLE registry_schema (version INTEGER NOT NULL) STRICT; INSERT INTO registry_schema (version) VALUES (7)",
+        batch: "CREATE TABLE registry_schema (version INTEGER NOT NULL) STRICT; \
+            INSERT INTO registry_schema (version) VALUES (7)",
         line: b"registry: schema 7 is not supported\n",
         query: "SELECT version FROM registry_schema",
         number: 7,
@@ -246,7 +198,8 @@ const FOREIGN: [Foreign; 8] = [
     },
     Foreign {
         path: "older.db",
-        batch: "CREATE TABLE registry_schema (version INTEGER NOT NULL) STRICT; INSERT INTO registry_schema (version) VALUES (1)",
+        batch: "CREATE TABLE registry_schema (version INTEGER NOT NULL) STRICT; \
+            INSERT INTO registry_schema (version) VALUES (1)",
         line: b"registry: schema 1 is not supported\n",
         query: "SELECT version FROM registry_schema",
         number: 1,
@@ -254,7 +207,8 @@ const FOREIGN: [Foreign; 8] = [
     },
     Foreign {
         path: "word.db",
-        batch: "CREATE TABLE registry_schema (version TEXT NOT NULL) STRICT; INSERT INTO registry_schema (version) VALUES ('2')",
+        batch: "CREATE TABLE registry_schema (version TEXT NOT NULL) STRICT; \
+            INSERT INTO registry_schema (version) VALUES ('2')",
         line: TAKEN,
         query: "SELECT COUNT(*) FROM registry_schema",
         number: 1,
@@ -270,7 +224,9 @@ const FOREIGN: [Foreign; 8] = [
     },
     Foreign {
         path: "two_rows.db",
-        batch: "CREATE TABLE registry_schema (version INTEGER NOT NULL) STRICT; INSERT INTO registry_schema (version) VALUES (2); INSERT INTO registry_schema (version) VALUES (2)",
+        batch: "CREATE TABLE registry_schema (version INTEGER NOT NULL) STRICT; \
+            INSERT INTO registry_schema (version) VALUES (2); \
+            INSERT INTO registry_schema (version) VALUES (2)",
         line: TAKEN,
         query: "SELECT COUNT(*) FROM registry_schema",
         number: 2,
@@ -278,7 +234,8 @@ const FOREIGN: [Foreign; 8] = [
     },
     Foreign {
         path: "column.db",
-        batch: "CREATE TABLE registry_schema (edition INTEGER NOT NULL) STRICT; INSERT INTO registry_schema (edition) VALUES (2)",
+        batch: "CREATE TABLE registry_schema (edition INTEGER NOT NULL) STRICT; \
+            INSERT INTO registry_schema (edition) VALUES (2)",
         line: TAKEN,
         query: "SELECT edition FROM registry_schema",
         number: 2,
@@ -348,9 +305,7 @@ fn leaves_others_alone<F: Supposed>(test: &impl Abort, rt: &HostRuntime) -> Resu
         path,
         "CREATE TABLE notes (x INTEGER) STRICT; INSERT INTO notes (x) VALUES (8)",
     )?;
-    set_up::<F>(test, rt, path)?;
-    serves::<F>(test, rt, path, POST, CREATED)?;
-    serves::<F>(test, rt, path, GET, FOUND)?;
+    serves_a_push::<F>(test, rt, path)?;
     assert_eq!(test; number_in::<F>(rt, path, "SELECT x FROM notes")?, 8);
     Ok(())
 }
@@ -359,81 +314,4 @@ fn leaves_others_alone<F: Supposed>(test: &impl Abort, rt: &HostRuntime) -> Resu
 #[test]
 fn tables_of_other_names_are_left_alone(rt: HostRuntime) -> Result<(), Fail> {
     leaves_others_alone::<Unknown>(&rt, &rt)
-}
-
-/// Serves one connection, whose client closes its end, and reads what it was answered.
-fn served<K: Keeper>(
-    test: &impl Abort,
-    rt: &HostRuntime,
-    alloc: Global,
-    service: &mut Service<K>,
-    input: &[u8],
-) -> Result<Vec<u8>, Fail> {
-    let listener = TcpListener::bind(rt, "127.0.0.1:0")?;
-    let mut client = TcpStream::connect(rt, listener.local_addr()?)?;
-    client.write_all(input)?;
-    let end = serve_one(alloc, &listener, service)?;
-    assert_eq!(test; end, End::Closed);
-    let mut replies = Vec::new(alloc);
-    client.read_to_end(&mut replies)?;
-    Ok(replies)
-}
-
-/// Serves one connection over the registry that an opener finds at a path.
-fn served_from<K: Keeper + Drop, O: Opener<K>>(
-    test: &impl Abort,
-    rt: &HostRuntime,
-    opener: &O,
-    path: &str,
-    input: &[u8],
-) -> Result<Vec<u8>, Fail> {
-    let Ok(kept) = opener.open(path) else {
-        return Err(Fail::from("no registry"));
-    };
-    let mut service = Service::new(kept);
-    served(test, rt, rt.alloc(), &mut service, input)
-}
-
-/// The same, over the tables of databases.
-fn served_over<S: Alter + Drop, O: Opener<Store<S>>>(
-    test: &impl Abort,
-    rt: &HostRuntime,
-    opener: &O,
-    path: &str,
-    input: &[u8],
-) -> Result<Vec<u8>, Fail> {
-    served_from::<Store<S>, O>(test, rt, opener, path, input)
-}
-
-/// The same, over databases in files.
-fn served_in_files<D: Disk + Drop, O: Opener<Store<FileStore<D>>>>(
-    test: &impl Abort,
-    rt: &HostRuntime,
-    opener: &O,
-    path: &str,
-    input: &[u8],
-) -> Result<Vec<u8>, Fail> {
-    served_over::<FileStore<D>, O>(test, rt, opener, path, input)
-}
-
-fn on_loopback<F: Supposed>(test: &impl Abort, rt: &HostRuntime) -> Result<(), Fail> {
-    set_up::<F>(test, rt, "loopback.db")?;
-    let replies = served_in_files::<FileFrom<F>, Databases<'_, F>>(
-        test,
-        rt,
-        &Databases::<F>::new(rt),
-        "loopback.db",
-        b"GET /v2/ HTTP/1.1\r\nHost: r\r\nAuthorization: Bearer t1\r\nConnection: close\r\n\r\n",
-    )?;
-    assert_eq!(test;
-        replies.as_slice(),
-        b"HTTP/1.1 200 OK\r\nContent-Length: 2\r\nContent-Type: application/json\r\nConnection: close\r\n\r\n{}".as_slice()
-    );
-    Ok(())
-}
-
-/// A socket, a registry in a file, and one connection between them.
-#[test]
-fn one_connection_on_loopback(rt: HostRuntime) -> Result<(), Fail> {
-    on_loopback::<Unknown>(&rt, &rt)
 }

@@ -1,27 +1,18 @@
-//! The program `registry`: the command line, the ends of the process, databases, sockets, exit
-//! statuses and messages.
+//! The program `registry`: the ends of the process, and databases in files.
 #![tactic(auto)]
 
-mod carrying;
-mod commands;
 mod databases;
-mod failure;
 #[cfg(test)]
 mod file_tests;
 mod files;
-mod line;
-mod opening;
-mod options;
 #[cfg(test)]
-mod order_tests;
-mod program;
-mod sockets;
-mod stdio;
-mod table;
+mod loopback_tests;
 #[cfg(test)]
 mod tests;
+#[cfg(test)]
+mod word_tests;
 
-use failure::Failure;
+use registry_program::Failure;
 use sqlite::Unknown;
 use std::env;
 use std::process::ExitCode;

@@ -1,28 +1,19 @@
-use crate::carrying::carry_out;
-use crate::commands::{Change, Order};
-use crate::failure::Failure;
-use crate::opening::Opener;
-use crate::options::{name_of, token_of};
-use crate::program::run_words;
-use crate::sockets::{Entrance, serve, serve_one};
+//! What the tests of the program share, and those of writers, connections and sockets, over registries
+//! in memory.
 use oci_names::RepoName;
 use registry_http::{End, serve_connection};
-use registry_model::{Keeper, Level, MapKeeper, Quota};
+use registry_maps::MapKeeper;
+use registry_model::{Keeper, Level, Quota};
+use registry_program::options::{name_of, token_of};
+use registry_program::{
+    Change, Entrance, Failure, Opener, Order, carry_out, run_words, serve, serve_one,
+};
 use registry_service::Service;
-use std::alloc::Global;
+use std::alloc::{AllocError, Global};
 use std::io;
 use std::io::{Read, Write};
 use std::net::{Shutdown, TcpListener, TcpStream};
 use std::test::Fail;
-
-const MEMORY: [&str; 6] = [
-    "stdio",
-    "--memory",
-    "--repo",
-    "team/app=1000",
-    "--grant",
-    "t1=team/app=3",
-];
 
 /// What the program wrote and answered.
 #[derive(Drop)]
@@ -94,129 +85,56 @@ impl Opener<MapKeeper> for Shelf {
     }
 }
 
+/// The words of a command line, which stand between spaces.
+pub(crate) fn words_in<'a>(alloc: Global, line: &'a str) -> Result<Vec<&'a str>, AllocError> {
+    Ok(line.split_whitespace().collect(alloc)?)
+}
+
 /// Runs the program over registries in memory.
-pub(crate) fn run(rt: &HostRuntime, words: &[&str], input: &[u8]) -> Outcome {
+pub(crate) fn run(rt: &HostRuntime, line: &str, input: &[u8]) -> Result<Outcome, Fail> {
+    let words = words_in(rt.alloc(), line)?;
     let mut reader = input;
     let mut out = Vec::new(rt.alloc());
     let mut err = Vec::new(rt.alloc());
     let shelf = Shelf { alloc: rt.alloc() };
-    let status = run_words(rt, &shelf, words, &mut reader, &mut out, &mut err);
-    Outcome { status, out, err }
+    let status = run_words(
+        rt,
+        &shelf,
+        words.as_slice(),
+        &mut reader,
+        &mut out,
+        &mut err,
+    );
+    Ok(Outcome { status, out, err })
 }
 
-/// The push of the blob `abc`, the fetch of it, and the two replies (241 and 177 bytes).
-pub(crate) const PUSH: &[u8] =
-    b"POST /v2/team/app/blobs/uploads/?digest=sha256:ba7816bf8f01cfea414140de5dae2223b00361a396177a9cb410ff61f20015ad HTTP/1.1\r\nHost: r\r\nAuthorization: Bearer t1\r\nContent-Length: 3\r\n\r\nabcGET /v2/team/app/blobs/sha256:ba7816bf8f01cfea414140de5dae2223b00361a396177a9cb410ff61f20015ad HTTP/1.1\r\nHost: r\r\nAuthorization: Bearer t1\r\n\r\n";
+/// The push of the blob `abc` (181 bytes), and the fetch of it.
+pub(crate) const PUSH: &[u8] = b"POST /v2/team/app/blobs/uploads/?digest=\
+    sha256:ba7816bf8f01cfea414140de5dae2223b00361a396177a9cb410ff61f20015ad HTTP/1.1\r\n\
+    Host: r\r\nAuthorization: Bearer t1\r\nContent-Length: 3\r\n\r\n\
+    abc\
+    GET /v2/team/app/blobs/\
+    sha256:ba7816bf8f01cfea414140de5dae2223b00361a396177a9cb410ff61f20015ad HTTP/1.1\r\n\
+    Host: r\r\nAuthorization: Bearer t1\r\n\r\n";
 
-pub(crate) const REPLIES: &[u8] =
-    b"HTTP/1.1 201 Created\r\nContent-Length: 0\r\nDocker-Content-Digest: sha256:ba7816bf8f01cfea414140de5dae2223b00361a396177a9cb410ff61f20015ad\r\nLocation: /v2/team/app/blobs/sha256:ba7816bf8f01cfea414140de5dae2223b00361a396177a9cb410ff61f20015ad\r\n\r\nHTTP/1.1 200 OK\r\nContent-Length: 3\r\nContent-Type: application/octet-stream\r\nDocker-Content-Digest: sha256:ba7816bf8f01cfea414140de5dae2223b00361a396177a9cb410ff61f20015ad\r\n\r\nabc";
+/// The two replies (241 and 177 bytes).
+pub(crate) const REPLIES: &[u8] = b"HTTP/1.1 201 Created\r\nContent-Length: 0\r\n\
+    Docker-Content-Digest: \
+    sha256:ba7816bf8f01cfea414140de5dae2223b00361a396177a9cb410ff61f20015ad\r\n\
+    Location: /v2/team/app/blobs/\
+    sha256:ba7816bf8f01cfea414140de5dae2223b00361a396177a9cb410ff61f20015ad\r\n\r\n\
+    HTTP/1.1 200 OK\r\nContent-Length: 3\r\nContent-Type: application/octet-stream\r\n\
+    Docker-Content-Digest: \
+    sha256:ba7816bf8f01cfea414140de5dae2223b00361a396177a9cb410ff61f20015ad\r\n\r\n\
+    abc";
 
-#[test]
-fn first_run(rt: HostRuntime) -> Result<(), Fail> {
-    let ran = run(&rt, MEMORY.as_slice(), PUSH);
-    assert_eq!(rt; ran.status, 0);
-    assert_eq!(rt; ran.out.len(), 418);
-    assert_eq!(rt; ran.out.as_slice(), REPLIES);
-    assert_eq!(rt; ran.err.len(), 0);
-    let idle = run(&rt, MEMORY.as_slice(), b"");
-    assert_eq!(rt; idle.status, 0);
-    assert_eq!(rt; idle.out.len(), 0);
-    Ok(())
-}
+/// What `usage` writes of `team/app` with the blob.
+pub(crate) const USAGE: &[u8] =
+    b"                used               quota     blobs manifests      tags  sessions name\n\
+    \x20                  3                1000         1         0         0         0 team/app\n";
 
-/// Options that are refused, with the status and the line on standard error.
-#[test]
-fn refused_options(rt: HostRuntime) -> Result<(), Fail> {
-    let cases: [(&[&str], u8, &[u8]); 13] = [
-        (&["stdio"], 2, b"registry: invalid options\n"),
-        (
-            &["stdio", "--memory", "--repo", "team/app"],
-            2,
-            b"registry: invalid options\n",
-        ),
-        (
-            &["stdio", "--memory", "--repo", "a="],
-            2,
-            b"registry: invalid options\n",
-        ),
-        (
-            &["stdio", "--memory", "--repo", "a=+1"],
-            2,
-            b"registry: invalid options\n",
-        ),
-        (
-            &["stdio", "--memory", "--repo", "a=9223372036854775808"],
-            2,
-            b"registry: invalid options\n",
-        ),
-        (
-            &["stdio", "--memory", "--repo", "a=1", "--grant", "t=a"],
-            2,
-            b"registry: invalid options\n",
-        ),
-        (
-            &["stdio", "--memory", "--repo", "a=1", "--grant", "t=a=4"],
-            2,
-            b"registry: invalid options\n",
-        ),
-        (
-            &["stdio", "--memory", "--repo", "A=1", "--grant", "t=a=4"],
-            2,
-            b"registry: invalid options\n",
-        ),
-        (
-            &["stdio", "--memory", "--repo", "a=1", "--grant", "t,=A=3"],
-            2,
-            b"registry: invalid name\n",
-        ),
-        (
-            &["stdio", "--memory", "--repo", "a=1", "--grant", "t,=a=3"],
-            2,
-            b"registry: invalid token\n",
-        ),
-        (
-            &["stdio", "--memory", "--repo", "a=1", "--repo", "a=1"],
-            1,
-            b"registry: repository already there\n",
-        ),
-        (
-            &["stdio", "--memory", "--repo", "a=1", "--grant", "t=b=3"],
-            1,
-            b"registry: no such repository\n",
-        ),
-        (
-            &[
-                "stdio",
-                "--memory",
-                "--repo",
-                "a=0009223372036854775807",
-                "--grant",
-                "t===a=03",
-            ],
-            0,
-            b"",
-        ),
-    ];
-    for (words, status, line) in cases {
-        let ran = run(&rt, words, b"");
-        assert_eq!(rt; ran.status, status, "at {words:?}");
-        assert_eq!(rt; ran.err.as_slice(), line, "at {words:?}");
-        assert_eq!(rt; ran.out.len(), 0);
-    }
-    Ok(())
-}
-
-/// Help goes to standard output with status 0; an unknown word to standard error with status 2.
-#[test]
-fn the_command_line_explains_itself(rt: HostRuntime) -> Result<(), Fail> {
-    let help = run(&rt, &["--help"], b"");
-    assert_eq!(rt; help.status, 0);
-    assert!(rt; !help.out.is_empty() && help.err.is_empty());
-    let unknown = run(&rt, &["stdoi"], b"");
-    assert_eq!(rt; unknown.status, 2);
-    assert!(rt; unknown.out.is_empty() && !unknown.err.is_empty());
-    Ok(())
-}
+/// A registry in memory that has `team/app`, and `t1` with level 3 on it.
+pub(crate) const OVER_MEMORY: &str = "stdio --memory --repo team/app=1000 --grant t1=team/app=3";
 
 /// A writer that takes so many bytes, and then fails.
 #[derive(Drop)]
@@ -241,6 +159,7 @@ impl Write for Short {
 
 #[test]
 fn a_failed_writer_is_a_failed_connection(rt: HostRuntime) -> Result<(), Fail> {
+    let words = words_in(rt.alloc(), OVER_MEMORY)?;
     let mut reader = PUSH;
     let mut out = Short { room: 250 };
     let mut err = Vec::new(rt.alloc());
@@ -248,7 +167,7 @@ fn a_failed_writer_is_a_failed_connection(rt: HostRuntime) -> Result<(), Fail> {
     let status = run_words(
         &rt,
         &shelf,
-        MEMORY.as_slice(),
+        words.as_slice(),
         &mut reader,
         &mut out,
         &mut err,
@@ -258,41 +177,6 @@ fn a_failed_writer_is_a_failed_connection(rt: HostRuntime) -> Result<(), Fail> {
         err.as_slice(),
         b"registry: connection failure\n".as_slice()
     );
-    Ok(())
-}
-
-#[test]
-fn standard_input_is_served_over_a_database(rt: HostRuntime) -> Result<(), Fail> {
-    let ran = run(&rt, &["stdio", "--db", "f"], PUSH);
-    assert_eq!(rt; ran.status, 0);
-    assert_eq!(rt; ran.out.as_slice(), REPLIES);
-    assert_eq!(rt; ran.err.len(), 0);
-    let cases: [&[&str]; 3] = [
-        &["stdio", "--db", "f", "--memory"],
-        &["stdio", "--db", "f", "--repo", "a=1"],
-        &["stdio", "--db", "f", "--grant", "t=a=1"],
-    ];
-    for words in cases {
-        let ran = run(&rt, words, PUSH);
-        assert_eq!(rt; ran.status, 2, "at {words:?}");
-        assert_eq!(rt;
-            ran.err.as_slice(),
-            b"registry: invalid options\n".as_slice()
-        );
-        assert_eq!(rt; ran.out.len(), 0);
-    }
-    Ok(())
-}
-
-const USAGE: &[u8] =
-    b"                used               quota     blobs manifests      tags  sessions name\n                   3                1000         1         0         0         0 team/app\n";
-
-#[test]
-fn usage_is_a_table(rt: HostRuntime) -> Result<(), Fail> {
-    let ran = run(&rt, &["usage", "--db", "f"], b"");
-    assert_eq!(rt; ran.status, 0);
-    assert_eq!(rt; ran.out.as_slice(), USAGE);
-    assert_eq!(rt; ran.err.len(), 0);
     Ok(())
 }
 
@@ -354,34 +238,6 @@ fn connections_are_served_until_none_is_taken(rt: HostRuntime) -> Result<(), Fai
     let kept = shelf.open("f")?;
     let served = serve(alloc, &shelf, "f", kept, &mut door, 2, &mut out);
     assert_eq!(rt; served, Err(Failure::ConnectionFailure));
-    Ok(())
-}
-
-#[test]
-fn an_address_is_bound_or_told(rt: HostRuntime) -> Result<(), Fail> {
-    let none = run(
-        &rt,
-        &[
-            "serve",
-            "--db",
-            "f",
-            "--listen",
-            "127.0.0.1:0",
-            "--connections",
-            "0",
-        ],
-        b"",
-    );
-    assert_eq!(rt; none.status, 0);
-    assert_eq!(rt; none.out.as_slice(), b"registry: listening\n".as_slice());
-    assert_eq!(rt; none.err.len(), 0);
-    let nowhere = run(&rt, &["serve", "--db", "f", "--listen", "nowhere"], b"");
-    assert_eq!(rt; nowhere.status, 4);
-    assert_eq!(rt; nowhere.out.len(), 0);
-    assert_eq!(rt;
-        nowhere.err.as_slice(),
-        b"registry: connection failure\n".as_slice()
-    );
     Ok(())
 }
 

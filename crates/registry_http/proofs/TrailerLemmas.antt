@@ -13,7 +13,7 @@ use Rattle.registry_http.specs.Chunks.{BeginsWithTrailer, HoldsNoTrailer, Traile
 use Rattle.registry_http.specs.Taking.{Takes, EndsFrom, TrailerIsRead, ChunksAreRead}
 use Rattle.registry_http.proofs.HeadLemmas.{take_whole, take_on, fields_long}
 use Rattle.registry_http.proofs.TakingLemmas.{nothing_taken, takes-on, skipped, ends_behind, ends_as}
-use Rattle.registry_http.proofs.ChunkLemmas.{drop_front}
+use Rattle.registry_http.proofs.ChunkReading.{drop_front}
 
 -- no trailer of so few bytes has so many fields
 pub section_overflow_none : (s : Text) → length s ≤ 16384 → SectionOverflows 8192 s → HasNoSection s

@@ -59,7 +59,8 @@ decoded bytes = utf8_lossy (decode bytes)
 -- the value of the first pair of a key
 abbrev pub value_among : Text → List (Text × Text) → Option Text
 value_among key [] = None
-value_among key (pair ∷ others) = if bytes_eq (decoded pair.0) key then Some (decoded pair.1) else value_among key others
+value_among key (pair ∷ others) =
+    if bytes_eq (decoded pair.0) key then Some (decoded pair.1) else value_among key others
 
 abbrev pub value_at : Text → Text → Option Text
 value_at key query = value_among key (raw_pairs query)
@@ -85,7 +86,8 @@ skip_spaces bytes = drop (position_or_len (λ b. not (is_space b)) bytes) bytes
 -- the scheme in any case, one or more spaces, and a text
 abbrev pub bearer_text : Text → Option Text
 bearer_text value =
-    if str_eq_ignore_ascii_case (take 6 value) (codes "Bearer") && bytes_eq (take 1 (drop 6 value)) (codes " ")
+    if str_eq_ignore_ascii_case (take 6 value) (codes "Bearer")
+    && bytes_eq (take 1 (drop 6 value)) (codes " ")
     then text_if_utf8 (skip_spaces (drop 6 value)) else None
 
 abbrev pub bearer_if : Option Text → Option Text
@@ -95,7 +97,8 @@ bearer_if (Some value) = bearer_text value
 -- more than one Authorization field gives none
 abbrev pub token_in : List NamedValue → Option Text
 token_in fields =
-    if length (values (codes "authorization") fields) == 1 then bearer_if (first (values (codes "authorization") fields)) else None
+    if length (values (codes "authorization") fields) == 1
+    then bearer_if (first (values (codes "authorization") fields)) else None
 
 -- ---- the request
 

@@ -1,15 +1,16 @@
--- Bodies in chunks: how they are spelled, and where they cannot be read (RFC 9112, section 7.1; the limits are the
--- profile's).
+-- Bodies in chunks: how they are spelled, and where they cannot be read (RFC 9112, section 7.1; the limits
+-- are the profile's).
 use Rattle.std.specs.Prelude.{◌≡◌, ◌≢◌, ℕ, ◌+◌, ◌<◌, ◌≤◌, ◌⊎◌, List, [], ◌∷◌, ◌++◌, length, take, slice_index, All}
 use Rattle.std.specs.List.{flat_map}
 use Rattle.httparse.specs.Grammar.{ChunkLine, print_chunk_line, IsChunkLine, ReadsChunkLine, HasNoChunkLine, NeverHasChunkLine, chunk_size, Field, IsField, LineEnd, print_section, ReadsSection, HasNoSection, NeverHasSection}
 use Rattle.oci_names.specs.Text.{Text}
+use Rattle.registry_model.specs.Limits.{largest_blob}
 use Rattle.registry_http.specs.declared.ending.FramingRefusal.{FramingRefusal}
 use Rattle.registry_http.specs.declared.ending.FramingRefusal.TheVariants.{UnreadableChunk, ChunksTooLarge}
 
 -- the most bytes of a body
 abbrev pub limit : ℕ
-limit = 67108864
+limit = largest_blob
 
 -- ---- the line of a chunk
 
@@ -88,13 +89,15 @@ pub record BeginsWithSize (total : ℕ) (b : Text) (l : ChunkLine) (rest : Text)
 
 abbrev pub ChunkIsCut : ℕ → Text → Type 0
 ChunkIsCut total b =
-    LineIsCut b ⊎ ((l : ChunkLine) × (rest : Text) × BeginsWithSize total b l rest × DataIsCut (chunk_size l) rest)
+    LineIsCut b
+    ⊎ ((l : ChunkLine) × (rest : Text) × BeginsWithSize total b l rest × DataIsCut (chunk_size l) rest)
 
 -- the line comes first, then the limit, then the line end behind the data
 abbrev pub ChunkIsRefused : ℕ → Text → FramingRefusal → Type 0
 ChunkIsRefused total b r =
     LineIsRefused b r
-    ⊎ (((l : ChunkLine) × (rest : Text) × BeginsWithLine b l rest × (limit < total + chunk_size l) × (r ≡ ChunksTooLarge))
+    ⊎ (((l : ChunkLine) × (rest : Text) × BeginsWithLine b l rest
+    × (limit < total + chunk_size l) × (r ≡ ChunksTooLarge))
     ⊎ ((l : ChunkLine) × (rest : Text) × BeginsWithSize total b l rest × DataIsRefused (chunk_size l) rest r))
 
 -- chunks, within the limit, and then a rest of which P holds
@@ -105,6 +108,14 @@ pub record BehindChunks (P : ℕ → Text → Type 0) (b : Text) : Type 0 where
   pub each : All IsChunk chunks
   pub within : length (data_of chunks) ≤ limit
   pub here : P (length (data_of chunks)) rest
+
+-- the input ends inside a chunk behind others
+abbrev pub SomeChunkIsCut : Text → Type 0
+SomeChunkIsCut b = BehindChunks ChunkIsCut b
+
+-- the first chunk that cannot be read
+abbrev pub SomeChunkIsRefused : Text → FramingRefusal → Type 0
+SomeChunkIsRefused b r = BehindChunks (λ total rest. ChunkIsRefused total rest r) b
 
 -- ---- the trailer
 
@@ -117,7 +128,8 @@ pub record BeginsWithTrailer (b : Text) (fields : List Field) (last : LineEnd) (
 abbrev pub HoldsNoTrailer : Text → Type 0
 HoldsNoTrailer b =
     (((16384 ≤ length b) × HasNoSection (take 16384 b)) ⊎ NeverHasSection (take 16384 b))
-    ⊎ ((fields : List Field) × (last : LineEnd) × (rest : Text) × BeginsWithTrailer b fields last rest × (64 < length fields))
+    ⊎ ((fields : List Field) × (last : LineEnd) × (rest : Text) × BeginsWithTrailer b fields last rest
+    × (64 < length fields))
 
 abbrev pub TrailerIsCut : Text → Type 0
 TrailerIsCut b = (length b < 16384) × HasNoSection b
@@ -161,9 +173,8 @@ pub record BehindLast (P : Text → Type 0) (b : Text) : Type 0 where
 
 -- the input ends inside a body that is not refused
 abbrev pub ChunksAreCut : Text → Type 0
-ChunksAreCut b = BehindChunks ChunkIsCut b ⊎ BehindLast TrailerIsCut b
+ChunksAreCut b = SomeChunkIsCut b ⊎ BehindLast TrailerIsCut b
 
 -- the first chunk that cannot be read, or the trailer
 abbrev pub ChunksAreRefused : Text → FramingRefusal → Type 0
-ChunksAreRefused b r =
-    BehindChunks (λ total rest. ChunkIsRefused total rest r) b ⊎ BehindLast (λ rest. TrailerIsRefused rest r) b
+ChunksAreRefused b r = SomeChunkIsRefused b r ⊎ BehindLast (λ rest. TrailerIsRefused rest r) b

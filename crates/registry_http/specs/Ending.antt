@@ -15,7 +15,8 @@ SendsRefusal Closed r held held' = ⊥
 SendsRefusal Cut r held held' = ⊥
 SendsRefusal (Refused s) r held held' = (s ≡ r) × Appends held held' (refusal_text r)
 SendsRefusal ReadFailed r held held' = ⊥
-SendsRefusal (WriteFailed n) r held held' = (n < length (refusal_text r)) × Appends held held' (take n (refusal_text r))
+SendsRefusal (WriteFailed n) r held held' =
+    (n < length (refusal_text r)) × Appends held held' (take n (refusal_text r))
 
 abbrev pub StopsWith : End → Stop → Option Text → Option Text → Type 0
 StopsWith e Between held held' = (e ≡ Closed) × (held' ≡ held)

@@ -21,7 +21,8 @@ expects_if (Some value) = str_eq_ignore_ascii_case value (codes "100-continue")
 
 -- in HTTP/1.1, by the first Expect line
 abbrev pub awaits_by : ℕ → List NamedValue → Framing → Bool
-awaits_by minor fields framed = minor == 1 && expects_if (first (values (codes "expect") fields)) && has_body framed
+awaits_by minor fields framed =
+    minor == 1 && expects_if (first (values (codes "expect") fields)) && has_body framed
 
 abbrev pub continue_text : Text
 continue_text = codes "HTTP/1.1 100 Continue\r\n\r\n"
@@ -36,5 +37,6 @@ text_before h = continue_if (awaits_by h.minor (fields_of h) (framing h))
 -- what is written for a request that is not answered: what stands before its body, where its head is whole
 abbrev pub IsBefore : Text → Text → Type 0
 IsBefore b text =
-    ((h : RequestHead) × (rest : Text) × BeginsWithHead b h rest × (length h.fields ≤ 64) × (text ≡ text_before h))
+    ((h : RequestHead) × (rest : Text) × BeginsWithHead b h rest
+    × (length h.fields ≤ 64) × (text ≡ text_before h))
     ⊎ (((h : RequestHead) (rest : Text) → BeginsWithHead b h rest → length h.fields ≤ 64 → ⊥) × (text ≡ []))

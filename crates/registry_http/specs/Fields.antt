@@ -29,7 +29,9 @@ first (value ∷ others) = Some value
 
 -- among the words between the commas is "close", in any case
 abbrev pub lists_close : Text → Bool
-lists_close value = list_any (λ word. str_eq_ignore_ascii_case (trim_ows word) (codes "close")) (slice_split (λ b. b == 44) value)
+lists_close value =
+    list_any (λ word. str_eq_ignore_ascii_case (trim_ows word) (codes "close"))
+    (slice_split (λ b. b == 44) value)
 
 -- HTTP/1.0, or a Connection line with "close"
 abbrev pub closes_by : ℕ → List NamedValue → Bool

@@ -5,6 +5,7 @@ use Rattle.std.specs.Str.{str_eq_ignore_ascii_case}
 use Rattle.std.specs.Char.{is_ascii_digit}
 use Rattle.std.specs.Str.Parse.{digits_value}
 use Rattle.oci_names.specs.Text.{Text}
+use Rattle.registry_model.specs.Limits.{largest_blob}
 use Rattle.httparse.specs.Grammar.{RequestHead}
 use Rattle.registry_http.specs.Fields.{NamedValue, fields_of, values, first}
 use Rattle.registry_http.specs.declared.ending.FramingRefusal.TheVariants.{HostCount, TargetForm, TransferEncodingConflict, UnknownTransferEncoding, InvalidContentLength, LengthTooLarge}
@@ -15,7 +16,8 @@ use Rattle.registry_http.specs.declared.framing.Framing.TheVariants.{Length, Chu
 abbrev pub length_of : Text → Framing
 length_of digits =
     if nat_lt 0 (length digits) && nat_le (length digits) 19 && list_all is_ascii_digit digits then
-    (if nat_le (digits_value 10 digits) 67108864 then Length (digits_value 10 digits) else Refused LengthTooLarge)
+    (if nat_le (digits_value 10 digits) largest_blob then Length (digits_value 10 digits)
+    else Refused LengthTooLarge)
     else Refused InvalidContentLength
 
 -- no length: no body
@@ -24,12 +26,14 @@ length_if None = Length 0
 length_if (Some digits) = length_of digits
 
 abbrev pub length_in : List Text → Framing
-length_in lengths = if nat_lt 1 (length lengths) then Refused InvalidContentLength else length_if (first lengths)
+length_in lengths =
+    if nat_lt 1 (length lengths) then Refused InvalidContentLength else length_if (first lengths)
 
 -- "chunked", in any case
 abbrev pub chunked_if : Option Text → Framing
 chunked_if None = Refused UnknownTransferEncoding
-chunked_if (Some coding) = if str_eq_ignore_ascii_case coding (codes "chunked") then Chunked else Refused UnknownTransferEncoding
+chunked_if (Some coding) =
+    if str_eq_ignore_ascii_case coding (codes "chunked") then Chunked else Refused UnknownTransferEncoding
 
 -- so many Transfer-Encoding lines stand, with the first of them, beside so many Content-Length lines
 abbrev pub coding_by : ℕ → ℕ → Option Text → ℕ → Framing
@@ -38,7 +42,9 @@ coding_by minor count coding lengths =
     else (if count == 1 then chunked_if coding else Refused UnknownTransferEncoding)
 
 abbrev pub body_in : ℕ → List Text → List Text → Framing
-body_in minor codings lengths = if nat_lt 0 (length codings) then coding_by minor (length codings) (first codings) (length lengths) else length_in lengths
+body_in minor codings lengths =
+    if nat_lt 0 (length codings) then coding_by minor (length codings) (first codings) (length lengths)
+    else length_in lengths
 
 -- one Host; HTTP/1.0 may leave it out
 abbrev pub hosts_fit : ℕ → ℕ → Bool
@@ -59,6 +65,6 @@ framing h = framing_by h.minor h.target (fields_of h)
 
 -- a stated length is within the limit
 abbrev pub IsSmall : Framing → Type 0
-IsSmall (Length n) = n ≤ 67108864
+IsSmall (Length n) = n ≤ largest_blob
 IsSmall Chunked = Unit {0}
 IsSmall (Refused r) = Unit {0}

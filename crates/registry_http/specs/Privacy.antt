@@ -18,8 +18,8 @@ texts_of [] answers = []
 texts_of (i ∷ items) [] = []
 texts_of (i ∷ items) (a ∷ answers) = text_for i a ∷ texts_of items answers
 
--- the texts are those of answers, one for each request, of which the laws of a run hold: among them that a team is told
--- what it would be told alone
+-- the texts are those of answers, one for each request, of which the laws of a run hold: among them that a
+-- team is told what it would be told alone
 pub record IsPrivateRun (s : State) (items : List Item) (texts : List Text) (s' : State) : Type 0 where
   pub answers : List Answer
   pub are_texts : texts ≡ texts_of items answers

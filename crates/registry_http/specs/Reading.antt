@@ -1,5 +1,5 @@
 -- What the buffer takes from the reader, and what it then begins with.
-use Rattle.std.specs.Prelude.{◌≡◌, ℕ, ◌<◌, ◌≤◌, ◌⊎◌, List, [], ◌++◌, length, take, drop, map, All, Option}
+use Rattle.std.specs.Prelude.{◌≡◌, ℕ, ◌<◌, ◌≤◌, ◌⊎◌, List, [], ◌++◌, length, take, drop, map, All, Option, Result, MatchResult}
 use Rattle.std.specs.Io.KnownBytes.{Consumes, IsAtEnd}
 use Rattle.httparse.specs.Grammar.{RequestHead, print_request, IsRequestHead, HasNoRequest}
 use Rattle.httparse.specs.Spans.{span_bytes, IsWithin, IsHeaderWithin, header_bytes, name_and_value}
@@ -26,14 +26,16 @@ pub record HeadFits (n : ℕ) (headers : List HeaderSpan) (spans : RequestSpans)
   pub fields : All (IsHeaderWithin n) headers
 
 -- the spans cover the parts of the head h in these bytes
-pub record IsHeadAt (text : Text) (headers : List HeaderSpan) (spans : RequestSpans) (h : RequestHead) : Type 0 where
+pub record IsHeadAt (text : Text) (headers : List HeaderSpan) (spans : RequestSpans)
+    (h : RequestHead) : Type 0 where
   pub method : span_bytes text spans.method ≡ h.method
   pub target : span_bytes text spans.path ≡ h.target
   pub minor : spans.version ≡ h.minor
   pub fields : map (header_bytes text) headers ≡ map name_and_value h.fields
 
 -- the buffer begins with the head h, and the spans cover its parts
-pub record HeadIsRead (buffer : Text) (headers : List HeaderSpan) (spans : RequestSpans) (h : RequestHead) : Type 0 where
+pub record HeadIsRead (buffer : Text) (headers : List HeaderSpan) (spans : RequestSpans)
+    (h : RequestHead) : Type 0 where
   pub head : IsRequestHead h
   pub begins : buffer ≡ print_request h ++ drop spans.len buffer
   pub len : spans.len ≡ length (print_request h)
@@ -79,16 +81,24 @@ FillStops stop old left left' = StopsInside (λ b. b ≡ old) stop old left left
 abbrev pub UntilStops : ℕ → Stop → Text → Option Text → Option Text → Type 0
 UntilStops need stop old left left' = StopsInside (λ b. length b < need) stop old left left'
 
+-- bytes came; or why not: what the stop says of the bytes that were unread and those that the reader had left
+abbrev pub PullsOr : {A : Type 0} → (Stop → Text → Option Text → Option Text → Type 0)
+    → Result A Stop → Text → Text → Option Text → Option Text → Type 0
+PullsOr StopsBy r old new left left' =
+    MatchResult r (λ _. Pulls old new left left') (λ stop. StopsBy stop old left left')
+
 -- why there is no further head; one that is refused is, whatever bytes follow
 abbrev pub HeadStops : Stop → Text → Option Text → Option Text → Type 0
 HeadStops Between old left left' = Leaves old left left' (λ b. b ≡ []) × IsAtEnd left'
 HeadStops AtEnd old left left' = Leaves old left left' HeadIsCut × IsAtEnd left'
 HeadStops Broken old left left' = Leaves old left left' (λ b. (b ≡ []) ⊎ HeadIsCut b)
 HeadStops (Refuse r) old left left' =
-    (r ≡ NoBufferMemory) ⊎ ((r ≡ UnreadableHead) × Leaves old left left' (λ b. (tail : Text) → HeadIsUnreadable (b ++ tail)))
+    (r ≡ NoBufferMemory)
+    ⊎ ((r ≡ UnreadableHead) × Leaves old left left' (λ b. (tail : Text) → HeadIsUnreadable (b ++ tail)))
 
 -- the buffer begins with the head h, which is framed so
-pub record HeadIsReady (old new : Text) (left left' : Option Text) (headers : List HeaderSpan) (ready : Ready) (h : RequestHead) : Type 0 where
+pub record HeadIsReady (old new : Text) (left left' : Option Text) (headers : List HeaderSpan)
+    (ready : Ready) (h : RequestHead) : Type 0 where
   pub pulls : Pulls old new left left'
   pub read : HeadIsRead new headers ready.spans h
   pub few : ready.spans.headers ≤ 64

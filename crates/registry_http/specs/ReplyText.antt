@@ -10,7 +10,8 @@ abbrev pub crlf : Text
 crlf = 13 ∷ 10 ∷ []
 
 unfoldable pub status_line : ℕ → Text
-status_line code = codes "HTTP/1.1 " ++ code_digits code ++ codes " " ++ unwrap_or (reason_phrase code) [] ++ crlf
+status_line code =
+    codes "HTTP/1.1 " ++ code_digits code ++ codes " " ++ unwrap_or (reason_phrase code) [] ++ crlf
 
 abbrev pub field : Text → Text → Text
 field name value = name ++ codes ": " ++ value ++ crlf

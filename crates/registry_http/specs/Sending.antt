@@ -12,7 +12,8 @@ Sends r held held' text =
 
 abbrev pub SendsReply : {A : Type 0} → Result A WriteFault → Option Text → Option Text → Text → Type 0
 SendsReply r held held' text =
-    MatchResult r (λ _. Appends held held' text) (λ e. (e.written < length text) × Appends held held' (take e.written text))
+    MatchResult r (λ _. Appends held held' text)
+    (λ e. (e.written < length text) × Appends held held' (take e.written text))
 
 -- the bytes of a text were written behind n others: all, or so many of the first that m are written in all
 abbrev pub SendsBehind : Result ℕ ℕ → ℕ → Option Text → Option Text → Text → Type 0
@@ -28,3 +29,8 @@ CarriesAs true sent waiting held held' text = (sent < length text) × Appends he
 
 abbrev pub Carries : Outgoing → Option Text → Option Text → Text → Type 0
 Carries o held held' text = CarriesAs o.failed o.sent o.waiting.items held held' text
+
+-- behind whatever text is carried so far, the bytes are carried too
+abbrev pub GoesOn : Outgoing → Outgoing → Option Text → Option Text → Text → Type 0
+GoesOn o o' held' held'' bytes =
+    (held : Option Text) (text : Text) → Carries o held held' text → Carries o' held held'' (text ++ bytes)

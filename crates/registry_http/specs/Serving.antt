@@ -58,10 +58,11 @@ pub record Traffic : Type 0 where
 -- behind these requests, which b begins with, stands a request of which this is written, or none does
 abbrev pub Leftover : Text → List Item → Text → Type 0
 Leftover b [] text = IsBefore b text
-Leftover b (i ∷ items) text = (rest : Text) × (b ≡ print_item i ++ rest) × MatchBool (closes i) (text ≡ []) (Leftover rest items text)
+Leftover b (i ∷ items) text =
+    (rest : Text) × (b ≡ print_item i ++ rest) × MatchBool (closes i) (text ≡ []) (Leftover rest items text)
 
--- b spells requests and this end, and what was written are the replies to them, what stands before the body of a
--- request that is cut or refused there, and the end's own text
+-- b spells requests and this end, and what was written are the replies to them, what stands before the body
+-- of a request that is cut or refused there, and the end's own text
 pub record Answers (b : Text) (end : End) (t : Traffic) : Type 0 where
   pub items : List Item
   pub texts : List Text
@@ -82,14 +83,15 @@ pub record StopsForMemory (b : Text) (t : Traffic) : Type 0 where
   pub run : Run t.state items texts t.state'
   pub written : Appends t.held t.held' (joined texts ++ (before ++ refusal_text NoBufferMemory))
 
--- the text in hand, with what was written before it of the same request: of a request that was answered by it; of
--- a refusal; or that before a body, which was not read then
+-- the text in hand, with what was written before it of the same request: of a request that was answered by
+-- it; of a refusal; or that before a body, which was not read then
 abbrev pub InHand : Text → Text → Text → Traffic → List Item → List Text → Type 0
 InHand rest before text t items texts =
-    ((i : Item) × (rest' : Text) × (rest ≡ print_item i ++ rest') × IsRequest i × (before ≡ text_before i.head)
-    × Run t.state (items ++ i ∷ []) (texts ++ (before ++ text) ∷ []) t.state')
+    ((i : Item) × (rest' : Text) × (rest ≡ print_item i ++ rest') × IsRequest i
+    × (before ≡ text_before i.head) × Run t.state (items ++ i ∷ []) (texts ++ (before ++ text) ∷ []) t.state')
     ⊎ (((r : FramingRefusal) × (text ≡ refusal_text r)
-    × ((IsRefused rest r × IsBefore rest before) ⊎ ((r ≡ NoBufferMemory) × ((before ≡ []) ⊎ IsBefore rest before)))
+    × ((IsRefused rest r × IsBefore rest before)
+    ⊎ ((r ≡ NoBufferMemory) × ((before ≡ []) ⊎ IsBefore rest before)))
     × Run t.state items texts t.state')
     ⊎ ((before ≡ []) × IsBefore rest text × Run t.state items texts t.state'))
 
@@ -115,6 +117,7 @@ pub record StopsAtRead (t : Traffic) : Type 0 where
 abbrev pub Serves : End → Traffic → Type 0
 Serves Closed t = IfSome t.left (λ b. Answers b Closed t)
 Serves Cut t = IfSome t.left (λ b. Answers b Cut t)
-Serves (Refused r) t = IfSome t.left (λ b. Answers b (Refused r) t ⊎ ((r ≡ NoBufferMemory) × StopsForMemory b t))
+Serves (Refused r) t =
+    IfSome t.left (λ b. Answers b (Refused r) t ⊎ ((r ≡ NoBufferMemory) × StopsForMemory b t))
 Serves ReadFailed t = StopsAtRead t
 Serves (WriteFailed n) t = IfSome t.left (λ b. StopsAtWrite b n t)

@@ -1,5 +1,5 @@
--- What the bytes on a connection spell: requests, one after the other, and an end (RFC 9112, sections 2, 3 and 6;
--- the limits are the profile's).
+-- What the bytes on a connection spell: requests, one after the other, and an end (RFC 9112, sections 2, 3
+-- and 6; the limits are the profile's).
 use Rattle.std.specs.Prelude.{◌≡◌, ◌<◌, ◌≤◌, ◌⊎◌, Bool, true, false, List, [], ◌∷◌, ◌++◌, length, take}
 use Rattle.httparse.specs.Grammar.{RequestHead, print_request, IsRequestHead, ReadsRequest, HasNoRequest, NeverHasRequest}
 use Rattle.oci_names.specs.Text.{Text}
@@ -24,7 +24,8 @@ pub record Item : Type 0 where
 -- a body framed so is spelled by these bytes and carries those
 abbrev pub IsBody : Framing → Text → Text → Type 0
 IsBody (framed.Length n) coded body = (coded ≡ body) × (length body ≡ n)
-IsBody framed.Chunked coded body = (b : ChunkedBody) × IsChunkedBody b × (coded ≡ print_body b) × (body ≡ data_of b.chunks)
+IsBody framed.Chunked coded body =
+    (b : ChunkedBody) × IsChunkedBody b × (coded ≡ print_body b) × (body ≡ data_of b.chunks)
 IsBody (framed.Refused r) coded body = ⊥
 
 -- the head is in the grammar and within the limits, and the body is framed as the head says
@@ -65,7 +66,8 @@ HoldsNoHead b = ((16384 ≤ length b) × HasNoRequest (take 16384 b)) ⊎ NeverH
 
 -- no head, or one of more than 64 fields
 abbrev pub HeadIsUnreadable : Text → Type 0
-HeadIsUnreadable b = HoldsNoHead b ⊎ ((h : RequestHead) × (rest : Text) × BeginsWithHead b h rest × (64 < length h.fields))
+HeadIsUnreadable b =
+    HoldsNoHead b ⊎ ((h : RequestHead) × (rest : Text) × BeginsWithHead b h rest × (64 < length h.fields))
 
 abbrev pub HeadIsCut : Text → Type 0
 HeadIsCut b = (0 < length b) × (length b < 16384) × HasNoRequest b
@@ -74,13 +76,15 @@ HeadIsCut b = (0 < length b) × (length b < 16384) × HasNoRequest b
 abbrev pub IsCut : Text → Type 0
 IsCut b =
     HeadIsCut b
-    ⊎ ((h : RequestHead) × (rest : Text) × BeginsWithHead b h rest × (length h.fields ≤ 64) × BodyIsCut (framing h) rest)
+    ⊎ ((h : RequestHead) × (rest : Text) × BeginsWithHead b h rest
+    × (length h.fields ≤ 64) × BodyIsCut (framing h) rest)
 
 -- a request stands there that is refused, whatever bytes follow
 abbrev pub IsRefused : Text → FramingRefusal → Type 0
 IsRefused b r =
     ((r ≡ UnreadableHead) × HeadIsUnreadable b)
-    ⊎ ((h : RequestHead) × (rest : Text) × BeginsWithHead b h rest × (length h.fields ≤ 64) × BodyIsRefused (framing h) rest r)
+    ⊎ ((h : RequestHead) × (rest : Text) × BeginsWithHead b h rest
+    × (length h.fields ≤ 64) × BodyIsRefused (framing h) rest r)
 
 -- no further request is read, and why
 abbrev pub Ends : Text → End → Type 0
@@ -101,10 +105,12 @@ Then false items end P = P
 abbrev pub Spells : Text → List Item → End → Type 0
 Spells b [] end = Ends b end
 Spells b (i ∷ items) end =
-    (rest : Text) × IsRequest i × (b ≡ print_item i ++ rest) × Then (closes i) items end (Spells rest items end)
+    (rest : Text) × IsRequest i × (b ≡ print_item i ++ rest)
+    × Then (closes i) items end (Spells rest items end)
 
 -- b is these requests, each of which leaves the connection open, and then rest
 abbrev pub Front : Text → List Item → Text → Type 0
 Front b [] rest = b ≡ rest
 Front b (i ∷ items) rest =
-    (behind : Text) × IsRequest i × (b ≡ print_item i ++ behind) × (closes i ≡ false) × Front behind items rest
+    (behind : Text) × IsRequest i × (b ≡ print_item i ++ behind) × (closes i ≡ false)
+    × Front behind items rest

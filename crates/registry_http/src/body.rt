@@ -1,17 +1,18 @@
-ghost use Rattle.std.specs.Prelude.{◌≡◌, ◌≤◌, ◌+◌, ◌++◌, length, take, drop, OnOk, MatchResult};
-ghost use Rattle.oci_names.specs.Text.{Text};
+ghost use Rattle.std.specs.Prelude.{◌≡◌, ◌≤◌, ◌+◌, ◌++◌, length, take, drop, OnOk};
 ghost use Rattle.registry_http.specs.Framing.{IsSmall};
-ghost use Rattle.registry_http.specs.Spelling.{IsBody, BodyIsCut, BodyIsRefused};
-ghost use Rattle.registry_http.specs.Reading.{Pulls};
 ghost use Rattle.registry_http.specs.Intaking.{taken, unread, weight};
-ghost use Rattle.registry_http.specs.Chunks.{LineIsCut, LineIsRefused, HasGoodEnd, DataIsCut, DataIsRefused, ChunkIsCut, ChunkIsRefused, BehindChunks, TrailerIsCut, TrailerIsRefused, ChunksAreCut, ChunksAreRefused};
-ghost use Rattle.registry_http.specs.Taking.{Takes, EndsFrom, LineIsRead, ChunkIsRead, ChunksAreRead, TrailerIsRead};
+ghost use Rattle.registry_http.specs.Chunks.{limit, LineIsCut, LineIsRefused, HasGoodEnd, DataIsCut, DataIsRefused};
+ghost use Rattle.registry_http.specs.Chunks.{ChunkIsCut, ChunkIsRefused, SomeChunkIsCut, SomeChunkIsRefused};
+ghost use Rattle.registry_http.specs.Chunks.{TrailerIsCut, TrailerIsRefused};
+ghost use Rattle.registry_http.specs.Taking.{PullsUntil, TakesOr, TakesBody};
+ghost use Rattle.registry_http.specs.Taking.{LineIsRead, ChunkIsRead, ChunksAreRead, TrailerIsRead};
 
 use crate::chunk::{FoundLine, Line, find_line};
 use crate::ending::{FramingRefusal, Stop};
 use crate::framing::Framing;
 use crate::intake::{Intake, LINES};
 use crate::trailer::{FoundTrailer, find_trailer};
+use registry_model::LARGEST_BLOB;
 use std::io::Read;
 
 /// What was taken off the unread bytes.
@@ -26,10 +27,8 @@ pub enum Next {
 impl Intake {
     /// Reads until the line of a chunk is unread.
     fn read_line<R: Read>(&mut self, reader: &mut R) -> Result<Line, Stop>
-        ensures cases { MatchResult result
-            (λ line. Pulls (unread self.old) (unread self.new) (R.remaining reader.old) (R.remaining reader.new)
-            × LineIsRead (unread self.new) line)
-            (λ stop. EndsFrom LineIsCut LineIsRefused stop (unread self.old) (R.remaining reader.old) (R.remaining reader.new)) }
+        ensures cases { PullsUntil LineIsRead LineIsCut LineIsRefused result
+            (unread self.old) (unread self.new) (R.remaining reader.old) (R.remaining reader.new) }
         ensures taken { taken self.new ≡ taken self.old }
         ensures headers { self.new.headers.items ≡ self.old.headers.items }
         ensures weight { OnOk result (weight self.new ≤ weight self.old) }
@@ -48,11 +47,9 @@ impl Intake {
 
     /// Reads until the data of a chunk and CR LF are unread.
     fn read_data<R: Read>(&mut self, reader: &mut R, size: usize) -> Result<(), Stop>
-        requires { size ≤ 67108864 }
-        ensures cases { MatchResult result
-            (λ _. Pulls (unread self.old) (unread self.new) (R.remaining reader.old) (R.remaining reader.new)
-            × HasGoodEnd size (unread self.new))
-            (λ stop. EndsFrom (DataIsCut size) (DataIsRefused size) stop (unread self.old) (R.remaining reader.old) (R.remaining reader.new)) }
+        requires { size ≤ limit }
+        ensures cases { PullsUntil (λ b _. HasGoodEnd size b) (DataIsCut size) (DataIsRefused size) result
+            (unread self.old) (unread self.new) (R.remaining reader.old) (R.remaining reader.new) }
         ensures taken { taken self.new ≡ taken self.old }
         ensures headers { self.new.headers.items ≡ self.old.headers.items }
         ensures weight { OnOk result (weight self.new ≤ weight self.old) }
@@ -76,10 +73,11 @@ impl Intake {
 
     /// Takes a chunk off the unread bytes, behind chunks that carry `total` bytes.
     fn next_chunk<R: Read>(&mut self, reader: &mut R, total: usize) -> Result<Next, Stop>
-        requires { total ≤ 67108864 }
-        ensures cases { MatchResult result
-            (λ next. ChunkIsRead next total (taken self.old) (unread self.old) (taken self.new) (unread self.new) (R.remaining reader.old) (R.remaining reader.new))
-            (λ stop. EndsFrom (ChunkIsCut total) (ChunkIsRefused total) stop (unread self.old) (R.remaining reader.old) (R.remaining reader.new)) }
+        requires { total ≤ limit }
+        ensures cases { TakesOr
+            (λ next. ChunkIsRead next total) (ChunkIsCut total) (ChunkIsRefused total) result
+            (taken self.old) (unread self.old) (taken self.new) (unread self.new)
+            (R.remaining reader.old) (R.remaining reader.new) }
         ensures headers { self.new.headers.items ≡ self.old.headers.items }
         ensures weight { OnOk result (weight self.new ≤ weight self.old) }
     {
@@ -87,7 +85,7 @@ impl Intake {
             Ok(line) => line,
             Err(stop) => return Err(stop),
         };
-        if line.size > 67_108_864 - total as u64 {
+        if line.size > LARGEST_BLOB - total as u64 {
             return Err(Stop::Refuse(FramingRefusal::ChunksTooLarge));
         }
         let size = line.size as usize;
@@ -106,9 +104,9 @@ impl Intake {
 
     /// Takes all chunks off the unread bytes, and the line that ends them.
     fn read_chunks<R: Read>(&mut self, reader: &mut R) -> Result<(), Stop>
-        ensures cases { MatchResult result
-            (λ _. ChunksAreRead (taken self.old) (unread self.old) (taken self.new) (unread self.new) (R.remaining reader.old) (R.remaining reader.new))
-            (λ stop. EndsFrom (BehindChunks ChunkIsCut) (λ b r. BehindChunks (λ total rest. ChunkIsRefused total rest r) b) stop (unread self.old) (R.remaining reader.old) (R.remaining reader.new)) }
+        ensures cases { TakesOr (λ _. ChunksAreRead) SomeChunkIsCut SomeChunkIsRefused result
+            (taken self.old) (unread self.old) (taken self.new) (unread self.new)
+            (R.remaining reader.old) (R.remaining reader.new) }
         ensures headers { self.new.headers.items ≡ self.old.headers.items }
         ensures weight { OnOk result (weight self.new ≤ weight self.old) }
     {
@@ -126,10 +124,8 @@ impl Intake {
 
     /// Reads until a trailer is unread, and says how long it is.
     fn read_trailer<R: Read>(&mut self, reader: &mut R) -> Result<usize, Stop>
-        ensures cases { MatchResult result
-            (λ len. Pulls (unread self.old) (unread self.new) (R.remaining reader.old) (R.remaining reader.new)
-            × TrailerIsRead (unread self.new) len)
-            (λ stop. EndsFrom TrailerIsCut TrailerIsRefused stop (unread self.old) (R.remaining reader.old) (R.remaining reader.new)) }
+        ensures cases { PullsUntil TrailerIsRead TrailerIsCut TrailerIsRefused result
+            (unread self.old) (unread self.new) (R.remaining reader.old) (R.remaining reader.new) }
         ensures taken { taken self.new ≡ taken self.old }
         ensures headers { self.new.headers.items ≡ self.old.headers.items }
         ensures weight { OnOk result (weight self.new ≤ weight self.old) }
@@ -149,10 +145,9 @@ impl Intake {
     /// Takes a body in chunks off the unread bytes: what it carries then stands behind what was
     /// taken before.
     fn read_chunked<R: Read>(&mut self, reader: &mut R) -> Result<(), Stop>
-        ensures cases { MatchResult result
-            (λ _. (coded : Text) × (body : Text) × IsBody Framing.Chunked coded body
-            × Takes (taken self.old) (unread self.old) (taken self.new) (unread self.new) (R.remaining reader.old) (R.remaining reader.new) coded body)
-            (λ stop. EndsFrom ChunksAreCut ChunksAreRefused stop (unread self.old) (R.remaining reader.old) (R.remaining reader.new)) }
+        ensures cases { TakesBody Framing.Chunked result
+            (taken self.old) (unread self.old) (taken self.new) (unread self.new)
+            (R.remaining reader.old) (R.remaining reader.new) }
         ensures headers { self.new.headers.items ≡ self.old.headers.items }
         ensures weight { OnOk result (weight self.new ≤ weight self.old) }
     {
@@ -171,10 +166,9 @@ impl Intake {
 
     /// Takes a body of a stated length off the unread bytes.
     fn read_length<R: Read>(&mut self, reader: &mut R, count: usize) -> Result<(), Stop>
-        ensures cases { MatchResult result
-            (λ _. (coded : Text) × (body : Text) × IsBody (Framing.Length count) coded body
-            × Takes (taken self.old) (unread self.old) (taken self.new) (unread self.new) (R.remaining reader.old) (R.remaining reader.new) coded body)
-            (λ stop. EndsFrom (BodyIsCut (Framing.Length count)) (BodyIsRefused (Framing.Length count)) stop (unread self.old) (R.remaining reader.old) (R.remaining reader.new)) }
+        ensures cases { TakesBody (Framing.Length count) result
+            (taken self.old) (unread self.old) (taken self.new) (unread self.new)
+            (R.remaining reader.old) (R.remaining reader.new) }
         ensures headers { self.new.headers.items ≡ self.old.headers.items }
         ensures weight { OnOk result (weight self.new ≤ weight self.old) }
     {
@@ -190,10 +184,9 @@ impl Intake {
     /// Takes a body off the unread bytes, as it is framed.
     fn take_body<R: Read>(&mut self, reader: &mut R, framing: Framing) -> Result<(), Stop>
         requires { IsSmall framing }
-        ensures cases { MatchResult result
-            (λ _. (coded : Text) × (body : Text) × IsBody framing coded body
-            × Takes (taken self.old) (unread self.old) (taken self.new) (unread self.new) (R.remaining reader.old) (R.remaining reader.new) coded body)
-            (λ stop. EndsFrom (BodyIsCut framing) (BodyIsRefused framing) stop (unread self.old) (R.remaining reader.old) (R.remaining reader.new)) }
+        ensures cases { TakesBody framing result
+            (taken self.old) (unread self.old) (taken self.new) (unread self.new)
+            (R.remaining reader.old) (R.remaining reader.new) }
         ensures headers { self.new.headers.items ≡ self.old.headers.items }
         ensures weight { OnOk result (weight self.new ≤ weight self.old) }
     {
@@ -214,10 +207,9 @@ impl Intake {
     ) -> Result<(), Stop>
         requires within { len ≤ length (unread self.old) }
         requires small { IsSmall framing }
-        ensures cases { MatchResult result
-            (λ _. (coded : Text) × (body : Text) × IsBody framing coded body
-            × Takes (taken self.old ++ take len (unread self.old)) (drop len (unread self.old)) (taken self.new) (unread self.new) (R.remaining reader.old) (R.remaining reader.new) coded body)
-            (λ stop. EndsFrom (BodyIsCut framing) (BodyIsRefused framing) stop (drop len (unread self.old)) (R.remaining reader.old) (R.remaining reader.new)) }
+        ensures cases { TakesBody framing result
+            (taken self.old ++ take len (unread self.old)) (drop len (unread self.old))
+            (taken self.new) (unread self.new) (R.remaining reader.old) (R.remaining reader.new) }
         ensures headers { self.new.headers.items ≡ self.old.headers.items }
         ensures weight { OnOk result (weight self.new + len ≤ weight self.old) }
     {

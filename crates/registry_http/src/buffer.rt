@@ -51,7 +51,8 @@ fn move_down(room: &mut Vec<u8>, from: usize, count: usize, to: usize)
     requires down { to ≤ from }
     requires within { from + count ≤ vec_len room.old }
     ensures len { vec_len room.new ≡ vec_len room.old }
-    ensures front { take (to + count) room.new.items ≡ take to room.old.items ++ take count (drop from room.old.items) }
+    ensures front { take (to + count) room.new.items
+        ≡ take to room.old.items ++ take count (drop from room.old.items) }
     ensures behind { drop (to + count) room.new.items ≡ drop (to + count) room.old.items }
 {
     if to == from {
@@ -79,7 +80,8 @@ fn read_at<R: Read>(room: &mut [u8], at: usize, reader: &mut R) -> io::Result<us
     requires { at < length room.old }
     ensures front { take at room.new ≡ take at room.old }
     ensures cases { MatchResult result
-        (λ n. (at + n ≤ length room.new) × (n ≤ 1048576) × Consumes (R.remaining reader.old) (R.remaining reader.new) (slice_range room.new at (at + n))
+        (λ n. (at + n ≤ length room.new) × (n ≤ 1048576)
+        × Consumes (R.remaining reader.old) (R.remaining reader.new) (slice_range room.new at (at + n))
         × (n ≡ 0 → IsAtEnd (R.remaining reader.new)))
         (λ _. Keeps (R.remaining reader.old) (R.remaining reader.new)) }
 {
@@ -92,7 +94,7 @@ fn read_at<R: Read>(room: &mut [u8], at: usize, reader: &mut R) -> io::Result<us
 
 impl Buffer {
     ghost use Rattle.registry_http.specs.Buffering.{before, behind, spare};
-    ghost use Rattle.registry_http.specs.Reading.{Pulls, FillStops};
+    ghost use Rattle.registry_http.specs.Reading.{PullsOr, FillStops};
 
     /// No bytes, and no room.
     pub fn new(alloc: Global) -> Buffer
@@ -218,9 +220,8 @@ impl Buffer {
     fn read_from<R: Read>(&mut self, reader: &mut R) -> Result<(), Stop>
         requires { 0 < spare self.old }
         ensures before { before self.new ≡ before self.old }
-        ensures cases { MatchResult result
-            (λ _. Pulls (behind self.old) (behind self.new) (R.remaining reader.old) (R.remaining reader.new))
-            (λ stop. FillStops stop (behind self.old) (R.remaining reader.old) (R.remaining reader.new)) }
+        ensures cases { PullsOr FillStops result
+            (behind self.old) (behind self.new) (R.remaining reader.old) (R.remaining reader.new) }
         ensures few { OnOk result (length (behind self.new) ≤ length (behind self.old) + 1048576) }
     {
         match read_at(&mut self.room, self.end, reader) {
@@ -238,9 +239,8 @@ impl Buffer {
     pub fn read_more<R: Read>(&mut self, reader: &mut R, missing: usize) -> Result<(), Stop>
         requires { 0 < missing }
         ensures before { before self.new ≡ before self.old }
-        ensures cases { MatchResult result
-            (λ _. Pulls (behind self.old) (behind self.new) (R.remaining reader.old) (R.remaining reader.new))
-            (λ stop. FillStops stop (behind self.old) (R.remaining reader.old) (R.remaining reader.new)) }
+        ensures cases { PullsOr FillStops result
+            (behind self.old) (behind self.new) (R.remaining reader.old) (R.remaining reader.new) }
         ensures few { OnOk result (length (behind self.new) ≤ length (behind self.old) + 1048576) }
     {
         match self.make_room(missing) {

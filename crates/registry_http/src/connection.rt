@@ -31,7 +31,8 @@ fn reply_to<W: Write, K: Keeper>(
 ) -> Result<(), WriteFault>
     requires order { ready.now.spans.len ≤ length (taken intake.now) }
     requires room { ready.now.spans.headers ≤ length intake.now.headers.items }
-    requires fits { HeadFits ready.now.spans.len (take ready.now.spans.headers intake.now.headers.items) ready.now.spans }
+    requires fits { HeadFits ready.now.spans.len
+        (take ready.now.spans.headers intake.now.headers.items) ready.now.spans }
     ensures honest { K.is_honest service.new → K.is_honest service.old }
     ensures replies { K.is_honest service.new → (i : Item)
         → RequestIsReady (taken intake.now) intake.now.headers.items ready.now i
@@ -131,5 +132,6 @@ pub fn serve_connection<R: Read, W: Write, K: Keeper>(
 
 /// Bytes spell one list of requests.
 pub fn spelling_is_unique()
-    ensures { (b : Text) (items others : List Item) (e f : End) → Spells b items e → Spells b others f → items ≡ others }
+    ensures { (b : Text) (items others : List Item) (e f : End)
+        → Spells b items e → Spells b others f → items ≡ others }
 {}

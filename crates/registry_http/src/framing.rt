@@ -6,6 +6,7 @@ ghost use Rattle.registry_http.specs.Framing.{framing_by, length_of, length_if, 
 use crate::ending::FramingRefusal;
 use crate::fields::{same_name, values_of};
 use httparse::spans::HeaderSpan;
+use registry_model::LARGEST_BLOB;
 
 /// How a request's body is framed.
 #[derive(Clone, Copy)]
@@ -33,7 +34,7 @@ fn length_by(digits: &[u8]) -> Framing
         }
         length = length * 10 + u64::from(*digit - b'0');
     }
-    if length <= 67_108_864 {
+    if length <= LARGEST_BLOB {
         Framing::Length(length as usize)
     } else {
         Framing::Refused(FramingRefusal::LengthTooLarge)

@@ -1,11 +1,11 @@
 ghost use Rattle.std.specs.Prelude.{◌≡◌, ◌≤◌, ◌<◌, [], length, IfOk, OnOk, MatchResult, vec_len};
 
 use crate::buffer::Buffer;
-use crate::closing::closes;
 use crate::ending::{FramingRefusal, Stop};
 use crate::expecting::awaits;
 use crate::framing::{Framing, framing_of};
 use crate::head::{Parsed, parse_head};
+use crate::persistence::closes;
 use httparse::spans::{EMPTY_HEADER_SPAN, HeaderSpan, RequestSpans};
 use std::alloc::{AllocError, Global};
 use std::io::Read;
@@ -42,7 +42,7 @@ pub struct Intake {
 
 impl Intake {
     ghost use Rattle.registry_http.specs.Intaking.{taken, unread, weight};
-    ghost use Rattle.registry_http.specs.Reading.{Pulls, FillStops, UntilStops, HeadStops, HeadIsRead, HeadIsReady};
+    ghost use Rattle.registry_http.specs.Reading.{Pulls, PullsOr, FillStops, UntilStops, HeadStops, HeadIsRead, HeadIsReady};
     ghost use Rattle.registry_http.specs.Framing.{IsSmall};
     ghost use Rattle.httparse.specs.Grammar.{RequestHead};
 
@@ -64,9 +64,8 @@ impl Intake {
     /// Takes some bytes from the reader, where so many are missing.
     pub fn fill<R: Read>(&mut self, reader: &mut R, missing: usize) -> Result<(), Stop>
         requires { 0 < missing }
-        ensures cases { MatchResult result
-            (λ _. Pulls (unread self.old) (unread self.new) (R.remaining reader.old) (R.remaining reader.new))
-            (λ stop. FillStops stop (unread self.old) (R.remaining reader.old) (R.remaining reader.new)) }
+        ensures cases { PullsOr FillStops result
+            (unread self.old) (unread self.new) (R.remaining reader.old) (R.remaining reader.new) }
         ensures taken { taken self.new ≡ taken self.old }
         ensures headers { self.new.headers.items ≡ self.old.headers.items }
         ensures weight { OnOk result (weight self.new ≤ weight self.old) }
@@ -81,9 +80,8 @@ impl Intake {
 
     /// Reads until so many bytes are unread.
     pub fn read_until<R: Read>(&mut self, reader: &mut R, need: usize) -> Result<(), Stop>
-        ensures cases { MatchResult result
-            (λ _. Pulls (unread self.old) (unread self.new) (R.remaining reader.old) (R.remaining reader.new))
-            (λ stop. UntilStops need stop (unread self.old) (R.remaining reader.old) (R.remaining reader.new)) }
+        ensures cases { PullsOr (UntilStops need) result
+            (unread self.old) (unread self.new) (R.remaining reader.old) (R.remaining reader.new) }
         ensures enough { OnOk result (need ≤ length (unread self.new)) }
         ensures taken { taken self.new ≡ taken self.old }
         ensures headers { self.new.headers.items ≡ self.old.headers.items }
@@ -103,7 +101,8 @@ impl Intake {
     /// Reads until a whole head is unread.
     fn read_head<R: Read>(&mut self, reader: &mut R) -> Result<RequestSpans, Stop>
         ensures cases { MatchResult result
-            (λ spans. Pulls (unread self.old) (unread self.new) (R.remaining reader.old) (R.remaining reader.new)
+            (λ spans. Pulls (unread self.old) (unread self.new)
+            (R.remaining reader.old) (R.remaining reader.new)
             × (h : RequestHead) × HeadIsRead (unread self.new) self.new.headers.items spans h)
             (λ stop. HeadStops stop (unread self.old) (R.remaining reader.old) (R.remaining reader.new)) }
         ensures taken { taken self.new ≡ taken self.old }
@@ -126,7 +125,10 @@ impl Intake {
     /// Reads until the head of a request is unread.
     pub fn next_head<R: Read>(&mut self, reader: &mut R) -> Result<Ready, Stop>
         ensures cases { MatchResult result
-            (λ ready. (h : RequestHead) × HeadIsReady (unread self.old) (unread self.new) (R.remaining reader.old) (R.remaining reader.new) self.new.headers.items ready h)
+            (λ ready. (h : RequestHead)
+            × HeadIsReady (unread self.old) (unread self.new)
+            (R.remaining reader.old) (R.remaining reader.new)
+            self.new.headers.items ready h)
             (λ stop. HeadStops stop (unread self.old) (R.remaining reader.old) (R.remaining reader.new)) }
         ensures small { IfOk result (λ ready. IsSmall ready.framing) }
         ensures taken { taken self.new ≡ taken self.old }

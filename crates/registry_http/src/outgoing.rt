@@ -1,7 +1,6 @@
-ghost use Rattle.std.specs.Prelude.{◌≡◌, ℕ, ◌++◌, false, [], List, Option, length};
+ghost use Rattle.std.specs.Prelude.{◌≡◌, false, [], Option};
 ghost use Rattle.oci_names.specs.Text.{Text};
-ghost use Rattle.registry_http.specs.Sending.{Sends, SendsReply};
-ghost use Rattle.registry_http.specs.Sending.{Carries, SendsBehind};
+ghost use Rattle.registry_http.specs.Sending.{Sends, SendsReply, SendsBehind, Carries, GoesOn};
 
 use arrayvec::ArrayVec;
 use std::io::Write;
@@ -64,7 +63,8 @@ impl Outgoing {
 
     /// Writes what waits.
     fn flush<W: Write>(&mut self, writer: &mut W)
-        ensures carries { (held : Option Text) (text : Text) → Carries self.old held (W.contents writer.old) text
+        ensures carries { (held : Option Text) (text : Text)
+            → Carries self.old held (W.contents writer.old) text
             → Carries self.new held (W.contents writer.new) text }
         ensures none { self.new.failed ≡ false → self.new.waiting.items ≡ [] }
     {
@@ -85,8 +85,7 @@ impl Outgoing {
 
     /// Writes what waits, and then these bytes.
     fn send_all<W: Write>(&mut self, writer: &mut W, bytes: &[u8])
-        ensures { (held : Option Text) (text : Text) → Carries self.old held (W.contents writer.old) text
-            → Carries self.new held (W.contents writer.new) (text ++ bytes.now) }
+        ensures { GoesOn self.old self.new (W.contents writer.old) (W.contents writer.new) bytes.now }
     {
         self.flush(writer);
         if self.failed {
@@ -104,8 +103,7 @@ impl Outgoing {
     /// Goes on with these bytes: they wait where there is room for them, and are written with what
     /// waited where there is none.
     pub fn put<W: Write>(&mut self, writer: &mut W, bytes: &[u8])
-        ensures { (held : Option Text) (text : Text) → Carries self.old held (W.contents writer.old) text
-            → Carries self.new held (W.contents writer.new) (text ++ bytes.now) }
+        ensures { GoesOn self.old self.new (W.contents writer.old) (W.contents writer.new) bytes.now }
     {
         match self.waiting.try_extend_from_slice(bytes) {
             Ok(()) => {}

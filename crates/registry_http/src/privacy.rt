@@ -13,5 +13,6 @@ ghost use Rattle.registry_http.specs.Privacy.{IsPrivateRun};
 /// own requests, those left out for which memory was wanting, are the texts of the replies that it
 /// would get alone, in a registry that holds only what it sees.
 pub fn a_connection_is_private()
-    ensures { (s : State) (items : List Item) (texts : List Text) (s' : State) → Run s items texts s' → IsPrivateRun s items texts s' }
+    ensures { (s : State) (items : List Item) (texts : List Text) (s' : State)
+        → Run s items texts s' → IsPrivateRun s items texts s' }
 {}

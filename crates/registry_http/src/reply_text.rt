@@ -1,11 +1,10 @@
-ghost use Rattle.std.specs.Prelude.{◌≡◌, ◌++◌, [], Option, unwrap_or};
+ghost use Rattle.std.specs.Prelude.{◌≡◌, [], unwrap_or};
 ghost use Rattle.http.specs.StatusCode.{IsStatusCode, reason_phrase};
-ghost use Rattle.oci_names.specs.Text.{Text};
 ghost use Rattle.registry_model.specs.Answer.{answer_of, content_of, code_of, owned};
 ghost use Rattle.registry_model.specs.Ask.{text_in};
 ghost use Rattle.registry_http.specs.ReplyText.{status_line, field, field_if, length_of, length_field, close_field, sent_text, body_text, reply_text, refusal_text};
 ghost use Rattle.registry_http.specs.Expecting.{continue_if};
-ghost use Rattle.registry_http.specs.Sending.{Carries, SendsReply};
+ghost use Rattle.registry_http.specs.Sending.{GoesOn, SendsReply};
 
 use crate::ending::FramingRefusal;
 use crate::outgoing::{Outgoing, WriteFault};
@@ -29,8 +28,8 @@ impl Outgoing {
     /// Goes on with the status line of a code (RFC 9112, section 4).
     fn put_status<W: Write>(&mut self, writer: &mut W, code: u16)
         requires { IsStatusCode code }
-        ensures { (held : Option Text) (text : Text) → Carries self.old held (W.contents writer.old) text
-            → Carries self.new held (W.contents writer.new) (text ++ status_line code) }
+        ensures { GoesOn self.old self.new (W.contents writer.old) (W.contents writer.new)
+            (status_line code) }
     {
         if let Ok(status) = StatusCode::from_u16(code) {
             self.put(writer, b"HTTP/1.1 ");
@@ -43,8 +42,8 @@ impl Outgoing {
 
     /// Goes on with a field line (RFC 9112, section 5).
     fn put_field<W: Write>(&mut self, writer: &mut W, name: &[u8], value: &[u8])
-        ensures { (held : Option Text) (text : Text) → Carries self.old held (W.contents writer.old) text
-            → Carries self.new held (W.contents writer.new) (text ++ field name.now value.now) }
+        ensures { GoesOn self.old self.new (W.contents writer.old) (W.contents writer.new)
+            (field name.now value.now) }
     {
         self.put(writer, name);
         self.put(writer, b": ");
@@ -54,8 +53,8 @@ impl Outgoing {
 
     /// Goes on with a field line, where there is a value.
     fn put_if<W: Write>(&mut self, writer: &mut W, name: &[u8], value: Option<&str>)
-        ensures { (held : Option Text) (text : Text) → Carries self.old held (W.contents writer.old) text
-            → Carries self.new held (W.contents writer.new) (text ++ field_if name.now (text_in value.entry)) }
+        ensures { GoesOn self.old self.new (W.contents writer.old) (W.contents writer.new)
+            (field_if name.now (text_in value.entry)) }
     {
         if let Some(value) = value {
             self.put_field(writer, name, value.as_bytes());
@@ -64,8 +63,8 @@ impl Outgoing {
 
     /// Goes on with a field line, where there is a string.
     fn put_string<W: Write>(&mut self, writer: &mut W, name: &[u8], value: &Option<String>)
-        ensures { (held : Option Text) (text : Text) → Carries self.old held (W.contents writer.old) text
-            → Carries self.new held (W.contents writer.new) (text ++ field_if name.now (owned value.now)) }
+        ensures { GoesOn self.old self.new (W.contents writer.old) (W.contents writer.new)
+            (field_if name.now (owned value.now)) }
     {
         if let Some(value) = value {
             self.put_field(writer, name, value.as_bytes());
@@ -74,8 +73,8 @@ impl Outgoing {
 
     /// Goes on with a field line, where there is a digest.
     fn put_digest<W: Write>(&mut self, writer: &mut W, name: &[u8], value: &Option<Digest>)
-        ensures { (held : Option Text) (text : Text) → Carries self.old held (W.contents writer.old) text
-            → Carries self.new held (W.contents writer.new) (text ++ field_if name.now value.now) }
+        ensures { GoesOn self.old self.new (W.contents writer.old) (W.contents writer.new)
+            (field_if name.now value.now) }
     {
         if let Some(value) = value {
             self.put_field(writer, name, value.as_str().as_bytes());
@@ -84,8 +83,8 @@ impl Outgoing {
 
     /// Goes on with the length of a body of this status.
     fn put_length<W: Write>(&mut self, writer: &mut W, status: Status, body: &Body)
-        ensures { (held : Option Text) (text : Text) → Carries self.old held (W.contents writer.old) text
-            → Carries self.new held (W.contents writer.new) (text ++ length_field (code_of status) (length_of (content_of body.now))) }
+        ensures { GoesOn self.old self.new (W.contents writer.old) (W.contents writer.new)
+            (length_field (code_of status) (length_of (content_of body.now))) }
     {
         if status.code() != 204 {
             let mut digits = Buffer::new();
@@ -96,8 +95,8 @@ impl Outgoing {
 
     /// Goes on with the field that says whether the connection is closed after the reply.
     fn put_close<W: Write>(&mut self, writer: &mut W, close: bool)
-        ensures { (held : Option Text) (text : Text) → Carries self.old held (W.contents writer.old) text
-            → Carries self.new held (W.contents writer.new) (text ++ close_field close) }
+        ensures { GoesOn self.old self.new (W.contents writer.old) (W.contents writer.new)
+            (close_field close) }
     {
         if close {
             self.put(writer, b"Connection: close\r\n");
@@ -106,8 +105,8 @@ impl Outgoing {
 
     /// Goes on with the text that a client waits for before it sends the body.
     fn put_continue<W: Write>(&mut self, writer: &mut W, awaits: bool)
-        ensures { (held : Option Text) (text : Text) → Carries self.old held (W.contents writer.old) text
-            → Carries self.new held (W.contents writer.new) (text ++ continue_if awaits) }
+        ensures { GoesOn self.old self.new (W.contents writer.old) (W.contents writer.new)
+            (continue_if awaits) }
     {
         if awaits {
             self.put(writer, b"HTTP/1.1 100 Continue\r\n\r\n");
@@ -116,8 +115,8 @@ impl Outgoing {
 
     /// Goes on with the body, which a reply to HEAD leaves out.
     fn put_body<W: Write>(&mut self, writer: &mut W, head: bool, body: &Body)
-        ensures { (held : Option Text) (text : Text) → Carries self.old held (W.contents writer.old) text
-            → Carries self.new held (W.contents writer.new) (text ++ body_text head (content_of body.now)) }
+        ensures { GoesOn self.old self.new (W.contents writer.old) (W.contents writer.new)
+            (body_text head (content_of body.now)) }
     {
         if !head {
             self.put(writer, body_bytes(body));
@@ -158,7 +157,8 @@ pub fn write_reply<W: Write>(
     close: bool,
     writer: &mut W,
 ) -> Result<(), WriteFault>
-    ensures { SendsReply result (W.contents writer.old) (W.contents writer.new) (reply_text head close (answer_of reply.now)) }
+    ensures { SendsReply result (W.contents writer.old) (W.contents writer.new)
+        (reply_text head close (answer_of reply.now)) }
 {
     let mut out = Outgoing::new();
     out.put_status(writer, reply.status.code());

@@ -1,4 +1,4 @@
-use Rattle.registry_http.proofs.ChunkLemmas.{line_never, line_full, line_not_yet, line_read}
+use Rattle.registry_http.proofs.ChunkReading.{line_never, line_full, line_not_yet, line_read}
 use Rattle.registry_http.proofs.chunk.find_line.Goals as goal
 
 pub returns-in-Ok-Complete : goal.returns-in-Ok-Complete

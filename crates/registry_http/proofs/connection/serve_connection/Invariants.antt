@@ -1,6 +1,6 @@
 use Rattle.std.proofs.Common.{◌≡◌, []}
 use Rattle.registry_http.specs.Intaking.{taken, unread, weight}
-use Rattle.registry_http.proofs.ServingLemmas.{Progress}
+use Rattle.registry_http.proofs.ConnectionProgress.{Progress}
 use Rattle.registry_http.proofs.connection.serve_connection.Given as goal
 
 -- the requests so far are answered, and what is unread and what the reader has left follow them

@@ -1,6 +1,6 @@
 use Rattle.percent_encoding.specs.Percent.{percent_decode}
 use Rattle.registry_http.specs.Asking.{path_in}
-use Rattle.registry_http.proofs.TextLemmas.{text_valid, text_invalid}
+use Rattle.registry_http.proofs.TextPlaces.{text_valid, text_invalid}
 use Rattle.registry_http.proofs.target.decode_path.Goals as goal
 
 pub returns-in-Ok : goal.returns-in-Ok

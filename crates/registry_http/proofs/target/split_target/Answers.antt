@@ -2,7 +2,7 @@ use Rattle.std.proofs.Common.{sym, ap, ◌∙◌, ◌+◌, take, drop, arith}
 use Rattle.std.proofs.lemmas.List.{drop_all}
 use Rattle.registry_http.specs.Asking.{is_question_mark}
 use Rattle.registry_http.proofs.HeadLemmas.{take_whole}
-use Rattle.registry_http.proofs.TextLemmas.{some_place, no_place, behind}
+use Rattle.registry_http.proofs.TextPlaces.{some_place, no_place, behind}
 use Rattle.registry_http.proofs.target.split_target.Goals as goal
 
 pub returns-in-Some-clause-path : goal.returns-in-Some-clause-path

@@ -1,6 +1,6 @@
 use Rattle.std.proofs.Common.{sym, ap, ◌∙◌, ◌==◌, not, drop, arith}
 use Rattle.std.proofs.lemmas.List.{drop_all}
-use Rattle.registry_http.proofs.TextLemmas.{some_place, no_place, behind}
+use Rattle.registry_http.proofs.TextPlaces.{some_place, no_place, behind}
 use Rattle.registry_http.proofs.token.after_spaces.Goals as goal
 
 pub returns-in-Some : goal.returns-in-Some

@@ -1,4 +1,4 @@
-use Rattle.registry_http.proofs.TextLemmas.{text_valid, text_invalid}
+use Rattle.registry_http.proofs.TextPlaces.{text_valid, text_invalid}
 use Rattle.registry_http.proofs.token.text_if_valid.Goals as goal
 
 pub returns-in-Ok : goal.returns-in-Ok

@@ -1,7 +1,7 @@
 use Rattle.std.proofs.Common.{inl, ◌∙◌, arith, sym}
 use Rattle.registry_http.specs.Chunks.{LineIsCut, LineIsRefused, ChunkIsCut, ChunkIsRefused}
 use Rattle.registry_http.proofs.TakingLemmas.{ends_as}
-use Rattle.registry_http.proofs.ChunkLemmas.{too_large, line_fits, line_taken, data_ends, chunk_read}
+use Rattle.registry_http.proofs.ChunkReading.{too_large, line_fits, line_taken, data_ends, chunk_read}
 use Rattle.registry_http.proofs.intake.Intake.next_chunk.Goals as goal
 
 pub returns-in-Err-clause-cases : goal.returns-in-Err-clause-cases

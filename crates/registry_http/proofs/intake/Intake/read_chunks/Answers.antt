@@ -1,5 +1,5 @@
 use Rattle.std.proofs.Common.{rules, ◌∙◌}
-use Rattle.registry_http.proofs.ChunksLemmas.{one_more, all_read, chunk_ends}
+use Rattle.registry_http.proofs.ChunkSequences.{one_more, all_read, chunk_ends}
 use Rattle.registry_http.proofs.intake.Intake.read_chunks.Goals as goal
 
 pub chunks-preserved : goal.chunks-preserved

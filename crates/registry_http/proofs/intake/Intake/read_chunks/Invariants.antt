@@ -1,4 +1,5 @@
 use Rattle.std.proofs.Common.{◌≡◌, ◌-◌, ◌≤◌}
+use Rattle.registry_http.specs.Chunks.{limit}
 use Rattle.registry_http.specs.Intaking.{taken, unread, weight}
 use Rattle.registry_http.specs.Taking.{ChunksSoFar}
 use Rattle.registry_http.proofs.intake.Intake.read_chunks.Given as goal
@@ -12,4 +13,4 @@ invariant-chunks g l = record {
 }
 
 abbrev pub decreases-chunks : goal.decreases-chunks
-decreases-chunks g l = 67108864 - l.total
+decreases-chunks g l = limit - l.total

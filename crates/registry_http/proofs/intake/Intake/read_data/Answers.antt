@@ -3,7 +3,7 @@ use Rattle.registry_http.specs.Chunks.{DataIsCut, DataIsRefused}
 use Rattle.registry_http.specs.declared.ending.FramingRefusal.TheVariants.{UnreadableChunk}
 use Rattle.registry_http.proofs.ReadingLemmas.{pulls-on}
 use Rattle.registry_http.proofs.TakingLemmas.{refused_from, until_ends, ends_on}
-use Rattle.registry_http.proofs.ChunkLemmas.{bad_first, bad_second, good_end, cut_before, cut_behind}
+use Rattle.registry_http.proofs.ChunkReading.{bad_first, bad_second, good_end, cut_before, cut_behind}
 use Rattle.registry_http.proofs.intake.Intake.read_data.Goals as goal
 
 pub returns-in-Err-clause-cases : goal.returns-in-Err-clause-cases

@@ -1,4 +1,0 @@
-pub mod SettingLemmas
-pub mod ProgramLemmas
-pub mod TableLemmas
-pub mod SocketLemmas

@@ -1,0 +1,44 @@
+use Rattle.std.proofs.Common.{◌≡◌, ℕ, List, length, reverse, slice_range, sym, ap, ◌∙◌, arith}
+use Rattle.std.proofs.lemmas.List.{reverse-reverse}
+use Rattle.httparse.specs.Grammar.{skip_ows, trim_ows}
+use Rattle.httparse.proofs.TrimLemmas.{skip_ows_yes, skip_ows_no, slice_first, slice_last, slice_empty}
+use Rattle.registry_http.proofs.persistence.trim.Goals.{then-loop-start-test+else-is_ows, else-loop-start-test, then-loop-end-test+else-is_ows-2, else-loop-end-test}
+use Rattle.registry_http.proofs.persistence.trim.Goals as goal
+
+pub loop-end-init : goal.loop-end-init
+unfolding trim_ows
+loop-end-init c =
+    let here = slice_range c.args.word.now c.loop-start.start (length c.args.word.now) in
+    let stays : skip_ows here ≡ here = elim c.loop-start-test.branch [
+      | then-loop-start-test+else-is_ows w ↦
+          skip_ows_no (slice_first c.args.word.now _ _ w.loop-start-test.true (omega arith)) (w.if-is_ows.ensures)
+      | else-loop-start-test w ↦
+          let empty = slice_empty c.args.word.now c.loop-start.start (length c.args.word.now) (omega arith) (omega arith) in
+          ap skip_ows empty ∙ sym empty
+    ] in
+    record {
+      ordered = omega arith;
+      within = omega arith;
+      trimmed = ap (λ (t : List ℕ). reverse (skip_ows (reverse t))) (c.loop-start.invariant.skipped ∙ stays);
+    }
+
+pub loop-end-preserved : goal.loop-end-preserved
+loop-end-preserved c =
+    let last = slice_last c.args.word.now _ _ c.loop-end-test.true (omega arith) in
+    record {
+      ordered = omega arith;
+      within = omega arith;
+      trimmed = c.loop-end.invariant.trimmed ∙ ap reverse (skip_ows_yes last c.if-is_ows-2.ensures);
+    }
+
+pub returns : goal.returns
+returns c =
+    let here = slice_range c.args.word.now c.loop-start.start c.loop-end.end in
+    let stays : skip_ows (reverse here) ≡ reverse here = elim c.loop-end-test.branch [
+      | then-loop-end-test+else-is_ows-2 w ↦
+          skip_ows_no (slice_last c.args.word.now _ _ w.loop-end-test.true (omega arith)) w.if-is_ows-2.ensures
+      | else-loop-end-test w ↦
+          let empty = slice_empty c.args.word.now c.loop-start.start c.loop-end.end (omega arith) (omega arith) in
+          ap (λ (t : List ℕ). skip_ows (reverse t)) empty ∙ sym (ap reverse empty)
+    ] in
+    sym (c.loop-end.invariant.trimmed ∙ ap reverse stays ∙ reverse-reverse here)

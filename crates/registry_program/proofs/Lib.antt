@@ -1,0 +1,4 @@
+pub mod SettingLemmas
+pub mod ExitStatuses
+pub mod TableLemmas
+pub mod SinceOpened

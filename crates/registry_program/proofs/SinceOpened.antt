@@ -1,0 +1,30 @@
+-- Connections since a registry was last opened.
+use Rattle.std.proofs.Common.{◌≡◌, ◌⊎◌, suc, false, Result, Ok, Err, inl, inr, refl, sym, subst}
+use Rattle.registry_model.specs.Keeping.{State}
+use Rattle.registry_http.specs.declared.ending.End.{End}
+use Rattle.registry_program.specs.Sockets.{Connects, ServesSome, ServesAddress}
+use Rattle.registry_program.specs.declared.failure.Failure.{Failure}
+use Rattle.registry_program.specs.Carrying.{Output}
+use Rattle.registry_program.specs.Running.{Told}
+
+-- from a state in which the registry may be found, some connections lead to this one
+abbrev pub Since : (State → Type 0) → State → Type 0
+Since opens s = (first : State) × opens first × ServesSome first s
+
+pub since_opened : (opens : State → Type 0) (s : State) → opens s → Since opens s
+since_opened opens s o = (s, o, (0, refl))
+
+-- one connection more
+pub since_served : (opens : State → Type 0) (s s' : State) (end : End) → Since opens s → s.spent ≡ false → Connects end s s' → Since opens s'
+since_served opens s s' end since fresh c = (since.0, since.1, (suc since.2.0, (s, since.2.1, fresh, end, c)))
+
+-- the service goes on, or the registry is opened again
+pub since_resumed : {K : Type 0} (is_honest : K → Type 0) (state : K → State) (opens : State → Type 0) (k next : K)
+    → (is_honest k → Since opens (state k)) → (next ≡ k) ⊎ (is_honest next → opens (state next)) → is_honest next → Since opens (state next)
+since_resumed is_honest state opens k next so_far (inl same) honest = subst (λ x. Since opens (state x)) (sym same) (so_far (subst is_honest same honest))
+since_resumed is_honest state opens k next so_far (inr opened) honest = since_opened opens (state next) (opened honest)
+
+-- the same of a registry at some path
+pub served_at : (over over' : Told) → (over ServesSome → over' ServesSome) → (result : Result (Unit {0}) Failure) (o : Output) → ServesAddress over result o → ServesAddress over' result o
+served_at over over' more (Ok v) o serves = (serves.0, more serves.1)
+served_at over over' more (Err f) o serves = serves

@@ -1,0 +1,40 @@
+-- Connections that are served over sockets, one after the other (profile).
+use Rattle.std.specs.Prelude.{◌≡◌, ℕ, zero, suc, false, ◌++◌, Result, Ok, Err, codes}
+use Rattle.std.specs.Io.KnownBytes.{Appends}
+use Rattle.oci_names.specs.Text.{Text}
+use Rattle.registry_model.specs.Keeping.{State}
+use Rattle.registry_http.specs.Serving.{Serves}
+use Rattle.registry_http.specs.declared.ending.End.{End}
+use Rattle.registry_program.specs.declared.failure.Failure.{Failure}
+use Rattle.registry_program.specs.Failures.{IsOfServing}
+use Rattle.registry_program.specs.Program.{Ends, traffic_of}
+use Rattle.registry_program.specs.Carrying.{Output}
+use Rattle.registry_program.specs.Table.{newline}
+
+-- some connection was served to this end, from one state to another
+abbrev pub Connects : End → State → State → Type 0
+Connects end s s' = (e : Ends) × Serves end (traffic_of e s s')
+
+-- one connection was taken and served; or none was taken, and nothing is done
+abbrev pub ServesNext : {E : Type 0} → Result End E → State → State → Type 0
+ServesNext (Ok end) s s' = Connects end s s'
+ServesNext (Err e) s s' = s' ≡ s
+
+-- so many connections were served one after the other, each by a storage that had not failed
+abbrev pub ServesMany : ℕ → State → State → Type 0
+ServesMany zero s s' = s' ≡ s
+ServesMany (suc n) s s' =
+    (mid : State) × ServesMany n s mid × (mid.spent ≡ false) × (end : End) × Connects end mid s'
+
+-- some number of them
+abbrev pub ServesSome : State → State → Type 0
+ServesSome s s' = (n : ℕ) × ServesMany n s s'
+
+abbrev pub greeting : Text
+greeting = codes "registry: listening" ++ newline
+
+-- All connections were served, those since the registry was last opened from a state in which it may be
+-- found; or the registry was not opened again, or a socket or writing failed.
+abbrev pub ServesAddress : ((State → State → Type 0) → Type 0) → Result (Unit {0}) Failure → Output → Type 0
+ServesAddress over (Ok v) o = Appends o.held o.held' greeting × over ServesSome
+ServesAddress over (Err f) o = IsOfServing f

@@ -1,0 +1,15 @@
+-- What is done over a registry that was opened (profile).
+use Rattle.oci_names.specs.Text.{Text}
+use Rattle.registry_model.specs.Keeping.{State}
+
+-- Over a keeper of the type K, from the first state that this opening may give to its last: as far as the
+-- storage has returned what was written.
+pub record Over {K : Type 0} (is_honest : K → Type 0) (state : K → State) (opens : State → Type 0)
+    (Says : State → State → Type 0) : Type 0 where
+  pub last : K
+  pub says : is_honest last → (first : State) × opens first × Says first (state last)
+
+-- the same of a registry at some path
+abbrev pub OverSome : {K : Type 0} → (K → Type 0) → (K → State) → (Text → State → Type 0)
+    → (State → State → Type 0) → Type 0
+OverSome {K} is_honest state opens Says = (path : Text) × Over {K = K} is_honest state (opens path) Says

@@ -1,0 +1,19 @@
+ghost use Rattle.std.specs.Prelude.{◌≡◌, ℕ, false, List, IfOk, IfErr};
+ghost use Rattle.registry_model.specs.Keeping.{State};
+ghost use Rattle.registry_program.specs.Failures.{IsOfOpening};
+
+use crate::failure::Failure;
+use registry_model::Keeper;
+
+/// What opens registries over databases; `K` is the keeper that an opening gives.
+pub trait Opener<K: Keeper> {
+    // The states in which a registry at a path may be found.
+    ghost opens: { Self → List ℕ → State → Type 0 };
+
+    /// Opens the registry at a path, which stands as it was given; its storage has not failed. An error
+    /// is one of memory, storage or schema, or that the database is no registry.
+    fn open(&self, path: &str) -> Result<K, Failure>
+        ensures opened { IfOk result (λ kept. K.is_honest kept → opens self.now path.now (K.state kept)) }
+        ensures fresh { IfOk result (λ kept. (K.state kept).spent ≡ false) }
+        ensures refused { IfErr result IsOfOpening };
+}
