@@ -5,21 +5,21 @@ use Rattle.sqlite.specs.Order.{Row}
 use Rattle.sqlite.specs.Tree.{has_rowid}
 use Rattle.sqlite.specs.Table.{Table}
 use Rattle.sqlite.specs.Effect.{Database}
-use Rattle.registry_tables.specs.Schema.{fresh_schema, version_table, repos_table, grants_table, tags_table, contents_table, blob_links_table, manifest_links_table, uploads_table, pieces_table}
-use Rattle.registry_tables.specs.Layout.{tree_of, rows_of}
-use Rattle.registry_tables.specs.Making.{IsEmptyWith}
-use Rattle.registry_tables.specs.Rows.{bytes_at}
-use Rattle.registry_tables.proofs.Fresh.{version_tree, repos_tree, grants_tree, tags_tree, contents_tree, blob_links_tree, manifest_links_tree, uploads_tree, pieces_tree}
-use Rattle.registry_content.proofs.Fresh.{empty_holds}
-use Rattle.registry_rows.specs.Tables.{Tables, AreTables, no_tables}
-use Rattle.registry_rows.specs.Registry.{Agree}
-use Rattle.registry_store.specs.Known.{KnowsRegistry}
-use Rattle.registry_store.specs.Held.{tables_in, held, HoldsTables, IsReady, Makes}
-use Rattle.registry_store.specs.Steps.{VersionComes, IsNew}
-use Rattle.registry_store.proofs.Transactions.{commits, makes}
+use Rattle.store_schema.specs.Schema.{fresh_schema, version_table, repos_table, grants_table, tags_table, contents_table, blob_links_table, manifest_links_table, uploads_table, pieces_table}
+use Rattle.store_schema.specs.Layout.{tree_of, rows_of}
+use Rattle.store_schema.specs.Making.{IsEmptyWith}
+use Rattle.store_schema.specs.Rows.{bytes_at}
+use Rattle.store_schema.proofs.Fresh.{version_tree, repos_tree, grants_tree, tags_tree, contents_tree, blob_links_tree, manifest_links_tree, uploads_tree, pieces_tree}
+use Rattle.store_contents.proofs.Fresh.{empty_holds}
+use Rattle.store_world.specs.Tables.{Tables, AreTables, no_tables}
+use Rattle.store_world.specs.Registry.{Agree}
+use Rattle.store_statements.specs.Known.{KnowsRegistry}
+use Rattle.store_statements.specs.Held.{tables_in, held, HoldsTables, IsReady, Makes}
+use Rattle.store_statements.specs.Steps.{VersionComes, IsNew}
+use Rattle.store_statements.proofs.Transactions.{commits, makes}
 use Rattle.registry_model.specs.World.{no_world}
 use Rattle.sqlite.specs.State.{State, Shows}
-use Rattle.registry_store.proofs.FreshKnown.{knows_registry}
+use Rattle.store_statements.proofs.FreshKnown.{knows_registry}
 
 are_empty : (rows : List Row) → AreTables (record no_tables { version = rows })
 are_empty rows = record {

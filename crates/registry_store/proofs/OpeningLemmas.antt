@@ -7,19 +7,19 @@ use Rattle.sqlite.specs.Table.{Table}
 use Rattle.sqlite.specs.Schema.{Schema}
 use Rattle.sqlite.specs.State.{State}
 use Rattle.sqlite_schema.specs.Names.{same_name}
-use Rattle.registry_tables.specs.Schema.{version_table}
-use Rattle.registry_tables.specs.Layout.{Stands, placed}
-use Rattle.registry_store.specs.Held.{IsSettled, HoldsTables, held, tables_in}
+use Rattle.store_schema.specs.Schema.{version_table}
+use Rattle.store_schema.specs.Layout.{Stands, placed}
+use Rattle.store_statements.specs.Held.{IsSettled, HoldsTables, held, tables_in}
 use Rattle.registry_store.specs.Opening.{IsIdle, HoldsRegistry, has_version_table, SaysTwo, MayFind, WereOurs, IsOurs}
 use Rattle.sqlite.specs.Start.{FindsIn}
 use Rattle.sqlite.specs.Files.{AreFoundIn}
 use Rattle.sqlite.specs.State.{Opens, IsLive}
 use Rattle.sqlite_wal.specs.Recovery.{Image}
 use Rattle.registry_store.specs.Asking.{IsFailing}
-use Rattle.registry_store.specs.VersionTexts.{version_find}
-use Rattle.registry_tables.proofs.Selects.{Answer, shows}
-use Rattle.registry_tables.proofs.Writes.{passes}
-use Rattle.registry_tables.specs.Layout.{tree_of}
+use Rattle.store_statements.specs.VersionTexts.{version_find}
+use Rattle.store_schema.proofs.Selects.{Answer, shows}
+use Rattle.store_schema.proofs.Writes.{passes}
+use Rattle.store_schema.specs.Layout.{tree_of}
 use Rattle.sqlite.proofs.Callers.{one_permutation, command_of}
 use Rattle.sqlite.specs.Effect.{Database, RefusesQuery, RefusesToRead}
 use Rattle.sqlite.specs.State.{FailsToShow}
@@ -31,8 +31,8 @@ use Rattle.sqlite.specs.Command.{Command}
 use Rattle.sqlite.specs.Command.TheVariants.{Select}
 use Rattle.sqlite.specs.State.{IsNoStatement}
 use Rattle.sqlite_schema.specs.declared.program.Program.{Program}
-use Rattle.registry_tables.proofs.Selects.{means_command}
-use Rattle.registry_tables.specs.Layout.{Means}
+use Rattle.store_schema.proofs.Selects.{means_command}
+use Rattle.store_schema.specs.Layout.{Means}
 use Rattle.std.specs.Prelude.{Option, cond, ◌+◌}
 use Rattle.sqlite.specs.declared.error.Error.{Error}
 use Rattle.sqlite.specs.State.{Shown, FailsToQuery, IsNotRun, store_error}

@@ -2,9 +2,9 @@
 use Rattle.std.proofs.Common.{◌≡◌, ◌∙◌, ℕ, ℤ, Bool, true, false, List, [], Some, None, Ok, Err, Result, refl, sym, subst}
 use Rattle.std.specs.Prelude.{⊤, Option}
 use Rattle.sqlite_tied.specs.Compute.{everything}
-use Rattle.registry_store.specs.VersionTexts.{version_find}
-use Rattle.registry_store.specs.Held.{LeavesAsWas, IsBack}
-use Rattle.registry_tables.proofs.Selects.{Answer}
+use Rattle.store_statements.specs.VersionTexts.{version_find}
+use Rattle.store_statements.specs.Held.{LeavesAsWas, IsBack}
+use Rattle.store_schema.proofs.Selects.{Answer}
 use Rattle.sqlite_schema.specs.declared.schema.Schema.{Schema}
 use Rattle.sqlite_schema.specs.declared.command.Command.{Command}
 use Rattle.sqlite_schema.specs.declared.command.Returning.{Returning}

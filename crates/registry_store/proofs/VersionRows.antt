@@ -9,22 +9,22 @@ use Rattle.sqlite.specs.Schema.{Schema}
 use Rattle.sqlite.specs.Table.{Table}
 use Rattle.sqlite.specs.Term.{lit}
 use Rattle.sqlite.specs.State.{State, ExecutesInside}
-use Rattle.registry_tables.specs.Schema.{version_table}
-use Rattle.registry_tables.specs.Layout.{tree_of, placed, rows_of}
-use Rattle.registry_tables.proofs.Writes.{either, inserts, adds_row, AddsRow, keeps_others}
-use Rattle.registry_rows.specs.Tables.{AreTables}
-use Rattle.registry_store.specs.VersionTexts.{version_add}
-use Rattle.registry_store.specs.Known.{KnowsRegistry}
-use Rattle.registry_store.specs.Held.{held, IsReady}
-use Rattle.registry_store.specs.Steps.{VersionComes}
-use Rattle.registry_store.proofs.Others.{only_version, contents_beside_version}
+use Rattle.store_schema.specs.Schema.{version_table}
+use Rattle.store_schema.specs.Layout.{tree_of, placed, rows_of}
+use Rattle.store_schema.proofs.Writes.{either, inserts, adds_row, AddsRow, keeps_others}
+use Rattle.store_world.specs.Tables.{AreTables}
+use Rattle.store_statements.specs.VersionTexts.{version_add}
+use Rattle.store_statements.specs.Known.{KnowsRegistry}
+use Rattle.store_statements.specs.Held.{held, IsReady}
+use Rattle.store_statements.specs.Steps.{VersionComes}
+use Rattle.store_statements.proofs.OtherTables.{only_version, contents_beside_version}
 
 cast_version : (schema : Schema) → cast_row (placed schema version_table) (Null ∷ Int (pos 2) ∷ []) ≡ Null ∷ Int (pos 2) ∷ []
 unfolding unary
 cast_version schema = rw (either, either)
 
 -- whatever else is in the tables, they stay as they are
-same_tables : (t : Rattle.registry_rows.specs.Tables.Tables) (rows : List Row) → AreTables t → AreTables (record t { version = rows })
+same_tables : (t : Rattle.store_world.specs.Tables.Tables) (rows : List Row) → AreTables t → AreTables (record t { version = rows })
 same_tables t rows a = record { repos = a.repos; grants = a.grants; tags = a.tags; blobs = a.blobs; manifests = a.manifests; uploads = a.uploads; pieces = a.pieces }
 
 pub version_by : (old new : State) (r : Result ℕ Error) → IsReady old → ExecutesInside 0 version_add [] old new r → OnOk r (VersionComes old new)
@@ -46,7 +46,7 @@ version_by old new (Ok n) is ran = record {
     it = adds_row schema table (Int (pos 2) ∷ []) old new (cast_version schema)
         (inserts schema is.holds.known.version.at table is.holds.known.version.place version_add [] old new refl refl refl (lit Null ∷ lit (Int (pos 2)) ∷ []) 2 is.holds.known.version_texts.add n ran.0)
 
-    keeps : Rattle.registry_tables.specs.Layout.KeepsOthers version_table old.now new.now
+    keeps : Rattle.store_schema.specs.Layout.KeepsOthers version_table old.now new.now
     keeps = keeps_others version_table old.now new.now (tree_of schema version_table) refl it.ran.schema_is it.tables
 
     now : held new ≡ record (held old) { version = (held new).version }

@@ -12,7 +12,7 @@ use Rattle.sqlite_resolve.specs.declared.compiled.Compiled.{Compiled}
 use Rattle.sqlite_resolve.specs.declared.error.CompileError.{CompileError}
 use Rattle.registry_store.specs.declared.opening.OpenFault.{OpenFault}
 use Rattle.registry_store.specs.declared.opening.OpenFault.TheVariants.{Memory, Storage, Schema}
-use Rattle.registry_store.specs.VersionTexts.{version_find}
+use Rattle.store_statements.specs.VersionTexts.{version_find}
 
 -- memory is wanting, or the storage failed
 abbrev pub IsWanting : OpenFault → Type 0
@@ -28,7 +28,10 @@ ShowsAlone rows n = (row : Row) × (rows ≡ row ∷ []) × (column row 0 ≡ In
 
 -- asked for the version of its tables, the database answers these rows
 abbrev pub AnswersVersion : State → List Row → Type 0
-AnswersVersion s rows = (c : Compiled) × (it : IsStatement s version_find [] c) × (db : Database) × IsSourceOf (reads_listing s.now.schema version_find) s.now db × Reads c.command db (timed [] c.formats it.now) rows
+AnswersVersion s rows =
+    (c : Compiled) × (it : IsStatement s version_find [] c) × (db : Database)
+    × IsSourceOf (reads_listing s.now.schema version_find) s.now db
+    × Reads c.command db (timed [] c.formats it.now) rows
 
 -- it answers this number alone
 abbrev pub IsOfSchema : State → ℤ → Type 0

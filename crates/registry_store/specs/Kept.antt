@@ -8,4 +8,6 @@ pub record Kept (S : Type 0) : Type 0 where
   pub spent : Bool
 
 abbrev pub kept_code : {S : Type 0} → Coded S → Coded (Kept S)
-kept_code {S} store = code_by (Held S × Bool) (coded× (held_code store) coded_bool) (λ k. (k.conn, k.spent)) (λ p. record { conn = p.0; spent = p.1 }) (λ _. refl)
+kept_code {S} store =
+    code_by (Held S × Bool) (coded× (held_code store) coded_bool) (λ k. (k.conn, k.spent))
+    (λ p. record { conn = p.0; spent = p.1 }) (λ _. refl)

@@ -9,12 +9,12 @@ use Rattle.sqlite.specs.State.{State}
 use Rattle.sqlite_wal.specs.Recovery.{Image}
 use Rattle.sqlite_trees.specs.Tree.{Trees}
 use Rattle.sqlite_schema.specs.Names.{table_named}
-use Rattle.registry_tables.specs.Schema.{no_schema}
-use Rattle.registry_tables.specs.Making.{IsEmptyWith}
-use Rattle.registry_rows.specs.Registry.{Agree}
-use Rattle.registry_rows.specs.World.{world_of}
+use Rattle.store_schema.specs.Schema.{no_schema}
+use Rattle.store_schema.specs.Making.{IsEmptyWith}
+use Rattle.store_world.specs.Registry.{Agree}
+use Rattle.store_world.specs.World.{world_of}
 use Rattle.registry_model.specs.World.{no_world}
-use Rattle.registry_store.specs.Held.{HoldsTables, tables_in}
+use Rattle.store_statements.specs.Held.{HoldsTables, tables_in}
 
 -- one row says that the tables are of schema 2
 abbrev pub SaysTwo : Database → Type 0
@@ -48,7 +48,8 @@ pub record MayFind (image : Image) (trees : Trees) : Type 0 where
 abbrev pub WereOurs : Image → Type 0
 WereOurs image = (db : Database) → IsDatabase db → MayFind image db.trees → IsOurs db
 
--- the tables of a store that was opened on the files: those that were found, or new ones that stand for the empty world
+-- the tables of a store that was opened on the files: those that were found, or new ones that stand for the
+-- empty world
 abbrev pub OpensOn : Image → Database → Type 0
 OpensOn image now = (db : Database) × MayFind image db.trees
     × (IsEmptyWith no_schema db → world_of (tables_in now) ≡ no_world)

@@ -1,19 +1,26 @@
 //! The store as a keeper: each call asks the tables, and what is said of rows is said of the world.
 ghost use Rattle.sqlite.specs.State.{HasCleanDisk};
 ghost use Rattle.sqlite.specs.Held.{state};
-ghost use Rattle.registry_store.specs.Held.{world_in};
+ghost use Rattle.store_statements.specs.Held.{world_in};
 
-use crate::noting::noted;
+use crate::fault_noting::note_fault;
 use crate::store::Store;
-use crate::{
-    appending, clearing, deletions, dropping, finishing, granting, mounting, putting,
-    putting_manifests, reading, sessions, setting,
-};
 use oci_manifest::{Kind, Manifest};
 use oci_names::{Digest, Fault, RepoName, Tag, Token};
 use registry_model::{Keeper, Level, Quota, Usage};
 use sqlite::Alter;
 use std::alloc::Global;
+
+/// Asks the tables, unless the storage has failed, and notes where it fails now.
+macro_rules! unless_spent {
+    ($store:ident, $asked:expr) => {{
+        if $store.spent {
+            return Err(Fault::Storage);
+        }
+        let answer = $asked;
+        note_fault(&mut $store.spent, answer)
+    }};
+}
 
 impl<S: Alter> Keeper for Store<S> {
     ghost state = { λ s. record { world = world_in (state S.Store s.conn); spent = s.spent } };
@@ -25,27 +32,15 @@ impl<S: Alter> Keeper for Store<S> {
     }
 
     fn known(&mut self, token: &Token) -> Result<bool, Fault> {
-        if self.spent {
-            return Err(Fault::Storage);
-        }
-        let answer = reading::known(&mut self.conn, token);
-        noted(&mut self.spent, answer)
+        unless_spent!(self, store_reads::known(&mut self.conn, token))
     }
 
     fn has_repo(&mut self, repo: &RepoName) -> Result<bool, Fault> {
-        if self.spent {
-            return Err(Fault::Storage);
-        }
-        let answer = reading::has_repo(&mut self.conn, repo);
-        noted(&mut self.spent, answer)
+        unless_spent!(self, store_reads::has_repo(&mut self.conn, repo))
     }
 
     fn level(&mut self, token: &Token, repo: &RepoName) -> Result<Option<Level>, Fault> {
-        if self.spent {
-            return Err(Fault::Storage);
-        }
-        let answer = reading::level(&mut self.conn, token, repo);
-        noted(&mut self.spent, answer)
+        unless_spent!(self, store_reads::level(&mut self.conn, token, repo))
     }
 
     fn blob(
@@ -54,19 +49,11 @@ impl<S: Alter> Keeper for Store<S> {
         repo: &RepoName,
         digest: &Digest,
     ) -> Result<Option<Vec<u8>>, Fault> {
-        if self.spent {
-            return Err(Fault::Storage);
-        }
-        let answer = reading::blob(alloc, &mut self.conn, repo, digest);
-        noted(&mut self.spent, answer)
+        unless_spent!(self, store_reads::blob(alloc, &mut self.conn, repo, digest))
     }
 
     fn blob_size(&mut self, repo: &RepoName, digest: &Digest) -> Result<Option<u64>, Fault> {
-        if self.spent {
-            return Err(Fault::Storage);
-        }
-        let answer = reading::blob_size(&mut self.conn, repo, digest);
-        noted(&mut self.spent, answer)
+        unless_spent!(self, store_reads::blob_size(&mut self.conn, repo, digest))
     }
 
     fn manifest(
@@ -75,11 +62,10 @@ impl<S: Alter> Keeper for Store<S> {
         repo: &RepoName,
         digest: &Digest,
     ) -> Result<Option<(Kind, Vec<u8>)>, Fault> {
-        if self.spent {
-            return Err(Fault::Storage);
-        }
-        let answer = reading::manifest(alloc, &mut self.conn, repo, digest);
-        noted(&mut self.spent, answer)
+        unless_spent!(
+            self,
+            store_reads::manifest(alloc, &mut self.conn, repo, digest)
+        )
     }
 
     fn manifest_size(
@@ -87,19 +73,14 @@ impl<S: Alter> Keeper for Store<S> {
         repo: &RepoName,
         digest: &Digest,
     ) -> Result<Option<(Kind, u64)>, Fault> {
-        if self.spent {
-            return Err(Fault::Storage);
-        }
-        let answer = reading::manifest_size(&mut self.conn, repo, digest);
-        noted(&mut self.spent, answer)
+        unless_spent!(
+            self,
+            store_reads::manifest_size(&mut self.conn, repo, digest)
+        )
     }
 
     fn tag(&mut self, alloc: Global, repo: &RepoName, tag: &Tag) -> Result<Option<Digest>, Fault> {
-        if self.spent {
-            return Err(Fault::Storage);
-        }
-        let answer = reading::tag(alloc, &mut self.conn, repo, tag);
-        noted(&mut self.spent, answer)
+        unless_spent!(self, store_reads::tag(alloc, &mut self.conn, repo, tag))
     }
 
     fn tags_after(
@@ -109,11 +90,10 @@ impl<S: Alter> Keeper for Store<S> {
         last: &str,
         n: Option<u64>,
     ) -> Result<(Vec<Tag>, bool), Fault> {
-        if self.spent {
-            return Err(Fault::Storage);
-        }
-        let answer = reading::tags_after(alloc, &mut self.conn, repo, last, n);
-        noted(&mut self.spent, answer)
+        unless_spent!(
+            self,
+            store_reads::tags_after(alloc, &mut self.conn, repo, last, n)
+        )
     }
 
     fn manifests_of_subject(
@@ -122,19 +102,17 @@ impl<S: Alter> Keeper for Store<S> {
         repo: &RepoName,
         digest: &Digest,
     ) -> Result<Vec<(Digest, Vec<u8>)>, Fault> {
-        if self.spent {
-            return Err(Fault::Storage);
-        }
-        let answer = reading::manifests_of_subject(alloc, &mut self.conn, repo, digest);
-        noted(&mut self.spent, answer)
+        unless_spent!(
+            self,
+            store_reads::manifests_of_subject(alloc, &mut self.conn, repo, digest)
+        )
     }
 
     fn session_size(&mut self, repo: &RepoName, number: u64) -> Result<Option<u64>, Fault> {
-        if self.spent {
-            return Err(Fault::Storage);
-        }
-        let answer = reading::session_size(&mut self.conn, repo, number);
-        noted(&mut self.spent, answer)
+        unless_spent!(
+            self,
+            store_reads::session_size(&mut self.conn, repo, number)
+        )
     }
 
     fn session(
@@ -143,67 +121,44 @@ impl<S: Alter> Keeper for Store<S> {
         repo: &RepoName,
         number: u64,
     ) -> Result<Option<Vec<u8>>, Fault> {
-        if self.spent {
-            return Err(Fault::Storage);
-        }
-        let answer = reading::session_numbered(alloc, &mut self.conn, repo, number);
-        noted(&mut self.spent, answer)
+        unless_spent!(
+            self,
+            store_reads::session_numbered(alloc, &mut self.conn, repo, number)
+        )
     }
 
     fn sessions_open(&mut self, repo: &RepoName) -> Result<u64, Fault> {
-        if self.spent {
-            return Err(Fault::Storage);
-        }
-        let answer = reading::sessions_open(&mut self.conn, repo);
-        noted(&mut self.spent, answer)
+        unless_spent!(self, store_reads::sessions_open(&mut self.conn, repo))
     }
 
     fn last_number(&mut self, repo: &RepoName) -> Result<u64, Fault> {
-        if self.spent {
-            return Err(Fault::Storage);
-        }
-        let answer = reading::last_number(&mut self.conn, repo);
-        noted(&mut self.spent, answer)
+        unless_spent!(self, store_reads::last_number(&mut self.conn, repo))
     }
 
     fn usage(&mut self, repo: &RepoName) -> Result<Usage, Fault> {
-        if self.spent {
-            return Err(Fault::Storage);
-        }
-        let answer = reading::usage(self.alloc, &mut self.conn, repo);
-        noted(&mut self.spent, answer)
+        unless_spent!(self, store_reads::usage(self.alloc, &mut self.conn, repo))
     }
 
     fn usages(&mut self, alloc: Global) -> Result<Vec<(RepoName, Usage)>, Fault> {
-        if self.spent {
-            return Err(Fault::Storage);
-        }
-        let answer = reading::usages(alloc, &mut self.conn);
-        noted(&mut self.spent, answer)
+        unless_spent!(self, store_reads::usages(alloc, &mut self.conn))
     }
 
     fn put_blob(&mut self, repo: &RepoName, digest: &Digest, bytes: &[u8]) -> Result<(), Fault> {
-        if self.spent {
-            return Err(Fault::Storage);
-        }
-        let answer = putting::put_blob(self.alloc, &mut self.conn, repo, digest, bytes);
-        noted(&mut self.spent, answer)
+        unless_spent!(
+            self,
+            store_writes::put_blob(self.alloc, &mut self.conn, repo, digest, bytes)
+        )
     }
 
     fn open_session(&mut self, repo: &RepoName) -> Result<u64, Fault> {
-        if self.spent {
-            return Err(Fault::Storage);
-        }
-        let answer = sessions::open_session(&mut self.conn, repo);
-        noted(&mut self.spent, answer)
+        unless_spent!(self, store_writes::open_session(&mut self.conn, repo))
     }
 
     fn append(&mut self, repo: &RepoName, number: u64, bytes: &[u8]) -> Result<(), Fault> {
-        if self.spent {
-            return Err(Fault::Storage);
-        }
-        let answer = appending::append(self.alloc, &mut self.conn, repo, number, bytes);
-        noted(&mut self.spent, answer)
+        unless_spent!(
+            self,
+            store_writes::append(self.alloc, &mut self.conn, repo, number, bytes)
+        )
     }
 
     fn finish(
@@ -213,19 +168,14 @@ impl<S: Alter> Keeper for Store<S> {
         digest: &Digest,
         bytes: &[u8],
     ) -> Result<(), Fault> {
-        if self.spent {
-            return Err(Fault::Storage);
-        }
-        let answer = finishing::finish(self.alloc, &mut self.conn, repo, number, digest, bytes);
-        noted(&mut self.spent, answer)
+        unless_spent!(
+            self,
+            store_writes::finish(self.alloc, &mut self.conn, repo, number, digest, bytes)
+        )
     }
 
     fn mount(&mut self, from: &RepoName, to: &RepoName, digest: &Digest) -> Result<(), Fault> {
-        if self.spent {
-            return Err(Fault::Storage);
-        }
-        let answer = mounting::mount(&mut self.conn, from, to, digest);
-        noted(&mut self.spent, answer)
+        unless_spent!(self, store_writes::mount(&mut self.conn, from, to, digest))
     }
 
     fn put_manifest(
@@ -236,90 +186,62 @@ impl<S: Alter> Keeper for Store<S> {
         manifest: &Manifest,
         tag: Option<&Tag>,
     ) -> Result<(), Fault> {
-        if self.spent {
-            return Err(Fault::Storage);
-        }
-        let answer = putting_manifests::put_manifest(
-            self.alloc,
-            &mut self.conn,
-            repo,
-            digest,
-            bytes,
-            manifest,
-            tag,
-        );
-        noted(&mut self.spent, answer)
+        unless_spent!(
+            self,
+            store_writes::put_manifest(
+                self.alloc,
+                &mut self.conn,
+                repo,
+                digest,
+                bytes,
+                manifest,
+                tag,
+            )
+        )
     }
 
     fn delete_blob(&mut self, repo: &RepoName, digest: &Digest) -> Result<(), Fault> {
-        if self.spent {
-            return Err(Fault::Storage);
-        }
-        let answer = deletions::delete_blob(&mut self.conn, repo, digest);
-        noted(&mut self.spent, answer)
+        unless_spent!(
+            self,
+            store_writes::delete_blob(&mut self.conn, repo, digest)
+        )
     }
 
     fn delete_manifest(&mut self, repo: &RepoName, digest: &Digest) -> Result<(), Fault> {
-        if self.spent {
-            return Err(Fault::Storage);
-        }
-        let answer = deletions::delete_manifest(&mut self.conn, repo, digest);
-        noted(&mut self.spent, answer)
+        unless_spent!(
+            self,
+            store_writes::delete_manifest(&mut self.conn, repo, digest)
+        )
     }
 
     fn delete_tag(&mut self, repo: &RepoName, tag: &Tag) -> Result<(), Fault> {
-        if self.spent {
-            return Err(Fault::Storage);
-        }
-        let answer = deletions::delete_tag(&mut self.conn, repo, tag);
-        noted(&mut self.spent, answer)
+        unless_spent!(self, store_writes::delete_tag(&mut self.conn, repo, tag))
     }
 
     fn set_repo(&mut self, name: &RepoName, quota: Quota) -> Result<(), Fault> {
-        if self.spent {
-            return Err(Fault::Storage);
-        }
-        let answer = setting::set_repo(&mut self.conn, name, quota);
-        noted(&mut self.spent, answer)
+        unless_spent!(self, store_writes::set_repo(&mut self.conn, name, quota))
     }
 
     fn drop_repo(&mut self, name: &RepoName) -> Result<(), Fault> {
-        if self.spent {
-            return Err(Fault::Storage);
-        }
-        let answer = dropping::drop_repo(&mut self.conn, name);
-        noted(&mut self.spent, answer)
+        unless_spent!(self, store_writes::drop_repo(&mut self.conn, name))
     }
 
     fn grant(&mut self, token: &Token, name: &RepoName, level: Level) -> Result<(), Fault> {
-        if self.spent {
-            return Err(Fault::Storage);
-        }
-        let answer = granting::grant(&mut self.conn, token, name, level);
-        noted(&mut self.spent, answer)
+        unless_spent!(
+            self,
+            store_writes::grant(&mut self.conn, token, name, level)
+        )
     }
 
     fn revoke(&mut self, token: &Token, name: &RepoName) -> Result<(), Fault> {
-        if self.spent {
-            return Err(Fault::Storage);
-        }
-        let answer = granting::revoke(&mut self.conn, token, name);
-        noted(&mut self.spent, answer)
+        unless_spent!(self, store_writes::revoke(&mut self.conn, token, name))
     }
 
     fn drop_sessions(&mut self, name: &RepoName) -> Result<(), Fault> {
-        if self.spent {
-            return Err(Fault::Storage);
-        }
-        let answer = sessions::drop_sessions(&mut self.conn, name);
-        noted(&mut self.spent, answer)
+        unless_spent!(self, store_writes::drop_sessions(&mut self.conn, name))
     }
 
     fn clear(&mut self) -> Result<(), Fault> {
-        if self.spent {
-            return Err(Fault::Storage);
-        }
-        let answer = clearing::clear(self.alloc, &mut self.conn);
-        noted(&mut self.spent, answer)
+        unless_spent!(self, store_writes::clear(self.alloc, &mut self.conn))
     }
 }

@@ -1,11 +1,12 @@
 //! The opening of a registry on a database.
-ghost use Rattle.std.specs.Prelude.{◌≡◌, OnOk, OnErr, IfErr, ⊤};
-ghost use Rattle.sqlite.specs.State.{HasCleanDisk, Survives};
+ghost use Rattle.std.specs.Prelude.{◌≡◌, OnOk, OnErr, IfErr};
+ghost use Rattle.sqlite.specs.State.{HasCleanDisk};
 ghost use Rattle.sqlite.specs.Held.{state};
-ghost use Rattle.registry_tables.specs.Schema.{no_schema};
-ghost use Rattle.registry_tables.specs.Making.{IsEmptyWith};
+ghost use Rattle.store_schema.specs.Schema.{no_schema};
+ghost use Rattle.store_schema.specs.Making.{IsEmptyWith};
 ghost use Rattle.registry_model.specs.World.{no_world};
-ghost use Rattle.registry_store.specs.Held.{IsSettled, StaysSettled, Makes, IsBack};
+ghost use Rattle.store_statements.specs.Clauses.{Lasts};
+ghost use Rattle.store_statements.specs.Held.{StaysSettled, Makes, IsBack};
 ghost use Rattle.registry_store.specs.Opening.{IsIdle, HoldsRegistry, SaysTwo, has_version_table};
 ghost use Rattle.registry_store.specs.Asking.{IsWanting, IsTold, IsUnnumbered};
 
@@ -49,13 +50,19 @@ fn is_marked<S: Alter>(conn: &Connection<S>) -> bool
 /// still, and `Schema` names the one number that it says. `NotARegistry`: it says none, or a name is taken.
 /// An empty database, and a registry's of schema 2, are refused for want of memory or a failure alone.
 pub fn take_up<S: Alter>(conn: &mut Connection<S>) -> Result<(), OpenFault>
-    ensures made { HasCleanDisk (state S.Store conn.new) → IsEmptyWith no_schema (state S.Store conn.old).now → OnOk result (Makes (state S.Store conn.new) no_world) }
-    ensures found { HasCleanDisk (state S.Store conn.new) → IsIdle (state S.Store conn.old) → HoldsRegistry (state S.Store conn.old).now → OnOk result (StaysSettled (state S.Store conn.old) (state S.Store conn.new)) }
-    ensures unmade { HasCleanDisk (state S.Store conn.new) → IsEmptyWith no_schema (state S.Store conn.old).now → IfErr result IsWanting }
-    ensures wanting { HasCleanDisk (state S.Store conn.new) → HoldsRegistry (state S.Store conn.old).now → SaysTwo (state S.Store conn.old).now → IfErr result IsWanting }
+    ensures made { HasCleanDisk (state S.Store conn.new) → IsEmptyWith no_schema (state S.Store conn.old).now
+        → OnOk result (Makes (state S.Store conn.new) no_world) }
+    ensures found { HasCleanDisk (state S.Store conn.new) → IsIdle (state S.Store conn.old)
+        → HoldsRegistry (state S.Store conn.old).now
+        → OnOk result (StaysSettled (state S.Store conn.old) (state S.Store conn.new)) }
+    ensures unmade { HasCleanDisk (state S.Store conn.new)
+        → IsEmptyWith no_schema (state S.Store conn.old).now → IfErr result IsWanting }
+    ensures wanting { HasCleanDisk (state S.Store conn.new) → HoldsRegistry (state S.Store conn.old).now
+        → SaysTwo (state S.Store conn.old).now → IfErr result IsWanting }
     ensures told { HasCleanDisk (state S.Store conn.new) → IfErr result (IsTold (state S.Store conn.old)) }
-    ensures back { HasCleanDisk (state S.Store conn.new) → IsIdle (state S.Store conn.old) → OnErr result (IsBack (state S.Store conn.old) (state S.Store conn.new)) }
-    ensures survives { Survives (state S.Store conn.old) (state S.Store conn.new) (λ _. ⊤) }
+    ensures back { HasCleanDisk (state S.Store conn.new) → IsIdle (state S.Store conn.old)
+        → OnErr result (IsBack (state S.Store conn.old) (state S.Store conn.new)) }
+    ensures survives { Lasts S.Store conn.old conn.new }
 {
     if !is_marked(conn) {
         return create(conn);

@@ -5,10 +5,10 @@ ghost use Rattle.sqlite.specs.Held.{state};
 ghost use Rattle.sqlite.specs.Steps.{over_memory};
 ghost use Rattle.sqlite.specs.Files.{file_state};
 ghost use Rattle.sqlite.specs.WalFiles.{image_at};
-ghost use Rattle.registry_tables.specs.Schema.{no_schema};
-ghost use Rattle.registry_tables.specs.Making.{IsEmptyWith};
+ghost use Rattle.store_schema.specs.Schema.{no_schema};
+ghost use Rattle.store_schema.specs.Making.{IsEmptyWith};
 ghost use Rattle.registry_model.specs.World.{no_world};
-ghost use Rattle.registry_store.specs.Held.{IsSettled, IsBack, world_in};
+ghost use Rattle.store_statements.specs.Held.{IsSettled, IsBack, world_in};
 ghost use Rattle.registry_store.specs.Opening.{IsIdle, IsOurs, HoldsRegistry, SaysTwo, OpensOn};
 ghost use Rattle.registry_store.specs.Asking.{IsWanting, IsTold};
 
@@ -32,7 +32,7 @@ impl<S: Alter> Model for Store<S> {
     ghost use Rattle.sqlite.specs.State.{HasCleanDisk};
     ghost use Rattle.sqlite.specs.Held.{state};
     ghost use Rattle.registry_store.specs.Kept.{Kept, kept_code};
-    ghost use Rattle.registry_store.specs.Held.{IsSettled};
+    ghost use Rattle.store_statements.specs.Held.{IsSettled};
 
     ghost Value = { Kept S };
 
@@ -40,7 +40,8 @@ impl<S: Alter> Model for Store<S> {
 
     ghost view = { λ s. record { conn = s.conn; spent = s.spent } };
 
-    ghost invariant = { λ s. s.spent ≡ false → HasCleanDisk (state S.Store s.conn) → IsSettled (state S.Store s.conn) };
+    ghost invariant = { λ s. s.spent ≡ false → HasCleanDisk (state S.Store s.conn)
+        → IsSettled (state S.Store s.conn) };
 }
 
 impl Store<MemStore> {
@@ -62,23 +63,33 @@ impl Store<MemStore> {
 
 impl<S: Alter + Drop> Store<S> {
     /// The registry in the tables of a database: they are made where there are none. That no one else wrote
-    /// the tables is for the caller to know. A refusal hands the connection back, with the tables as they were
-    /// where it is open still: `Schema` where they are of another schema than 2, `NotARegistry` where a name
-    /// is taken by what is none of a registry's. An empty database is refused with neither.
+    /// the tables is for the caller to know. A refusal hands the connection back, with the tables as they
+    /// were where it is open still: `Schema` where they are of another schema than 2, `NotARegistry` where a
+    /// name is taken by what is none of a registry's. An empty database is refused with neither.
     pub fn adopt(
         alloc: Global,
         mut conn: Connection<S>,
     ) -> Result<Store<S>, (OpenFault, Connection<S>)>
         requires idle { HasCleanDisk (state S.Store conn) → IsIdle (state S.Store conn) }
         requires ours { HasCleanDisk (state S.Store conn) → IsOurs (state S.Store conn).now }
-        ensures made { IfOk result (λ s. HasCleanDisk (state S.Store s.conn) → IsEmptyWith no_schema (state S.Store conn).now → world_in (state S.Store s.conn) ≡ no_world) }
-        ensures found { IfOk result (λ s. HasCleanDisk (state S.Store s.conn) → HoldsRegistry (state S.Store conn).now → (state S.Store s.conn).now ≡ (state S.Store conn).now) }
+        ensures made { IfOk result
+            (λ s. HasCleanDisk (state S.Store s.conn) → IsEmptyWith no_schema (state S.Store conn).now
+            → world_in (state S.Store s.conn) ≡ no_world) }
+        ensures found { IfOk result
+            (λ s. HasCleanDisk (state S.Store s.conn) → HoldsRegistry (state S.Store conn).now
+            → (state S.Store s.conn).now ≡ (state S.Store conn).now) }
         ensures unspent { IfOk result (λ s. s.spent ≡ false) }
         ensures survives { IfOk result (λ s. Survives (state S.Store conn) (state S.Store s.conn) (λ _. ⊤)) }
-        ensures told { IfErr result (λ e. HasCleanDisk (state S.Store e.1) → IsTold (state S.Store conn) e.0) }
-        ensures refused { IfErr result (λ e. HasCleanDisk (state S.Store e.1) → IsBack (state S.Store conn) (state S.Store e.1)) }
-        ensures unmade { IfErr result (λ e. HasCleanDisk (state S.Store e.1) → IsEmptyWith no_schema (state S.Store conn).now → IsWanting e.0) }
-        ensures wanting { IfErr result (λ e. HasCleanDisk (state S.Store e.1) → HoldsRegistry (state S.Store conn).now → SaysTwo (state S.Store conn).now → IsWanting e.0) }
+        ensures told { IfErr result
+            (λ e. HasCleanDisk (state S.Store e.1) → IsTold (state S.Store conn) e.0) }
+        ensures refused { IfErr result
+            (λ e. HasCleanDisk (state S.Store e.1) → IsBack (state S.Store conn) (state S.Store e.1)) }
+        ensures unmade { IfErr result
+            (λ e. HasCleanDisk (state S.Store e.1) → IsEmptyWith no_schema (state S.Store conn).now
+            → IsWanting e.0) }
+        ensures wanting { IfErr result
+            (λ e. HasCleanDisk (state S.Store e.1) → HoldsRegistry (state S.Store conn).now
+            → SaysTwo (state S.Store conn).now → IsWanting e.0) }
     {
         match take_up(&mut conn) {
             Ok(()) => Ok(Store {
@@ -93,7 +104,8 @@ impl<S: Alter + Drop> Store<S> {
     /// Gives the database back, with the tables as they are.
     pub fn into_connection(self) -> Connection<S>
         ensures same { result ≡ self.conn }
-        ensures settled { self.spent ≡ false → HasCleanDisk (state S.Store result) → IsSettled (state S.Store result) }
+        ensures settled { self.spent ≡ false → HasCleanDisk (state S.Store result)
+            → IsSettled (state S.Store result) }
     {
         self.conn
     }
@@ -107,7 +119,8 @@ impl<F: Written> Store<FileStore<FileFrom<F>>> {
         path: &str,
         start: F,
     ) -> Result<Store<FileStore<FileFrom<F>>>, OpenFault>
-        ensures found { IfOk result (λ s. HasCleanDisk (file_state s.conn) → OpensOn (image_at F.Start) (file_state s.conn).now) }
+        ensures found { IfOk result
+            (λ s. HasCleanDisk (file_state s.conn) → OpensOn (image_at F.Start) (file_state s.conn).now) }
         ensures unspent { IfOk result (λ s. s.spent ≡ false) }
     {
         let conn = match Connection::open_from(rt, path, false, start) {

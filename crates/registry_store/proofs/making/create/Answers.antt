@@ -2,10 +2,10 @@ use Rattle.std.proofs.Common.{◌∙◌, arith, sym}
 use Rattle.sqlite.specs.State.{HasCleanDisk}
 use Rattle.sqlite.specs.Held.{state}
 use Rattle.sqlite.proofs.Callers.{survives_begin}
-use Rattle.registry_tables.specs.Schema.{no_schema}
-use Rattle.registry_tables.specs.Making.{IsEmptyWith}
+use Rattle.store_schema.specs.Schema.{no_schema}
+use Rattle.store_schema.specs.Making.{IsEmptyWith}
 use Rattle.registry_store.proofs.FreshTables.{makes_none}
-use Rattle.registry_store.proofs.Transactions.{survives_all, undone_back, failed_back, told_err}
+use Rattle.store_statements.proofs.Transactions.{survives_all, undone_back, failed_back, told_err}
 use Rattle.registry_store.proofs.making.create.Goals as goal
 
 pub returns-in-Ok-clause-made : goal.returns-in-Ok-clause-made

@@ -2,7 +2,7 @@ use Rattle.std.proofs.Common.{arith}
 use Rattle.sqlite.specs.State.{HasCleanDisk}
 use Rattle.sqlite.specs.Held.{state}
 use Rattle.registry_store.proofs.FreshTables.{then_new}
-use Rattle.registry_tables.proofs.Selects.{commit_then}
+use Rattle.store_schema.proofs.Selects.{commit_then}
 use Rattle.registry_store.proofs.making.make.Goals as goal
 
 pub returns-in-Ok-clause-made : goal.returns-in-Ok-clause-made

@@ -1,6 +1,6 @@
 use Rattle.sqlite.specs.Held.{state}
 use Rattle.registry_store.proofs.OpeningLemmas.{is_marked, settled}
-use Rattle.registry_store.proofs.Stays.{stays_read}
+use Rattle.store_statements.proofs.SettledAfter.{stays_read}
 use Rattle.registry_store.proofs.VersionAsked.{back_left}
 use Rattle.registry_store.proofs.opening.take_up.Goals as goal
 

@@ -1,7 +1,7 @@
 use Rattle.std.proofs.Common.{[]}
 use Rattle.sqlite.specs.Held.{state}
-use Rattle.registry_tables.proofs.Selects.{leaves_all}
-use Rattle.registry_store.specs.VersionTexts.{version_find}
+use Rattle.store_schema.proofs.Selects.{leaves_all}
+use Rattle.store_statements.specs.VersionTexts.{version_find}
 use Rattle.registry_store.proofs.OpeningLemmas.{shows_version, fails_understood}
 use Rattle.registry_store.proofs.VersionAsked.{leaves_asked, answers_asked}
 use Rattle.registry_store.proofs.version.version_rows.Goals as goal

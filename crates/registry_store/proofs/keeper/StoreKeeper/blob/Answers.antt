@@ -1,12 +1,12 @@
 use Rattle.registry_model.specs.Lookups.{blob_at}
-use Rattle.registry_store.proofs.Noted.{read_told, unfailed}
+use Rattle.registry_store.proofs.KeeperAnswers.{read_told, unfailed}
 use Rattle.registry_store.proofs.keeper.StoreKeeper.blob.Goals as goal
 
 pub blob-answer-requires : goal.blob-answer-requires
 blob-answer-requires g c = λ clean. c.self.invariant c.if-self.false clean
 
 pub invariant_of-self : goal.invariant_of-self
-invariant_of-self g c unspent clean = (c.blob-answer.ensures.settled clean (unfailed _ _ _ c.noted.ensures.noted unspent)).0
+invariant_of-self g c unspent clean = (c.blob-answer.ensures.settled clean (unfailed _ _ _ c.note_fault.ensures.noted unspent)).0
 
 pub returns-clause-found : goal.returns-clause-found
-returns-clause-found g c clean = read_told g.S.Store c.self.inside.conn c.args.self.now c.self.inside.spent c.self.view_is c.blob-answer.new.conn _ (λ w. blob_at w c.args.repo.now c.args.digest.now) c.noted.result c.blob-answer.result c.noted.new.spent c.noted.ensures.same c.noted.ensures.noted (c.blob-answer.ensures.found clean) (c.blob-answer.ensures.settled clean)
+returns-clause-found g c clean = read_told g.S.Store c.self.inside.conn c.args.self.now c.self.inside.spent c.self.view_is c.blob-answer.new.conn _ (λ w. blob_at w c.args.repo.now c.args.digest.now) c.note_fault.result c.blob-answer.result c.note_fault.new.spent c.note_fault.ensures.same c.note_fault.ensures.noted (c.blob-answer.ensures.found clean) (c.blob-answer.ensures.settled clean)

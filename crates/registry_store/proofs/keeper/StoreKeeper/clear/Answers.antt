@@ -1,12 +1,12 @@
 use Rattle.sqlite.specs.Held.{state}
-use Rattle.registry_store.proofs.Noted.{write_told, written, unfailed}
+use Rattle.registry_store.proofs.KeeperAnswers.{write_told, written, unfailed}
 use Rattle.registry_store.proofs.keeper.StoreKeeper.clear.Goals as goal
 
 pub clear-answer-requires : goal.clear-answer-requires
 clear-answer-requires g c = record { settled = λ clean. c.self.invariant c.if-self.false clean }
 
 pub invariant_of-self : goal.invariant_of-self
-invariant_of-self g c unspent clean = written c.clear-answer.result (state g.S.Store c.self.inside.conn) (state g.S.Store c.clear-answer.new.conn) _ (unfailed _ _ _ c.noted.ensures.noted unspent) (c.clear-answer.ensures.made clean) (c.clear-answer.ensures.memory clean)
+invariant_of-self g c unspent clean = written c.clear-answer.result (state g.S.Store c.self.inside.conn) (state g.S.Store c.clear-answer.new.conn) _ (unfailed _ _ _ c.note_fault.ensures.noted unspent) (c.clear-answer.ensures.made clean) (c.clear-answer.ensures.memory clean)
 
 pub returns-clause-made : goal.returns-clause-made
-returns-clause-made g c clean = write_told g.S.Store c.self.inside.conn c.args.self.now c.self.inside.spent c.self.view_is c.clear-answer.new.conn (λ w. w) c.noted.result c.clear-answer.result c.noted.new.spent c.if-self.false c.noted.ensures.same c.noted.ensures.noted (c.clear-answer.ensures.made clean) (c.clear-answer.ensures.memory clean)
+returns-clause-made g c clean = write_told g.S.Store c.self.inside.conn c.args.self.now c.self.inside.spent c.self.view_is c.clear-answer.new.conn (λ w. w) c.note_fault.result c.clear-answer.result c.note_fault.new.spent c.if-self.false c.note_fault.ensures.same c.note_fault.ensures.noted (c.clear-answer.ensures.made clean) (c.clear-answer.ensures.memory clean)

@@ -1,12 +1,12 @@
 use Rattle.registry_model.specs.Lookups.{manifest_size_at}
-use Rattle.registry_store.proofs.Noted.{read_told, unfailed}
+use Rattle.registry_store.proofs.KeeperAnswers.{read_told, unfailed}
 use Rattle.registry_store.proofs.keeper.StoreKeeper.manifest_size.Goals as goal
 
 pub manifest_size-answer-requires : goal.manifest_size-answer-requires
 manifest_size-answer-requires g c = λ clean. c.self.invariant c.if-self.false clean
 
 pub invariant_of-self : goal.invariant_of-self
-invariant_of-self g c unspent clean = (c.manifest_size-answer.ensures.settled clean (unfailed _ _ _ c.noted.ensures.noted unspent)).0
+invariant_of-self g c unspent clean = (c.manifest_size-answer.ensures.settled clean (unfailed _ _ _ c.note_fault.ensures.noted unspent)).0
 
 pub returns-clause-found : goal.returns-clause-found
-returns-clause-found g c clean = read_told g.S.Store c.self.inside.conn c.args.self.now c.self.inside.spent c.self.view_is c.manifest_size-answer.new.conn _ (λ w. manifest_size_at w c.args.repo.now c.args.digest.now) c.noted.result c.manifest_size-answer.result c.noted.new.spent c.noted.ensures.same c.noted.ensures.noted (c.manifest_size-answer.ensures.found clean) (c.manifest_size-answer.ensures.settled clean)
+returns-clause-found g c clean = read_told g.S.Store c.self.inside.conn c.args.self.now c.self.inside.spent c.self.view_is c.manifest_size-answer.new.conn _ (λ w. manifest_size_at w c.args.repo.now c.args.digest.now) c.note_fault.result c.manifest_size-answer.result c.note_fault.new.spent c.note_fault.ensures.same c.note_fault.ensures.noted (c.manifest_size-answer.ensures.found clean) (c.manifest_size-answer.ensures.settled clean)

@@ -1,13 +1,13 @@
 use Rattle.registry_model.specs.Command.{revoke}
 use Rattle.sqlite.specs.Held.{state}
-use Rattle.registry_store.proofs.Noted.{write_told, written, unfailed}
+use Rattle.registry_store.proofs.KeeperAnswers.{write_told, written, unfailed}
 use Rattle.registry_store.proofs.keeper.StoreKeeper.revoke.Goals as goal
 
 pub revoke-answer-requires : goal.revoke-answer-requires
 revoke-answer-requires g c = record { settled = λ clean. c.self.invariant c.if-self.false clean }
 
 pub invariant_of-self : goal.invariant_of-self
-invariant_of-self g c unspent clean = written c.revoke-answer.result (state g.S.Store c.self.inside.conn) (state g.S.Store c.revoke-answer.new.conn) _ (unfailed _ _ _ c.noted.ensures.noted unspent) (c.revoke-answer.ensures.made clean) (c.revoke-answer.ensures.memory clean)
+invariant_of-self g c unspent clean = written c.revoke-answer.result (state g.S.Store c.self.inside.conn) (state g.S.Store c.revoke-answer.new.conn) _ (unfailed _ _ _ c.note_fault.ensures.noted unspent) (c.revoke-answer.ensures.made clean) (c.revoke-answer.ensures.memory clean)
 
 pub returns-clause-made : goal.returns-clause-made
-returns-clause-made g c clean = write_told g.S.Store c.self.inside.conn c.args.self.now c.self.inside.spent c.self.view_is c.revoke-answer.new.conn (λ w. revoke w c.args.token.now c.args.name.now) c.noted.result c.revoke-answer.result c.noted.new.spent c.if-self.false c.noted.ensures.same c.noted.ensures.noted (c.revoke-answer.ensures.made clean) (c.revoke-answer.ensures.memory clean)
+returns-clause-made g c clean = write_told g.S.Store c.self.inside.conn c.args.self.now c.self.inside.spent c.self.view_is c.revoke-answer.new.conn (λ w. revoke w c.args.token.now c.args.name.now) c.note_fault.result c.revoke-answer.result c.note_fault.new.spent c.if-self.false c.note_fault.ensures.same c.note_fault.ensures.noted (c.revoke-answer.ensures.made clean) (c.revoke-answer.ensures.memory clean)

@@ -1,8 +1,0 @@
-use Rattle.std.proofs.Common.{◌∙◌, ap}
-use Rattle.hex.specs.Hex.{encode_lower}
-use Rattle.registry_content.specs.Contents.{sha256_text}
-use Rattle.registry_content.proofs.keep.find_or_add.Goals as goal
-
-pub find_or_add_hashed-requires : goal.find_or_add_hashed-requires
-unfolding sha256_text
-find_or_add_hashed-requires g c = record { hashed = c.as_str.ensures.value ∙ c.in-Ok.ensures ∙ ap encode_lower c.digest.ensures }

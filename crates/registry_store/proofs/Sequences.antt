@@ -1,9 +1,0 @@
--- One step behind another, inside a transaction.
-use Rattle.std.proofs.Common.{Result, OnOk, subst}
-use Rattle.sqlite.specs.State.{State}
-use Rattle.registry_rows.specs.Tables.{Tables}
-use Rattle.registry_store.specs.Held.{Becomes, held}
-
--- what is said of the tables between them is said of those before
-pub then_becomes : {X E : Type 0} (mid new : State) (t : Tables) (f : Tables → Tables) (r : Result X E) → Becomes mid t → OnOk r (Becomes new (f (held mid))) → OnOk r (Becomes new (f t))
-then_becomes mid new t f r b h = subst (λ u. OnOk r (Becomes new (f u))) b.1 h

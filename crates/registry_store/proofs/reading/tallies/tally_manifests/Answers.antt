@@ -1,8 +1,0 @@
-use Rattle.sqlite.specs.Held.{state}
-use Rattle.registry_store.specs.Held.{held}
-use Rattle.registry_store.proofs.TallyLemmas.{tally_shown}
-use Rattle.registry_store.proofs.reading.tallies.tally_manifests.Goals as goal
-
-pub returns-in-Ok-clause-found : goal.returns-in-Ok-clause-found
-returns-in-Ok-clause-found g c clean =
-    tally_shown (held (state g.S.Store c.args.conn.now)).manifests c.args.repo.now c.in-Ok.sizes.items c.added_up.result (rw c.as_str.ensures.text at c.in-Ok.ensures.found clean) (rw c.deref.ensures.value at c.added_up.ensures)

@@ -1,9 +1,0 @@
-use Rattle.std.proofs.Common.{◌<◌, length, arith}
-use Rattle.registry_tables.specs.Rows.{bytes_at}
-use Rattle.registry_store.proofs.SelectedRows.{mapped_more}
-use Rattle.registry_store.proofs.tag_pages.tags_in.Goals as goal
-
-pub loop-row-preserved : goal.loop-row-preserved
-loop-row-preserved c =
-    let low : c.loop-row.row-index < length c.args.rows.now = omega arith in
-    mapped_more (λ row. bytes_at row 0) c.args.rows.now c.loop-row.row-index c.row-item.result c.in_ok-tag.tag c.loop-row.tags.items _ low c.row-item.is c.in_ok-tag.ensures c.loop-row.invariant c.in_ok-push_tag.ensures

@@ -1,4 +1,0 @@
-pub mod Schema
-pub mod Rows
-pub mod Layout
-pub mod Making

@@ -1,0 +1,13 @@
+use Rattle.std.proofs.Common.{◌≡◌, ◌<◌, ◌∙◌, length, ap, sym, arith, rules, SFits, w64}
+use Rattle.std.proofs.lemmas.Int.{to_z-of_z}
+use Rattle.store_schema.specs.Rows.{integer}
+use Rattle.store_contents.specs.Linked.{id_shown}
+use Rattle.store_contents.proofs.ListingLemmas.{lacking_more}
+use Rattle.store_contents.proofs.listing.lacking.Goals as goal
+
+pub loop-row-preserved : goal.loop-row-preserved
+loop-row-preserved c =
+    let low : c.loop-row.row-index < length c.args.rows.now = omega arith in
+    let range : SFits w64 c.in_ok-id.id = search rules in
+    let named : c.new.result ≡ id_shown c.row-item.result = ap (λ n. record { id = n }) (c.new.ensures ∙ to_z-of_z w64 c.in_ok-id.id range ∙ ap integer (sym c.in_ok-id.ensures.ok.1)) in
+    lacking_more c.args.linked.now c.args.rows.now c.loop-row.row-index c.row-item.result c.new.result c.loop-row.ids.items _ low c.row-item.is named c.loop-row.invariant c.in_ok-push_if_lacking.ensures

@@ -1,0 +1,39 @@
+-- How a content is looked for: by the digest, and then by its bytes.
+use Rattle.std.specs.Prelude.{◌&&◌, ℕ, ℤ, Bool, false, List, [], ◌∷◌, bytes_eq, Option, Some, None}
+use Rattle.std.specs.Ordering.{is_eq}
+use Rattle.sqlite.specs.declared.types.Value.{Value}
+use Rattle.sqlite.specs.declared.types.Value.TheVariants.{Int, Blob}
+use Rattle.sqlite.specs.Order.{Row, column, value_cmp}
+use Rattle.sqlite.specs.declared.error.Error.{Error}
+use Rattle.sqlite.specs.declared.error.Error.TheVariants.{SqliteFailure}
+use Rattle.sqlite.specs.declared.error.ErrorCode.TheVariants.{OutOfMemory}
+use Rattle.oci_names.specs.declared.fault.Fault.{Fault}
+use Rattle.oci_names.specs.declared.fault.Fault.TheVariants.{Memory, Storage}
+use Rattle.store_schema.specs.Rows.{bytes_at}
+
+abbrev pub has_sha256 : List ℕ → Row → Bool
+has_sha256 text r = bytes_eq (bytes_at r 2) text
+
+-- what a search shows of a content: its id and its bytes
+abbrev pub found_columns : Row → Row
+found_columns r = column r 0 ∷ column r 4 ∷ []
+
+abbrev pub is_blob : List ℕ → Value → Bool
+is_blob bytes (Blob b) = bytes_eq b bytes
+is_blob bytes _ = false
+
+abbrev pub blob_of : Value → Option (List ℕ)
+blob_of (Blob b) = Some b
+blob_of _ = None
+
+-- of a row that a search shows
+abbrev pub shows_bytes : List ℕ → Row → Bool
+shows_bytes bytes row = is_blob bytes (column row 1)
+
+abbrev pub shows_content : ℤ → List ℕ → Row → Bool
+shows_content id bytes row = is_eq (value_cmp (column row 0) (Int id)) && shows_bytes bytes row
+
+-- what an error of the database is to a caller
+abbrev pub fault_by : Error → Fault
+fault_by (SqliteFailure OutOfMemory) = Memory
+fault_by _ = Storage

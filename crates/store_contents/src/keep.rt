@@ -1,0 +1,70 @@
+//! The content that has some bytes, which is there or is added.
+ghost use Rattle.std.specs.Prelude.{◌≡◌, OnOk, IfOk};
+ghost use Rattle.sqlite.specs.State.{HasCleanDisk, KeepsCommit, Survives};
+ghost use Rattle.sqlite.specs.Held.{state};
+ghost use Rattle.store_contents.specs.Contents.{IsInside, FindsOrAdds, sha256_text};
+
+use crate::add::add;
+use crate::content_id::ContentId;
+use crate::fault::fault_of;
+use crate::search::find;
+use oci_names::Fault;
+use sha2::{Digest, Sha256};
+use sqlite::{Alter, Transaction};
+use std::alloc::Global;
+
+/// The content that has the bytes: it is the one that was there, or it is added. Whole bytes decide; the
+/// digest only narrows the search. No other content changes, nor does any other table.
+///
+/// After a fault the caller gives the transaction up, and the tables are those from before it.
+/// `Fault::Memory` where memory was refused, `Fault::Storage` where the database failed otherwise.
+pub fn find_or_add<S: Alter>(
+    alloc: Global,
+    tx: &mut Transaction<'_, S>,
+    bytes: &[u8],
+) -> Result<ContentId, Fault>
+    ensures content { HasCleanDisk (state S.Store tx.new.conn.now) → IsInside (state S.Store tx.old.conn.now)
+        → IfOk result
+        (λ it. FindsOrAdds (state S.Store tx.old.conn.now).now (state S.Store tx.new.conn.now).now it.id
+        bytes.now) }
+    ensures inside { HasCleanDisk (state S.Store tx.new.conn.now) → IsInside (state S.Store tx.old.conn.now)
+        → OnOk result (IsInside (state S.Store tx.new.conn.now)) }
+    ensures kept { HasCleanDisk (state S.Store tx.new.conn.now) → IsInside (state S.Store tx.old.conn.now)
+        → KeepsCommit (state S.Store tx.old.conn.now) (state S.Store tx.new.conn.now) }
+    ensures same_reference { tx.new.conn.ghost_name ≡ tx.old.conn.ghost_name }
+    ensures survives { Survives (state S.Store tx.old.conn.now) (state S.Store tx.new.conn.now) (λ _. ⊥) }
+{
+    let Ok(sha256) = hex::encode(alloc, Sha256::digest(bytes)) else {
+        return Err(Fault::Memory);
+    };
+    find_or_add_hashed(tx, sha256.as_str(), bytes)
+}
+
+/// As `find_or_add`, with the SHA-256 of the bytes as 64 lower-case hexadecimal digits, so that bytes
+/// which a caller has hashed are not hashed again.
+pub fn find_or_add_hashed<S: Alter>(
+    tx: &mut Transaction<'_, S>,
+    sha256: &str,
+    bytes: &[u8],
+) -> Result<ContentId, Fault>
+    requires hashed { sha256.now ≡ sha256_text bytes.now }
+    ensures content { HasCleanDisk (state S.Store tx.new.conn.now) → IsInside (state S.Store tx.old.conn.now)
+        → IfOk result
+        (λ it. FindsOrAdds (state S.Store tx.old.conn.now).now (state S.Store tx.new.conn.now).now it.id
+        bytes.now) }
+    ensures inside { HasCleanDisk (state S.Store tx.new.conn.now) → IsInside (state S.Store tx.old.conn.now)
+        → OnOk result (IsInside (state S.Store tx.new.conn.now)) }
+    ensures kept { HasCleanDisk (state S.Store tx.new.conn.now) → IsInside (state S.Store tx.old.conn.now)
+        → KeepsCommit (state S.Store tx.old.conn.now) (state S.Store tx.new.conn.now) }
+    ensures same_reference { tx.new.conn.ghost_name ≡ tx.old.conn.ghost_name }
+    ensures survives { Survives (state S.Store tx.old.conn.now) (state S.Store tx.new.conn.now) (λ _. ⊥) }
+{
+    match find(tx, sha256, bytes) {
+        Ok(Some(id)) => Ok(ContentId::new(id)),
+        Ok(None) => match add(tx, sha256, bytes) {
+            Ok(id) => Ok(ContentId::new(id)),
+            Err(error) => Err(fault_of(error)),
+        },
+        Err(error) => Err(fault_of(error)),
+    }
+}

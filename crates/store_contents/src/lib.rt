@@ -1,0 +1,20 @@
+//! Bytes kept once, by whole-byte equality: a table from ids to bytes, in which no two ids have equal
+//! bytes.
+#![tactic(auto)]
+
+mod add;
+mod content_id;
+mod fault;
+mod keep;
+pub mod laws;
+mod listing;
+mod read;
+mod removal;
+mod search;
+
+pub use content_id::ContentId;
+pub use fault::fault_of;
+pub use keep::{find_or_add, find_or_add_hashed};
+pub use listing::unlinked;
+pub use read::{bytes_of, read_bytes};
+pub use removal::remove;

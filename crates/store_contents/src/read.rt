@@ -1,0 +1,159 @@
+//! The bytes of a content.
+ghost use Rattle.std.specs.Prelude.{◌≡◌, ◌⊎◌, ◌∷◌, [], false, map, find, option_map, IfOk, IfErr, OnOk};
+ghost use Rattle.std.specs.Option.{option_to_list};
+ghost use Rattle.sqlite.specs.State.{HasCleanDisk, IsUnchanged, IsRolledBack, KeepsCommit, Survives};
+ghost use Rattle.sqlite.specs.Held.{state};
+ghost use Rattle.sqlite.specs.Order.{column};
+ghost use Rattle.sqlite.specs.Tree.{has_rowid};
+ghost use Rattle.store_contents.specs.Contents.{HoldsContents, content_rows, bytes_in};
+ghost use Rattle.store_contents.specs.Search.{blob_of};
+
+use crate::content_id::ContentId;
+use crate::fault::fault_of;
+use oci_names::Fault;
+use sqlite::types::ValueRef;
+use sqlite::{Alter, Connection, Error, ErrorCode, Row, Transaction, params};
+use std::alloc::Global;
+
+/// The bytes under the id: one row, or none.
+fn shown<S: Alter>(tx: &mut Transaction<'_, S>, id: i64) -> Result<Vec<Row>, Error>
+    ensures shown { HasCleanDisk (state S.Store tx.new.conn.now)
+        → HoldsContents (state S.Store tx.old.conn.now).now
+        → IfOk result
+        (λ rows. rows.items ≡ map (λ r. column r 4 ∷ [])
+        (option_to_list (find (has_rowid id) (content_rows (state S.Store tx.old.conn.now).now)))) }
+    ensures same { HasCleanDisk (state S.Store tx.new.conn.now)
+        → HoldsContents (state S.Store tx.old.conn.now).now
+        → OnOk result (IsUnchanged (state S.Store tx.old.conn.now) (state S.Store tx.new.conn.now)) }
+    ensures kept { HasCleanDisk (state S.Store tx.new.conn.now)
+        → HoldsContents (state S.Store tx.old.conn.now).now
+        → KeepsCommit (state S.Store tx.old.conn.now) (state S.Store tx.new.conn.now) }
+    ensures same_reference { tx.new.conn.ghost_name ≡ tx.old.conn.ghost_name }
+    ensures survives { Survives (state S.Store tx.old.conn.now) (state S.Store tx.new.conn.now) (λ _. ⊥) }
+{
+    tx.query_all(
+        "SELECT bytes FROM registry_contents WHERE id = ?1",
+        params![id],
+    )
+}
+
+fn select<S: Alter>(tx: &mut Transaction<'_, S>, id: i64) -> Result<Option<Vec<u8>>, Error>
+    ensures found { HasCleanDisk (state S.Store tx.new.conn.now)
+        → HoldsContents (state S.Store tx.old.conn.now).now
+        → IfOk result
+        (λ o. option_map (λ bytes. bytes.items) o ≡ bytes_in (state S.Store tx.old.conn.now).now id) }
+    ensures same { HasCleanDisk (state S.Store tx.new.conn.now)
+        → HoldsContents (state S.Store tx.old.conn.now).now
+        → OnOk result (IsUnchanged (state S.Store tx.old.conn.now) (state S.Store tx.new.conn.now)) }
+    ensures kept { HasCleanDisk (state S.Store tx.new.conn.now)
+        → HoldsContents (state S.Store tx.old.conn.now).now
+        → KeepsCommit (state S.Store tx.old.conn.now) (state S.Store tx.new.conn.now) }
+    ensures same_reference { tx.new.conn.ghost_name ≡ tx.old.conn.ghost_name }
+    ensures survives { Survives (state S.Store tx.old.conn.now) (state S.Store tx.new.conn.now) (λ _. ⊥) }
+{
+    let rows = shown(tx, id)?;
+    match rows.first() {
+        Some(row) => {
+            let bytes: Vec<u8> = row.get(0)?;
+            Ok(Some(bytes))
+        }
+        None => Ok(None),
+    }
+}
+
+/// The bytes of the content, or `None` where there is no such content. Nothing changes.
+///
+/// After a fault the caller gives the transaction up, and the tables are those from before it.
+pub fn bytes_of<S: Alter>(
+    tx: &mut Transaction<'_, S>,
+    id: ContentId,
+) -> Result<Option<Vec<u8>>, Fault>
+    ensures found { HasCleanDisk (state S.Store tx.new.conn.now)
+        → HoldsContents (state S.Store tx.old.conn.now).now
+        → IfOk result
+        (λ o. option_map (λ bytes. bytes.items) o ≡ bytes_in (state S.Store tx.old.conn.now).now id.id) }
+    ensures same { HasCleanDisk (state S.Store tx.new.conn.now)
+        → HoldsContents (state S.Store tx.old.conn.now).now
+        → OnOk result (IsUnchanged (state S.Store tx.old.conn.now) (state S.Store tx.new.conn.now)) }
+    ensures kept { HasCleanDisk (state S.Store tx.new.conn.now)
+        → HoldsContents (state S.Store tx.old.conn.now).now
+        → KeepsCommit (state S.Store tx.old.conn.now) (state S.Store tx.new.conn.now) }
+    ensures same_reference { tx.new.conn.ghost_name ≡ tx.old.conn.ghost_name }
+    ensures survives { Survives (state S.Store tx.old.conn.now) (state S.Store tx.new.conn.now) (λ _. ⊥) }
+{
+    match select(tx, id.get()) {
+        Ok(found) => Ok(found),
+        Err(error) => Err(fault_of(error)),
+    }
+}
+
+/// The bytes are copied once, from where the database has them.
+fn peek<S: Alter>(
+    alloc: Global,
+    conn: &mut Connection<S>,
+    id: i64,
+) -> Result<Option<Vec<u8>>, Error>
+    ensures found { HasCleanDisk (state S.Store conn.new) → HoldsContents (state S.Store conn.old).now
+        → IfOk result (λ o. option_map (λ bytes. bytes.items) o ≡ bytes_in (state S.Store conn.old).now id) }
+    ensures same { HasCleanDisk (state S.Store conn.new) → HoldsContents (state S.Store conn.old).now
+        → OnOk result (IsUnchanged (state S.Store conn.old) (state S.Store conn.new)) }
+    ensures failed { HasCleanDisk (state S.Store conn.new) → HoldsContents (state S.Store conn.old).now
+        → IfErr result
+        (λ _. IsUnchanged (state S.Store conn.old) (state S.Store conn.new) ⊎ IsRolledBack
+        (state S.Store conn.old) (state S.Store conn.new)) }
+    ensures mode { (state S.Store conn.old).in_transaction ≡ false
+        → (state S.Store conn.new).in_transaction ≡ false }
+    ensures survives { (HasCleanDisk (state S.Store conn.old) → HoldsContents (state S.Store conn.old).now)
+        → Survives (state S.Store conn.old) (state S.Store conn.new) (λ _. ⊥) }
+{
+    let mut rows = conn.query(
+        "SELECT bytes FROM registry_contents WHERE id = ?1",
+        params![id],
+    )?;
+    rows.advance()?;
+    match rows.get() {
+        Some(row) => copied(alloc, row),
+        None => Ok(None),
+    }
+}
+
+/// The bytes that the row shows.
+fn copied(alloc: Global, row: &Row) -> Result<Option<Vec<u8>>, Error>
+    ensures { IfOk result (λ o. option_map (λ bytes. bytes.items) o ≡ blob_of (column row.now 0)) }
+{
+    match row.get_ref(0) {
+        Ok(ValueRef::Blob(bytes)) => match Vec::from_slice(alloc, bytes) {
+            Ok(copy) => Ok(Some(copy)),
+            Err(_) => Err(Error::SqliteFailure(ErrorCode::OutOfMemory)),
+        },
+        _ => Ok(None),
+    }
+}
+
+/// The bytes of the content over a connection, outside a transaction too, or `None` where there is no such
+/// content. They are copied once. Nothing changes; a fault leaves the tables as they were, or as the last
+/// commit left them.
+pub fn read_bytes<S: Alter>(
+    alloc: Global,
+    conn: &mut Connection<S>,
+    id: ContentId,
+) -> Result<Option<Vec<u8>>, Fault>
+    ensures found { HasCleanDisk (state S.Store conn.new) → HoldsContents (state S.Store conn.old).now
+        → IfOk result
+        (λ o. option_map (λ bytes. bytes.items) o ≡ bytes_in (state S.Store conn.old).now id.id) }
+    ensures same { HasCleanDisk (state S.Store conn.new) → HoldsContents (state S.Store conn.old).now
+        → OnOk result (IsUnchanged (state S.Store conn.old) (state S.Store conn.new)) }
+    ensures failed { HasCleanDisk (state S.Store conn.new) → HoldsContents (state S.Store conn.old).now
+        → IfErr result
+        (λ _. IsUnchanged (state S.Store conn.old) (state S.Store conn.new) ⊎ IsRolledBack
+        (state S.Store conn.old) (state S.Store conn.new)) }
+    ensures mode { (state S.Store conn.old).in_transaction ≡ false
+        → (state S.Store conn.new).in_transaction ≡ false }
+    ensures survives { (HasCleanDisk (state S.Store conn.old) → HoldsContents (state S.Store conn.old).now)
+        → Survives (state S.Store conn.old) (state S.Store conn.new) (λ _. ⊥) }
+{
+    match peek(alloc, conn, id.get()) {
+        Ok(found) => Ok(found),
+        Err(error) => Err(fault_of(error)),
+    }
+}

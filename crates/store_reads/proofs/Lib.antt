@@ -1,0 +1,7 @@
+pub mod WorldReads
+pub mod ReadSequences
+pub mod TallyLemmas
+pub mod UsageReads
+pub mod NamedUsages
+pub mod SessionBytes
+pub mod ReferrerBytes

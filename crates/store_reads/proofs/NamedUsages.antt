@@ -1,0 +1,67 @@
+-- What all repositories hold and may hold, one after the other.
+use Rattle.std.proofs.Common.{◌≡◌, ◌∙◌, ◌∷◌, ◌++◌, [], List, map, find, cond, false, Some, Result, OnOk, sym, ap, subst}
+use Rattle.std.specs.Option.{option_map_or}
+use Rattle.std.specs.List.{AllByRecursion}
+use Rattle.std.proofs.lemmas.List.{map-append}
+use Rattle.std.proofs.lemmas.List.Sorted.{IsPermutation-sym}
+use Rattle.sqlite.specs.Order.{Row}
+use Rattle.sqlite.specs.State.{State}
+use Rattle.sqlite.specs.Tree.{IsAscending}
+use Rattle.sqlite_trees.proofs.ListLemmas.{all_both, all_weaker, all-permutation, map-map}
+use Rattle.sqlite_keyed.specs.Lists.{sort_by}
+use Rattle.sqlite_keyed.proofs.SortLemmas.{IsPermutation-sort_by}
+use Rattle.std.proofs.lemmas.Cmp.{nat_list_cmp_total, on_total}
+use Rattle.oci_names.specs.Text.{Text}
+use Rattle.oci_names.specs.declared.fault.Fault.{Fault}
+use Rattle.registry_model.specs.declared.quota.Usage.{Usage}
+use Rattle.registry_model.specs.World.{World}
+use Rattle.registry_model.specs.Lookups.{usage_at, usages_of, no_usage}
+use Rattle.store_schema.specs.Rows.{bytes_at}
+use Rattle.store_schema.proofs.Lists.{bytes_eq_itself, bytes_eq-sym}
+use Rattle.store_world.specs.Keys.{of_first, same_first}
+use Rattle.store_world.specs.Tables.{Tables}
+use Rattle.store_world.specs.World.{world_of}
+use Rattle.store_world.specs.Registry.{IsRegistry}
+use Rattle.store_world.proofs.Contents.{map_same_on}
+use Rattle.store_world.proofs.Usages.{usage_in, usage_found, usages_found}
+use Rattle.store_statements.specs.Held.{held, tables_in, world_in}
+use Rattle.store_statements.specs.Shown.{by_name}
+use Rattle.store_reads.specs.Tallies.{named_usage}
+
+pub pushed : (w : World) (name : Text) (u : Usage) (before after : List (Text × Usage)) (r : Result (Unit {0}) Fault) → u ≡ usage_at w name → OnOk r (after ≡ before ++ (name, u) ∷ []) → OnOk r (after ≡ before ++ named_usage w name ∷ [])
+pushed w name u before after r is h = subst (λ (x : Usage). OnOk r (after ≡ before ++ (name, x) ∷ [])) is h
+
+-- one more, of a database that stays
+pub one_more_named : (old mid : State) (name : Text) (names : List Text) (before after : List (Text × Usage)) → mid.now ≡ old.now
+    → before ≡ map (named_usage (world_in old)) names → after ≡ before ++ named_usage (world_in mid) name ∷ [] → after ≡ map (named_usage (world_in old)) (names ++ name ∷ [])
+one_more_named old mid name names before after same so_far is =
+    is ∙ ap (λ l. l ++ named_usage (world_in mid) name ∷ []) so_far
+    ∙ ap (λ db. map (named_usage (world_in old)) names ++ named_usage (world_of (tables_in db)) name ∷ []) same
+    ∙ sym (map-append (named_usage (world_in old)) names (name ∷ []))
+
+-- each row of a repository is found by its name
+found_each : (rows : List Row) → IsAscending (λ a b. same_first a b ≡ false) rows → AllByRecursion (λ r. find (of_first (bytes_at r 1)) rows ≡ Some r) rows
+found_each [] up = tt
+found_each (x ∷ xs) up = (
+  ap (λ b. cond b (Some x) (find (of_first (bytes_at x 1)) xs)) (bytes_eq_itself (bytes_at x 1)),
+  all_both (λ r. same_first x r ≡ false) (λ r. find (of_first (bytes_at r 1)) xs ≡ Some r) (λ r. find (of_first (bytes_at r 1)) (x ∷ xs) ≡ Some r)
+      (λ r apart e. ap (λ b. cond b (Some x) (find (of_first (bytes_at r 1)) xs)) (bytes_eq-sym (bytes_at x 1) (bytes_at r 1) ∙ apart) ∙ e) xs up.0 (found_each xs up.1),
+)
+
+-- the names in order, each with its usage
+pub all_named : (t : Tables) → IsRegistry t → map (named_usage (world_of t)) (map (λ r. bytes_at r 1) (sort_by by_name t.repos)) ≡ usages_of (world_of t)
+all_named t is =
+    map-map (named_usage (world_of t)) (λ r. bytes_at r 1) (sort_by by_name t.repos)
+    ∙ map_same_on (λ r. named_usage (world_of t) (bytes_at r 1)) (λ r. (bytes_at r 1, usage_in t (bytes_at r 1) r)) (sort_by by_name t.repos)
+    (all-permutation _ t.repos (sort_by by_name t.repos) (IsPermutation-sym _ _ (IsPermutation-sort_by by_name (on_total (λ r. bytes_at r 1) nat_list_cmp_total) t.repos))
+    (all_weaker (λ r. find (of_first (bytes_at r 1)) t.repos ≡ Some r) (λ r. named_usage (world_of t) (bytes_at r 1) ≡ (bytes_at r 1, usage_in t (bytes_at r 1) r)) of_row t.repos (found_each t.repos is.tables.repos.apart)))
+    ∙ sym (usages_found t is)
+  where
+    of_row : (r : Row) → find (of_first (bytes_at r 1)) t.repos ≡ Some r → named_usage (world_of t) (bytes_at r 1) ≡ (bytes_at r 1, usage_in t (bytes_at r 1) r)
+    of_row r e = ap (λ (u : Usage). (bytes_at r 1, u)) (usage_found t (bytes_at r 1) is ∙ ap (λ o. option_map_or (usage_in t (bytes_at r 1)) o no_usage) e)
+
+-- the names, then the usages, of a database that stays
+pub all_shown : (old mid : State) (names : List Text) (all : List (Text × Usage)) → IsRegistry (held old) → mid.now ≡ old.now → names ≡ map (λ r. bytes_at r 1) (sort_by by_name (held old).repos)
+    → all ≡ map (named_usage (world_in mid)) names → all ≡ usages_of (world_in old)
+all_shown old mid names all is same named shown =
+    shown ∙ ap (λ db. map (named_usage (world_of (tables_in db))) names) same ∙ ap (map (named_usage (world_in old))) named ∙ all_named (held old) is

@@ -1,0 +1,52 @@
+//! The blobs of repositories.
+ghost use Rattle.std.specs.Prelude.{◌≡◌};
+ghost use Rattle.registry_model.specs.Lookups.{blob_at, blob_size_at};
+ghost use Rattle.registry_model.specs.Keeping.{bytes_in};
+ghost use Rattle.store_statements.specs.Clauses.{Lasts, Settled, Stays, Tells};
+
+use crate::contents::content;
+use oci_names::{Digest, Fault, RepoName};
+use sqlite::{Alter, Connection};
+use std::alloc::Global;
+use store_statements::blobs::find_blob_link;
+
+/// The length of a blob in bytes. Reads no blob.
+pub fn blob_size<S: Alter>(
+    conn: &mut Connection<S>,
+    repo: &RepoName,
+    digest: &Digest,
+) -> Result<Option<u64>, Fault>
+    requires { Settled S.Store conn.old }
+    ensures found { Tells S.Store conn.old conn.new result (λ w v. v ≡ blob_size_at w repo.now digest.now) }
+    ensures settled { Stays S.Store conn.old conn.new result }
+    ensures survives { Lasts S.Store conn.old conn.new }
+{
+    match find_blob_link(conn, repo.as_str(), digest.as_str()) {
+        Ok(Some(link)) => Ok(Some(link.size)),
+        Ok(None) => Ok(None),
+        Err(fault) => Err(fault),
+    }
+}
+
+/// The bytes of a blob.
+pub fn blob<S: Alter>(
+    alloc: Global,
+    conn: &mut Connection<S>,
+    repo: &RepoName,
+    digest: &Digest,
+) -> Result<Option<Vec<u8>>, Fault>
+    requires { Settled S.Store conn.old }
+    ensures found { Tells S.Store conn.old conn.new result
+        (λ w v. bytes_in v ≡ blob_at w repo.now digest.now) }
+    ensures settled { Stays S.Store conn.old conn.new result }
+    ensures survives { Lasts S.Store conn.old conn.new }
+{
+    match find_blob_link(conn, repo.as_str(), digest.as_str()) {
+        Ok(Some(link)) => match content(alloc, conn, link.content) {
+            Ok(bytes) => Ok(Some(bytes)),
+            Err(fault) => Err(fault),
+        },
+        Ok(None) => Ok(None),
+        Err(fault) => Err(fault),
+    }
+}

@@ -1,0 +1,54 @@
+//! The manifests of repositories.
+ghost use Rattle.std.specs.Prelude.{◌≡◌};
+ghost use Rattle.registry_model.specs.Lookups.{manifest_at, manifest_size_at};
+ghost use Rattle.registry_model.specs.Keeping.{manifest_shown};
+ghost use Rattle.store_statements.specs.Clauses.{Lasts, Settled, Stays, Tells};
+
+use crate::contents::content;
+use oci_manifest::Kind;
+use oci_names::{Digest, Fault, RepoName};
+use sqlite::{Alter, Connection};
+use std::alloc::Global;
+use store_statements::manifests::find_manifest_link;
+
+/// The kind of a manifest, and its length in bytes. Reads no manifest.
+pub fn manifest_size<S: Alter>(
+    conn: &mut Connection<S>,
+    repo: &RepoName,
+    digest: &Digest,
+) -> Result<Option<(Kind, u64)>, Fault>
+    requires { Settled S.Store conn.old }
+    ensures found { Tells S.Store conn.old conn.new result
+        (λ w v. v ≡ manifest_size_at w repo.now digest.now) }
+    ensures settled { Stays S.Store conn.old conn.new result }
+    ensures survives { Lasts S.Store conn.old conn.new }
+{
+    match find_manifest_link(conn, repo.as_str(), digest.as_str()) {
+        Ok(Some(link)) => Ok(Some((link.kind, link.size))),
+        Ok(None) => Ok(None),
+        Err(fault) => Err(fault),
+    }
+}
+
+/// The kind and the bytes of a manifest.
+pub fn manifest<S: Alter>(
+    alloc: Global,
+    conn: &mut Connection<S>,
+    repo: &RepoName,
+    digest: &Digest,
+) -> Result<Option<(Kind, Vec<u8>)>, Fault>
+    requires { Settled S.Store conn.old }
+    ensures found { Tells S.Store conn.old conn.new result
+        (λ w v. manifest_shown v ≡ manifest_at w repo.now digest.now) }
+    ensures settled { Stays S.Store conn.old conn.new result }
+    ensures survives { Lasts S.Store conn.old conn.new }
+{
+    match find_manifest_link(conn, repo.as_str(), digest.as_str()) {
+        Ok(Some(link)) => match content(alloc, conn, link.content) {
+            Ok(bytes) => Ok(Some((link.kind, bytes))),
+            Err(fault) => Err(fault),
+        },
+        Ok(None) => Ok(None),
+        Err(fault) => Err(fault),
+    }
+}

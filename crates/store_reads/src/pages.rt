@@ -1,0 +1,31 @@
+//! Pages of tags.
+ghost use Rattle.std.specs.Prelude.{◌≡◌};
+ghost use Rattle.registry_model.specs.Keeping.{page_shown};
+ghost use Rattle.registry_model.specs.Lookups.{page_at};
+ghost use Rattle.store_statements.specs.Clauses.{Lasts, Settled, Stays, Tells};
+
+use oci_names::{Fault, RepoName, Tag};
+use sqlite::{Alter, Connection};
+use std::alloc::Global;
+use store_statements::tag_pages::{TagPage, tags_page};
+
+/// The first `n` tags, or all, behind `last` in byte order, and whether more follow a page that is not empty
+/// by its size.
+pub fn tags_after<S: Alter>(
+    alloc: Global,
+    conn: &mut Connection<S>,
+    repo: &RepoName,
+    last: &str,
+    n: Option<u64>,
+) -> Result<(Vec<Tag>, bool), Fault>
+    requires settled { Settled S.Store conn.old }
+    ensures found { Tells S.Store conn.old conn.new result
+        (λ w page. page_shown page ≡ page_at w repo.now last.now n) }
+    ensures settled { Stays S.Store conn.old conn.new result }
+    ensures survives { Lasts S.Store conn.old conn.new }
+{
+    match tags_page(alloc, conn, repo.as_str(), last, n) {
+        Ok(TagPage { tags, more }) => Ok((tags, more)),
+        Err(fault) => Err(fault),
+    }
+}

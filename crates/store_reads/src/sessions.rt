@@ -1,0 +1,78 @@
+//! The bytes of upload sessions.
+ghost use Rattle.std.specs.Prelude.{◌≡◌, ◌<◌, ◌^◌};
+ghost use Rattle.registry_model.specs.Keeping.{bytes_in};
+ghost use Rattle.registry_model.specs.Lookups.{session_at};
+ghost use Rattle.store_world.specs.World.{pieces_of, joined};
+ghost use Rattle.store_statements.specs.Clauses.{Finds, Lasts, Settled, Stays, Tells};
+
+use crate::contents;
+use crate::uploads::expect_no_session;
+use oci_names::{Fault, RepoName};
+use sqlite::{Alter, Connection};
+use std::alloc::Global;
+use store_statements::numbers::LARGEST;
+use store_statements::pieces::pieces_in_order;
+use store_statements::uploads::find_upload;
+
+/// The bytes of a session whose size is known.
+fn session_bytes<S: Alter>(
+    alloc: Global,
+    conn: &mut Connection<S>,
+    repo: &str,
+    number: u64,
+    size: u64,
+) -> Result<Vec<u8>, Fault>
+    requires settled { Settled S.Store conn.old }
+    requires fits { number < 2 ^ 63 }
+    ensures found { Finds S.Store conn.old conn.new result
+        (λ t bytes. bytes.items ≡ joined t.contents (pieces_of t.pieces repo.now number)) }
+    ensures settled { Stays S.Store conn.old conn.new result }
+    ensures survives { Lasts S.Store conn.old conn.new }
+{
+    let ids = pieces_in_order(alloc, conn, repo, number)?;
+    contents::joined(alloc, conn, &ids, size)
+}
+
+/// The bytes of an open upload session. A number that does not fit is that of no session: the caller asks for
+/// none.
+pub(crate) fn session<S: Alter>(
+    alloc: Global,
+    conn: &mut Connection<S>,
+    repo: &RepoName,
+    number: u64,
+) -> Result<Option<Vec<u8>>, Fault>
+    requires settled { Settled S.Store conn.old }
+    requires fits { number < 2 ^ 63 }
+    ensures found { Tells S.Store conn.old conn.new result
+        (λ w o. bytes_in o ≡ session_at w repo.now number) }
+    ensures settled { Stays S.Store conn.old conn.new result }
+    ensures survives { Lasts S.Store conn.old conn.new }
+{
+    let repo = repo.as_str();
+    match find_upload(conn, repo, number)? {
+        Some(size) => Ok(Some(session_bytes(alloc, conn, repo, number, size)?)),
+        None => Ok(None),
+    }
+}
+
+/// The bytes of an open upload session, whatever the number is.
+pub fn session_numbered<S: Alter>(
+    alloc: Global,
+    conn: &mut Connection<S>,
+    repo: &RepoName,
+    number: u64,
+) -> Result<Option<Vec<u8>>, Fault>
+    requires { Settled S.Store conn.old }
+    ensures found { Tells S.Store conn.old conn.new result
+        (λ w o. bytes_in o ≡ session_at w repo.now number) }
+    ensures settled { Stays S.Store conn.old conn.new result }
+    ensures survives { Lasts S.Store conn.old conn.new }
+{
+    if number <= LARGEST {
+        return session(alloc, conn, repo, number);
+    }
+    match expect_no_session(conn, repo, number) {
+        Ok(()) => Ok(None),
+        Err(fault) => Err(fault),
+    }
+}

@@ -1,0 +1,24 @@
+//! The tags of repositories.
+ghost use Rattle.std.specs.Prelude.{◌≡◌};
+ghost use Rattle.registry_model.specs.Lookups.{tag_at};
+ghost use Rattle.store_statements.specs.Clauses.{Lasts, Settled, Stays, Tells};
+
+use oci_names::{Digest, Fault, RepoName, Tag};
+use sqlite::{Alter, Connection};
+use std::alloc::Global;
+use store_statements::tags::find_tag;
+
+/// The digest that a tag names.
+pub fn tag<S: Alter>(
+    alloc: Global,
+    conn: &mut Connection<S>,
+    repo: &RepoName,
+    tag: &Tag,
+) -> Result<Option<Digest>, Fault>
+    requires { Settled S.Store conn.old }
+    ensures found { Tells S.Store conn.old conn.new result (λ w v. v ≡ tag_at w repo.now tag.now) }
+    ensures settled { Stays S.Store conn.old conn.new result }
+    ensures survives { Lasts S.Store conn.old conn.new }
+{
+    find_tag(alloc, conn, repo.as_str(), tag.as_str())
+}

@@ -1,0 +1,113 @@
+//! How many blobs, manifests and upload sessions a repository has, and how many bytes.
+ghost use Rattle.std.specs.Prelude.{◌≡◌};
+ghost use Rattle.store_statements.specs.Clauses.{Finds, Lasts, Settled, Stays};
+ghost use Rattle.store_reads.specs.Tallies.{tally_of, tally_in, holdings_in};
+
+use oci_names::{Fault, RepoName};
+use sqlite::{Alter, Connection};
+use std::alloc::Global;
+use store_statements::blobs::blob_sizes;
+use store_statements::manifests::manifest_sizes;
+use store_statements::uploads::upload_sizes;
+
+/// How many things of a kind a repository has, and how many bytes they have together: the largest
+/// number of 64 bits where they have more.
+#[derive(Clone, Copy)]
+pub(crate) struct Tally {
+    pub number: u64,
+    pub bytes: u64,
+}
+
+/// What a repository has of all three.
+#[derive(Clone, Copy)]
+pub(crate) struct Holdings {
+    pub blobs: Tally,
+    pub manifests: Tally,
+    pub sessions: Tally,
+}
+
+fn added_up(sizes: &[u64]) -> Tally
+    ensures { result ≡ tally_of sizes.now }
+{
+    let mut bytes: u64 = 0;
+    for size in sizes {
+        bytes = bytes.saturating_add(*size);
+    }
+    Tally {
+        number: sizes.len() as u64,
+        bytes,
+    }
+}
+
+/// What the repository has of blobs. Reads no blob.
+fn tally_blobs<S: Alter>(
+    alloc: Global,
+    conn: &mut Connection<S>,
+    repo: &RepoName,
+) -> Result<Tally, Fault>
+    requires { Settled S.Store conn.old }
+    ensures found { Finds S.Store conn.old conn.new result (λ t tally. tally ≡ tally_in t.blobs repo.now) }
+    ensures settled { Stays S.Store conn.old conn.new result }
+    ensures survives { Lasts S.Store conn.old conn.new }
+{
+    match blob_sizes(alloc, conn, repo.as_str()) {
+        Ok(sizes) => Ok(added_up(&sizes)),
+        Err(fault) => Err(fault),
+    }
+}
+
+/// What the repository has of manifests. Reads no manifest.
+fn tally_manifests<S: Alter>(
+    alloc: Global,
+    conn: &mut Connection<S>,
+    repo: &RepoName,
+) -> Result<Tally, Fault>
+    requires { Settled S.Store conn.old }
+    ensures found { Finds S.Store conn.old conn.new result
+        (λ t tally. tally ≡ tally_in t.manifests repo.now) }
+    ensures settled { Stays S.Store conn.old conn.new result }
+    ensures survives { Lasts S.Store conn.old conn.new }
+{
+    match manifest_sizes(alloc, conn, repo.as_str()) {
+        Ok(sizes) => Ok(added_up(&sizes)),
+        Err(fault) => Err(fault),
+    }
+}
+
+/// What the repository has of open upload sessions. Reads none of their bytes.
+fn tally_sessions<S: Alter>(
+    alloc: Global,
+    conn: &mut Connection<S>,
+    repo: &RepoName,
+) -> Result<Tally, Fault>
+    requires { Settled S.Store conn.old }
+    ensures found { Finds S.Store conn.old conn.new result (λ t tally. tally ≡ tally_in t.uploads repo.now) }
+    ensures settled { Stays S.Store conn.old conn.new result }
+    ensures survives { Lasts S.Store conn.old conn.new }
+{
+    match upload_sizes(alloc, conn, repo.as_str()) {
+        Ok(sizes) => Ok(added_up(&sizes)),
+        Err(fault) => Err(fault),
+    }
+}
+
+/// What the repository has of blobs, manifests and open upload sessions. Reads none of their bytes.
+pub(crate) fn read_holdings<S: Alter>(
+    alloc: Global,
+    conn: &mut Connection<S>,
+    repo: &RepoName,
+) -> Result<Holdings, Fault>
+    requires { Settled S.Store conn.old }
+    ensures found { Finds S.Store conn.old conn.new result (λ t h. h ≡ holdings_in t repo.now) }
+    ensures settled { Stays S.Store conn.old conn.new result }
+    ensures survives { Lasts S.Store conn.old conn.new }
+{
+    let blobs = tally_blobs(alloc, conn, repo)?;
+    let manifests = tally_manifests(alloc, conn, repo)?;
+    let sessions = tally_sessions(alloc, conn, repo)?;
+    Ok(Holdings {
+        blobs,
+        manifests,
+        sessions,
+    })
+}

@@ -1,0 +1,113 @@
+-- The tables as a registry makes them in an empty database.
+use Rattle.std.proofs.Common.{◌≡◌, refl}
+use Rattle.sqlite_tied.specs.Compute.{everything}
+use Rattle.sqlite_schema.specs.Names.{same_name}
+use Rattle.sqlite_value.specs.Keys.{joined}
+use Rattle.store_schema.specs.Schema.{fresh_schema, version_table, repos_table, grants_table, tags_table, contents_table, blob_links_table, manifest_links_table, uploads_table, pieces_table}
+use Rattle.store_schema.specs.Layout.{tree_of, Stands, IsUnreferred}
+
+-- ---- the trees
+
+pub version_tree : tree_of fresh_schema version_table ≡ 0
+unfolding same_name
+version_tree = refl
+
+pub repos_tree : tree_of fresh_schema repos_table ≡ 1
+unfolding same_name
+repos_tree = refl
+
+pub grants_tree : tree_of fresh_schema grants_table ≡ 3
+unfolding same_name
+grants_tree = refl
+
+pub tags_tree : tree_of fresh_schema tags_table ≡ 5
+unfolding same_name
+tags_tree = refl
+
+pub contents_tree : tree_of fresh_schema contents_table ≡ 7
+unfolding same_name
+contents_tree = refl
+
+pub blob_links_tree : tree_of fresh_schema blob_links_table ≡ 8
+unfolding same_name
+blob_links_tree = refl
+
+pub manifest_links_tree : tree_of fresh_schema manifest_links_table ≡ 10
+unfolding same_name
+manifest_links_tree = refl
+
+pub uploads_tree : tree_of fresh_schema uploads_table ≡ 12
+unfolding same_name
+uploads_tree = refl
+
+pub pieces_tree : tree_of fresh_schema pieces_table ≡ 14
+unfolding same_name
+pieces_tree = refl
+
+-- ---- the tables stand
+
+unfoldable pub version_stands : Stands fresh_schema version_table
+unfolding same_name
+version_stands = record { at = 0; place = refl; stored = refl }
+
+unfoldable pub repos_stand : Stands fresh_schema repos_table
+unfolding same_name
+repos_stand = record { at = 1; place = refl; stored = refl }
+
+unfoldable pub grants_stand : Stands fresh_schema grants_table
+unfolding same_name
+grants_stand = record { at = 2; place = refl; stored = refl }
+
+unfoldable pub tags_stand : Stands fresh_schema tags_table
+unfolding same_name
+tags_stand = record { at = 3; place = refl; stored = refl }
+
+unfoldable pub contents_stand : Stands fresh_schema contents_table
+unfolding same_name
+contents_stand = record { at = 4; place = refl; stored = refl }
+
+unfoldable pub blob_links_stand : Stands fresh_schema blob_links_table
+unfolding same_name
+blob_links_stand = record { at = 5; place = refl; stored = refl }
+
+unfoldable pub manifest_links_stand : Stands fresh_schema manifest_links_table
+unfolding same_name
+manifest_links_stand = record { at = 6; place = refl; stored = refl }
+
+unfoldable pub uploads_stand : Stands fresh_schema uploads_table
+unfolding same_name
+uploads_stand = record { at = 7; place = refl; stored = refl }
+
+unfoldable pub pieces_stand : Stands fresh_schema pieces_table
+unfolding same_name
+pieces_stand = record { at = 8; place = refl; stored = refl }
+
+-- ---- only repositories take other rows with them
+
+pub contents_alone : IsUnreferred fresh_schema contents_table
+unfolding joined everything same_name
+contents_alone olds = refl
+
+pub grants_alone : IsUnreferred fresh_schema grants_table
+unfolding joined everything same_name
+grants_alone olds = refl
+
+pub tags_alone : IsUnreferred fresh_schema tags_table
+unfolding joined everything same_name
+tags_alone olds = refl
+
+pub blob_links_alone : IsUnreferred fresh_schema blob_links_table
+unfolding joined everything same_name
+blob_links_alone olds = refl
+
+pub manifest_links_alone : IsUnreferred fresh_schema manifest_links_table
+unfolding joined everything same_name
+manifest_links_alone olds = refl
+
+pub uploads_alone : IsUnreferred fresh_schema uploads_table
+unfolding joined everything same_name
+uploads_alone olds = refl
+
+pub pieces_alone : IsUnreferred fresh_schema pieces_table
+unfolding joined everything same_name
+pieces_alone olds = refl

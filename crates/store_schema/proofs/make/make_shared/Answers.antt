@@ -1,0 +1,36 @@
+use Rattle.std.proofs.Common.{arith}
+use Rattle.sqlite.specs.State.{HasCleanDisk}
+use Rattle.sqlite.specs.Held.{state}
+use Rattle.store_schema.proofs.Texts.{makes_version, makes_repos, makes_grants, makes_tags}
+use Rattle.store_schema.proofs.MakeLemmas.{then_made}
+use Rattle.store_schema.proofs.Refusals.{if_passed, then_unmade}
+use Rattle.store_schema.proofs.make.make_shared.Goals as goal
+
+pub returns-clause-made : goal.returns-clause-made
+returns-clause-made g c clean none =
+    let three : HasCleanDisk (state g.S.Store c.create-3.new.tx.conn.now) = omega (arith, c.create-4.ensures.survives.clean) in
+    let two : HasCleanDisk (state g.S.Store c.create-2.new.tx.conn.now) = omega (arith, c.create-3.ensures.survives.clean) in
+    let one : HasCleanDisk (state g.S.Store c.create.new.tx.conn.now) = omega (arith, c.create-2.ensures.survives.clean) in
+    then_made _ _ _ (state g.S.Store c.create-3.new.tx.conn.now).now (state g.S.Store c.create-4.new.tx.conn.now).now c.create-4.result makes_tags (c.create-4.ensures.made clean) (c.in_ok-create-3.ensures.made three _ _ makes_grants (c.in_ok-create-2.ensures.made two _ _ makes_repos (c.in_ok-create.ensures.made one _ _ makes_version none)))
+
+pub returns-in_err-create-clause-unmade : goal.returns-in_err-create-clause-unmade
+returns-in_err-create-clause-unmade g c clean none =
+    if_passed _ c.from_residual.result c.in_err-create.field-0.0 c.from_residual.ensures.1 (c.in_err-create.ensures.unmade clean _ _ makes_version none)
+
+pub returns-in_err-create-2-clause-unmade : goal.returns-in_err-create-2-clause-unmade
+returns-in_err-create-2-clause-unmade g c clean none =
+    let one : HasCleanDisk (state g.S.Store c.create.new.tx.conn.now) = omega (arith, c.create-2.ensures.survives.clean) in
+    if_passed _ c.from_residual-in_err-create-2.result c.in_err-create-2.field-0.0 c.from_residual-in_err-create-2.ensures.1 (c.in_err-create-2.ensures.unmade clean _ _ makes_repos (c.in_ok-create.ensures.made one _ _ makes_version none))
+
+pub returns-in_err-create-3-clause-unmade : goal.returns-in_err-create-3-clause-unmade
+returns-in_err-create-3-clause-unmade g c clean none =
+    let two : HasCleanDisk (state g.S.Store c.create-2.new.tx.conn.now) = omega (arith, c.create-3.ensures.survives.clean) in
+    let one : HasCleanDisk (state g.S.Store c.create.new.tx.conn.now) = omega (arith, c.create-2.ensures.survives.clean) in
+    if_passed _ c.from_residual-in_err-create-3.result c.in_err-create-3.field-0.0 c.from_residual-in_err-create-3.ensures.1 (c.in_err-create-3.ensures.unmade clean _ _ makes_grants (c.in_ok-create-2.ensures.made two _ _ makes_repos (c.in_ok-create.ensures.made one _ _ makes_version none)))
+
+pub returns-clause-unmade : goal.returns-clause-unmade
+returns-clause-unmade g c clean none =
+    let three : HasCleanDisk (state g.S.Store c.create-3.new.tx.conn.now) = omega (arith, c.create-4.ensures.survives.clean) in
+    let two : HasCleanDisk (state g.S.Store c.create-2.new.tx.conn.now) = omega (arith, c.create-3.ensures.survives.clean) in
+    let one : HasCleanDisk (state g.S.Store c.create.new.tx.conn.now) = omega (arith, c.create-2.ensures.survives.clean) in
+    then_unmade _ _ _ (state g.S.Store c.create-3.new.tx.conn.now).now c.create-4.result makes_tags (c.create-4.ensures.unmade clean) (c.in_ok-create-3.ensures.made three _ _ makes_grants (c.in_ok-create-2.ensures.made two _ _ makes_repos (c.in_ok-create.ensures.made one _ _ makes_version none)))

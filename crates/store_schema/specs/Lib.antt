@@ -1,0 +1,6 @@
+pub mod Schema
+pub mod Rows
+pub mod Layout
+pub mod Making
+pub mod Ordered
+pub mod Commands

@@ -1,0 +1,183 @@
+//! The making of the tables.
+ghost use Rattle.std.specs.Prelude.{◌≡◌, ℕ, IsTrue, OnOk, IfErr};
+ghost use Rattle.sqlite.specs.State.{HasCleanDisk, KeepsCommit, Survives};
+ghost use Rattle.sqlite.specs.Held.{state};
+ghost use Rattle.sqlite.specs.Change.{created, indexed};
+ghost use Rattle.sqlite_schema.specs.declared.schema.Index.{Index};
+ghost use Rattle.sqlite.specs.Table.{Table};
+ghost use Rattle.sqlite.specs.Schema.{Schema};
+ghost use Rattle.store_schema.specs.Schema.{no_schema, fresh_schema};
+ghost use Rattle.store_schema.specs.Making.{MakesTable, MakesIndex, IsEmptyWith, IsOther, shared_tables, linked_tables};
+
+use sqlite::{Alter, Error, Transaction};
+
+/// Makes the table or the index that the text says.
+fn create<S: Alter>(tx: &mut Transaction<'_, S>, text: &str) -> Result<(), Error>
+    requires { HasCleanDisk (state S.Store tx.old.conn.now)
+        → IsTrue (state S.Store tx.old.conn.now).in_transaction }
+    ensures made { HasCleanDisk (state S.Store tx.new.conn.now)
+        → OnOk result
+        ((schema : Schema) (table : Table) → MakesTable schema text.now table
+        → IsEmptyWith schema (state S.Store tx.old.conn.now).now
+        → IsEmptyWith (created schema table) (state S.Store tx.new.conn.now).now) }
+    ensures indexed { HasCleanDisk (state S.Store tx.new.conn.now)
+        → OnOk result
+        ((schema : Schema) (at : ℕ) (table : Table) (index : Index)
+        → MakesIndex schema text.now at table index
+        → IsEmptyWith schema (state S.Store tx.old.conn.now).now
+        → IsEmptyWith (indexed schema table index) (state S.Store tx.new.conn.now).now) }
+    ensures unmade { HasCleanDisk (state S.Store tx.new.conn.now)
+        → IfErr result
+        (λ e. (schema : Schema) (table : Table) → MakesTable schema text.now table
+        → IsEmptyWith schema (state S.Store tx.old.conn.now).now → IsOther e) }
+    ensures unindexed { HasCleanDisk (state S.Store tx.new.conn.now)
+        → IfErr result
+        (λ e. (schema : Schema) (at : ℕ) (table : Table) (index : Index)
+        → MakesIndex schema text.now at table index
+        → IsEmptyWith schema (state S.Store tx.old.conn.now).now → IsOther e) }
+    ensures inside { HasCleanDisk (state S.Store tx.new.conn.now)
+        → OnOk result (IsTrue (state S.Store tx.new.conn.now).in_transaction) }
+    ensures kept { HasCleanDisk (state S.Store tx.new.conn.now)
+        → KeepsCommit (state S.Store tx.old.conn.now) (state S.Store tx.new.conn.now) }
+    ensures same_reference { tx.new.conn.ghost_name ≡ tx.old.conn.ghost_name }
+    ensures survives { Survives (state S.Store tx.old.conn.now) (state S.Store tx.new.conn.now) (λ _. ⊥) }
+{
+    tx.execute(text, &[])?;
+    Ok(())
+}
+
+/// Makes the tables that any schema of a registry has.
+fn make_shared<S: Alter>(tx: &mut Transaction<'_, S>) -> Result<(), Error>
+    requires { HasCleanDisk (state S.Store tx.old.conn.now)
+        → IsTrue (state S.Store tx.old.conn.now).in_transaction }
+    ensures made { HasCleanDisk (state S.Store tx.new.conn.now)
+        → IsEmptyWith no_schema (state S.Store tx.old.conn.now).now
+        → OnOk result (IsEmptyWith shared_tables (state S.Store tx.new.conn.now).now) }
+    ensures unmade { HasCleanDisk (state S.Store tx.new.conn.now)
+        → IsEmptyWith no_schema (state S.Store tx.old.conn.now).now → IfErr result IsOther }
+    ensures inside { HasCleanDisk (state S.Store tx.new.conn.now)
+        → OnOk result (IsTrue (state S.Store tx.new.conn.now).in_transaction) }
+    ensures kept { HasCleanDisk (state S.Store tx.new.conn.now)
+        → KeepsCommit (state S.Store tx.old.conn.now) (state S.Store tx.new.conn.now) }
+    ensures same_reference { tx.new.conn.ghost_name ≡ tx.old.conn.ghost_name }
+    ensures survives { Survives (state S.Store tx.old.conn.now) (state S.Store tx.new.conn.now) (λ _. ⊥) }
+{
+    create(
+        tx,
+        "CREATE TABLE registry_schema (version INTEGER NOT NULL) STRICT",
+    )?;
+    create(
+        tx,
+        "CREATE TABLE registry_repos (name TEXT NOT NULL PRIMARY KEY, quota INTEGER NOT NULL, \
+         last_session INTEGER NOT NULL) STRICT",
+    )?;
+    create(
+        tx,
+        "CREATE TABLE registry_grants (token TEXT NOT NULL, repo TEXT NOT NULL \
+         REFERENCES registry_repos (name) ON DELETE CASCADE, level INTEGER NOT NULL, \
+         PRIMARY KEY (token, repo)) STRICT",
+    )?;
+    create(
+        tx,
+        "CREATE TABLE registry_tags (repo TEXT NOT NULL \
+         REFERENCES registry_repos (name) ON DELETE CASCADE, tag TEXT NOT NULL, digest TEXT NOT NULL, \
+         PRIMARY KEY (repo, tag)) STRICT",
+    )
+}
+
+/// Makes the contents, and the links to them.
+fn make_links<S: Alter>(tx: &mut Transaction<'_, S>) -> Result<(), Error>
+    requires { HasCleanDisk (state S.Store tx.old.conn.now)
+        → IsTrue (state S.Store tx.old.conn.now).in_transaction }
+    ensures made { HasCleanDisk (state S.Store tx.new.conn.now)
+        → IsEmptyWith shared_tables (state S.Store tx.old.conn.now).now
+        → OnOk result (IsEmptyWith linked_tables (state S.Store tx.new.conn.now).now) }
+    ensures unmade { HasCleanDisk (state S.Store tx.new.conn.now)
+        → IsEmptyWith shared_tables (state S.Store tx.old.conn.now).now → IfErr result IsOther }
+    ensures inside { HasCleanDisk (state S.Store tx.new.conn.now)
+        → OnOk result (IsTrue (state S.Store tx.new.conn.now).in_transaction) }
+    ensures kept { HasCleanDisk (state S.Store tx.new.conn.now)
+        → KeepsCommit (state S.Store tx.old.conn.now) (state S.Store tx.new.conn.now) }
+    ensures same_reference { tx.new.conn.ghost_name ≡ tx.old.conn.ghost_name }
+    ensures survives { Survives (state S.Store tx.old.conn.now) (state S.Store tx.new.conn.now) (λ _. ⊥) }
+{
+    create(
+        tx,
+        "CREATE TABLE registry_contents (id INTEGER PRIMARY KEY, sha256 TEXT NOT NULL, \
+         size INTEGER NOT NULL, bytes BLOB NOT NULL) STRICT",
+    )?;
+    create(
+        tx,
+        "CREATE TABLE registry_blob_links (repo TEXT NOT NULL \
+         REFERENCES registry_repos (name) ON DELETE CASCADE, digest TEXT NOT NULL, size INTEGER NOT NULL, \
+         content INTEGER NOT NULL, PRIMARY KEY (repo, digest)) STRICT",
+    )?;
+    create(
+        tx,
+        "CREATE TABLE registry_manifest_links (repo TEXT NOT NULL \
+         REFERENCES registry_repos (name) ON DELETE CASCADE, digest TEXT NOT NULL, size INTEGER NOT NULL, \
+         kind INTEGER NOT NULL, subject TEXT, content INTEGER NOT NULL, PRIMARY KEY (repo, digest)) STRICT",
+    )
+}
+
+/// Makes the uploads, their pieces, and the indexes.
+fn make_uploads<S: Alter>(tx: &mut Transaction<'_, S>) -> Result<(), Error>
+    requires { HasCleanDisk (state S.Store tx.old.conn.now)
+        → IsTrue (state S.Store tx.old.conn.now).in_transaction }
+    ensures made { HasCleanDisk (state S.Store tx.new.conn.now)
+        → IsEmptyWith linked_tables (state S.Store tx.old.conn.now).now
+        → OnOk result (IsEmptyWith fresh_schema (state S.Store tx.new.conn.now).now) }
+    ensures unmade { HasCleanDisk (state S.Store tx.new.conn.now)
+        → IsEmptyWith linked_tables (state S.Store tx.old.conn.now).now → IfErr result IsOther }
+    ensures inside { HasCleanDisk (state S.Store tx.new.conn.now)
+        → OnOk result (IsTrue (state S.Store tx.new.conn.now).in_transaction) }
+    ensures kept { HasCleanDisk (state S.Store tx.new.conn.now)
+        → KeepsCommit (state S.Store tx.old.conn.now) (state S.Store tx.new.conn.now) }
+    ensures same_reference { tx.new.conn.ghost_name ≡ tx.old.conn.ghost_name }
+    ensures survives { Survives (state S.Store tx.old.conn.now) (state S.Store tx.new.conn.now) (λ _. ⊥) }
+{
+    create(
+        tx,
+        "CREATE TABLE registry_uploads (repo TEXT NOT NULL \
+         REFERENCES registry_repos (name) ON DELETE CASCADE, number INTEGER NOT NULL, \
+         size INTEGER NOT NULL, PRIMARY KEY (repo, number)) STRICT",
+    )?;
+    create(
+        tx,
+        "CREATE TABLE registry_pieces (repo TEXT NOT NULL \
+         REFERENCES registry_repos (name) ON DELETE CASCADE, number INTEGER NOT NULL, \
+         start INTEGER NOT NULL, size INTEGER NOT NULL, content INTEGER NOT NULL, \
+         PRIMARY KEY (repo, number, start)) STRICT",
+    )?;
+    create(
+        tx,
+        "CREATE INDEX registry_contents_sha256 ON registry_contents (sha256)",
+    )?;
+    create(
+        tx,
+        "CREATE INDEX registry_manifest_links_subject ON registry_manifest_links (repo, subject)",
+    )
+}
+
+/// Makes the tables and indexes of a registry. In an empty database they are the schema, with no row.
+/// What else the database has stays; where one of their names is taken, or another failure comes, the
+/// caller gives the transaction up.
+pub fn make_tables<S: Alter>(tx: &mut Transaction<'_, S>) -> Result<(), Error>
+    requires { HasCleanDisk (state S.Store tx.old.conn.now)
+        → IsTrue (state S.Store tx.old.conn.now).in_transaction }
+    ensures made { HasCleanDisk (state S.Store tx.new.conn.now)
+        → IsEmptyWith no_schema (state S.Store tx.old.conn.now).now
+        → OnOk result (IsEmptyWith fresh_schema (state S.Store tx.new.conn.now).now) }
+    ensures unmade { HasCleanDisk (state S.Store tx.new.conn.now)
+        → IsEmptyWith no_schema (state S.Store tx.old.conn.now).now → IfErr result IsOther }
+    ensures inside { HasCleanDisk (state S.Store tx.new.conn.now)
+        → OnOk result (IsTrue (state S.Store tx.new.conn.now).in_transaction) }
+    ensures kept { HasCleanDisk (state S.Store tx.new.conn.now)
+        → KeepsCommit (state S.Store tx.old.conn.now) (state S.Store tx.new.conn.now) }
+    ensures same_reference { tx.new.conn.ghost_name ≡ tx.old.conn.ghost_name }
+    ensures survives { Survives (state S.Store tx.old.conn.now) (state S.Store tx.new.conn.now) (λ _. ⊥) }
+{
+    make_shared(tx)?;
+    make_links(tx)?;
+    make_uploads(tx)
+}

@@ -1,0 +1,25 @@
+-- What the queries on tags show of them.
+use Rattle.std.proofs.Common.{◌≡◌, ℕ, List, [], ◌∷◌, map, IfOk}
+use Rattle.std.specs.Prelude.{filter, find}
+use Rattle.std.specs.Option.{option_to_list}
+use Rattle.std.specs.List.Sorted.{IsPermutation}
+use Rattle.sqlite.specs.declared.types.Value.TheVariants.{Text}
+use Rattle.sqlite.specs.Order.{column}
+use Rattle.sqlite.specs.State.{State, Shown}
+use Rattle.store_schema.proofs.Selects.{Answer, is_text, one_test, both_tests}
+use Rattle.store_world.specs.Keys.{of_first, has_key}
+use Rattle.store_world.specs.Tables.{IsTagRow}
+use Rattle.store_statements.specs.TagTexts.{tag_find, tag_list}
+use Rattle.store_statements.specs.Held.{HoldsTables, held}
+use Rattle.store_statements.proofs.Keys.{key_parts}
+use Rattle.store_statements.proofs.SelectedRows.{lists, finds}
+
+pub digest_shown : (old new : State) (repo tag : List ℕ) (r : Answer) → HoldsTables old.now → IfOk r (λ rows. Shown tag_find (Text repo ∷ Text tag ∷ []) old new rows.items)
+    → IfOk r (λ rows. rows.items ≡ map (λ r. column r 3 ∷ []) (option_to_list (find (has_key repo tag) (held old).tags)))
+digest_shown old new repo tag r h ran = finds IsTagRow tag_find _ _ _ _ (Text repo ∷ Text tag ∷ []) (has_key repo tag) old new h.known.tags.stored h.tables.tags.types h.known.tag_texts.find
+    (λ r it. both_tests _ _ _ _ (is_text (column r 1) _ repo it.repo) (is_text (column r 2) _ tag it.tag)) _ (key_parts repo tag) h.tables.tags.apart r ran
+
+pub tags_shown : (old new : State) (repo : List ℕ) (r : Answer) → HoldsTables old.now → IfOk r (λ rows. Shown tag_list (Text repo ∷ []) old new rows.items)
+    → IfOk r (λ rows. IsPermutation (map (λ r. column r 2 ∷ []) (filter (of_first repo) (held old).tags)) rows.items)
+tags_shown old new repo r h ran = lists IsTagRow tag_list _ _ _ _ (Text repo ∷ []) (of_first repo) old new h.known.tags.stored h.tables.tags.types h.known.tag_texts.list
+    (λ r it. one_test _ _ (is_text (column r 1) _ repo it.repo)) r ran

@@ -1,0 +1,102 @@
+-- What a transaction that does one piece of work leaves.
+use Rattle.std.proofs.Common.{◌≡◌, ◌∙◌, inl, inr, false, true, true≢false, [], Ok, Err, Result, OnOk, OnErr, IfErr, sym, ap, subst, refl}
+use Rattle.std.specs.Prelude.{IsTrue, ⊤}
+use Rattle.sqlite.specs.declared.error.Error.{Error}
+use Rattle.sqlite.specs.State.{State, IsRolledBack, KeepsCommit, KeepsCounts, Shows, Survives}
+use Rattle.sqlite.specs.Steps.{FailsToCommit}
+use Rattle.sqlite.specs.Tree.{Trees}
+use Rattle.sqlite.proofs.StateLemmas.{survives_then}
+use Rattle.sqlite.specs.Effect.{Database}
+use Rattle.registry_model.specs.World.{World}
+use Rattle.store_world.specs.Tables.{Tables}
+use Rattle.store_world.specs.Registry.{IsRegistry, Agree}
+use Rattle.store_world.specs.World.{world_of}
+use Rattle.store_statements.specs.Held.{HoldsTables, IsReady, IsSettled, StaysSettled, Becomes, Commits, Makes, IsBack, tables_in, held}
+
+-- it was committed
+pub commits : (mid end : State) (t : Tables) → Becomes mid t → Shows mid end mid.now mid.now false → Commits end t
+commits mid end t b shows = record {
+  is_open = shows.is_open;
+  autocommit = shows.mode;
+  committed = shows.now_is ∙ sym shows.committed_is;
+  holds = subst HoldsTables (sym shows.now_is) b.0.holds;
+  tables = ap tables_in shows.now_is ∙ b.1;
+}
+
+-- it was rolled back
+pub undone_back : (old first mid end : State) → old.now ≡ old.committed → first.committed ≡ old.committed → KeepsCommit first mid → IsRolledBack mid end → IsBack old end
+undone_back old first mid end clean same kept undone is_open =
+    let was = undone.was_open is_open in
+    let here = kept.committed was in
+    ((undone.undone is_open).0 ∙ here ∙ same ∙ sym clean, (undone.undone is_open).1 ∙ here ∙ same)
+
+-- the commit failed
+pub failed_back : (old first mid end : State) (e : Error) → old.now ≡ old.committed → first.committed ≡ old.committed → KeepsCommit first mid → IsTrue mid.in_transaction → FailsToCommit mid end e → IsBack old end
+failed_back old first mid end e clean same kept inside (inl fails) = undone_back old first mid end clean same kept fails.3
+failed_back old first mid end e clean same kept inside (inr late) = absurd (true≢false (inside_true ∙ late.1))
+  where
+    inside_true : true ≡ mid.in_transaction
+    inside_true = go mid.in_transaction inside
+      where
+        go : (b : Rattle.std.specs.Prelude.Bool) → IsTrue b → true ≡ b
+        go true h = refl
+        go false h = sym h
+
+-- the same of a store that was settled
+pub back_dropped : (old first mid end : State) → IsSettled old → first.committed ≡ old.committed → KeepsCommit first mid → IsRolledBack mid end → IsBack old end
+back_dropped old first mid end s same kept undone = undone_back old first mid end s.committed same kept undone
+
+pub back_failed : (old first mid end : State) (e : Error) → IsSettled old → first.committed ≡ old.committed → KeepsCommit first mid → IsTrue mid.in_transaction → FailsToCommit mid end e → IsBack old end
+back_failed old first mid end e s same kept inside failed = failed_back old first mid end e s.committed same kept inside failed
+
+-- a store that survived all of it survives, whatever was committed
+pub survives_all : (a b c : State) (P Q : Trees → Type 0) → Survives a b P → Survives b c Q → Survives a c (λ _. ⊤)
+survives_all a b c P Q p q = survives_then a b c P Q (λ _. ⊤) (λ clean db x. tt) (λ clean db x. tt) p q
+
+-- a transaction that begins
+pub ready : (s : State) → IsSettled s → IsReady (record s { in_transaction = true })
+ready s settled = record { inside = refl; holds = settled.holds }
+
+-- the same of the commit's result
+pub commits_if : {A : Type 0} (mid end : State) (t : Tables) (r : Result A Error) → Becomes mid t → OnOk r (IsTrue mid.in_transaction × Shows mid end mid.now mid.now false × KeepsCounts mid end × (end.marks ≡ [])) → OnOk r (Commits end t)
+commits_if mid end t (Ok x) b h = commits mid end t b h.1
+commits_if mid end t (Err e) b h = tt
+
+pub back_if : {A : Type 0} (old first mid end : State) (r : Result A Error) → IsSettled old → first.committed ≡ old.committed → KeepsCommit first mid → IsTrue mid.in_transaction → IfErr r (FailsToCommit mid end) → OnErr r (IsBack old end)
+back_if old first mid end (Ok x) s same kept inside h = tt
+back_if old first mid end (Err e) s same kept inside h = back_failed old first mid end e s same kept inside h
+
+-- what the store's caller is told
+
+pub registry : (s : State) → IsSettled s → IsRegistry (held s)
+registry s it = record { tables = it.holds.tables; agree = it.agree }
+
+pub makes : (s : State) (t : Tables) (w : World) → Commits s t → (world_of t ≡ w) × IsRegistry t → Makes s w
+makes s t w c it = (
+  record {
+    is_open = c.is_open;
+    autocommit = c.autocommit;
+    committed = c.committed;
+    holds = c.holds;
+    agree = subst Agree (sym c.tables) it.1.agree;
+  },
+  ap world_of c.tables ∙ it.0,
+)
+
+-- the transaction failed, and then the connection was seen to be open
+pub stays_back : (old mid new : State) → IsSettled old → IsBack old mid → Shows mid new mid.now mid.now false → StaysSettled old new
+stays_back old mid new s back shows =
+    let same : new.now ≡ old.now = shows.now_is ∙ (back shows.was_open).0 in (
+      record {
+        is_open = shows.is_open;
+        autocommit = shows.mode;
+        committed = shows.now_is ∙ sym shows.committed_is;
+        holds = subst HoldsTables (sym same) s.holds;
+        agree = subst (λ (d : Database). Agree (tables_in d)) (sym same) s.agree;
+      },
+      same,
+    )
+
+pub told_err : {A E P : Type 0} (r : Result A E) → P → OnErr r P
+told_err (Ok x) p = tt
+told_err (Err e) p = p

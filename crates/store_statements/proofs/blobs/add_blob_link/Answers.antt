@@ -1,0 +1,13 @@
+use Rattle.std.proofs.Common.{◌≡◌, ◌∙◌, Ok, ap, arith, rules, pos, to_z, w64, SFits}
+use Rattle.std.proofs.lemmas.Int.{ints, to_z-of_z}
+use Rattle.sqlite.specs.Held.{state}
+use Rattle.sqlite.specs.declared.types.Value.TheVariants.{Int}
+use Rattle.store_statements.proofs.BlobRows.{added_by}
+use Rattle.store_statements.proofs.blobs.add_blob_link.Goals as goal
+
+pub returns-in-Ok-clause-added : goal.returns-in-Ok-clause-added
+returns-in-Ok-clause-added g c clean is fresh =
+    let whole : to_z w64 c.args.size ≡ pos c.args.size = omega (arith, ints) in
+    let range : SFits w64 c.get.result = search rules in
+    added_by c.args.repo.now c.args.digest.now c.args.size c.args.content.id (state g.S.Store c.args.tx.now.conn.now) (state g.S.Store c.execute.new.self.conn.now) (Ok c.in-Ok.field-0) is.holds fresh
+    (rw (c.params-to_sql.ensures, c.params-to_sql-2.ensures, c.params-to_sql-3.ensures ∙ ap Int whole, c.params-to_sql-4.ensures ∙ ap Int (to_z-of_z w64 c.get.result range ∙ c.get.ensures)) at (c.in-Ok.ensures.runs clean is.inside))

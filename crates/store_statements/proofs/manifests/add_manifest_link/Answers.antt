@@ -1,0 +1,25 @@
+use Rattle.std.proofs.Common.{◌≡◌, ◌∙◌, ap, arith, rules, pos, to_z, w64, SFits, Ok}
+use Rattle.std.specs.Prelude.{option_map, List, ℕ}
+use Rattle.std.specs.Borrow.{Bor}
+use Rattle.std.proofs.lemmas.Int.{ints, to_z-of_z}
+use Rattle.sqlite.specs.Held.{state}
+use Rattle.sqlite.specs.declared.types.Value.TheVariants.{Int}
+use Rattle.store_statements.proofs.ManifestRows.{added_by, number_is, bound_text, subject_value}
+use Rattle.store_statements.proofs.manifests.add_manifest_link.Goals as goal
+
+pub returns-in-Ok-clause-added : goal.returns-in-Ok-clause-added
+returns-in-Ok-clause-added g c clean is fresh =
+    let whole : to_z w64 c.args.size ≡ pos c.args.size = omega (arith, ints) in
+    let kind : SFits w64 c.from.result = search rules in
+    let content : SFits w64 c.get.result = search rules in
+    let subject = option_map (λ (t : Bor (List ℕ)). t.now) c.args.subject in
+    added_by c.args.repo.now c.args.digest.now c.args.size c.args.kind subject c.args.content.id (state g.S.Store c.args.tx.now.conn.now) (state g.S.Store c.execute.new.self.conn.now) (Ok c.in-Ok.field-0) is.holds fresh
+    (rw (
+      c.params-to_sql.ensures,
+      c.params-to_sql-2.ensures,
+      c.params-to_sql-3.ensures ∙ ap Int whole,
+      c.params-to_sql-4.ensures ∙ ap Int (to_z-of_z w64 c.from.result kind ∙ c.from.ensures ∙ ap pos (c.number.ensures ∙ number_is c.args.kind)),
+      c.params-to_sql-5.ensures ∙ subject_value c.args.subject,
+      bound_text subject,
+      c.params-to_sql-6.ensures ∙ ap Int (to_z-of_z w64 c.get.result content ∙ c.get.ensures),
+    ) at (c.in-Ok.ensures.runs clean is.inside))

@@ -1,0 +1,9 @@
+use Rattle.std.proofs.Common.{Ok}
+use Rattle.sqlite.specs.Held.{state}
+use Rattle.store_statements.proofs.ChildLemmas.{took_by}
+use Rattle.store_statements.proofs.repos.take_repo.Goals as goal
+
+pub returns-in-Ok-clause-taken : goal.returns-in-Ok-clause-taken
+returns-in-Ok-clause-taken g c clean is bare =
+    took_by c.args.name.now (state g.S.Store c.args.tx.now.conn.now) (state g.S.Store c.execute.new.self.conn.now) (Ok c.in-Ok.field-0) is.holds bare
+    (rw (c.params-to_sql.ensures) at (c.in-Ok.ensures.runs clean is.inside))

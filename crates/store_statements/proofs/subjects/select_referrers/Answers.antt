@@ -1,0 +1,13 @@
+use Rattle.std.proofs.Common.{◌∷◌, [], filter}
+use Rattle.sqlite.specs.Held.{state}
+use Rattle.sqlite.specs.Order.{column}
+use Rattle.sqlite_keyed.specs.Lists.{sort_by}
+use Rattle.store_world.specs.Keys.{on_subject}
+use Rattle.store_statements.specs.Held.{held}
+use Rattle.store_statements.specs.ManifestShown.{by_second, referrer_shown}
+use Rattle.store_statements.proofs.SelectedRows.{all_of_them}
+use Rattle.store_statements.proofs.subjects.select_referrers.Goals as goal
+
+pub returns-in-Ok-clause-found : goal.returns-in-Ok-clause-found
+returns-in-Ok-clause-found g c clean =
+    all_of_them referrer_shown (λ r. column r 2 ∷ column r 6 ∷ []) (sort_by by_second (filter (on_subject c.args.repo.now c.args.digest.now) (held (state g.S.Store c.args.conn.now)).manifests)) c.in-Ok.rows.items c.referrers_in.result (c.in-Ok.ensures.shown clean) (rw c.deref.ensures.value at c.referrers_in.ensures)

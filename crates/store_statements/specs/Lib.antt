@@ -1,0 +1,16 @@
+pub mod RepoTexts
+pub mod GrantTexts
+pub mod TagTexts
+pub mod BlobTexts
+pub mod ManifestTexts
+pub mod UploadTexts
+pub mod PieceTexts
+pub mod VersionTexts
+pub mod Known
+pub mod Held
+pub mod Clauses
+pub mod Steps
+pub mod Shown
+pub mod ManifestShown
+pub mod TagPages
+pub mod Drops

@@ -1,0 +1,23 @@
+-- What the columns of a row read as.
+use Rattle.std.specs.Prelude.{ℕ}
+use Rattle.std.specs.declared.cmp.Ordering.{Ordering}
+use Rattle.sqlite.specs.Order.{Row}
+use Rattle.registry_model.specs.World.{text_cmp}
+use Rattle.store_schema.specs.Rows.{bytes_at, natural_at, integer_at}
+use Rattle.store_contents.specs.declared.content_id.ContentId.{ContentId}
+use Rattle.store_statements.specs.declared.blobs.BlobLink.{BlobLink}
+use Rattle.store_statements.specs.declared.repos.RepoRow.{RepoRow}
+
+-- the content that a column names
+abbrev pub content_named : ℕ → Row → ContentId
+content_named at r = record { id = integer_at r at }
+
+abbrev pub blob_link : Row → BlobLink
+blob_link r = record { size = natural_at r 3; content = content_named 4 r }
+
+abbrev pub repo_row : Row → RepoRow
+repo_row r = record { quota = natural_at r 2; last = natural_at r 3 }
+
+-- repositories in the order of their names
+abbrev pub by_name : Row → Row → Ordering
+by_name a b = text_cmp (bytes_at a 1) (bytes_at b 1)

@@ -1,0 +1,159 @@
+-- What the store's statements make of the tables.
+use Rattle.std.specs.Prelude.{◌≡◌, ℤ, pos, Bool, ◌∷◌, [], ◌&&◌, bytes_eq, ◌+◌, ℕ, Some, length}
+use Rattle.sqlite.specs.declared.types.Value.TheVariants.{Int}
+use Rattle.sqlite.specs.Order.{Row}
+use Rattle.sqlite.specs.State.{State}
+use Rattle.oci_names.specs.Text.{Text}
+use Rattle.store_schema.specs.Rows.{PutsRow, bytes_at}
+use Rattle.store_world.specs.Keys.{of_first, of_session, has_key}
+use Rattle.store_world.specs.Tables.{Tables, no_tables}
+use Rattle.store_world.specs.Changes.{without, changed, Comes, with_last, with_size, upload_columns, blob_columns, piece_columns, Grow}
+use Rattle.store_statements.specs.Held.{IsReady, held}
+
+-- a tag of the repository names the digest, in column 3
+abbrev pub names_digest : Text → Text → Row → Bool
+names_digest name digest r = of_first name r && bytes_eq (bytes_at r 3) digest
+
+abbrev pub tags_without : (Row → Bool) → Tables → Tables
+tags_without p t = record t { tags = without p t.tags }
+
+abbrev pub tags_changed : (Row → Bool) → (Row → Row) → Tables → Tables
+tags_changed p f t = record t { tags = changed p f t.tags }
+
+-- one row came into the table, and the others stay
+pub record TagComes (old new : State) (columns : Row) : Type 0 where
+  pub ready : IsReady new
+  pub comes : Comes (held old).tags (held new).tags columns
+  pub others : held new ≡ record (held old) { tags = (held new).tags }
+
+-- ---- repositories
+
+abbrev pub repos_without : (Row → Bool) → Tables → Tables
+repos_without p t = record t { repos = without p t.repos }
+
+abbrev pub repos_changed : (Row → Bool) → (Row → Row) → Tables → Tables
+repos_changed p f t = record t { repos = changed p f t.repos }
+
+pub record RepoComes (old new : State) (columns : Row) : Type 0 where
+  pub ready : IsReady new
+  pub comes : Comes (held old).repos (held new).repos columns
+  pub others : held new ≡ record (held old) { repos = (held new).repos }
+
+-- ---- grants
+
+abbrev pub grants_without : (Row → Bool) → Tables → Tables
+grants_without p t = record t { grants = without p t.grants }
+
+abbrev pub grants_changed : (Row → Bool) → (Row → Row) → Tables → Tables
+grants_changed p f t = record t { grants = changed p f t.grants }
+
+pub record GrantComes (old new : State) (columns : Row) : Type 0 where
+  pub ready : IsReady new
+  pub comes : Comes (held old).grants (held new).grants columns
+  pub others : held new ≡ record (held old) { grants = (held new).grants }
+
+-- ---- links to blobs
+
+abbrev pub blobs_without : (Row → Bool) → Tables → Tables
+blobs_without p t = record t { blobs = without p t.blobs }
+
+pub record BlobComes (old new : State) (columns : Row) : Type 0 where
+  pub ready : IsReady new
+  pub comes : Comes (held old).blobs (held new).blobs columns
+  pub others : held new ≡ record (held old) { blobs = (held new).blobs }
+
+-- ---- upload sessions
+
+abbrev pub uploads_without : (Row → Bool) → Tables → Tables
+uploads_without p t = record t { uploads = without p t.uploads }
+
+abbrev pub uploads_changed : (Row → Bool) → (Row → Row) → Tables → Tables
+uploads_changed p f t = record t { uploads = changed p f t.uploads }
+
+pub record UploadComes (old new : State) (columns : Row) : Type 0 where
+  pub ready : IsReady new
+  pub comes : Comes (held old).uploads (held new).uploads columns
+  pub others : held new ≡ record (held old) { uploads = (held new).uploads }
+
+-- ---- the pieces of upload sessions
+
+abbrev pub pieces_without : (Row → Bool) → Tables → Tables
+pieces_without p t = record t { pieces = without p t.pieces }
+
+pub record PieceComes (old new : State) (columns : Row) : Type 0 where
+  pub ready : IsReady new
+  pub comes : Comes (held old).pieces (held new).pieces columns
+  pub others : held new ≡ record (held old) { pieces = (held new).pieces }
+
+-- ---- which schema it is
+
+pub record VersionComes (old new : State) : Type 0 where
+  pub ready : IsReady new
+  pub id : ℤ
+  pub puts : PutsRow (held old).version (held new).version id (Int (pos 2) ∷ [])
+  pub others : held new ≡ record (held old) { version = (held new).version }
+
+-- the tables were just made
+pub record IsNew (s : State) : Type 0 where
+  pub ready : IsReady s
+  pub tables : held s ≡ record no_tables { version = (held s).version }
+
+-- ---- links to manifests
+
+abbrev pub manifests_without : (Row → Bool) → Tables → Tables
+manifests_without p t = record t { manifests = without p t.manifests }
+
+pub record ManifestComes (old new : State) (columns : Row) : Type 0 where
+  pub ready : IsReady new
+  pub comes : Comes (held old).manifests (held new).manifests columns
+  pub others : held new ≡ record (held old) { manifests = (held new).manifests }
+
+-- upload sessions with their pieces
+abbrev pub sessions_without : (Row → Bool) → Tables → Tables
+sessions_without p t = record t { pieces = without p t.pieces; uploads = without p t.uploads }
+
+-- a session comes, and its number is the last of its repository
+pub record SessionOpened (old new : Tables) (name : Text) (number : ℕ) : Type 0 where
+  pub comes : Comes old.uploads new.uploads (upload_columns name number)
+  pub others : new ≡ record old {
+    repos = changed (of_first name) (with_last number) old.repos;
+    uploads = new.uploads;
+  }
+
+-- ---- bytes that come with what names them
+
+-- the bytes have an id, as they had or got it; every other content stays
+pub record ContentKept (old new : Tables) (id : ℤ) (bytes : Text) : Type 0 where
+  pub grow : Grow old.contents new.contents
+  pub there : new.contents id ≡ Some bytes
+  pub others : new ≡ record old { contents = new.contents }
+
+pub record BlobStored (old new : Tables) (name digest bytes : Text) : Type 0 where
+  pub id : ℤ
+  pub grow : Grow old.contents new.contents
+  pub there : new.contents id ≡ Some bytes
+  pub comes : Comes old.blobs new.blobs (blob_columns name digest (length bytes) id)
+  pub others : new ≡ record old { contents = new.contents; blobs = new.blobs }
+
+pub record PieceStored (old new : Tables) (name : Text) (number start : ℕ) (bytes : Text) : Type 0 where
+  pub id : ℤ
+  pub grow : Grow old.contents new.contents
+  pub there : new.contents id ≡ Some bytes
+  pub comes : Comes old.pieces new.pieces (piece_columns name number start (length bytes) id)
+  pub others : new ≡ record old { contents = new.contents; pieces = new.pieces }
+
+-- the session's size is set, and a piece comes that begins where it ended
+abbrev pub Appended : Tables → Tables → Text → ℕ → ℕ → Text → Type 0
+Appended old new name number size bytes =
+    PieceStored (uploads_changed (of_session name number) (with_size (size + length bytes)) old)
+    new name number size bytes
+
+-- the session ends, and the blob comes
+abbrev pub Finished : Tables → Tables → Text → ℕ → Text → Text → Type 0
+Finished old new name number digest bytes =
+    BlobStored (sessions_without (of_session name number) old) new name digest bytes
+
+-- the link to the digest goes, and each tag that names it
+abbrev pub without_manifest : Text → Text → Tables → Tables
+without_manifest name digest t =
+    tags_without (names_digest name digest) (manifests_without (has_key name digest) t)

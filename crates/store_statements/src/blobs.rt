@@ -1,0 +1,249 @@
+//! The rows of links to blobs.
+ghost use Rattle.std.specs.Prelude.{◌≡◌, ◌<◌, ◌^◌, ◌∷◌, [], map, filter, find, None, option_map};
+ghost use Rattle.std.specs.Option.{option_to_list};
+ghost use Rattle.std.specs.List.Sorted.{IsPermutation};
+ghost use Rattle.sqlite.specs.Order.{column};
+ghost use Rattle.store_schema.specs.Rows.{natural_at};
+ghost use Rattle.store_world.specs.Keys.{of_first, has_key};
+ghost use Rattle.store_world.specs.Changes.{blob_columns};
+ghost use Rattle.store_statements.specs.Clauses.{Adds, Changes, ChangesNothing, ChangesNothingInside, FailsAsWas, Finds, FindsInside, KeepsInside, Lasts, LastsUncommitted, Settled, Stays};
+ghost use Rattle.store_statements.specs.Shown.{blob_link, content_named};
+ghost use Rattle.store_statements.specs.Steps.{blobs_without, BlobComes};
+
+use crate::columns::{contents_in, numbers_in};
+use crate::open_check::checked_fault;
+use oci_names::Fault;
+use sqlite::{Alter, Connection, Error, Row, Transaction, params};
+use std::alloc::Global;
+use store_contents::{ContentId, fault_of};
+
+/// What a repository has of a blob: its size in bytes, and the content that it is.
+#[derive(Clone, Copy)]
+pub struct BlobLink {
+    pub size: u64,
+    pub content: ContentId,
+}
+
+/// Takes the link out, where it is there.
+pub fn take_blob_link<S: Alter>(
+    tx: &mut Transaction<'_, S>,
+    repo: &str,
+    digest: &str,
+) -> Result<(), Fault>
+    ensures taken { Changes S.Store tx.old.conn.now tx.new.conn.now result
+        (blobs_without (has_key repo.now digest.now)) }
+    ensures kept { KeepsInside S.Store tx.old.conn.now tx.new.conn.now }
+    ensures same_reference { tx.new.conn.ghost_name ≡ tx.old.conn.ghost_name }
+    ensures survives { LastsUncommitted S.Store tx.old.conn.now tx.new.conn.now }
+{
+    match tx.execute(
+        "DELETE FROM registry_blob_links WHERE repo = ?1 AND digest = ?2",
+        params![repo, digest],
+    ) {
+        Ok(_) => Ok(()),
+        Err(error) => Err(fault_of(error)),
+    }
+}
+
+/// Takes all links of the repository out.
+pub fn take_blob_links<S: Alter>(tx: &mut Transaction<'_, S>, repo: &str) -> Result<(), Fault>
+    ensures taken { Changes S.Store tx.old.conn.now tx.new.conn.now result
+        (blobs_without (of_first repo.now)) }
+    ensures kept { KeepsInside S.Store tx.old.conn.now tx.new.conn.now }
+    ensures same_reference { tx.new.conn.ghost_name ≡ tx.old.conn.ghost_name }
+    ensures survives { LastsUncommitted S.Store tx.old.conn.now tx.new.conn.now }
+{
+    match tx.execute(
+        "DELETE FROM registry_blob_links WHERE repo = ?1",
+        params![repo],
+    ) {
+        Ok(_) => Ok(()),
+        Err(error) => Err(fault_of(error)),
+    }
+}
+
+/// Puts a link in that is not there. The size is in bytes.
+pub fn add_blob_link<S: Alter>(
+    tx: &mut Transaction<'_, S>,
+    repo: &str,
+    digest: &str,
+    size: u64,
+    content: ContentId,
+) -> Result<(), Fault>
+    requires fits { size < 2 ^ 63 }
+    ensures added { Adds S.Store tx.old.conn.now tx.new.conn.now result
+        (λ t. find (has_key repo.now digest.now) t.blobs ≡ None) BlobComes
+        (blob_columns repo.now digest.now size content.id) }
+    ensures kept { KeepsInside S.Store tx.old.conn.now tx.new.conn.now }
+    ensures same_reference { tx.new.conn.ghost_name ≡ tx.old.conn.ghost_name }
+    ensures survives { LastsUncommitted S.Store tx.old.conn.now tx.new.conn.now }
+{
+    match tx.execute(
+        "INSERT INTO registry_blob_links (repo, digest, size, content) VALUES (?1, ?2, ?3, ?4)",
+        params![repo, digest, size as i64, content.get()],
+    ) {
+        Ok(_) => Ok(()),
+        Err(error) => Err(fault_of(error)),
+    }
+}
+
+/// The size and the content of a link: one row, or none.
+fn blob_link_rows<S: Alter>(
+    conn: &mut Connection<S>,
+    repo: &str,
+    digest: &str,
+) -> Result<Vec<Row>, Error>
+    requires { Settled S.Store conn.old }
+    ensures shown { Finds S.Store conn.old conn.new result
+        (λ t rows. rows.items ≡ map (λ r. column r 3 ∷ column r 4 ∷ [])
+        (option_to_list (find (has_key repo.now digest.now) t.blobs))) }
+    ensures same { ChangesNothing S.Store conn.old conn.new result }
+    ensures err { FailsAsWas S.Store conn.old conn.new result }
+    ensures survives { LastsUncommitted S.Store conn.old conn.new }
+{
+    conn.query_all(
+        "SELECT size, content FROM registry_blob_links WHERE repo = ?1 AND digest = ?2",
+        params![repo, digest],
+    )
+}
+
+fn select_blob_link<S: Alter>(
+    conn: &mut Connection<S>,
+    repo: &str,
+    digest: &str,
+) -> Result<Option<BlobLink>, Error>
+    requires { Settled S.Store conn.old }
+    ensures found { Finds S.Store conn.old conn.new result
+        (λ t o. o ≡ option_map blob_link (find (has_key repo.now digest.now) t.blobs)) }
+    ensures same { ChangesNothing S.Store conn.old conn.new result }
+    ensures err { FailsAsWas S.Store conn.old conn.new result }
+    ensures survives { LastsUncommitted S.Store conn.old conn.new }
+{
+    let rows = blob_link_rows(conn, repo, digest)?;
+    match rows.first() {
+        Some(row) => {
+            let size: u64 = row.get(0)?;
+            let id: i64 = row.get(1)?;
+            let content = ContentId::new(id);
+            Ok(Some(BlobLink { size, content }))
+        }
+        None => Ok(None),
+    }
+}
+
+/// The repository's link to the blob, if there is one.
+pub fn find_blob_link<S: Alter>(
+    conn: &mut Connection<S>,
+    repo: &str,
+    digest: &str,
+) -> Result<Option<BlobLink>, Fault>
+    requires { Settled S.Store conn.old }
+    ensures found { Finds S.Store conn.old conn.new result
+        (λ t o. o ≡ option_map blob_link (find (has_key repo.now digest.now) t.blobs)) }
+    ensures settled { Stays S.Store conn.old conn.new result }
+    ensures survives { Lasts S.Store conn.old conn.new }
+{
+    match select_blob_link(conn, repo, digest) {
+        Ok(found) => Ok(found),
+        Err(error) => Err(checked_fault(conn, fault_of(error))),
+    }
+}
+
+/// The size of each blob of the repository.
+fn blob_size_rows<S: Alter>(conn: &mut Connection<S>, repo: &str) -> Result<Vec<Row>, Error>
+    requires { Settled S.Store conn.old }
+    ensures shown { Finds S.Store conn.old conn.new result
+        (λ t rows. IsPermutation (map (λ r. column r 3 ∷ []) (filter (of_first repo.now) t.blobs))
+        rows.items) }
+    ensures same { ChangesNothing S.Store conn.old conn.new result }
+    ensures err { FailsAsWas S.Store conn.old conn.new result }
+    ensures survives { LastsUncommitted S.Store conn.old conn.new }
+{
+    conn.query_all(
+        "SELECT size FROM registry_blob_links WHERE repo = ?1",
+        params![repo],
+    )
+}
+
+fn select_blob_sizes<S: Alter>(
+    alloc: Global,
+    conn: &mut Connection<S>,
+    repo: &str,
+) -> Result<Vec<u64>, Error>
+    requires { Settled S.Store conn.old }
+    ensures found { Finds S.Store conn.old conn.new result
+        (λ t sizes. IsPermutation (map (λ r. natural_at r 3) (filter (of_first repo.now) t.blobs))
+        sizes.items) }
+    ensures same { ChangesNothing S.Store conn.old conn.new result }
+    ensures err { FailsAsWas S.Store conn.old conn.new result }
+    ensures survives { LastsUncommitted S.Store conn.old conn.new }
+{
+    let rows = blob_size_rows(conn, repo)?;
+    let sizes = numbers_in(alloc, &rows)?;
+    Ok(sizes)
+}
+
+/// The size in bytes of each blob of the repository, in any order.
+pub fn blob_sizes<S: Alter>(
+    alloc: Global,
+    conn: &mut Connection<S>,
+    repo: &str,
+) -> Result<Vec<u64>, Fault>
+    requires { Settled S.Store conn.old }
+    ensures found { Finds S.Store conn.old conn.new result
+        (λ t sizes. IsPermutation (map (λ r. natural_at r 3) (filter (of_first repo.now) t.blobs))
+        sizes.items) }
+    ensures settled { Stays S.Store conn.old conn.new result }
+    ensures survives { Lasts S.Store conn.old conn.new }
+{
+    match select_blob_sizes(alloc, conn, repo) {
+        Ok(sizes) => Ok(sizes),
+        Err(error) => Err(checked_fault(conn, fault_of(error))),
+    }
+}
+
+/// The content of each link.
+fn blob_content_rows<S: Alter>(tx: &mut Transaction<'_, S>) -> Result<Vec<Row>, Error>
+    ensures shown { FindsInside S.Store tx.old.conn.now tx.new.conn.now result
+        (λ t rows. IsPermutation (map (λ r. column r 4 ∷ []) t.blobs) rows.items) }
+    ensures same { ChangesNothingInside S.Store tx.old.conn.now tx.new.conn.now result }
+    ensures kept { KeepsInside S.Store tx.old.conn.now tx.new.conn.now }
+    ensures same_reference { tx.new.conn.ghost_name ≡ tx.old.conn.ghost_name }
+    ensures survives { LastsUncommitted S.Store tx.old.conn.now tx.new.conn.now }
+{
+    tx.query_all("SELECT content FROM registry_blob_links", &[])
+}
+
+fn select_blob_contents<S: Alter>(
+    alloc: Global,
+    tx: &mut Transaction<'_, S>,
+) -> Result<Vec<ContentId>, Error>
+    ensures found { FindsInside S.Store tx.old.conn.now tx.new.conn.now result
+        (λ t ids. IsPermutation (map (content_named 4) t.blobs) ids.items) }
+    ensures same { ChangesNothingInside S.Store tx.old.conn.now tx.new.conn.now result }
+    ensures kept { KeepsInside S.Store tx.old.conn.now tx.new.conn.now }
+    ensures same_reference { tx.new.conn.ghost_name ≡ tx.old.conn.ghost_name }
+    ensures survives { LastsUncommitted S.Store tx.old.conn.now tx.new.conn.now }
+{
+    let rows = blob_content_rows(tx)?;
+    let ids = contents_in(alloc, &rows)?;
+    Ok(ids)
+}
+
+/// The content that each blob's link names, of all repositories, in any order. Nothing changes.
+pub fn blob_contents<S: Alter>(
+    alloc: Global,
+    tx: &mut Transaction<'_, S>,
+) -> Result<Vec<ContentId>, Fault>
+    ensures found { FindsInside S.Store tx.old.conn.now tx.new.conn.now result
+        (λ t ids. IsPermutation (map (content_named 4) t.blobs) ids.items) }
+    ensures same { ChangesNothingInside S.Store tx.old.conn.now tx.new.conn.now result }
+    ensures kept { KeepsInside S.Store tx.old.conn.now tx.new.conn.now }
+    ensures same_reference { tx.new.conn.ghost_name ≡ tx.old.conn.ghost_name }
+    ensures survives { LastsUncommitted S.Store tx.old.conn.now tx.new.conn.now }
+{
+    match select_blob_contents(alloc, tx) {
+        Ok(ids) => Ok(ids),
+        Err(error) => Err(fault_of(error)),
+    }
+}

@@ -1,0 +1,54 @@
+//! Bytes that are kept once, as links and pieces name them.
+ghost use Rattle.std.specs.Prelude.{◌≡◌, true, IfOk};
+ghost use Rattle.sqlite.specs.State.{HasCleanDisk};
+ghost use Rattle.sqlite.specs.Held.{state};
+ghost use Rattle.oci_names.specs.Digest.{matches};
+ghost use Rattle.store_statements.specs.Clauses.{KeepsInside, LastsUncommitted};
+ghost use Rattle.store_statements.specs.Held.{IsReady, held};
+ghost use Rattle.store_statements.specs.Steps.{ContentKept};
+
+use oci_names::Fault;
+use sqlite::{Alter, Transaction};
+use std::alloc::Global;
+use store_contents::{ContentId, find_or_add, find_or_add_hashed};
+
+/// The content that has the bytes: it was there, or it is added.
+pub fn keep<S: Alter>(
+    alloc: Global,
+    tx: &mut Transaction<'_, S>,
+    bytes: &[u8],
+) -> Result<ContentId, Fault>
+    ensures content { HasCleanDisk (state S.Store tx.new.conn.now) → IsReady (state S.Store tx.old.conn.now)
+        → IfOk result
+        (λ it. IsReady (state S.Store tx.new.conn.now) × ContentKept
+        (held (state S.Store tx.old.conn.now)) (held (state S.Store tx.new.conn.now)) it.id
+        bytes.now) }
+    ensures kept { KeepsInside S.Store tx.old.conn.now tx.new.conn.now }
+    ensures same_reference { tx.new.conn.ghost_name ≡ tx.old.conn.ghost_name }
+    ensures survives { LastsUncommitted S.Store tx.old.conn.now tx.new.conn.now }
+{
+    find_or_add(alloc, tx, bytes)
+}
+
+/// As `keep`, with a digest that the bytes match: one of sha256 spares hashing them again.
+pub fn keep_matching<S: Alter>(
+    alloc: Global,
+    tx: &mut Transaction<'_, S>,
+    digest: &str,
+    bytes: &[u8],
+) -> Result<ContentId, Fault>
+    requires matching { matches digest.now bytes.now ≡ true }
+    ensures content { HasCleanDisk (state S.Store tx.new.conn.now) → IsReady (state S.Store tx.old.conn.now)
+        → IfOk result
+        (λ it. IsReady (state S.Store tx.new.conn.now) × ContentKept
+        (held (state S.Store tx.old.conn.now)) (held (state S.Store tx.new.conn.now)) it.id
+        bytes.now) }
+    ensures kept { KeepsInside S.Store tx.old.conn.now tx.new.conn.now }
+    ensures same_reference { tx.new.conn.ghost_name ≡ tx.old.conn.ghost_name }
+    ensures survives { LastsUncommitted S.Store tx.old.conn.now tx.new.conn.now }
+{
+    match digest.strip_prefix("sha256:") {
+        Some(sha256) => find_or_add_hashed(tx, sha256, bytes),
+        None => find_or_add(alloc, tx, bytes),
+    }
+}

@@ -1,0 +1,213 @@
+//! The rows of grants: what level a token has on a repository.
+ghost use Rattle.std.specs.Prelude.{◌≡◌, ◌∷◌, [], pos, map, nat_lt, option_map, find, filter, length, None};
+ghost use Rattle.std.specs.Option.{option_to_list};
+ghost use Rattle.std.specs.List.Sorted.{IsPermutation};
+ghost use Rattle.sqlite.specs.Order.{column};
+ghost use Rattle.store_schema.specs.Rows.{natural_at};
+ghost use Rattle.store_world.specs.Keys.{has_key, of_first, of_second};
+ghost use Rattle.store_world.specs.Tables.{level_number, level_of};
+ghost use Rattle.store_world.specs.Changes.{with_level, grant_columns};
+ghost use Rattle.store_statements.specs.Clauses.{Adds, Changes, ChangesNothing, FailsAsWas, Finds, FindsInside, KeepsInside, Lasts, LastsUncommitted, Settled, Stays};
+ghost use Rattle.store_statements.specs.Steps.{grants_without, grants_changed, GrantComes};
+
+use crate::open_check::checked_fault;
+use oci_names::Fault;
+use registry_model::Level;
+use sqlite::{Alter, Connection, Error, Row, Transaction, params};
+use store_contents::fault_of;
+
+/// A level as a column has it.
+fn number_of(level: Level) -> i64
+    ensures { result ≡ pos (level_number level) }
+{
+    match level {
+        Level::Pull => 1,
+        Level::Push => 2,
+        Level::Delete => 3,
+    }
+}
+
+/// Takes the grant out, where it is there.
+pub fn take_grant<S: Alter>(
+    tx: &mut Transaction<'_, S>,
+    token: &str,
+    repo: &str,
+) -> Result<(), Fault>
+    ensures taken { Changes S.Store tx.old.conn.now tx.new.conn.now result
+        (grants_without (has_key token.now repo.now)) }
+    ensures kept { KeepsInside S.Store tx.old.conn.now tx.new.conn.now }
+    ensures same_reference { tx.new.conn.ghost_name ≡ tx.old.conn.ghost_name }
+    ensures survives { LastsUncommitted S.Store tx.old.conn.now tx.new.conn.now }
+{
+    match tx.execute(
+        "DELETE FROM registry_grants WHERE token = ?1 AND repo = ?2",
+        params![token, repo],
+    ) {
+        Ok(_) => Ok(()),
+        Err(error) => Err(fault_of(error)),
+    }
+}
+
+/// Takes each grant on the repository out.
+pub fn take_grants<S: Alter>(tx: &mut Transaction<'_, S>, repo: &str) -> Result<(), Fault>
+    ensures taken { Changes S.Store tx.old.conn.now tx.new.conn.now result
+        (grants_without (of_second repo.now)) }
+    ensures kept { KeepsInside S.Store tx.old.conn.now tx.new.conn.now }
+    ensures same_reference { tx.new.conn.ghost_name ≡ tx.old.conn.ghost_name }
+    ensures survives { LastsUncommitted S.Store tx.old.conn.now tx.new.conn.now }
+{
+    match tx.execute("DELETE FROM registry_grants WHERE repo = ?1", params![repo]) {
+        Ok(_) => Ok(()),
+        Err(error) => Err(fault_of(error)),
+    }
+}
+
+/// Sets the level, where there is a grant, and tells how many rows that were: one, or none.
+pub fn set_level<S: Alter>(
+    tx: &mut Transaction<'_, S>,
+    token: &str,
+    repo: &str,
+    level: Level,
+) -> Result<usize, Fault>
+    ensures set { Changes S.Store tx.old.conn.now tx.new.conn.now result
+        (grants_changed (has_key token.now repo.now) (with_level level)) }
+    ensures counted { FindsInside S.Store tx.old.conn.now tx.new.conn.now result
+        (λ t n. n ≡ length (filter (has_key token.now repo.now) t.grants)) }
+    ensures kept { KeepsInside S.Store tx.old.conn.now tx.new.conn.now }
+    ensures same_reference { tx.new.conn.ghost_name ≡ tx.old.conn.ghost_name }
+    ensures survives { LastsUncommitted S.Store tx.old.conn.now tx.new.conn.now }
+{
+    match tx.execute(
+        "UPDATE registry_grants SET level = ?3 WHERE token = ?1 AND repo = ?2",
+        params![token, repo, number_of(level)],
+    ) {
+        Ok(count) => Ok(count),
+        Err(error) => Err(fault_of(error)),
+    }
+}
+
+/// Puts a grant in that is not there.
+pub fn add_grant<S: Alter>(
+    tx: &mut Transaction<'_, S>,
+    token: &str,
+    repo: &str,
+    level: Level,
+) -> Result<(), Fault>
+    ensures added { Adds S.Store tx.old.conn.now tx.new.conn.now result
+        (λ t. find (has_key token.now repo.now) t.grants ≡ None) GrantComes
+        (grant_columns token.now repo.now level) }
+    ensures kept { KeepsInside S.Store tx.old.conn.now tx.new.conn.now }
+    ensures same_reference { tx.new.conn.ghost_name ≡ tx.old.conn.ghost_name }
+    ensures survives { LastsUncommitted S.Store tx.old.conn.now tx.new.conn.now }
+{
+    match tx.execute(
+        "INSERT INTO registry_grants (token, repo, level) VALUES (?1, ?2, ?3)",
+        params![token, repo, number_of(level)],
+    ) {
+        Ok(_) => Ok(()),
+        Err(error) => Err(fault_of(error)),
+    }
+}
+
+/// The level of a grant: one row, or none.
+fn level_rows<S: Alter>(
+    conn: &mut Connection<S>,
+    token: &str,
+    repo: &str,
+) -> Result<Vec<Row>, Error>
+    requires { Settled S.Store conn.old }
+    ensures shown { Finds S.Store conn.old conn.new result
+        (λ t rows. rows.items ≡ map (λ r. column r 3 ∷ [])
+        (option_to_list (find (has_key token.now repo.now) t.grants))) }
+    ensures same { ChangesNothing S.Store conn.old conn.new result }
+    ensures err { FailsAsWas S.Store conn.old conn.new result }
+    ensures survives { LastsUncommitted S.Store conn.old conn.new }
+{
+    conn.query_all(
+        "SELECT level FROM registry_grants WHERE token = ?1 AND repo = ?2",
+        params![token, repo],
+    )
+}
+
+/// The level that a column's number stands for.
+fn level_in(number: u64) -> Level
+    ensures { result ≡ level_of number }
+{
+    match number {
+        1 => Level::Pull,
+        2 => Level::Push,
+        _ => Level::Delete,
+    }
+}
+
+fn select_level<S: Alter>(
+    conn: &mut Connection<S>,
+    token: &str,
+    repo: &str,
+) -> Result<Option<Level>, Error>
+    requires { Settled S.Store conn.old }
+    ensures found { Finds S.Store conn.old conn.new result
+        (λ t o. o ≡ option_map (λ r. level_of (natural_at r 3))
+        (find (has_key token.now repo.now) t.grants)) }
+    ensures same { ChangesNothing S.Store conn.old conn.new result }
+    ensures err { FailsAsWas S.Store conn.old conn.new result }
+    ensures survives { LastsUncommitted S.Store conn.old conn.new }
+{
+    let rows = level_rows(conn, token, repo)?;
+    match rows.first() {
+        Some(row) => {
+            let number: u64 = row.get(0)?;
+            Ok(Some(level_in(number)))
+        }
+        None => Ok(None),
+    }
+}
+
+/// The level of the token on the repository, if it has one.
+pub fn find_level<S: Alter>(
+    conn: &mut Connection<S>,
+    token: &str,
+    repo: &str,
+) -> Result<Option<Level>, Fault>
+    requires { Settled S.Store conn.old }
+    ensures found { Finds S.Store conn.old conn.new result
+        (λ t o. o ≡ option_map (λ r. level_of (natural_at r 3))
+        (find (has_key token.now repo.now) t.grants)) }
+    ensures settled { Stays S.Store conn.old conn.new result }
+    ensures survives { Lasts S.Store conn.old conn.new }
+{
+    match select_level(conn, token, repo) {
+        Ok(found) => Ok(found),
+        Err(error) => Err(checked_fault(conn, fault_of(error))),
+    }
+}
+
+/// The level of each grant to a token.
+fn known_rows<S: Alter>(conn: &mut Connection<S>, token: &str) -> Result<Vec<Row>, Error>
+    requires { Settled S.Store conn.old }
+    ensures shown { Finds S.Store conn.old conn.new result
+        (λ t rows. IsPermutation (map (λ r. column r 3 ∷ []) (filter (of_first token.now) t.grants))
+        rows.items) }
+    ensures same { ChangesNothing S.Store conn.old conn.new result }
+    ensures err { FailsAsWas S.Store conn.old conn.new result }
+    ensures survives { LastsUncommitted S.Store conn.old conn.new }
+{
+    conn.query_all(
+        "SELECT level FROM registry_grants WHERE token = ?1",
+        params![token],
+    )
+}
+
+/// Whether the token has a grant on some repository.
+pub fn is_known<S: Alter>(conn: &mut Connection<S>, token: &str) -> Result<bool, Fault>
+    requires { Settled S.Store conn.old }
+    ensures found { Finds S.Store conn.old conn.new result
+        (λ t known. known ≡ nat_lt 0 (length (filter (of_first token.now) t.grants))) }
+    ensures settled { Stays S.Store conn.old conn.new result }
+    ensures survives { Lasts S.Store conn.old conn.new }
+{
+    match known_rows(conn, token) {
+        Ok(rows) => Ok(!rows.is_empty()),
+        Err(error) => Err(checked_fault(conn, fault_of(error))),
+    }
+}

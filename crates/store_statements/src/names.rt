@@ -1,0 +1,51 @@
+//! Names that the columns of a row show.
+ghost use Rattle.std.specs.Prelude.{◌≡◌, IfOk, option_map, slice_get};
+ghost use Rattle.store_schema.specs.Rows.{bytes_at};
+
+use oci_names::{Digest, Fault, NameFault, Tag};
+use sqlite::Row;
+use std::alloc::Global;
+use store_contents::fault_of;
+
+/// The digest in the column. `Fault::Storage` where what is there is none.
+pub(crate) fn digest_at(alloc: Global, row: &Row, at: usize) -> Result<Digest, Fault>
+    ensures { IfOk result (λ digest. digest ≡ bytes_at row.now at) }
+{
+    let text: String = match row.get(at) {
+        Ok(text) => text,
+        Err(error) => return Err(fault_of(error)),
+    };
+    match Digest::parse(alloc, text.as_str()) {
+        Ok(digest) => Ok(digest),
+        Err(NameFault::Memory) => Err(Fault::Memory),
+        Err(_) => Err(Fault::Storage),
+    }
+}
+
+/// The tag in the column. `Fault::Storage` where what is there is none.
+pub(crate) fn tag_at(alloc: Global, row: &Row, at: usize) -> Result<Tag, Fault>
+    ensures { IfOk result (λ tag. tag ≡ bytes_at row.now at) }
+{
+    let text: String = match row.get(at) {
+        Ok(text) => text,
+        Err(error) => return Err(fault_of(error)),
+    };
+    match Tag::parse(alloc, text.as_str()) {
+        Ok(tag) => Ok(tag),
+        Err(NameFault::Memory) => Err(Fault::Memory),
+        Err(_) => Err(Fault::Storage),
+    }
+}
+
+/// The digest that the first row shows first, if there is a row.
+pub(crate) fn first_digest(alloc: Global, rows: &[Row]) -> Result<Option<Digest>, Fault>
+    ensures { IfOk result (λ o. o ≡ option_map (λ row. bytes_at row 0) (slice_get rows.now 0)) }
+{
+    match rows.first() {
+        Some(row) => match digest_at(alloc, row, 0) {
+            Ok(digest) => Ok(Some(digest)),
+            Err(fault) => Err(fault),
+        },
+        None => Ok(None),
+    }
+}

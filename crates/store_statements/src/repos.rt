@@ -1,0 +1,224 @@
+//! The rows of repositories.
+ghost use Rattle.std.specs.Prelude.{◌≡◌, ◌<◌, ◌^◌, ◌∷◌, [], map, option_map, OnOk, IfOk, find, filter, length, None};
+ghost use Rattle.std.specs.Option.{option_to_list};
+ghost use Rattle.sqlite.specs.Order.{column};
+ghost use Rattle.sqlite.specs.State.{HasCleanDisk};
+ghost use Rattle.sqlite_keyed.specs.Lists.{sort_by};
+ghost use Rattle.store_schema.specs.Rows.{bytes_at};
+ghost use Rattle.sqlite.specs.Held.{state};
+ghost use Rattle.store_world.specs.Keys.{of_first};
+ghost use Rattle.store_world.specs.Changes.{with_quota, with_last, repo_columns};
+ghost use Rattle.store_statements.specs.Clauses.{Adds, Changes, ChangesNothing, FailsAsWas, Finds, FindsInside, KeepsInside, Lasts, LastsUncommitted, Settled, Stays};
+ghost use Rattle.store_statements.specs.Held.{IsReady, Becomes, held};
+ghost use Rattle.store_statements.specs.Shown.{repo_row, by_name};
+ghost use Rattle.store_statements.specs.Steps.{repos_without, repos_changed, RepoComes};
+ghost use Rattle.store_statements.specs.Drops.{HasNoChildren};
+
+use crate::open_check::checked_fault;
+use oci_names::{Fault, NameFault, RepoName};
+use sqlite::{Alter, Connection, Error, ErrorCode, Row, Transaction, params};
+use std::alloc::Global;
+use store_contents::fault_of;
+
+/// What the row of a repository has beside its name: the quota in bytes, and the last number that an upload
+/// session got, 0 where none was opened.
+#[derive(Clone, Copy)]
+pub struct RepoRow {
+    pub quota: u64,
+    pub last: u64,
+}
+
+/// Puts a repository in that is not there, with no upload session.
+pub fn add_repo<S: Alter>(tx: &mut Transaction<'_, S>, name: &str, quota: u64) -> Result<(), Fault>
+    requires fits { quota < 2 ^ 63 }
+    ensures added { Adds S.Store tx.old.conn.now tx.new.conn.now result
+        (λ t. find (of_first name.now) t.repos ≡ None) RepoComes (repo_columns name.now quota) }
+    ensures kept { KeepsInside S.Store tx.old.conn.now tx.new.conn.now }
+    ensures same_reference { tx.new.conn.ghost_name ≡ tx.old.conn.ghost_name }
+    ensures survives { LastsUncommitted S.Store tx.old.conn.now tx.new.conn.now }
+{
+    match tx.execute(
+        "INSERT INTO registry_repos (name, quota, last_session) VALUES (?1, ?2, 0)",
+        params![name, quota as i64],
+    ) {
+        Ok(_) => Ok(()),
+        Err(error) => Err(fault_of(error)),
+    }
+}
+
+/// Sets the quota of the repository, where it is there, and tells how many rows that were: one, or none.
+pub fn set_quota<S: Alter>(
+    tx: &mut Transaction<'_, S>,
+    name: &str,
+    quota: u64,
+) -> Result<usize, Fault>
+    requires fits { quota < 2 ^ 63 }
+    ensures set { Changes S.Store tx.old.conn.now tx.new.conn.now result
+        (repos_changed (of_first name.now) (with_quota quota)) }
+    ensures counted { FindsInside S.Store tx.old.conn.now tx.new.conn.now result
+        (λ t n. n ≡ length (filter (of_first name.now) t.repos)) }
+    ensures kept { KeepsInside S.Store tx.old.conn.now tx.new.conn.now }
+    ensures same_reference { tx.new.conn.ghost_name ≡ tx.old.conn.ghost_name }
+    ensures survives { LastsUncommitted S.Store tx.old.conn.now tx.new.conn.now }
+{
+    match tx.execute(
+        "UPDATE registry_repos SET quota = ?2 WHERE name = ?1",
+        params![name, quota as i64],
+    ) {
+        Ok(count) => Ok(count),
+        Err(error) => Err(fault_of(error)),
+    }
+}
+
+/// Sets the last number that an upload session of the repository got, where the repository is there, and
+/// tells how many rows that were: one, or none.
+pub fn set_last<S: Alter>(
+    tx: &mut Transaction<'_, S>,
+    name: &str,
+    number: u64,
+) -> Result<usize, Fault>
+    requires fits { number < 2 ^ 63 }
+    ensures set { Changes S.Store tx.old.conn.now tx.new.conn.now result
+        (repos_changed (of_first name.now) (with_last number)) }
+    ensures counted { FindsInside S.Store tx.old.conn.now tx.new.conn.now result
+        (λ t n. n ≡ length (filter (of_first name.now) t.repos)) }
+    ensures kept { KeepsInside S.Store tx.old.conn.now tx.new.conn.now }
+    ensures same_reference { tx.new.conn.ghost_name ≡ tx.old.conn.ghost_name }
+    ensures survives { LastsUncommitted S.Store tx.old.conn.now tx.new.conn.now }
+{
+    match tx.execute(
+        "UPDATE registry_repos SET last_session = ?2 WHERE name = ?1",
+        params![name, number as i64],
+    ) {
+        Ok(count) => Ok(count),
+        Err(error) => Err(fault_of(error)),
+    }
+}
+
+/// Takes a repository out that no row of another table names, where it is there.
+pub fn take_repo<S: Alter>(tx: &mut Transaction<'_, S>, name: &str) -> Result<(), Fault>
+    ensures taken { HasCleanDisk (state S.Store tx.new.conn.now) → IsReady (state S.Store tx.old.conn.now)
+        → HasNoChildren (held (state S.Store tx.old.conn.now)) name.now
+        → OnOk result
+        (Becomes (state S.Store tx.new.conn.now)
+        (repos_without (of_first name.now) (held (state S.Store tx.old.conn.now)))) }
+    ensures kept { KeepsInside S.Store tx.old.conn.now tx.new.conn.now }
+    ensures same_reference { tx.new.conn.ghost_name ≡ tx.old.conn.ghost_name }
+    ensures survives { LastsUncommitted S.Store tx.old.conn.now tx.new.conn.now }
+{
+    match tx.execute("DELETE FROM registry_repos WHERE name = ?1", params![name]) {
+        Ok(_) => Ok(()),
+        Err(error) => Err(fault_of(error)),
+    }
+}
+
+/// The quota and the last number of the repository: one row, or none.
+fn repo_rows<S: Alter>(conn: &mut Connection<S>, name: &str) -> Result<Vec<Row>, Error>
+    requires { Settled S.Store conn.old }
+    ensures shown { Finds S.Store conn.old conn.new result
+        (λ t rows. rows.items ≡ map (λ r. column r 2 ∷ column r 3 ∷ [])
+        (option_to_list (find (of_first name.now) t.repos))) }
+    ensures same { ChangesNothing S.Store conn.old conn.new result }
+    ensures err { FailsAsWas S.Store conn.old conn.new result }
+    ensures survives { LastsUncommitted S.Store conn.old conn.new }
+{
+    conn.query_all(
+        "SELECT quota, last_session FROM registry_repos WHERE name = ?1",
+        params![name],
+    )
+}
+
+fn select_repo<S: Alter>(conn: &mut Connection<S>, name: &str) -> Result<Option<RepoRow>, Error>
+    requires { Settled S.Store conn.old }
+    ensures found { Finds S.Store conn.old conn.new result
+        (λ t o. o ≡ option_map repo_row (find (of_first name.now) t.repos)) }
+    ensures same { ChangesNothing S.Store conn.old conn.new result }
+    ensures err { FailsAsWas S.Store conn.old conn.new result }
+    ensures survives { LastsUncommitted S.Store conn.old conn.new }
+{
+    let rows = repo_rows(conn, name)?;
+    match rows.first() {
+        Some(row) => {
+            let quota: u64 = row.get(0)?;
+            let last: u64 = row.get(1)?;
+            Ok(Some(RepoRow { quota, last }))
+        }
+        None => Ok(None),
+    }
+}
+
+/// What the row of the repository has, if there is one.
+pub fn find_repo<S: Alter>(conn: &mut Connection<S>, name: &str) -> Result<Option<RepoRow>, Fault>
+    requires { Settled S.Store conn.old }
+    ensures found { Finds S.Store conn.old conn.new result
+        (λ t o. o ≡ option_map repo_row (find (of_first name.now) t.repos)) }
+    ensures settled { Stays S.Store conn.old conn.new result }
+    ensures survives { Lasts S.Store conn.old conn.new }
+{
+    match select_repo(conn, name) {
+        Ok(found) => Ok(found),
+        Err(error) => Err(checked_fault(conn, fault_of(error))),
+    }
+}
+
+/// The name of each repository, in the order of their bytes.
+fn name_rows<S: Alter>(conn: &mut Connection<S>) -> Result<Vec<Row>, Error>
+    requires { Settled S.Store conn.old }
+    ensures shown { Finds S.Store conn.old conn.new result
+        (λ t rows. rows.items ≡ map (λ r. column r 1 ∷ []) (sort_by by_name t.repos)) }
+    ensures same { ChangesNothing S.Store conn.old conn.new result }
+    ensures err { FailsAsWas S.Store conn.old conn.new result }
+    ensures survives { LastsUncommitted S.Store conn.old conn.new }
+{
+    conn.query_all("SELECT name FROM registry_repos ORDER BY name", &[])
+}
+
+/// The name in the row's first column. What is none is told as a failure of the database.
+fn name_in(alloc: Global, row: &Row) -> Result<RepoName, Error>
+    ensures { IfOk result (λ name. name ≡ bytes_at row.now 0) }
+{
+    let text: String = row.get(0)?;
+    match RepoName::parse(alloc, text.as_str()) {
+        Ok(name) => Ok(name),
+        Err(NameFault::Memory) => Err(Error::SqliteFailure(ErrorCode::OutOfMemory)),
+        Err(_) => Err(Error::SqliteFailure(ErrorCode::DatabaseCorrupt)),
+    }
+}
+
+fn names_in(alloc: Global, rows: &[Row]) -> Result<Vec<RepoName>, Error>
+    ensures { IfOk result (λ names. names.items ≡ map (λ r. bytes_at r 0) rows.now) }
+{
+    let mut names = Vec::new(alloc);
+    for row in rows {
+        let name = name_in(alloc, row)?;
+        names.push(name)?;
+    }
+    Ok(names)
+}
+
+fn select_names<S: Alter>(alloc: Global, conn: &mut Connection<S>) -> Result<Vec<RepoName>, Error>
+    requires { Settled S.Store conn.old }
+    ensures found { Finds S.Store conn.old conn.new result
+        (λ t names. names.items ≡ map (λ r. bytes_at r 1) (sort_by by_name t.repos)) }
+    ensures same { ChangesNothing S.Store conn.old conn.new result }
+    ensures err { FailsAsWas S.Store conn.old conn.new result }
+    ensures survives { LastsUncommitted S.Store conn.old conn.new }
+{
+    let rows = name_rows(conn)?;
+    let names = names_in(alloc, &rows)?;
+    Ok(names)
+}
+
+/// The name of each repository, in the order of their bytes.
+pub fn list_repos<S: Alter>(alloc: Global, conn: &mut Connection<S>) -> Result<Vec<RepoName>, Fault>
+    requires { Settled S.Store conn.old }
+    ensures found { Finds S.Store conn.old conn.new result
+        (λ t names. names.items ≡ map (λ r. bytes_at r 1) (sort_by by_name t.repos)) }
+    ensures settled { Stays S.Store conn.old conn.new result }
+    ensures survives { Lasts S.Store conn.old conn.new }
+{
+    match select_names(alloc, conn) {
+        Ok(names) => Ok(names),
+        Err(error) => Err(checked_fault(conn, fault_of(error))),
+    }
+}

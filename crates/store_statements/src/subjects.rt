@@ -1,0 +1,117 @@
+//! The manifests that name a digest as their subject.
+ghost use Rattle.std.specs.Prelude.{◌≡◌, ◌∷◌, ◌++◌, [], true, OnOk, IfOk, map, filter};
+ghost use Rattle.sqlite.specs.Order.{column};
+ghost use Rattle.sqlite_keyed.specs.Lists.{sort_by};
+ghost use Rattle.oci_names.specs.Digest.{is_digest};
+ghost use Rattle.store_world.specs.Keys.{on_subject};
+ghost use Rattle.store_statements.specs.Clauses.{ChangesNothing, FailsAsWas, Finds, Lasts, LastsUncommitted, Settled, Stays};
+ghost use Rattle.store_statements.specs.ManifestShown.{by_second, referrer, referrer_shown};
+
+use crate::names::digest_at;
+use crate::open_check::checked_fault;
+use oci_names::{Digest, Fault};
+use sqlite::{Alter, Connection, Error, Row, params};
+use std::alloc::Global;
+use store_contents::{ContentId, fault_of};
+
+/// The digests and contents of the manifests on the subject, in the order of the digests.
+fn subject_rows<S: Alter>(
+    conn: &mut Connection<S>,
+    repo: &str,
+    digest: &str,
+) -> Result<Vec<Row>, Error>
+    requires settled { Settled S.Store conn.old }
+    requires digest { is_digest digest.now ≡ true }
+    ensures shown { Finds S.Store conn.old conn.new result
+        (λ t rows. rows.items ≡ map (λ r. column r 2 ∷ column r 6 ∷ [])
+        (sort_by by_second (filter (on_subject repo.now digest.now) t.manifests))) }
+    ensures same { ChangesNothing S.Store conn.old conn.new result }
+    ensures err { FailsAsWas S.Store conn.old conn.new result }
+    ensures survives { LastsUncommitted S.Store conn.old conn.new }
+{
+    conn.query_all(
+        "SELECT digest, content FROM registry_manifest_links WHERE repo = ?1 AND subject = ?2 \
+         ORDER BY digest",
+        params![repo, digest],
+    )
+}
+
+/// The digest and the content that the row shows.
+fn referrer_in(alloc: Global, row: &Row) -> Result<(Digest, ContentId), Fault>
+    ensures { IfOk result (λ it. it ≡ referrer_shown row.now) }
+{
+    let id: i64 = match row.get(1) {
+        Ok(id) => id,
+        Err(error) => return Err(fault_of(error)),
+    };
+    match digest_at(alloc, row, 0) {
+        Ok(digest) => Ok((digest, ContentId::new(id))),
+        Err(fault) => Err(fault),
+    }
+}
+
+fn push(
+    referrers: &mut Vec<(Digest, ContentId)>,
+    referrer: (Digest, ContentId),
+) -> Result<(), Fault>
+    ensures { OnOk result (referrers.new.items ≡ referrers.old.items ++ referrer ∷ []) }
+{
+    match referrers.push(referrer) {
+        Ok(()) => Ok(()),
+        Err(_) => Err(Fault::Memory),
+    }
+}
+
+fn referrers_in(alloc: Global, rows: &[Row]) -> Result<Vec<(Digest, ContentId)>, Fault>
+    ensures { IfOk result (λ found. found.items ≡ map referrer_shown rows.now) }
+{
+    let mut referrers = Vec::new(alloc);
+    for row in rows {
+        let referrer = referrer_in(alloc, row)?;
+        push(&mut referrers, referrer)?;
+    }
+    Ok(referrers)
+}
+
+fn select_referrers<S: Alter>(
+    alloc: Global,
+    conn: &mut Connection<S>,
+    repo: &str,
+    digest: &str,
+) -> Result<Vec<(Digest, ContentId)>, Fault>
+    requires settled { Settled S.Store conn.old }
+    requires digest { is_digest digest.now ≡ true }
+    ensures found { Finds S.Store conn.old conn.new result
+        (λ t found. found.items ≡ map referrer
+        (sort_by by_second (filter (on_subject repo.now digest.now) t.manifests))) }
+    ensures same { ChangesNothing S.Store conn.old conn.new result }
+    ensures err { FailsAsWas S.Store conn.old conn.new result }
+    ensures survives { LastsUncommitted S.Store conn.old conn.new }
+{
+    match subject_rows(conn, repo, digest) {
+        Ok(rows) => referrers_in(alloc, &rows),
+        Err(error) => Err(fault_of(error)),
+    }
+}
+
+/// The manifests of the repository whose subject is the digest, each with its content, in the order of
+/// their digests.
+pub fn manifests_on_subject<S: Alter>(
+    alloc: Global,
+    conn: &mut Connection<S>,
+    repo: &str,
+    digest: &str,
+) -> Result<Vec<(Digest, ContentId)>, Fault>
+    requires settled { Settled S.Store conn.old }
+    requires digest { is_digest digest.now ≡ true }
+    ensures found { Finds S.Store conn.old conn.new result
+        (λ t found. found.items ≡ map referrer
+        (sort_by by_second (filter (on_subject repo.now digest.now) t.manifests))) }
+    ensures settled { Stays S.Store conn.old conn.new result }
+    ensures survives { Lasts S.Store conn.old conn.new }
+{
+    match select_referrers(alloc, conn, repo, digest) {
+        Ok(found) => Ok(found),
+        Err(fault) => Err(checked_fault(conn, fault)),
+    }
+}

@@ -1,0 +1,151 @@
+//! Pages of the tags of a repository.
+ghost use Rattle.std.specs.Prelude.{◌≡◌, ◌∷◌, ◌++◌, [], OnOk, IfOk, map, filter, length};
+ghost use Rattle.sqlite.specs.declared.types.Value.TheVariants.{Int};
+ghost use Rattle.sqlite.specs.Order.{column};
+ghost use Rattle.sqlite.specs.Query.{limited, as_count};
+ghost use Rattle.sqlite_keyed.specs.Lists.{sort_by};
+ghost use Rattle.registry_model.specs.TagPage.{first_of, more_than};
+ghost use Rattle.store_schema.specs.Rows.{bytes_at};
+ghost use Rattle.store_statements.specs.Clauses.{ChangesNothing, FailsAsWas, Finds, Lasts, LastsUncommitted, Settled, Stays};
+ghost use Rattle.store_statements.specs.ManifestShown.{by_second};
+ghost use Rattle.store_statements.specs.TagPages.{tag_behind, tags_behind, IsEnough, first_rows, are_more};
+
+use crate::names::tag_at;
+use crate::numbers::LARGEST;
+use crate::open_check::checked_fault;
+use oci_names::{Fault, Tag};
+use sqlite::{Alter, Connection, Error, Row, params};
+use std::alloc::Global;
+use store_contents::fault_of;
+
+/// Tags in their order, and whether more follow.
+pub struct TagPage {
+    pub tags: Vec<Tag>,
+    pub more: bool,
+}
+
+/// How many rows to ask for: one more than the page may have, so that it is seen whether more follow. -1
+/// asks for all.
+fn rows_for(n: Option<u64>) -> i64
+    ensures { IsEnough n result }
+{
+    match n {
+        Some(n) if n < LARGEST => (n + 1) as i64,
+        _ => -1,
+    }
+}
+
+/// The first tags behind `last`, in their order. A negative `limit` asks for all.
+fn page_rows<S: Alter>(
+    conn: &mut Connection<S>,
+    repo: &str,
+    last: &str,
+    limit: i64,
+) -> Result<Vec<Row>, Error>
+    requires settled { Settled S.Store conn.old }
+    ensures shown { Finds S.Store conn.old conn.new result
+        (λ t rows. rows.items ≡ limited (as_count (Int limit))
+        (map (λ r. column r 2 ∷ []) (sort_by by_second (filter (tag_behind repo.now last.now) t.tags)))) }
+    ensures same { ChangesNothing S.Store conn.old conn.new result }
+    ensures err { FailsAsWas S.Store conn.old conn.new result }
+    ensures survives { LastsUncommitted S.Store conn.old conn.new }
+{
+    conn.query_all(
+        "SELECT tag FROM registry_tags WHERE repo = ?1 AND tag > ?2 ORDER BY tag LIMIT ?3",
+        params![repo, last, limit],
+    )
+}
+
+fn push_tag(tags: &mut Vec<Tag>, tag: Tag) -> Result<(), Fault>
+    ensures { OnOk result (tags.new.items ≡ tags.old.items ++ tag ∷ []) }
+{
+    match tags.push(tag) {
+        Ok(()) => Ok(()),
+        Err(_) => Err(Fault::Memory),
+    }
+}
+
+/// The tags that the rows show, in the order of the rows.
+fn tags_in(alloc: Global, rows: &[Row]) -> Result<Vec<Tag>, Fault>
+    ensures { IfOk result (λ tags. tags.items ≡ map (λ row. bytes_at row 0) rows.now) }
+{
+    let mut tags = Vec::new(alloc);
+    for row in rows {
+        let tag = tag_at(alloc, row, 0)?;
+        push_tag(&mut tags, tag)?;
+    }
+    Ok(tags)
+}
+
+fn first(rows: &[Row], n: Option<u64>) -> &[Row]
+    ensures { result.now ≡ first_rows n rows.now }
+{
+    match n {
+        Some(n) if n < rows.len() as u64 => &rows[..n as usize],
+        _ => rows,
+    }
+}
+
+fn has_more(count: usize, n: Option<u64>) -> bool
+    ensures { result ≡ are_more n count }
+{
+    match n {
+        Some(n) => 0 < n && n < count as u64,
+        None => false,
+    }
+}
+
+fn page_in(alloc: Global, rows: &[Row], n: Option<u64>) -> Result<TagPage, Fault>
+    ensures { IfOk result
+        (λ page. (page.tags.items ≡ map (λ row. bytes_at row 0) (first_rows n rows.now)) ×
+        (page.more ≡ are_more n (length rows.now))) }
+{
+    let tags = tags_in(alloc, first(rows, n))?;
+    Ok(TagPage {
+        tags,
+        more: has_more(rows.len(), n),
+    })
+}
+
+fn select_page<S: Alter>(
+    alloc: Global,
+    conn: &mut Connection<S>,
+    repo: &str,
+    last: &str,
+    n: Option<u64>,
+) -> Result<TagPage, Fault>
+    requires settled { Settled S.Store conn.old }
+    ensures found { Finds S.Store conn.old conn.new result
+        (λ t page. (page.tags.items ≡ first_of n (tags_behind t.tags repo.now last.now)) ×
+        (page.more ≡ more_than n (tags_behind t.tags repo.now last.now))) }
+    ensures same { ChangesNothing S.Store conn.old conn.new result }
+    ensures err { FailsAsWas S.Store conn.old conn.new result }
+    ensures survives { LastsUncommitted S.Store conn.old conn.new }
+{
+    match page_rows(conn, repo, last, rows_for(n)) {
+        Ok(rows) => page_in(alloc, &rows, n),
+        Err(error) => Err(fault_of(error)),
+    }
+}
+
+/// At most `n` tags of the repository behind `last`, which need not be a tag, in their order; all where
+/// there is no `n`. More follow behind a page that is not empty by its size.
+pub fn tags_page<S: Alter>(
+    alloc: Global,
+    conn: &mut Connection<S>,
+    repo: &str,
+    last: &str,
+    n: Option<u64>,
+) -> Result<TagPage, Fault>
+    requires settled { Settled S.Store conn.old }
+    ensures found { Finds S.Store conn.old conn.new result
+        (λ t page. (page.tags.items ≡ first_of n (tags_behind t.tags repo.now last.now)) ×
+        (page.more ≡ more_than n (tags_behind t.tags repo.now last.now))) }
+    ensures settled { Stays S.Store conn.old conn.new result }
+    ensures survives { Lasts S.Store conn.old conn.new }
+{
+    match select_page(alloc, conn, repo, last, n) {
+        Ok(found) => Ok(found),
+        Err(fault) => Err(checked_fault(conn, fault)),
+    }
+}

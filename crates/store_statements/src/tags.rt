@@ -1,0 +1,214 @@
+//! The rows of tags.
+ghost use Rattle.std.specs.Prelude.{◌≡◌, ◌∷◌, [], map, find, filter, length, option_map, None};
+ghost use Rattle.std.specs.Option.{option_to_list};
+ghost use Rattle.std.specs.List.Sorted.{IsPermutation};
+ghost use Rattle.sqlite.specs.Order.{column};
+ghost use Rattle.store_schema.specs.Rows.{bytes_at};
+ghost use Rattle.store_world.specs.Keys.{of_first, has_key};
+ghost use Rattle.store_world.specs.Changes.{with_digest, tag_columns};
+ghost use Rattle.store_statements.specs.Clauses.{Adds, Changes, ChangesNothing, FailsAsWas, Finds, FindsInside, KeepsInside, Lasts, LastsUncommitted, Settled, Stays};
+ghost use Rattle.store_statements.specs.Steps.{names_digest, tags_without, tags_changed, TagComes};
+
+use crate::names::first_digest;
+use crate::open_check::checked_fault;
+use oci_names::{Digest, Fault};
+use sqlite::{Alter, Connection, Error, Row, Transaction, params};
+use std::alloc::Global;
+use store_contents::fault_of;
+
+/// Takes the tag out, where it is there.
+pub fn take_tag<S: Alter>(tx: &mut Transaction<'_, S>, repo: &str, tag: &str) -> Result<(), Fault>
+    ensures taken { Changes S.Store tx.old.conn.now tx.new.conn.now result
+        (tags_without (has_key repo.now tag.now)) }
+    ensures kept { KeepsInside S.Store tx.old.conn.now tx.new.conn.now }
+    ensures same_reference { tx.new.conn.ghost_name ≡ tx.old.conn.ghost_name }
+    ensures survives { LastsUncommitted S.Store tx.old.conn.now tx.new.conn.now }
+{
+    match tx.execute(
+        "DELETE FROM registry_tags WHERE repo = ?1 AND tag = ?2",
+        params![repo, tag],
+    ) {
+        Ok(_) => Ok(()),
+        Err(error) => Err(fault_of(error)),
+    }
+}
+
+/// Sets the tag to the digest, where it is there, and tells how many rows that were: one, or none.
+pub fn set_tag<S: Alter>(
+    tx: &mut Transaction<'_, S>,
+    repo: &str,
+    tag: &str,
+    digest: &str,
+) -> Result<usize, Fault>
+    ensures set { Changes S.Store tx.old.conn.now tx.new.conn.now result
+        (tags_changed (has_key repo.now tag.now) (with_digest digest.now)) }
+    ensures counted { FindsInside S.Store tx.old.conn.now tx.new.conn.now result
+        (λ t n. n ≡ length (filter (has_key repo.now tag.now) t.tags)) }
+    ensures kept { KeepsInside S.Store tx.old.conn.now tx.new.conn.now }
+    ensures same_reference { tx.new.conn.ghost_name ≡ tx.old.conn.ghost_name }
+    ensures survives { LastsUncommitted S.Store tx.old.conn.now tx.new.conn.now }
+{
+    match tx.execute(
+        "UPDATE registry_tags SET digest = ?3 WHERE repo = ?1 AND tag = ?2",
+        params![repo, tag, digest],
+    ) {
+        Ok(count) => Ok(count),
+        Err(error) => Err(fault_of(error)),
+    }
+}
+
+/// Puts a tag in that is not there.
+pub fn add_tag<S: Alter>(
+    tx: &mut Transaction<'_, S>,
+    repo: &str,
+    tag: &str,
+    digest: &str,
+) -> Result<(), Fault>
+    ensures added { Adds S.Store tx.old.conn.now tx.new.conn.now result
+        (λ t. find (has_key repo.now tag.now) t.tags ≡ None) TagComes
+        (tag_columns repo.now tag.now digest.now) }
+    ensures kept { KeepsInside S.Store tx.old.conn.now tx.new.conn.now }
+    ensures same_reference { tx.new.conn.ghost_name ≡ tx.old.conn.ghost_name }
+    ensures survives { LastsUncommitted S.Store tx.old.conn.now tx.new.conn.now }
+{
+    match tx.execute(
+        "INSERT INTO registry_tags (repo, tag, digest) VALUES (?1, ?2, ?3)",
+        params![repo, tag, digest],
+    ) {
+        Ok(_) => Ok(()),
+        Err(error) => Err(fault_of(error)),
+    }
+}
+
+/// Takes out the tags of the repository that name the digest.
+pub fn take_tags_named<S: Alter>(
+    tx: &mut Transaction<'_, S>,
+    repo: &str,
+    digest: &str,
+) -> Result<(), Fault>
+    ensures taken { Changes S.Store tx.old.conn.now tx.new.conn.now result
+        (tags_without (names_digest repo.now digest.now)) }
+    ensures kept { KeepsInside S.Store tx.old.conn.now tx.new.conn.now }
+    ensures same_reference { tx.new.conn.ghost_name ≡ tx.old.conn.ghost_name }
+    ensures survives { LastsUncommitted S.Store tx.old.conn.now tx.new.conn.now }
+{
+    match tx.execute(
+        "DELETE FROM registry_tags WHERE repo = ?1 AND digest = ?2",
+        params![repo, digest],
+    ) {
+        Ok(_) => Ok(()),
+        Err(error) => Err(fault_of(error)),
+    }
+}
+
+/// Takes out all tags of the repository.
+pub fn take_tags<S: Alter>(tx: &mut Transaction<'_, S>, repo: &str) -> Result<(), Fault>
+    ensures taken { Changes S.Store tx.old.conn.now tx.new.conn.now result
+        (tags_without (of_first repo.now)) }
+    ensures kept { KeepsInside S.Store tx.old.conn.now tx.new.conn.now }
+    ensures same_reference { tx.new.conn.ghost_name ≡ tx.old.conn.ghost_name }
+    ensures survives { LastsUncommitted S.Store tx.old.conn.now tx.new.conn.now }
+{
+    match tx.execute("DELETE FROM registry_tags WHERE repo = ?1", params![repo]) {
+        Ok(_) => Ok(()),
+        Err(error) => Err(fault_of(error)),
+    }
+}
+
+/// The digest of the tag: one row, or none.
+fn digest_rows<S: Alter>(conn: &mut Connection<S>, repo: &str, tag: &str) -> Result<Vec<Row>, Error>
+    requires { Settled S.Store conn.old }
+    ensures shown { Finds S.Store conn.old conn.new result
+        (λ t rows. rows.items ≡ map (λ r. column r 3 ∷ [])
+        (option_to_list (find (has_key repo.now tag.now) t.tags))) }
+    ensures same { ChangesNothing S.Store conn.old conn.new result }
+    ensures err { FailsAsWas S.Store conn.old conn.new result }
+    ensures survives { LastsUncommitted S.Store conn.old conn.new }
+{
+    conn.query_all(
+        "SELECT digest FROM registry_tags WHERE repo = ?1 AND tag = ?2",
+        params![repo, tag],
+    )
+}
+
+fn select_tag<S: Alter>(
+    alloc: Global,
+    conn: &mut Connection<S>,
+    repo: &str,
+    tag: &str,
+) -> Result<Option<Digest>, Fault>
+    requires { Settled S.Store conn.old }
+    ensures found { Finds S.Store conn.old conn.new result
+        (λ t o. o ≡ option_map (λ r. bytes_at r 3) (find (has_key repo.now tag.now) t.tags)) }
+    ensures same { ChangesNothing S.Store conn.old conn.new result }
+    ensures err { FailsAsWas S.Store conn.old conn.new result }
+    ensures survives { LastsUncommitted S.Store conn.old conn.new }
+{
+    match digest_rows(conn, repo, tag) {
+        Ok(rows) => first_digest(alloc, &rows),
+        Err(error) => Err(fault_of(error)),
+    }
+}
+
+/// The digest that the tag names, if it is there.
+pub fn find_tag<S: Alter>(
+    alloc: Global,
+    conn: &mut Connection<S>,
+    repo: &str,
+    tag: &str,
+) -> Result<Option<Digest>, Fault>
+    requires { Settled S.Store conn.old }
+    ensures found { Finds S.Store conn.old conn.new result
+        (λ t o. o ≡ option_map (λ r. bytes_at r 3) (find (has_key repo.now tag.now) t.tags)) }
+    ensures settled { Stays S.Store conn.old conn.new result }
+    ensures survives { Lasts S.Store conn.old conn.new }
+{
+    match select_tag(alloc, conn, repo, tag) {
+        Ok(found) => Ok(found),
+        Err(fault) => Err(checked_fault(conn, fault)),
+    }
+}
+
+/// The tags of the repository, in any order.
+fn tag_rows<S: Alter>(conn: &mut Connection<S>, repo: &str) -> Result<Vec<Row>, Error>
+    requires { Settled S.Store conn.old }
+    ensures shown { Finds S.Store conn.old conn.new result
+        (λ t rows. IsPermutation (map (λ r. column r 2 ∷ []) (filter (of_first repo.now) t.tags))
+        rows.items) }
+    ensures same { ChangesNothing S.Store conn.old conn.new result }
+    ensures err { FailsAsWas S.Store conn.old conn.new result }
+    ensures survives { LastsUncommitted S.Store conn.old conn.new }
+{
+    conn.query_all(
+        "SELECT tag FROM registry_tags WHERE repo = ?1",
+        params![repo],
+    )
+}
+
+fn select_count<S: Alter>(conn: &mut Connection<S>, repo: &str) -> Result<usize, Fault>
+    requires { Settled S.Store conn.old }
+    ensures found { Finds S.Store conn.old conn.new result
+        (λ t n. n ≡ length (filter (of_first repo.now) t.tags)) }
+    ensures same { ChangesNothing S.Store conn.old conn.new result }
+    ensures err { FailsAsWas S.Store conn.old conn.new result }
+    ensures survives { LastsUncommitted S.Store conn.old conn.new }
+{
+    match tag_rows(conn, repo) {
+        Ok(rows) => Ok(rows.len()),
+        Err(error) => Err(fault_of(error)),
+    }
+}
+
+/// How many tags the repository has.
+pub fn count_tags<S: Alter>(conn: &mut Connection<S>, repo: &str) -> Result<usize, Fault>
+    requires { Settled S.Store conn.old }
+    ensures found { Finds S.Store conn.old conn.new result
+        (λ t n. n ≡ length (filter (of_first repo.now) t.tags)) }
+    ensures settled { Stays S.Store conn.old conn.new result }
+    ensures survives { Lasts S.Store conn.old conn.new }
+{
+    match select_count(conn, repo) {
+        Ok(found) => Ok(found),
+        Err(fault) => Err(checked_fault(conn, fault)),
+    }
+}

@@ -1,0 +1,235 @@
+//! The rows of upload sessions.
+ghost use Rattle.std.specs.Prelude.{◌≡◌, ◌<◌, ◌^◌, ◌∷◌, [], map, filter, find, length, None, option_map};
+ghost use Rattle.std.specs.Option.{option_to_list};
+ghost use Rattle.std.specs.List.Sorted.{IsPermutation};
+ghost use Rattle.sqlite.specs.Order.{column};
+ghost use Rattle.store_schema.specs.Rows.{natural_at};
+ghost use Rattle.store_world.specs.Keys.{of_first, of_session};
+ghost use Rattle.store_world.specs.Changes.{with_size, upload_columns};
+ghost use Rattle.store_statements.specs.Clauses.{Adds, Changes, ChangesNothing, FailsAsWas, Finds, FindsInside, KeepsInside, Lasts, LastsUncommitted, Settled, Stays};
+ghost use Rattle.store_statements.specs.Steps.{uploads_without, uploads_changed, UploadComes};
+
+use crate::columns::numbers_in;
+use crate::open_check::checked_fault;
+use oci_names::Fault;
+use sqlite::{Alter, Connection, Error, Row, Transaction, params};
+use std::alloc::Global;
+use store_contents::fault_of;
+
+/// Takes the session out, where it is there.
+pub fn take_upload<S: Alter>(
+    tx: &mut Transaction<'_, S>,
+    repo: &str,
+    number: u64,
+) -> Result<(), Fault>
+    requires fits { number < 2 ^ 63 }
+    ensures taken { Changes S.Store tx.old.conn.now tx.new.conn.now result
+        (uploads_without (of_session repo.now number)) }
+    ensures kept { KeepsInside S.Store tx.old.conn.now tx.new.conn.now }
+    ensures same_reference { tx.new.conn.ghost_name ≡ tx.old.conn.ghost_name }
+    ensures survives { LastsUncommitted S.Store tx.old.conn.now tx.new.conn.now }
+{
+    match tx.execute(
+        "DELETE FROM registry_uploads WHERE repo = ?1 AND number = ?2",
+        params![repo, number as i64],
+    ) {
+        Ok(_) => Ok(()),
+        Err(error) => Err(fault_of(error)),
+    }
+}
+
+/// Takes all sessions of the repository out.
+pub fn take_uploads<S: Alter>(tx: &mut Transaction<'_, S>, repo: &str) -> Result<(), Fault>
+    ensures taken { Changes S.Store tx.old.conn.now tx.new.conn.now result
+        (uploads_without (of_first repo.now)) }
+    ensures kept { KeepsInside S.Store tx.old.conn.now tx.new.conn.now }
+    ensures same_reference { tx.new.conn.ghost_name ≡ tx.old.conn.ghost_name }
+    ensures survives { LastsUncommitted S.Store tx.old.conn.now tx.new.conn.now }
+{
+    match tx.execute(
+        "DELETE FROM registry_uploads WHERE repo = ?1",
+        params![repo],
+    ) {
+        Ok(_) => Ok(()),
+        Err(error) => Err(fault_of(error)),
+    }
+}
+
+/// Sets the session's size in bytes, where it is there, and tells how many rows that were: one, or none.
+pub fn set_size<S: Alter>(
+    tx: &mut Transaction<'_, S>,
+    repo: &str,
+    number: u64,
+    size: u64,
+) -> Result<usize, Fault>
+    requires number_fits { number < 2 ^ 63 }
+    requires size_fits { size < 2 ^ 63 }
+    ensures set { Changes S.Store tx.old.conn.now tx.new.conn.now result
+        (uploads_changed (of_session repo.now number) (with_size size)) }
+    ensures counted { FindsInside S.Store tx.old.conn.now tx.new.conn.now result
+        (λ t n. n ≡ length (filter (of_session repo.now number) t.uploads)) }
+    ensures kept { KeepsInside S.Store tx.old.conn.now tx.new.conn.now }
+    ensures same_reference { tx.new.conn.ghost_name ≡ tx.old.conn.ghost_name }
+    ensures survives { LastsUncommitted S.Store tx.old.conn.now tx.new.conn.now }
+{
+    match tx.execute(
+        "UPDATE registry_uploads SET size = ?3 WHERE repo = ?1 AND number = ?2",
+        params![repo, number as i64, size as i64],
+    ) {
+        Ok(count) => Ok(count),
+        Err(error) => Err(fault_of(error)),
+    }
+}
+
+/// Opens a session that is not there, with nothing in it.
+pub fn add_upload<S: Alter>(
+    tx: &mut Transaction<'_, S>,
+    repo: &str,
+    number: u64,
+) -> Result<(), Fault>
+    requires fits { number < 2 ^ 63 }
+    ensures added { Adds S.Store tx.old.conn.now tx.new.conn.now result
+        (λ t. find (of_session repo.now number) t.uploads ≡ None) UploadComes
+        (upload_columns repo.now number) }
+    ensures kept { KeepsInside S.Store tx.old.conn.now tx.new.conn.now }
+    ensures same_reference { tx.new.conn.ghost_name ≡ tx.old.conn.ghost_name }
+    ensures survives { LastsUncommitted S.Store tx.old.conn.now tx.new.conn.now }
+{
+    match tx.execute(
+        "INSERT INTO registry_uploads (repo, number, size) VALUES (?1, ?2, 0)",
+        params![repo, number as i64],
+    ) {
+        Ok(_) => Ok(()),
+        Err(error) => Err(fault_of(error)),
+    }
+}
+
+/// The size of a session: one row, or none.
+fn upload_rows<S: Alter>(
+    conn: &mut Connection<S>,
+    repo: &str,
+    number: u64,
+) -> Result<Vec<Row>, Error>
+    requires settled { Settled S.Store conn.old }
+    requires fits { number < 2 ^ 63 }
+    ensures shown { Finds S.Store conn.old conn.new result
+        (λ t rows. rows.items ≡ map (λ r. column r 3 ∷ [])
+        (option_to_list (find (of_session repo.now number) t.uploads))) }
+    ensures same { ChangesNothing S.Store conn.old conn.new result }
+    ensures err { FailsAsWas S.Store conn.old conn.new result }
+    ensures survives { LastsUncommitted S.Store conn.old conn.new }
+{
+    conn.query_all(
+        "SELECT size FROM registry_uploads WHERE repo = ?1 AND number = ?2",
+        params![repo, number as i64],
+    )
+}
+
+fn select_upload<S: Alter>(
+    conn: &mut Connection<S>,
+    repo: &str,
+    number: u64,
+) -> Result<Option<u64>, Error>
+    requires settled { Settled S.Store conn.old }
+    requires fits { number < 2 ^ 63 }
+    ensures found { Finds S.Store conn.old conn.new result
+        (λ t o. o ≡ option_map (λ r. natural_at r 3) (find (of_session repo.now number) t.uploads)) }
+    ensures same { ChangesNothing S.Store conn.old conn.new result }
+    ensures err { FailsAsWas S.Store conn.old conn.new result }
+    ensures survives { LastsUncommitted S.Store conn.old conn.new }
+{
+    let rows = upload_rows(conn, repo, number)?;
+    match rows.first() {
+        Some(row) => {
+            let size: u64 = row.get(0)?;
+            Ok(Some(size))
+        }
+        None => Ok(None),
+    }
+}
+
+/// How many bytes the session has, if it is open.
+pub fn find_upload<S: Alter>(
+    conn: &mut Connection<S>,
+    repo: &str,
+    number: u64,
+) -> Result<Option<u64>, Fault>
+    requires settled { Settled S.Store conn.old }
+    requires fits { number < 2 ^ 63 }
+    ensures found { Finds S.Store conn.old conn.new result
+        (λ t o. o ≡ option_map (λ r. natural_at r 3) (find (of_session repo.now number) t.uploads)) }
+    ensures settled { Stays S.Store conn.old conn.new result }
+    ensures survives { Lasts S.Store conn.old conn.new }
+{
+    match select_upload(conn, repo, number) {
+        Ok(found) => Ok(found),
+        Err(error) => Err(checked_fault(conn, fault_of(error))),
+    }
+}
+
+/// The size of each session of the repository.
+fn upload_size_rows<S: Alter>(conn: &mut Connection<S>, repo: &str) -> Result<Vec<Row>, Error>
+    requires { Settled S.Store conn.old }
+    ensures shown { Finds S.Store conn.old conn.new result
+        (λ t rows. IsPermutation (map (λ r. column r 3 ∷ []) (filter (of_first repo.now) t.uploads))
+        rows.items) }
+    ensures same { ChangesNothing S.Store conn.old conn.new result }
+    ensures err { FailsAsWas S.Store conn.old conn.new result }
+    ensures survives { LastsUncommitted S.Store conn.old conn.new }
+{
+    conn.query_all(
+        "SELECT size FROM registry_uploads WHERE repo = ?1",
+        params![repo],
+    )
+}
+
+/// How many sessions of the repository are open.
+pub fn count_uploads<S: Alter>(conn: &mut Connection<S>, repo: &str) -> Result<usize, Fault>
+    requires { Settled S.Store conn.old }
+    ensures found { Finds S.Store conn.old conn.new result
+        (λ t n. n ≡ length (filter (of_first repo.now) t.uploads)) }
+    ensures settled { Stays S.Store conn.old conn.new result }
+    ensures survives { Lasts S.Store conn.old conn.new }
+{
+    match upload_size_rows(conn, repo) {
+        Ok(rows) => Ok(rows.len()),
+        Err(error) => Err(checked_fault(conn, fault_of(error))),
+    }
+}
+
+fn select_upload_sizes<S: Alter>(
+    alloc: Global,
+    conn: &mut Connection<S>,
+    repo: &str,
+) -> Result<Vec<u64>, Error>
+    requires { Settled S.Store conn.old }
+    ensures found { Finds S.Store conn.old conn.new result
+        (λ t sizes. IsPermutation (map (λ r. natural_at r 3) (filter (of_first repo.now) t.uploads))
+        sizes.items) }
+    ensures same { ChangesNothing S.Store conn.old conn.new result }
+    ensures err { FailsAsWas S.Store conn.old conn.new result }
+    ensures survives { LastsUncommitted S.Store conn.old conn.new }
+{
+    let rows = upload_size_rows(conn, repo)?;
+    let sizes = numbers_in(alloc, &rows)?;
+    Ok(sizes)
+}
+
+/// The size in bytes of each open session of the repository, in any order.
+pub fn upload_sizes<S: Alter>(
+    alloc: Global,
+    conn: &mut Connection<S>,
+    repo: &str,
+) -> Result<Vec<u64>, Fault>
+    requires { Settled S.Store conn.old }
+    ensures found { Finds S.Store conn.old conn.new result
+        (λ t sizes. IsPermutation (map (λ r. natural_at r 3) (filter (of_first repo.now) t.uploads))
+        sizes.items) }
+    ensures settled { Stays S.Store conn.old conn.new result }
+    ensures survives { Lasts S.Store conn.old conn.new }
+{
+    match select_upload_sizes(alloc, conn, repo) {
+        Ok(sizes) => Ok(sizes),
+        Err(error) => Err(checked_fault(conn, fault_of(error))),
+    }
+}

@@ -1,0 +1,12 @@
+pub mod PutLemmas
+pub mod MountLemmas
+pub mod StatementSequences
+pub mod BytesStored
+pub mod WritesAfterReads
+pub mod BlobWrites
+pub mod RowCounts
+pub mod ContentSteps
+pub mod ManifestPuts
+pub mod SessionWrites
+pub mod ContentNaming
+pub mod ContentsFreed

@@ -1,0 +1,144 @@
+-- What a manifest and a tag that are put make of the world.
+use Rattle.std.proofs.Common.{◌≡◌, ◌∙◌, ℕ, ℤ, List, true, None, Some, Ok, Err, Result, OnOk, length, sym, ap, subst, refl}
+use Rattle.std.specs.Prelude.{find, is_some, Option, option_map, false}
+use Rattle.sqlite.specs.Order.{Row}
+use Rattle.sqlite.specs.State.{State, Shows}
+use Rattle.sqlite.specs.Effect.{Database}
+use Rattle.oci_names.specs.declared.fault.Fault.{Fault}
+use Rattle.oci_names.specs.declared.fault.Fault.TheVariants.{Memory, Storage}
+use Rattle.oci_names.specs.Text.{Text}
+use Rattle.oci_manifest.specs.Manifest.{ManifestShown, manifest_in}
+use Rattle.registry_model.specs.Lookups.{put_manifest}
+use Rattle.registry_model.specs.Manifests.{kind_in, kind_or_image, with_bytes, with_tag}
+use Rattle.registry_model.specs.Referrers.{subject_or_none}
+use Rattle.registry_model.specs.World.{World, has_repo}
+use Rattle.store_world.specs.Keys.{has_key}
+use Rattle.store_world.specs.Tables.{Tables}
+use Rattle.store_world.specs.Registry.{is_repo, Agree, IsRegistry}
+use Rattle.store_world.specs.World.{world_of}
+use Rattle.store_world.specs.Changes.{with_digest, tag_columns, manifest_columns, Comes}
+use Rattle.store_world.proofs.Blobs.{update_same}
+use Rattle.store_world.proofs.Children.{some_is}
+use Rattle.store_world.proofs.Manifests.{manifest_there}
+use Rattle.store_world.proofs.Repos.{has_repo_found}
+use Rattle.store_world.proofs.Stored.{manifest_stored}
+use Rattle.store_world.proofs.Tags.{tag_set, tag_added}
+use Rattle.store_world.proofs.Updates.{update_twice}
+use Rattle.store_statements.specs.Held.{IsReady, IsSettled, Becomes, Makes, held, tables_in, is_storage}
+use Rattle.store_statements.specs.Steps.{tags_changed, TagComes, ManifestComes}
+use Rattle.store_writes.specs.Worlds.{IsWhole, Turns, tagged}
+use Rattle.store_writes.proofs.RowCounts.{none_changed}
+use Rattle.store_writes.proofs.ContentSteps.{Comprises}
+use Rattle.store_statements.proofs.Transactions.{commits, makes}
+
+pub registry_inside : (s : State) → IsWhole s → IsRegistry (held s)
+registry_inside s is = record { tables = is.ready.holds.tables; agree = is.agree }
+
+turned : (old new : State) (t : Tables) (w : World) → IsReady new → held new ≡ t → t.repos ≡ (held old).repos → (world_of t ≡ w) × IsRegistry t → Turns old new w
+turned old new t w ready same repos it = record {
+  whole = record { ready = ready; agree = subst Agree (sym same) it.1.agree };
+  world = ap world_of same ∙ it.0;
+  repos = ap (λ (x : Tables). x.repos) same ∙ repos;
+}
+
+-- ---- the tag
+
+pub tag_was_set : (old new : State) (repo tag digest : List ℕ) → IsWhole old → is_some (find (has_key repo tag) (held old).tags) ≡ true → Becomes new (tags_changed (has_key repo tag) (with_digest digest) (held old))
+    → Turns old new (tagged (world_of (held old)) repo (Some tag) digest)
+tag_was_set old new repo tag digest is there became =
+    let found = some_is (find (has_key repo tag) (held old).tags) there in
+    turned old new (tags_changed (has_key repo tag) (with_digest digest) (held old)) _ became.0 became.1 refl (tag_set (held old) repo tag digest found.0 (registry_inside old is) found.1)
+
+-- none was set
+set_none : (a b : State) (repo tag digest : List ℕ) → find (has_key repo tag) (held a).tags ≡ None → Becomes b (tags_changed (has_key repo tag) (with_digest digest) (held a)) → held b ≡ held a
+set_none a b repo tag digest none became = became.1 ∙ (λ i. record (held a) { tags = none_changed (has_key repo tag) (with_digest digest) (held a).tags none i })
+
+pub fresh_tag : (a b : State) (repo tag digest : List ℕ) → find (has_key repo tag) (held a).tags ≡ None → Becomes b (tags_changed (has_key repo tag) (with_digest digest) (held a)) → find (has_key repo tag) (held b).tags ≡ None
+fresh_tag a b repo tag digest none became = ap (λ (t : Tables). find (has_key repo tag) t.tags) (set_none a b repo tag digest none became) ∙ none
+
+pub tag_came : (old mid new : State) (repo tag digest : List ℕ) → IsWhole old → is_repo (held old).repos repo ≡ true → find (has_key repo tag) (held old).tags ≡ None → Becomes mid (tags_changed (has_key repo tag) (with_digest digest) (held old))
+    → TagComes mid new (tag_columns repo tag digest) → Turns old new (tagged (world_of (held old)) repo (Some tag) digest)
+tag_came old mid new repo tag digest is there none became came =
+    let same = set_none old mid repo tag digest none became in
+    let comes : Comes (held old).tags (held new).tags (tag_columns repo tag digest) = subst (λ (t : Tables). Comes t.tags (held new).tags (tag_columns repo tag digest)) same came.comes in
+    let others : held new ≡ record (held old) { tags = (held new).tags } = subst (λ (t : Tables). held new ≡ record t { tags = (held new).tags }) same came.others in
+    turned old new (record (held old) { tags = (held new).tags }) _ came.ready others refl (tag_added (held old) repo tag digest (held new).tags (registry_inside old is) there none comes)
+
+-- no tag is given
+pub no_tag : (old : State) (repo digest : List ℕ) → IsWhole old → Turns old old (tagged (world_of (held old)) repo None digest)
+no_tag old repo digest is = record { whole = is; world = sym (update_same (held old) repo (λ r. r) (λ r e. refl)); repos = refl }
+
+-- ---- the manifest
+
+pub fresh_manifest : (old mid : State) (id : ℤ) (repo digest bytes : List ℕ) → Comprises old mid id bytes → find (has_key repo digest) (held old).manifests ≡ None → find (has_key repo digest) (held mid).manifests ≡ None
+fresh_manifest old mid id repo digest bytes c none = ap (λ (t : Tables). find (has_key repo digest) t.manifests) c.others ∙ none
+
+pub manifest_came : (old mid new : State) (id : ℤ) (repo digest bytes : List ℕ) → IsWhole old → is_repo (held old).repos repo ≡ true → find (has_key repo digest) (held old).manifests ≡ None → Comprises old mid id bytes
+    → (m : ManifestShown) → manifest_in bytes ≡ Ok m → (subject : Option Text) → subject ≡ m.subject
+    → ManifestComes mid new (manifest_columns repo digest (length bytes) m.kind subject id) → Turns old new (put_manifest (world_of (held old)) repo digest bytes None)
+manifest_came old mid new id repo digest bytes is there none c m reads subject refers link =
+    let columns = manifest_columns repo digest (length bytes) (kind_in bytes) (subject_or_none (manifest_in bytes)) id in
+    let came : ManifestComes mid new columns = subst (ManifestComes mid new) (λ i. manifest_columns repo digest (length bytes) (sym (ap kind_or_image reads) i) ((refers ∙ sym (ap subject_or_none reads)) i) id) link in
+    let contents = (held mid).contents in
+    let comes : Comes (held old).manifests (held new).manifests columns = subst (λ (t : Tables). Comes t.manifests (held new).manifests columns) c.others came.comes in
+    let others : held new ≡ record (held old) { contents = contents; manifests = (held new).manifests } = subst (λ (t : Tables). held new ≡ record t { manifests = (held new).manifests }) c.others came.others in
+    turned old new (record (held old) { contents = contents; manifests = (held new).manifests }) _ came.ready others refl
+    (manifest_stored (held old) contents repo digest bytes id (held new).manifests (registry_inside old is) there c.grow c.there none comes)
+
+-- ---- both
+
+put_tagged : (w : World) (repo digest bytes : List ℕ) (tag : Option Text) → tagged (put_manifest w repo digest bytes None) repo tag digest ≡ put_manifest w repo digest bytes tag
+put_tagged w repo digest bytes tag = update_twice w repo (λ r. with_bytes r digest bytes) (λ r. with_tag r tag digest)
+
+pub tagged_put : (old mid new : State) (repo digest bytes : List ℕ) (tag : Option Text) → Turns old mid (put_manifest (world_of (held old)) repo digest bytes None) → Turns mid new (tagged (world_of (held mid)) repo tag digest)
+    → Turns old new (put_manifest (world_of (held old)) repo digest bytes tag)
+tagged_put old mid new repo digest bytes tag first second = record {
+  whole = second.whole;
+  world = second.world ∙ ap (λ w. tagged w repo tag digest) first.world ∙ put_tagged (world_of (held old)) repo digest bytes tag;
+  repos = second.repos ∙ first.repos;
+}
+
+-- the repository has the digest: the tag alone
+pub tagged_there : (t : Tables) (repo digest bytes : List ℕ) (tag : Option Text) (there : Row) → find (has_key repo digest) t.manifests ≡ Some there → tagged (world_of t) repo tag digest ≡ put_manifest (world_of t) repo digest bytes tag
+tagged_there t repo digest bytes tag there found = ap (λ w. tagged w repo tag digest) (sym (manifest_there t repo digest bytes there found)) ∙ put_tagged (world_of t) repo digest bytes tag
+
+-- ---- the whole of a transaction
+
+pub whole : (s : State) → IsSettled s → IsWhole (record s { in_transaction = true })
+whole s settled = record { ready = record { inside = refl; holds = settled.holds }; agree = settled.agree }
+
+pub makes_turned : (old mid end : State) (w : World) → Turns old mid w → Shows mid end mid.now mid.now false → Makes end w
+makes_turned old mid end w it shows = makes end (held mid) w (commits mid end (held mid) (it.whole.ready, refl) shows) (it.world, registry_inside mid it.whole)
+
+pub then_ok : {A E P Q : Type 0} (r : Result A E) → (P → Q) → OnOk r P → OnOk r Q
+then_ok (Ok x) f p = f p
+then_ok (Err e) f p = p
+
+-- ---- what was found before it
+
+pub found_none : {X : Type 0} (f : Row → X) (o : Option Row) → None ≡ option_map f o → o ≡ None
+found_none f None e = refl
+found_none f (Some r) e = absurd cc
+
+pub found_some : {X : Type 0} (f : Row → X) (x : X) (o : Option Row) → Some x ≡ option_map f o → is_some o ≡ true
+found_some f x None e = absurd cc
+found_some f x (Some r) e = refl
+
+pub repo_there : (old mid : State) (repo : List ℕ) → mid.now ≡ old.now → has_repo (world_of (held old)) repo ≡ true → is_repo (held mid).repos repo ≡ true
+repo_there old mid repo same has = ap (λ (d : Database). is_repo (tables_in d).repos repo) same ∙ sym (has_repo_found (held old) repo) ∙ has
+
+pub fresh_still : (old mid : State) (repo digest : List ℕ) → mid.now ≡ old.now → find (has_key repo digest) (held old).manifests ≡ None → find (has_key repo digest) (held mid).manifests ≡ None
+fresh_still old mid repo digest same none = ap (λ (d : Database). find (has_key repo digest) (tables_in d).manifests) same ∙ none
+
+pub made_there : (old mid new : State) (repo digest bytes : List ℕ) (tag : Option Text) → mid.now ≡ old.now → is_some (find (has_key repo digest) (held old).manifests) ≡ true
+    → Makes new (tagged (world_of (held mid)) repo tag digest) → Makes new (put_manifest (world_of (held old)) repo digest bytes tag)
+made_there old mid new repo digest bytes tag same some m =
+    let found = some_is (find (has_key repo digest) (held old).manifests) some in
+    (m.0, m.1 ∙ ap (λ (d : Database). tagged (world_of (tables_in d)) repo tag digest) same ∙ tagged_there (held old) repo digest bytes tag found.0 found.1)
+
+pub made_new : (old mid new : State) (repo digest bytes : List ℕ) (tag : Option Text) → mid.now ≡ old.now → Makes new (put_manifest (world_of (held mid)) repo digest bytes tag) → Makes new (put_manifest (world_of (held old)) repo digest bytes tag)
+made_new old mid new repo digest bytes tag same m = (m.0, m.1 ∙ ap (λ (d : Database). put_manifest (world_of (tables_in d)) repo digest bytes tag) same)
+
+pub memory_unspent : (A B : Type 0) (f : Fault) (r : Result A Fault) → r ≡ Err f → r ≡ Err Memory → is_storage {A = B} (Err f) ≡ false
+memory_unspent A B Memory r e h = refl
+memory_unspent A B Storage r e h = absurd (let x = sym e ∙ h in cc)

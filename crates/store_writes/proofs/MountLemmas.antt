@@ -1,0 +1,60 @@
+-- A blob is mounted: what was found before, and what the transaction did.
+use Rattle.std.proofs.Common.{◌≡◌, ◌∙◌, ℕ, List, true, false, None, Some, Err, Result, OnOk, sym, ap, subst, refl}
+use Rattle.std.specs.Prelude.{find, option_map, Option}
+use Rattle.sqlite.specs.Order.{Row}
+use Rattle.sqlite.specs.Effect.{Database}
+use Rattle.sqlite.specs.State.{State}
+use Rattle.oci_names.specs.declared.fault.Fault.{Fault}
+use Rattle.oci_names.specs.declared.fault.Fault.TheVariants.{Memory}
+use Rattle.registry_model.specs.World.{World, has_repo}
+use Rattle.registry_model.specs.Lookups.{mount}
+use Rattle.store_world.specs.Keys.{has_key}
+use Rattle.store_world.specs.Tables.{Tables}
+use Rattle.store_world.specs.World.{world_of}
+use Rattle.store_world.proofs.Blobs.{mount_there}
+use Rattle.store_world.proofs.Repos.{has_repo_found}
+use Rattle.store_statements.specs.Held.{IsSettled, StaysSettled, Commits, Makes, held, world_in, tables_in, is_storage}
+use Rattle.store_statements.specs.Shown.{blob_link}
+use Rattle.store_writes.specs.Puts.{LinkIsPut}
+use Rattle.store_statements.specs.declared.blobs.BlobLink.{BlobLink}
+use Rattle.store_statements.proofs.Transactions.{registry, makes}
+use Rattle.store_writes.proofs.PutLemmas.{link_mounted}
+
+-- ---- what was read is still so
+
+pub same_tables : (a b : State) → StaysSettled a b → held b ≡ held a
+same_tables a b s = ap tables_in s.1
+
+pub same_world : (a b : State) → StaysSettled a b → world_in b ≡ world_in a
+same_world a b s = ap (λ (db : Database). world_of (tables_in db)) s.1
+
+pub no_storage : (X Y : Type 0) (f : Fault) → ◌≡◌ {A = Result X Fault} (Err f) (Err Memory) → is_storage {A = Y} (Err f) ≡ false
+no_storage X Y f e = let same : f ≡ Memory = cc in ap (λ (x : Fault). is_storage {A = Y} (Err x)) same
+
+-- ---- the link that was found
+
+pub found_row : (o : Option Row) (link : BlobLink) → Some link ≡ option_map blob_link o → (r : Row) × (o ≡ Some r) × (link ≡ blob_link r)
+found_row None link e = absurd cc
+found_row (Some r) link e = (r, refl, cc)
+
+pub found_none : (o : Option Row) → None ≡ option_map blob_link o → o ≡ None
+found_none None e = refl
+found_none (Some r) e = absurd cc
+
+-- the link came into a transaction's tables
+pub mounts : (first read end : State) (from to digest : List ℕ) (link : BlobLink) → IsSettled first → StaysSettled first read → has_repo (world_in first) to ≡ true → Some link ≡ option_map blob_link (find (has_key from digest) (held first).blobs)
+    → find (has_key to digest) (held first).blobs ≡ None → Commits end (held end) → LinkIsPut (held read) (held end) to digest link.size link.content.id → Makes end (mount (world_in first) from to digest)
+mounts first read end from to digest link s stays there found none committed put =
+    let row = found_row (find (has_key from digest) (held first).blobs) link found in
+    let put_here : LinkIsPut (held first) (held end) to digest link.size link.content.id = subst (λ (t : Tables). LinkIsPut t (held end) to digest link.size link.content.id) (same_tables first read stays) put in
+    makes end (held end) (mount (world_in first) from to digest) committed (link_mounted (held first) (held end) from to digest row.0 (registry first s) (sym (has_repo_found (held first) to) ∙ there) row.1 none
+    (subst (λ (l : BlobLink). LinkIsPut (held first) (held end) to digest l.size l.content.id) row.2 put_here))
+
+-- it was there, and nothing changes
+pub mounts_nothing : (first read : State) (from to digest : List ℕ) (link : BlobLink) → StaysSettled first read → Some link ≡ option_map blob_link (find (has_key to digest) (held first).blobs) → Makes read (mount (world_in first) from to digest)
+mounts_nothing first read from to digest link stays found =
+    let row = found_row (find (has_key to digest) (held first).blobs) link found in
+    (stays.0, same_world first read stays ∙ sym (mount_there (held first) from to digest row.0 row.1))
+
+pub makes_from : {A E : Type 0} (first read end : State) (f : World → World) (r : Result A E) → StaysSettled first read → OnOk r (Makes end (f (world_in read))) → OnOk r (Makes end (f (world_in first)))
+makes_from first read end f r stays h = subst (λ (w : World). OnOk r (Makes end (f w))) (same_world first read stays) h

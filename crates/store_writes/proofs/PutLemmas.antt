@@ -1,0 +1,126 @@
+-- What is set where it is there, and comes where it is not.
+use Rattle.std.proofs.Common.{◌≡◌, ◌≢◌, ◌∙◌, inl, inr, ℕ, ℤ, List, [], ◌∷◌, Bool, true, false, cond, None, Some, Ok, Err, Result, OnOk, length, refl, sym, ap, subst}
+use Rattle.std.specs.Prelude.{find, filter, is_some}
+use Rattle.sqlite.specs.Order.{Row}
+use Rattle.sqlite.specs.State.{State, Shows}
+use Rattle.registry_model.specs.declared.level.Level.{Level}
+use Rattle.registry_model.specs.Command.{grant, set_repo}
+use Rattle.registry_model.specs.Lookups.{mount}
+use Rattle.store_schema.specs.Rows.{natural_at, integer_at}
+use Rattle.store_world.specs.Keys.{has_key, of_first}
+use Rattle.store_world.specs.Tables.{Tables}
+use Rattle.store_world.specs.World.{world_of}
+use Rattle.store_world.specs.Registry.{is_repo, IsRegistry}
+use Rattle.store_world.specs.Changes.{changed, with_level, grant_columns, with_quota, repo_columns, blob_columns, Comes}
+use Rattle.store_world.proofs.Children.{some_is}
+use Rattle.store_world.proofs.Blobs.{blob_mounted}
+use Rattle.store_world.proofs.Grants.{level_set, grant_added}
+use Rattle.store_world.proofs.Repos.{quota_set, repo_added}
+use Rattle.store_statements.specs.Held.{IsReady, Becomes, Commits, held}
+use Rattle.store_statements.specs.Steps.{grants_changed, GrantComes, repos_changed, RepoComes, BlobComes}
+use Rattle.store_writes.specs.Puts.{SetOrCome, LevelIsPut, QuotaIsPut, LinkIsPut}
+use Rattle.store_statements.proofs.Transactions.{commits}
+
+-- ---- how many rows were set
+
+pub none_counted : (p : Row → Bool) (rows : List Row) → length (filter p rows) ≡ 0 → find p rows ≡ None
+none_counted p [] e = refl
+none_counted p (r ∷ rows) e = step (p r) (none_counted p rows) e
+  where
+    step : (b : Bool) → (length (filter p rows) ≡ 0 → find p rows ≡ None) → length (cond b (r ∷ filter p rows) (filter p rows)) ≡ 0 → cond b (Some r) (find p rows) ≡ None
+    step true more e = absurd cc
+    step false more e = more e
+
+pub some_counted : (p : Row → Bool) (rows : List Row) → length (filter p rows) ≢ 0 → is_some (find p rows) ≡ true
+some_counted p [] e = absurd (e refl)
+some_counted p (r ∷ rows) e = step (p r) (some_counted p rows) e
+  where
+    step : (b : Bool) → (length (filter p rows) ≢ 0 → is_some (find p rows) ≡ true) → length (cond b (r ∷ filter p rows) (filter p rows)) ≢ 0 → is_some (cond b (Some r) (find p rows)) ≡ true
+    step true more e = refl
+    step false more e = more e
+
+-- where none passes, none changed
+pub none_changed : (p : Row → Bool) (f : Row → Row) (rows : List Row) → find p rows ≡ None → changed p f rows ≡ rows
+none_changed p f [] e = refl
+none_changed p f (r ∷ rows) e = step (p r) (none_changed p f rows) e
+  where
+    step : (b : Bool) → (find p rows ≡ None → changed p f rows ≡ rows) → cond b (Some r) (find p rows) ≡ None → (cond b (f r) r ∷ changed p f rows) ≡ r ∷ rows
+    step true more e = absurd cc
+    step false more e = ap (λ rs. r ∷ rs) (more e)
+
+-- ---- it was set, or it came
+
+pub then_ok : {A E P Q : Type 0} (r : Result A E) → (P → Q) → OnOk r P → OnOk r Q
+then_ok (Ok x) f p = f p
+then_ok (Err e) f p = p
+
+set_none : (a b : State) (token name : List ℕ) (level : Level) → find (has_key token name) (held a).grants ≡ None → Becomes b (grants_changed (has_key token name) (with_level level) (held a)) → held b ≡ held a
+set_none a b token name level none became = became.1 ∙ (λ i. record (held a) { grants = none_changed (has_key token name) (with_level level) (held a).grants none i })
+
+pub fresh_level : (a b : State) (token name : List ℕ) (level : Level) → find (has_key token name) (held a).grants ≡ None → Becomes b (grants_changed (has_key token name) (with_level level) (held a)) → find (has_key token name) (held b).grants ≡ None
+fresh_level a b token name level none became = ap (λ (t : Tables). find (has_key token name) t.grants) (set_none a b token name level none became) ∙ none
+
+pub level_came : (a b c : State) (token name : List ℕ) (level : Level) → find (has_key token name) (held a).grants ≡ None → Becomes b (grants_changed (has_key token name) (with_level level) (held a)) → GrantComes b c (grant_columns token name level)
+    → LevelIsPut (held a) (held c) token name level
+level_came a b c token name level none became came =
+    let same = set_none a b token name level none became in record {
+      put = inr (none, subst (λ (t : Tables). Comes t.grants (held c).grants (grant_columns token name level)) same came.comes);
+      others = subst (λ (t : Tables). held c ≡ record t { grants = (held c).grants }) same came.others;
+    }
+
+pub level_was_set : (a b : State) (token name : List ℕ) (level : Level) → is_some (find (has_key token name) (held a).grants) ≡ true → Becomes b (grants_changed (has_key token name) (with_level level) (held a)) → LevelIsPut (held a) (held b) token name level
+level_was_set a b token name level there became = subst (λ (t : Tables). LevelIsPut (held a) t token name level) (sym became.1) (record { put = inl (there, refl); others = refl })
+
+set_no_quota : (a b : State) (name : List ℕ) (quota : ℕ) → find (of_first name) (held a).repos ≡ None → Becomes b (repos_changed (of_first name) (with_quota quota) (held a)) → held b ≡ held a
+set_no_quota a b name quota none became = became.1 ∙ (λ i. record (held a) { repos = none_changed (of_first name) (with_quota quota) (held a).repos none i })
+
+pub fresh_repo : (a b : State) (name : List ℕ) (quota : ℕ) → find (of_first name) (held a).repos ≡ None → Becomes b (repos_changed (of_first name) (with_quota quota) (held a)) → find (of_first name) (held b).repos ≡ None
+fresh_repo a b name quota none became = ap (λ (t : Tables). find (of_first name) t.repos) (set_no_quota a b name quota none became) ∙ none
+
+pub repo_came : (a b c : State) (name : List ℕ) (quota : ℕ) → find (of_first name) (held a).repos ≡ None → Becomes b (repos_changed (of_first name) (with_quota quota) (held a)) → RepoComes b c (repo_columns name quota) → QuotaIsPut (held a) (held c) name quota
+repo_came a b c name quota none became came =
+    let same = set_no_quota a b name quota none became in record {
+      put = inr (none, subst (λ (t : Tables). Comes t.repos (held c).repos (repo_columns name quota)) same came.comes);
+      others = subst (λ (t : Tables). held c ≡ record t { repos = (held c).repos }) same came.others;
+    }
+
+pub quota_was_set : (a b : State) (name : List ℕ) (quota : ℕ) → is_some (find (of_first name) (held a).repos) ≡ true → Becomes b (repos_changed (of_first name) (with_quota quota) (held a)) → QuotaIsPut (held a) (held b) name quota
+quota_was_set a b name quota there became = subst (λ (t : Tables). QuotaIsPut (held a) t name quota) (sym became.1) (record { put = inl (there, refl); others = refl })
+
+pub link_came : (a b : State) (repo digest : List ℕ) (size : ℕ) (content : ℤ) → BlobComes a b (blob_columns repo digest size content) → LinkIsPut (held a) (held b) repo digest size content
+link_came a b repo digest size content it = record { comes = it.comes; others = it.others }
+
+-- ---- the whole of a transaction
+
+-- it was committed, and the tables are those from before the commit
+pub commits_there : (mid end : State) (P : Tables → Type 0) → IsReady mid → P (held mid) → Shows mid end mid.now mid.now false → Commits end (held end) × P (held end)
+commits_there mid end P is p shows =
+    let it = commits mid end (held mid) (is, refl) shows in
+    (record { is_open = it.is_open; autocommit = it.autocommit; committed = it.committed; holds = it.holds; tables = refl }, subst P (sym it.tables) p)
+
+-- ---- the worlds
+
+pub level_put : (t after : Tables) (token name : List ℕ) (level : Level) → IsRegistry t → is_repo t.repos name ≡ true → LevelIsPut t after token name level → (world_of after ≡ grant (world_of t) token name level) × IsRegistry after
+level_put t after token name level is there it = subst (λ (x : Tables). (world_of x ≡ grant (world_of t) token name level) × IsRegistry x) (sym it.others) (go it.put)
+  where
+    Made : List Row → Type 0
+    Made rows = (world_of (record t { grants = rows }) ≡ grant (world_of t) token name level) × IsRegistry (record t { grants = rows })
+
+    go : SetOrCome (has_key token name) (with_level level) (grant_columns token name level) t.grants after.grants → Made after.grants
+    go (inl set) = let found = some_is (find (has_key token name) t.grants) set.0 in subst Made (sym set.1) (level_set t token name level found.0 is found.1)
+    go (inr came) = grant_added t token name level after.grants is there came.0 came.1
+
+pub quota_put : (t after : Tables) (name : List ℕ) (quota : ℕ) → IsRegistry t → QuotaIsPut t after name quota → (world_of after ≡ set_repo (world_of t) name quota) × IsRegistry after
+quota_put t after name quota is it = subst (λ (x : Tables). (world_of x ≡ set_repo (world_of t) name quota) × IsRegistry x) (sym it.others) (go it.put)
+  where
+    Made : List Row → Type 0
+    Made rows = (world_of (record t { repos = rows }) ≡ set_repo (world_of t) name quota) × IsRegistry (record t { repos = rows })
+
+    go : SetOrCome (of_first name) (with_quota quota) (repo_columns name quota) t.repos after.repos → Made after.repos
+    go (inl set) = subst Made (sym set.1) (quota_set t name quota is set.0)
+    go (inr came) = repo_added t name quota after.repos is came.0 came.1
+
+pub link_mounted : (t after : Tables) (source name digest : List ℕ) (other : Row) → IsRegistry t → is_repo t.repos name ≡ true → find (has_key source digest) t.blobs ≡ Some other → find (has_key name digest) t.blobs ≡ None
+    → LinkIsPut t after name digest (natural_at other 3) (integer_at other 4) → (world_of after ≡ mount (world_of t) source name digest) × IsRegistry after
+link_mounted t after source name digest other is there found fresh it =
+    subst (λ (x : Tables). (world_of x ≡ mount (world_of t) source name digest) × IsRegistry x) (sym it.others) (blob_mounted t source name digest other after.blobs is there found fresh it.comes)

@@ -1,0 +1,24 @@
+use Rattle.std.proofs.Common.{◌∙◌, ◌<◌, length, arith, refl, subst, pos}
+use Rattle.std.proofs.lemmas.List.{take_all}
+use Rattle.sqlite.specs.Held.{state}
+use Rattle.store_statements.specs.Held.{held}
+use Rattle.store_writes.specs.Naming.{ContentsGone}
+use Rattle.store_writes.proofs.ContentsFreed.{so_far_none, so_far_more}
+use Rattle.store_writes.proofs.content_clearing.take_contents.Goals as goal
+
+pub loop-id-init : goal.loop-id-init
+loop-id-init g c = record { gone = so_far_none (state g.S.Store c.args.tx.now.conn.now); same_reference = refl }
+
+pub loop-id-preserved : goal.loop-id-preserved
+loop-id-preserved g c =
+    let low : c.loop-id.id-index < length c.args.ids.now = omega arith in
+    record {
+      gone = so_far_more (state g.S.Store c.args.tx.now.conn.now) (state g.S.Store c.loop-id.tx.conn.now) (state g.S.Store c.take_content.new.tx.conn.now) c.args.ids.now c.loop-id.id-index (record { id = pos 0 }) low c.loop-id.invariant.gone
+          c.in_ok-take_content.ensures.taken c.take_content.ensures.kept c.take_content.ensures.survives;
+      same_reference = c.take_content.ensures.same_reference ∙ c.loop-id.invariant.same_reference;
+    }
+
+pub returns-clause-taken : goal.returns-clause-taken
+returns-clause-taken g c clean is =
+    let it = c.loop-id.invariant.gone.gone clean is in
+    (it.0, subst (ContentsGone (held (state g.S.Store c.args.tx.now.conn.now)) (held (state g.S.Store c.loop-id.tx.conn.now))) (take_all c.loop-id.id-index c.args.ids.now (omega arith)) it.1)

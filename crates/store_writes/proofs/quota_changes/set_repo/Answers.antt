@@ -1,0 +1,20 @@
+use Rattle.std.proofs.Common.{arith}
+use Rattle.sqlite.specs.State.{HasCleanDisk}
+use Rattle.sqlite.specs.Held.{state}
+use Rattle.store_statements.specs.Held.{held}
+use Rattle.store_statements.proofs.Transactions.{registry, makes, stays_back}
+use Rattle.store_writes.proofs.PutLemmas.{quota_put}
+use Rattle.store_writes.proofs.quota_changes.set_repo.Goals as goal
+
+pub returns-in-Ok-clause-made : goal.returns-in-Ok-clause-made
+returns-in-Ok-clause-made g c clean =
+    let early : HasCleanDisk (state g.S.Store c.args.conn.now) = omega (arith, c.put_quota_alone.ensures.survives.clean) in
+    makes (state g.S.Store c.put_quota_alone.new.conn) _ _ (c.in-Ok.ensures.committed clean) (quota_put (held (state g.S.Store c.args.conn.now)) (held (state g.S.Store c.put_quota_alone.new.conn)) c.args.name.now c.args.quota.bytes (registry (state g.S.Store c.args.conn.now) (c.requires.settled early))
+    (rw c.as_str.ensures.text at c.in-Ok.ensures.put clean))
+
+pub returns-in-Err-clause-memory : goal.returns-in-Err-clause-memory
+returns-in-Err-clause-memory g c clean memory =
+    let late : HasCleanDisk (state g.S.Store c.put_quota_alone.new.conn) = omega (arith, c.checked_fault.ensures.survives.clean) in
+    let early : HasCleanDisk (state g.S.Store c.args.conn.now) = omega (arith, c.checked_fault.ensures.survives.clean, c.put_quota_alone.ensures.survives.clean) in
+    stays_back (state g.S.Store c.args.conn.now) (state g.S.Store c.put_quota_alone.new.conn) (state g.S.Store c.checked_fault.new.conn) (c.requires.settled early)
+    (c.in-Err.ensures.back late) (c.checked_fault.ensures.memory clean (let e = memory in cc))

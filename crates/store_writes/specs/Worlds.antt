@@ -1,0 +1,54 @@
+-- What a step inside a transaction makes of the world.
+use Rattle.std.specs.Prelude.{◌≡◌, true, Option, None, Result, OnOk, find}
+use Rattle.sqlite_trees.specs.declared.store.Store.{Ghosts}
+use Rattle.sqlite.specs.State.{State, HasCleanDisk, KeepsCommit}
+use Rattle.sqlite.specs.Held.{Held, state}
+use Rattle.oci_names.specs.Text.{Text}
+use Rattle.registry_model.specs.World.{World, repo_at, update_repo}
+use Rattle.registry_model.specs.Manifests.{with_tag}
+use Rattle.store_world.specs.Keys.{has_key}
+use Rattle.store_world.specs.Tables.{Tables}
+use Rattle.store_world.specs.Registry.{Agree, is_repo}
+use Rattle.store_world.specs.World.{world_of}
+use Rattle.store_statements.specs.Held.{IsReady, held}
+
+-- inside a transaction, and the tables stand for a world
+pub record IsWhole (s : State) : Type 0 where
+  pub ready : IsReady s
+  pub agree : Agree (held s)
+
+-- they still do, for this one, and the same repositories are there
+pub record Turns (old new : State) (w : World) : Type 0 where
+  pub whole : IsWhole new
+  pub world : world_of (held new) ≡ w
+  pub repos : (held new).repos ≡ (held old).repos
+
+-- the tag, if there is one, names the digest
+abbrev pub tagged : World → Text → Option Text → Text → World
+tagged w name tag digest = update_repo w name (λ r. with_tag r tag digest) (repo_at w name)
+
+-- ---- what the clauses of these steps say, where the disk has returned what was written
+module _ {S : Type 0} (g : Ghosts S) (old new : Held S) where
+  -- nothing was committed
+  abbrev pub KeepsWhole : Type 0
+  KeepsWhole = HasCleanDisk (state g new) → IsWhole (state g old) → KeepsCommit (state g old) (state g new)
+
+  -- where the repository is there, the world is this of the one before
+  abbrev pub TurnsThere : {A E : Type 0} → Result A E → Text → (World → World) → Type 0
+  TurnsThere r name f =
+      HasCleanDisk (state g new) → IsWhole (state g old) → is_repo (held (state g old)).repos name ≡ true
+      → OnOk r (Turns (state g old) (state g new) (f (world_of (held (state g old)))))
+
+  -- where it is there, without a manifest of the digest
+  abbrev pub TurnsFresh : {A E : Type 0} → Result A E → Text → Text → (World → World) → Type 0
+  TurnsFresh r name digest f =
+      HasCleanDisk (state g new) → IsWhole (state g old) → is_repo (held (state g old)).repos name ≡ true
+      → find (has_key name digest) (held (state g old)).manifests ≡ None
+      → OnOk r (Turns (state g old) (state g new) (f (world_of (held (state g old)))))
+
+  -- from such tables, the transaction goes on, and this is so of the tables before and after
+  abbrev pub StepsFrom : {A E : Type 0} → Result A E
+      → (Tables → Type 0) → (Tables → Tables → Type 0) → Type 0
+  StepsFrom r P R =
+      HasCleanDisk (state g new) → IsReady (state g old) → P (held (state g old))
+      → OnOk r (IsReady (state g new) × R (held (state g old)) (held (state g new)))

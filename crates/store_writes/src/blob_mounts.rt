@@ -1,0 +1,92 @@
+//! A blob of one repository becomes one of another as well.
+ghost use Rattle.std.specs.Prelude.{◌≡◌, ◌<◌, ◌^◌, true, None, find};
+ghost use Rattle.registry_model.specs.World.{has_repo};
+ghost use Rattle.registry_model.specs.Lookups.{mount};
+ghost use Rattle.store_world.specs.Keys.{has_key};
+ghost use Rattle.store_statements.specs.Clauses.{GoesBack, IsCommitted, Lasts, MakesWorld, Relates, Settled, StaysOnMemory, TablesHave, WorldHas};
+ghost use Rattle.store_writes.specs.Puts.{LinkIsPut};
+
+use oci_names::{Digest, Fault, RepoName};
+use sqlite::{Alter, Connection};
+use store_contents::{ContentId, fault_of};
+use store_statements::blobs::{BlobLink, add_blob_link, find_blob_link};
+use store_statements::open_check::checked_fault;
+
+/// Adds a link to a content that is there, in a transaction of its own.
+fn add_blob_link_alone<S: Alter>(
+    conn: &mut Connection<S>,
+    repo: &str,
+    digest: &str,
+    size: u64,
+    content: ContentId,
+) -> Result<(), Fault>
+    requires fits { size < 2 ^ 63 }
+    requires settled { Settled S.Store conn.old }
+    requires fresh { TablesHave S.Store conn.old (λ t. find (has_key repo.now digest.now) t.blobs ≡ None) }
+    ensures committed { IsCommitted S.Store conn.new result }
+    ensures put { Relates S.Store conn.old conn.new result
+        (λ t u. LinkIsPut t u repo.now digest.now size content.id) }
+    ensures back { GoesBack S.Store conn.old conn.new result }
+    ensures survives { Lasts S.Store conn.old conn.new }
+{
+    if !conn.is_autocommit() {
+        return Err(Fault::Storage);
+    }
+    let mut tx = conn.transaction();
+    add_blob_link(&mut tx, repo, digest, size, content)?;
+    match tx.commit() {
+        Ok(()) => Ok(()),
+        Err(error) => Err(fault_of(error)),
+    }
+}
+
+/// Adds the link that the one repository has to the other, which has none.
+fn mount_link<S: Alter>(
+    conn: &mut Connection<S>,
+    from: &str,
+    to: &str,
+    digest: &str,
+) -> Result<(), Fault>
+    requires settled { Settled S.Store conn.old }
+    requires there { WorldHas S.Store conn.old (λ w. has_repo w to.now ≡ true) }
+    requires fresh { TablesHave S.Store conn.old (λ t. find (has_key to.now digest.now) t.blobs ≡ None) }
+    ensures made { MakesWorld S.Store conn.old conn.new result (λ w. mount w from.now to.now digest.now) }
+    ensures memory { StaysOnMemory S.Store conn.old conn.new result }
+    ensures survives { Lasts S.Store conn.old conn.new }
+{
+    match find_blob_link(conn, from, digest) {
+        // each size that a row has fits
+        Ok(Some(link)) if link.size <= i64::MAX as u64 => {
+            match add_blob_link_alone(conn, to, digest, link.size, link.content) {
+                Ok(()) => Ok(()),
+                Err(fault) => Err(checked_fault(conn, fault)),
+            }
+        }
+        Ok(_) => Err(Fault::Storage),
+        Err(fault) => Err(fault),
+    }
+}
+
+/// Adds a blob that another repository has, or the same one: its content is kept once. `Fault::Storage`
+/// also where that repository has none such.
+pub fn mount<S: Alter>(
+    conn: &mut Connection<S>,
+    from: &RepoName,
+    to: &RepoName,
+    digest: &Digest,
+) -> Result<(), Fault>
+    requires settled { Settled S.Store conn.old }
+    requires there { WorldHas S.Store conn.old (λ w. has_repo w to.now ≡ true) }
+    ensures made { MakesWorld S.Store conn.old conn.new result (λ w. mount w from.now to.now digest.now) }
+    ensures memory { StaysOnMemory S.Store conn.old conn.new result }
+    ensures survives { Lasts S.Store conn.old conn.new }
+{
+    let source = from.as_str();
+    let target = to.as_str();
+    let text = digest.as_str();
+    match find_blob_link(conn, target, text) {
+        Ok(Some(_)) => Ok(()),
+        Ok(None) => mount_link(conn, source, target, text),
+        Err(fault) => Err(fault),
+    }
+}

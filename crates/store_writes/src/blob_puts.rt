@@ -1,0 +1,98 @@
+//! A blob comes, with its bytes.
+ghost use Rattle.std.specs.Prelude.{◌≡◌, ◌≤◌, ◌<◌, ◌^◌, true, length, find, None};
+ghost use Rattle.oci_names.specs.Digest.{matches};
+ghost use Rattle.registry_model.specs.Limits.{largest_blob};
+ghost use Rattle.registry_model.specs.World.{has_repo};
+ghost use Rattle.registry_model.specs.Lookups.{put_blob};
+ghost use Rattle.store_world.specs.Keys.{has_key};
+ghost use Rattle.store_writes.specs.Worlds.{StepsFrom};
+ghost use Rattle.store_statements.specs.Clauses.{CommitsStep, GoesBack, KeepsInside, Lasts, LastsUncommitted, MakesWorld, Settled, StaysOnMemory, TablesHave, WorldHas};
+ghost use Rattle.store_statements.specs.Steps.{BlobStored};
+
+use oci_names::{Digest, Fault, RepoName};
+use sqlite::{Alter, Connection, Transaction};
+use std::alloc::Global;
+use store_contents::fault_of;
+use store_statements::blobs::{add_blob_link, find_blob_link};
+use store_statements::contents::keep_matching;
+use store_statements::open_check::checked_fault;
+
+/// Puts a blob in that the repository has not.
+pub(crate) fn store_blob<S: Alter>(
+    alloc: Global,
+    tx: &mut Transaction<'_, S>,
+    repo: &str,
+    digest: &str,
+    bytes: &[u8],
+) -> Result<(), Fault>
+    requires matching { matches digest.now bytes.now ≡ true }
+    requires fits { length bytes.now < 2 ^ 63 }
+    ensures stored { StepsFrom S.Store tx.old.conn.now tx.new.conn.now result
+        (λ t. find (has_key repo.now digest.now) t.blobs ≡ None)
+        (λ t u. BlobStored t u repo.now digest.now bytes.now) }
+    ensures kept { KeepsInside S.Store tx.old.conn.now tx.new.conn.now }
+    ensures same_reference { tx.new.conn.ghost_name ≡ tx.old.conn.ghost_name }
+    ensures survives { LastsUncommitted S.Store tx.old.conn.now tx.new.conn.now }
+{
+    match keep_matching(alloc, tx, digest, bytes) {
+        Ok(content) => add_blob_link(tx, repo, digest, bytes.len() as u64, content),
+        Err(fault) => Err(fault),
+    }
+}
+
+/// Puts a blob in that the repository has not, in a transaction of its own.
+fn store_blob_alone<S: Alter>(
+    alloc: Global,
+    conn: &mut Connection<S>,
+    repo: &str,
+    digest: &str,
+    bytes: &[u8],
+) -> Result<(), Fault>
+    requires settled { Settled S.Store conn.old }
+    requires matching { matches digest.now bytes.now ≡ true }
+    requires fits { length bytes.now < 2 ^ 63 }
+    requires fresh { TablesHave S.Store conn.old (λ t. find (has_key repo.now digest.now) t.blobs ≡ None) }
+    ensures made { CommitsStep S.Store conn.old conn.new result
+        (λ t u. BlobStored t u repo.now digest.now bytes.now) }
+    ensures back { GoesBack S.Store conn.old conn.new result }
+    ensures survives { Lasts S.Store conn.old conn.new }
+{
+    if !conn.is_autocommit() {
+        return Err(Fault::Storage);
+    }
+    let mut tx = conn.transaction();
+    store_blob(alloc, &mut tx, repo, digest, bytes)?;
+    match tx.commit() {
+        Ok(()) => Ok(()),
+        Err(error) => Err(fault_of(error)),
+    }
+}
+
+/// Puts a blob in; a digest that is there keeps its bytes.
+pub fn put_blob<S: Alter>(
+    alloc: Global,
+    conn: &mut Connection<S>,
+    repo: &RepoName,
+    digest: &Digest,
+    bytes: &[u8],
+) -> Result<(), Fault>
+    requires settled { Settled S.Store conn.old }
+    requires there { WorldHas S.Store conn.old (λ w. has_repo w repo.now ≡ true) }
+    requires matching { matches digest.now bytes.now ≡ true }
+    requires fits { length bytes.now ≤ largest_blob }
+    ensures made { MakesWorld S.Store conn.old conn.new result
+        (λ w. put_blob w repo.now digest.now bytes.now) }
+    ensures memory { StaysOnMemory S.Store conn.old conn.new result }
+    ensures survives { Lasts S.Store conn.old conn.new }
+{
+    let repo = repo.as_str();
+    let digest = digest.as_str();
+    match find_blob_link(conn, repo, digest) {
+        Ok(Some(_)) => Ok(()),
+        Ok(None) => match store_blob_alone(alloc, conn, repo, digest, bytes) {
+            Ok(()) => Ok(()),
+            Err(fault) => Err(checked_fault(conn, fault)),
+        },
+        Err(fault) => Err(fault),
+    }
+}

@@ -1,0 +1,144 @@
+//! What is deleted: tags, manifests and blobs.
+ghost use Rattle.std.specs.Prelude.{◌≡◌};
+ghost use Rattle.registry_model.specs.Lookups.{delete_blob, delete_manifest, delete_tag};
+ghost use Rattle.store_world.specs.Keys.{has_key};
+ghost use Rattle.store_statements.specs.Clauses.{Changes, CommitsTables, GoesBack, KeepsInside, Lasts, LastsUncommitted, MakesWorld, Settled, StaysOnMemory};
+ghost use Rattle.store_statements.specs.Steps.{blobs_without, tags_without, without_manifest};
+
+use oci_names::{Digest, Fault, RepoName, Tag};
+use sqlite::{Alter, Connection, Transaction};
+use store_contents::fault_of;
+use store_statements::blobs::take_blob_link;
+use store_statements::manifests::take_manifest_link;
+use store_statements::open_check::checked_fault;
+use store_statements::tags::{take_tag, take_tags_named};
+
+/// Takes a tag out, in a transaction of its own.
+fn take_tag_alone<S: Alter>(conn: &mut Connection<S>, repo: &str, tag: &str) -> Result<(), Fault>
+    requires settled { Settled S.Store conn.old }
+    ensures made { CommitsTables S.Store conn.old conn.new result (tags_without (has_key repo.now tag.now)) }
+    ensures back { GoesBack S.Store conn.old conn.new result }
+    ensures survives { Lasts S.Store conn.old conn.new }
+{
+    if !conn.is_autocommit() {
+        return Err(Fault::Storage);
+    }
+    let mut tx = conn.transaction();
+    take_tag(&mut tx, repo, tag)?;
+    match tx.commit() {
+        Ok(()) => Ok(()),
+        Err(error) => Err(fault_of(error)),
+    }
+}
+
+/// Takes a tag away.
+pub fn delete_tag<S: Alter>(
+    conn: &mut Connection<S>,
+    repo: &RepoName,
+    tag: &Tag,
+) -> Result<(), Fault>
+    requires settled { Settled S.Store conn.old }
+    ensures made { MakesWorld S.Store conn.old conn.new result (λ w. delete_tag w repo.now tag.now) }
+    ensures memory { StaysOnMemory S.Store conn.old conn.new result }
+    ensures survives { Lasts S.Store conn.old conn.new }
+{
+    match take_tag_alone(conn, repo.as_str(), tag.as_str()) {
+        Ok(()) => Ok(()),
+        Err(fault) => Err(checked_fault(conn, fault)),
+    }
+}
+
+/// Takes a link to a blob out, in a transaction of its own.
+fn take_blob_link_alone<S: Alter>(
+    conn: &mut Connection<S>,
+    repo: &str,
+    digest: &str,
+) -> Result<(), Fault>
+    requires settled { Settled S.Store conn.old }
+    ensures made { CommitsTables S.Store conn.old conn.new result
+        (blobs_without (has_key repo.now digest.now)) }
+    ensures back { GoesBack S.Store conn.old conn.new result }
+    ensures survives { Lasts S.Store conn.old conn.new }
+{
+    if !conn.is_autocommit() {
+        return Err(Fault::Storage);
+    }
+    let mut tx = conn.transaction();
+    take_blob_link(&mut tx, repo, digest)?;
+    match tx.commit() {
+        Ok(()) => Ok(()),
+        Err(error) => Err(fault_of(error)),
+    }
+}
+
+/// Takes a blob away; its content stays until it is cleared.
+pub fn delete_blob<S: Alter>(
+    conn: &mut Connection<S>,
+    repo: &RepoName,
+    digest: &Digest,
+) -> Result<(), Fault>
+    requires settled { Settled S.Store conn.old }
+    ensures made { MakesWorld S.Store conn.old conn.new result (λ w. delete_blob w repo.now digest.now) }
+    ensures memory { StaysOnMemory S.Store conn.old conn.new result }
+    ensures survives { Lasts S.Store conn.old conn.new }
+{
+    match take_blob_link_alone(conn, repo.as_str(), digest.as_str()) {
+        Ok(()) => Ok(()),
+        Err(fault) => Err(checked_fault(conn, fault)),
+    }
+}
+
+/// Takes the link to a manifest out, and the tags that name it.
+fn take_manifest<S: Alter>(
+    tx: &mut Transaction<'_, S>,
+    repo: &str,
+    digest: &str,
+) -> Result<(), Fault>
+    ensures taken { Changes S.Store tx.old.conn.now tx.new.conn.now result
+        (without_manifest repo.now digest.now) }
+    ensures kept { KeepsInside S.Store tx.old.conn.now tx.new.conn.now }
+    ensures same_reference { tx.new.conn.ghost_name ≡ tx.old.conn.ghost_name }
+    ensures survives { LastsUncommitted S.Store tx.old.conn.now tx.new.conn.now }
+{
+    take_manifest_link(tx, repo, digest)?;
+    take_tags_named(tx, repo, digest)
+}
+
+/// The same, in a transaction of its own.
+fn take_manifest_alone<S: Alter>(
+    conn: &mut Connection<S>,
+    repo: &str,
+    digest: &str,
+) -> Result<(), Fault>
+    requires settled { Settled S.Store conn.old }
+    ensures made { CommitsTables S.Store conn.old conn.new result (without_manifest repo.now digest.now) }
+    ensures back { GoesBack S.Store conn.old conn.new result }
+    ensures survives { Lasts S.Store conn.old conn.new }
+{
+    if !conn.is_autocommit() {
+        return Err(Fault::Storage);
+    }
+    let mut tx = conn.transaction();
+    take_manifest(&mut tx, repo, digest)?;
+    match tx.commit() {
+        Ok(()) => Ok(()),
+        Err(error) => Err(fault_of(error)),
+    }
+}
+
+/// Takes a manifest away, and each tag that names it.
+pub fn delete_manifest<S: Alter>(
+    conn: &mut Connection<S>,
+    repo: &RepoName,
+    digest: &Digest,
+) -> Result<(), Fault>
+    requires settled { Settled S.Store conn.old }
+    ensures made { MakesWorld S.Store conn.old conn.new result (λ w. delete_manifest w repo.now digest.now) }
+    ensures memory { StaysOnMemory S.Store conn.old conn.new result }
+    ensures survives { Lasts S.Store conn.old conn.new }
+{
+    match take_manifest_alone(conn, repo.as_str(), digest.as_str()) {
+        Ok(()) => Ok(()),
+        Err(fault) => Err(checked_fault(conn, fault)),
+    }
+}

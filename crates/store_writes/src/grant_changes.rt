@@ -1,0 +1,120 @@
+//! The level of a token on a repository is given and taken away.
+ghost use Rattle.std.specs.Prelude.{◌≡◌, true};
+ghost use Rattle.registry_model.specs.World.{has_repo};
+ghost use Rattle.registry_model.specs.Command.{grant, revoke};
+ghost use Rattle.store_world.specs.Keys.{has_key};
+ghost use Rattle.store_statements.specs.Clauses.{CommitsTables, GoesBack, GoesOn, IsCommitted, KeepsInside, Lasts, LastsUncommitted, MakesWorld, Relates, RelatesInside, Settled, StaysOnMemory, WorldHas};
+ghost use Rattle.store_writes.specs.Puts.{LevelIsPut};
+ghost use Rattle.store_statements.specs.Steps.{grants_without};
+
+use oci_names::{Fault, RepoName, Token};
+use registry_model::Level;
+use sqlite::{Alter, Connection, Transaction};
+use store_contents::fault_of;
+use store_statements::grants::{add_grant, set_level, take_grant};
+use store_statements::open_check::checked_fault;
+
+/// Takes a grant out, in a transaction of its own.
+fn take_grant_alone<S: Alter>(
+    conn: &mut Connection<S>,
+    token: &str,
+    repo: &str,
+) -> Result<(), Fault>
+    requires settled { Settled S.Store conn.old }
+    ensures made { CommitsTables S.Store conn.old conn.new result
+        (grants_without (has_key token.now repo.now)) }
+    ensures back { GoesBack S.Store conn.old conn.new result }
+    ensures survives { Lasts S.Store conn.old conn.new }
+{
+    if !conn.is_autocommit() {
+        return Err(Fault::Storage);
+    }
+    let mut tx = conn.transaction();
+    take_grant(&mut tx, token, repo)?;
+    match tx.commit() {
+        Ok(()) => Ok(()),
+        Err(error) => Err(fault_of(error)),
+    }
+}
+
+/// Takes the level of a token on a repository away.
+pub fn revoke<S: Alter>(
+    conn: &mut Connection<S>,
+    token: &Token,
+    name: &RepoName,
+) -> Result<(), Fault>
+    requires settled { Settled S.Store conn.old }
+    ensures made { MakesWorld S.Store conn.old conn.new result (λ w. revoke w token.now name.now) }
+    ensures memory { StaysOnMemory S.Store conn.old conn.new result }
+    ensures survives { Lasts S.Store conn.old conn.new }
+{
+    match take_grant_alone(conn, token.as_str(), name.as_str()) {
+        Ok(()) => Ok(()),
+        Err(fault) => Err(checked_fault(conn, fault)),
+    }
+}
+
+/// Sets the level, where there is a grant, and else adds one.
+fn put_level<S: Alter>(
+    tx: &mut Transaction<'_, S>,
+    token: &str,
+    repo: &str,
+    level: Level,
+) -> Result<(), Fault>
+    ensures ready { GoesOn S.Store tx.old.conn.now tx.new.conn.now result }
+    ensures put { RelatesInside S.Store tx.old.conn.now tx.new.conn.now result
+        (λ t u. LevelIsPut t u token.now repo.now level) }
+    ensures kept { KeepsInside S.Store tx.old.conn.now tx.new.conn.now }
+    ensures same_reference { tx.new.conn.ghost_name ≡ tx.old.conn.ghost_name }
+    ensures survives { LastsUncommitted S.Store tx.old.conn.now tx.new.conn.now }
+{
+    let count = set_level(tx, token, repo, level)?;
+    if count == 0 {
+        add_grant(tx, token, repo, level)
+    } else {
+        Ok(())
+    }
+}
+
+/// Gives a level, in a transaction of its own.
+fn put_level_alone<S: Alter>(
+    conn: &mut Connection<S>,
+    token: &str,
+    repo: &str,
+    level: Level,
+) -> Result<(), Fault>
+    requires settled { Settled S.Store conn.old }
+    ensures committed { IsCommitted S.Store conn.new result }
+    ensures put { Relates S.Store conn.old conn.new result (λ t u. LevelIsPut t u token.now repo.now level) }
+    ensures back { GoesBack S.Store conn.old conn.new result }
+    ensures survives { Lasts S.Store conn.old conn.new }
+{
+    if !conn.is_autocommit() {
+        return Err(Fault::Storage);
+    }
+    let mut tx = conn.transaction();
+    put_level(&mut tx, token, repo, level)?;
+    match tx.commit() {
+        Ok(()) => Ok(()),
+        Err(error) => Err(fault_of(error)),
+    }
+}
+
+/// Gives a token a level on a repository, in the place of the one that it has.
+pub fn grant<S: Alter>(
+    conn: &mut Connection<S>,
+    token: &Token,
+    name: &RepoName,
+    level: Level,
+) -> Result<(), Fault>
+    requires settled { Settled S.Store conn.old }
+    requires there { WorldHas S.Store conn.old (λ w. has_repo w name.now ≡ true) }
+    ensures made { MakesWorld S.Store conn.old conn.new result (λ w. grant w token.now name.now level) }
+    ensures memory { StaysOnMemory S.Store conn.old conn.new result }
+    ensures survives { Lasts S.Store conn.old conn.new }
+{
+    match put_level_alone(conn, token.as_str(), name.as_str(), level) {
+        Ok(()) => Ok(()),
+        Err(fault) => Err(checked_fault(conn, fault)),
+    }
+}

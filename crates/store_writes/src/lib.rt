@@ -1,0 +1,26 @@
+//! Each change of a registry's world as one transaction over its tables.
+#![tactic(auto)]
+
+mod blob_mounts;
+mod blob_puts;
+mod content_clearing;
+mod deletions;
+mod grant_changes;
+mod manifest_puts;
+mod quota_changes;
+mod repo_removal;
+mod session_appends;
+mod session_changes;
+mod session_finish;
+
+pub use blob_mounts::mount;
+pub use blob_puts::put_blob;
+pub use content_clearing::clear;
+pub use deletions::{delete_blob, delete_manifest, delete_tag};
+pub use grant_changes::{grant, revoke};
+pub use manifest_puts::put_manifest;
+pub use quota_changes::set_repo;
+pub use repo_removal::drop_repo;
+pub use session_appends::append;
+pub use session_changes::{drop_sessions, open_session};
+pub use session_finish::finish;

@@ -1,0 +1,267 @@
+//! A manifest is put, and a tag set to it.
+ghost use Rattle.std.specs.Prelude.{◌≡◌, ◌≤◌, true, length, find, None, Some, Ok};
+ghost use Rattle.sqlite.specs.State.{HasCleanDisk, KeepsCommit};
+ghost use Rattle.sqlite.specs.Held.{state};
+ghost use Rattle.oci_manifest.specs.Manifest.{shown, manifest_in};
+ghost use Rattle.registry_model.specs.Ask.{text_in};
+ghost use Rattle.registry_model.specs.Limits.{largest_manifest};
+ghost use Rattle.registry_model.specs.Lookups.{put_manifest};
+ghost use Rattle.registry_model.specs.World.{has_repo};
+ghost use Rattle.store_world.specs.Keys.{has_key};
+ghost use Rattle.store_world.specs.Registry.{is_repo};
+ghost use Rattle.store_writes.specs.Worlds.{KeepsWhole, TurnsFresh, TurnsThere, IsWhole, tagged};
+ghost use Rattle.store_statements.specs.Clauses.{GoesBack, Lasts, LastsUncommitted, MakesWorld, Settled, StaysOnMemory, TablesHave, WorldHas};
+ghost use Rattle.store_statements.specs.Held.{held};
+
+use oci_manifest::Manifest;
+use oci_names::{Digest, Fault, RepoName, Tag};
+use sqlite::{Alter, Connection, Transaction};
+use std::alloc::Global;
+use store_contents::{fault_of, find_or_add};
+use store_statements::manifests::{add_manifest_link, find_manifest_link};
+use store_statements::open_check::checked_fault;
+use store_statements::tags::{add_tag, set_tag};
+
+/// Sets the tag to the digest, where it is there, and else adds it.
+fn put_tag<S: Alter>(
+    tx: &mut Transaction<'_, S>,
+    repo: &str,
+    tag: &str,
+    digest: &str,
+) -> Result<(), Fault>
+    ensures made { TurnsThere S.Store tx.old.conn.now tx.new.conn.now result repo.now
+        (λ w. tagged w repo.now (Some tag.now) digest.now) }
+    ensures kept { KeepsWhole S.Store tx.old.conn.now tx.new.conn.now }
+    ensures same_reference { tx.new.conn.ghost_name ≡ tx.old.conn.ghost_name }
+    ensures survives { LastsUncommitted S.Store tx.old.conn.now tx.new.conn.now }
+{
+    let count = set_tag(tx, repo, tag, digest)?;
+    if count == 0 {
+        add_tag(tx, repo, tag, digest)
+    } else {
+        Ok(())
+    }
+}
+
+/// The same, where there is a tag.
+fn put_tag_if<S: Alter>(
+    tx: &mut Transaction<'_, S>,
+    repo: &str,
+    tag: Option<&Tag>,
+    digest: &str,
+) -> Result<(), Fault>
+    ensures made { TurnsThere S.Store tx.old.conn.now tx.new.conn.now result repo.now
+        (λ w. tagged w repo.now (text_in tag.entry) digest.now) }
+    ensures kept { KeepsWhole S.Store tx.old.conn.now tx.new.conn.now }
+    ensures same_reference { tx.new.conn.ghost_name ≡ tx.old.conn.ghost_name }
+    ensures survives { LastsUncommitted S.Store tx.old.conn.now tx.new.conn.now }
+{
+    match tag {
+        Some(tag) => put_tag(tx, repo, tag.as_str(), digest),
+        None => Ok(()),
+    }
+}
+
+/// The digest of the manifest that this one refers to.
+fn subject_of(manifest: &Manifest) -> Option<&str>
+    ensures { text_in result ≡ manifest.now.subject }
+{
+    match &manifest.subject {
+        Some(subject) => Some(subject.as_str()),
+        None => None,
+    }
+}
+
+/// Adds a manifest whose digest the repository has not. `manifest` is what the bytes read as.
+fn add_manifest<S: Alter>(
+    alloc: Global,
+    tx: &mut Transaction<'_, S>,
+    repo: &str,
+    digest: &str,
+    bytes: &[u8],
+    manifest: &Manifest,
+) -> Result<(), Fault>
+    requires reads { manifest_in bytes.now ≡ Ok (shown manifest.now) }
+    requires fits { length bytes.now ≤ largest_manifest }
+    ensures made { TurnsFresh S.Store tx.old.conn.now tx.new.conn.now result repo.now digest.now
+        (λ w. put_manifest w repo.now digest.now bytes.now None) }
+    ensures kept { KeepsWhole S.Store tx.old.conn.now tx.new.conn.now }
+    ensures same_reference { tx.new.conn.ghost_name ≡ tx.old.conn.ghost_name }
+    ensures survives { LastsUncommitted S.Store tx.old.conn.now tx.new.conn.now }
+{
+    let content = find_or_add(alloc, tx, bytes)?;
+    let size = bytes.len() as u64;
+    add_manifest_link(
+        tx,
+        repo,
+        digest,
+        size,
+        manifest.kind,
+        subject_of(manifest),
+        content,
+    )
+}
+
+/// Adds a manifest whose digest the repository has not, and sets the tag, if there is one, to it.
+fn add_tagged<S: Alter>(
+    alloc: Global,
+    tx: &mut Transaction<'_, S>,
+    repo: &str,
+    digest: &str,
+    bytes: &[u8],
+    manifest: &Manifest,
+    tag: Option<&Tag>,
+) -> Result<(), Fault>
+    requires reads { manifest_in bytes.now ≡ Ok (shown manifest.now) }
+    requires fits { length bytes.now ≤ largest_manifest }
+    ensures made { TurnsFresh S.Store tx.old.conn.now tx.new.conn.now result repo.now digest.now
+        (λ w. put_manifest w repo.now digest.now bytes.now (text_in tag.entry)) }
+    ensures kept { HasCleanDisk (state S.Store tx.new.conn.now) → IsWhole (state S.Store tx.old.conn.now)
+        → is_repo (held (state S.Store tx.old.conn.now)).repos repo.now ≡ true
+        → find (has_key repo.now digest.now) (held (state S.Store tx.old.conn.now)).manifests ≡ None
+        → KeepsCommit (state S.Store tx.old.conn.now) (state S.Store tx.new.conn.now) }
+    ensures same_reference { tx.new.conn.ghost_name ≡ tx.old.conn.ghost_name }
+    ensures survives { LastsUncommitted S.Store tx.old.conn.now tx.new.conn.now }
+{
+    add_manifest(alloc, tx, repo, digest, bytes, manifest)?;
+    put_tag_if(tx, repo, tag, digest)
+}
+
+/// The same, in a transaction of its own.
+fn add_tagged_alone<S: Alter>(
+    alloc: Global,
+    conn: &mut Connection<S>,
+    repo: &str,
+    digest: &str,
+    bytes: &[u8],
+    manifest: &Manifest,
+    tag: Option<&Tag>,
+) -> Result<(), Fault>
+    requires settled { Settled S.Store conn.old }
+    requires there { TablesHave S.Store conn.old (λ t. is_repo t.repos repo.now ≡ true) }
+    requires fresh { TablesHave S.Store conn.old
+        (λ t. find (has_key repo.now digest.now) t.manifests ≡ None) }
+    requires reads { manifest_in bytes.now ≡ Ok (shown manifest.now) }
+    requires fits { length bytes.now ≤ largest_manifest }
+    ensures made { MakesWorld S.Store conn.old conn.new result
+        (λ w. put_manifest w repo.now digest.now bytes.now (text_in tag.entry)) }
+    ensures back { GoesBack S.Store conn.old conn.new result }
+    ensures survives { Lasts S.Store conn.old conn.new }
+{
+    if !conn.is_autocommit() {
+        return Err(Fault::Storage);
+    }
+    let mut tx = conn.transaction();
+    add_tagged(alloc, &mut tx, repo, digest, bytes, manifest, tag)?;
+    match tx.commit() {
+        Ok(()) => Ok(()),
+        Err(error) => Err(fault_of(error)),
+    }
+}
+
+/// Sets the tag, if there is one, to a digest that the repository has, in a transaction of its own.
+fn put_tag_alone<S: Alter>(
+    conn: &mut Connection<S>,
+    repo: &str,
+    tag: Option<&Tag>,
+    digest: &str,
+) -> Result<(), Fault>
+    requires settled { Settled S.Store conn.old }
+    requires there { TablesHave S.Store conn.old (λ t. is_repo t.repos repo.now ≡ true) }
+    ensures made { MakesWorld S.Store conn.old conn.new result
+        (λ w. tagged w repo.now (text_in tag.entry) digest.now) }
+    ensures back { GoesBack S.Store conn.old conn.new result }
+    ensures survives { Lasts S.Store conn.old conn.new }
+{
+    if !conn.is_autocommit() {
+        return Err(Fault::Storage);
+    }
+    let mut tx = conn.transaction();
+    put_tag_if(&mut tx, repo, tag, digest)?;
+    match tx.commit() {
+        Ok(()) => Ok(()),
+        Err(error) => Err(fault_of(error)),
+    }
+}
+
+/// The same, and a failure is told as the store's caller sees it.
+fn tag_there<S: Alter>(
+    conn: &mut Connection<S>,
+    repo: &str,
+    tag: Option<&Tag>,
+    digest: &str,
+) -> Result<(), Fault>
+    requires settled { Settled S.Store conn.old }
+    requires there { TablesHave S.Store conn.old (λ t. is_repo t.repos repo.now ≡ true) }
+    ensures made { MakesWorld S.Store conn.old conn.new result
+        (λ w. tagged w repo.now (text_in tag.entry) digest.now) }
+    ensures memory { StaysOnMemory S.Store conn.old conn.new result }
+    ensures survives { Lasts S.Store conn.old conn.new }
+{
+    match put_tag_alone(conn, repo, tag, digest) {
+        Ok(()) => Ok(()),
+        Err(fault) => Err(checked_fault(conn, fault)),
+    }
+}
+
+/// As `add_tagged_alone`, and a failure is told as the store's caller sees it.
+fn put_new<S: Alter>(
+    alloc: Global,
+    conn: &mut Connection<S>,
+    repo: &str,
+    digest: &str,
+    bytes: &[u8],
+    manifest: &Manifest,
+    tag: Option<&Tag>,
+) -> Result<(), Fault>
+    requires settled { Settled S.Store conn.old }
+    requires there { TablesHave S.Store conn.old (λ t. is_repo t.repos repo.now ≡ true) }
+    requires fresh { TablesHave S.Store conn.old
+        (λ t. find (has_key repo.now digest.now) t.manifests ≡ None) }
+    requires reads { manifest_in bytes.now ≡ Ok (shown manifest.now) }
+    requires fits { length bytes.now ≤ largest_manifest }
+    ensures made { MakesWorld S.Store conn.old conn.new result
+        (λ w. put_manifest w repo.now digest.now bytes.now (text_in tag.entry)) }
+    ensures memory { StaysOnMemory S.Store conn.old conn.new result }
+    ensures survives { Lasts S.Store conn.old conn.new }
+{
+    match add_tagged_alone(alloc, conn, repo, digest, bytes, manifest, tag) {
+        Ok(()) => Ok(()),
+        Err(fault) => Err(checked_fault(conn, fault)),
+    }
+}
+
+/// Adds a manifest, where the repository has not its digest, and sets the tag to it, if one is given.
+/// `manifest` is what the bytes read as; they are at most 4,194,304.
+pub fn put_manifest<S: Alter>(
+    alloc: Global,
+    conn: &mut Connection<S>,
+    repo: &RepoName,
+    digest: &Digest,
+    bytes: &[u8],
+    manifest: &Manifest,
+    tag: Option<&Tag>,
+) -> Result<(), Fault>
+    requires settled { Settled S.Store conn.old }
+    requires there { WorldHas S.Store conn.old (λ w. has_repo w repo.now ≡ true) }
+    requires reads { manifest_in bytes.now ≡ Ok (shown manifest.now) }
+    requires fits { length bytes.now ≤ largest_manifest }
+    ensures made { MakesWorld S.Store conn.old conn.new result
+        (λ w. put_manifest w repo.now digest.now bytes.now (text_in tag.entry)) }
+    ensures memory { StaysOnMemory S.Store conn.old conn.new result }
+    ensures survives { Lasts S.Store conn.old conn.new }
+{
+    match find_manifest_link(conn, repo.as_str(), digest.as_str()) {
+        Ok(Some(_)) => tag_there(conn, repo.as_str(), tag, digest.as_str()),
+        Ok(None) => put_new(
+            alloc,
+            conn,
+            repo.as_str(),
+            digest.as_str(),
+            bytes,
+            manifest,
+            tag,
+        ),
+        Err(fault) => Err(fault),
+    }
+}

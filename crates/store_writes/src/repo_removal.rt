@@ -1,0 +1,95 @@
+//! A repository goes with all that it has.
+ghost use Rattle.std.specs.Prelude.{◌≡◌};
+ghost use Rattle.registry_model.specs.Command.{drop_repo};
+ghost use Rattle.store_statements.specs.Clauses.{Changes, CommitsTables, GoesBack, KeepsInside, Lasts, LastsUncommitted, MakesWorld, Settled, StaysOnMemory};
+ghost use Rattle.store_statements.specs.Drops.{dropped, without_links, without_sessions, without_children};
+
+use oci_names::{Fault, RepoName};
+use sqlite::{Alter, Connection, Transaction};
+use store_contents::fault_of;
+use store_statements::blobs::take_blob_links;
+use store_statements::grants::take_grants;
+use store_statements::manifests::take_manifest_links;
+use store_statements::open_check::checked_fault;
+use store_statements::pieces::take_pieces;
+use store_statements::repos::take_repo;
+use store_statements::tags::take_tags;
+use store_statements::uploads::take_uploads;
+
+/// Takes the tags of the repository out, and its links to manifests and blobs.
+fn drop_links<S: Alter>(tx: &mut Transaction<'_, S>, name: &str) -> Result<(), Fault>
+    ensures dropped { Changes S.Store tx.old.conn.now tx.new.conn.now result (without_links name.now) }
+    ensures kept { KeepsInside S.Store tx.old.conn.now tx.new.conn.now }
+    ensures same_reference { tx.new.conn.ghost_name ≡ tx.old.conn.ghost_name }
+    ensures survives { LastsUncommitted S.Store tx.old.conn.now tx.new.conn.now }
+{
+    take_tags(tx, name)?;
+    take_manifest_links(tx, name)?;
+    take_blob_links(tx, name)
+}
+
+/// Takes the upload sessions of the repository out, with their pieces.
+fn drop_sessions<S: Alter>(tx: &mut Transaction<'_, S>, name: &str) -> Result<(), Fault>
+    ensures dropped { Changes S.Store tx.old.conn.now tx.new.conn.now result (without_sessions name.now) }
+    ensures kept { KeepsInside S.Store tx.old.conn.now tx.new.conn.now }
+    ensures same_reference { tx.new.conn.ghost_name ≡ tx.old.conn.ghost_name }
+    ensures survives { LastsUncommitted S.Store tx.old.conn.now tx.new.conn.now }
+{
+    take_pieces(tx, name)?;
+    take_uploads(tx, name)
+}
+
+/// Takes out each row of another table that names the repository.
+fn drop_children<S: Alter>(tx: &mut Transaction<'_, S>, name: &str) -> Result<(), Fault>
+    ensures dropped { Changes S.Store tx.old.conn.now tx.new.conn.now result (without_children name.now) }
+    ensures kept { KeepsInside S.Store tx.old.conn.now tx.new.conn.now }
+    ensures same_reference { tx.new.conn.ghost_name ≡ tx.old.conn.ghost_name }
+    ensures survives { LastsUncommitted S.Store tx.old.conn.now tx.new.conn.now }
+{
+    drop_links(tx, name)?;
+    drop_sessions(tx, name)?;
+    take_grants(tx, name)
+}
+
+/// Takes the repository out, where it is there, with its tags, links, upload sessions and grants.
+/// Contents stay, also those that nothing names any more.
+pub(crate) fn drop_rows<S: Alter>(tx: &mut Transaction<'_, S>, name: &str) -> Result<(), Fault>
+    ensures dropped { Changes S.Store tx.old.conn.now tx.new.conn.now result (dropped name.now) }
+    ensures kept { KeepsInside S.Store tx.old.conn.now tx.new.conn.now }
+    ensures same_reference { tx.new.conn.ghost_name ≡ tx.old.conn.ghost_name }
+    ensures survives { LastsUncommitted S.Store tx.old.conn.now tx.new.conn.now }
+{
+    drop_children(tx, name)?;
+    take_repo(tx, name)
+}
+
+/// The same, in a transaction of its own.
+fn drop_rows_alone<S: Alter>(conn: &mut Connection<S>, name: &str) -> Result<(), Fault>
+    requires settled { Settled S.Store conn.old }
+    ensures made { CommitsTables S.Store conn.old conn.new result (dropped name.now) }
+    ensures back { GoesBack S.Store conn.old conn.new result }
+    ensures survives { Lasts S.Store conn.old conn.new }
+{
+    if !conn.is_autocommit() {
+        return Err(Fault::Storage);
+    }
+    let mut tx = conn.transaction();
+    drop_rows(&mut tx, name)?;
+    match tx.commit() {
+        Ok(()) => Ok(()),
+        Err(error) => Err(fault_of(error)),
+    }
+}
+
+/// Takes a repository away, with what it holds and every level on it.
+pub fn drop_repo<S: Alter>(conn: &mut Connection<S>, name: &RepoName) -> Result<(), Fault>
+    requires settled { Settled S.Store conn.old }
+    ensures made { MakesWorld S.Store conn.old conn.new result (λ w. drop_repo w name.now) }
+    ensures memory { StaysOnMemory S.Store conn.old conn.new result }
+    ensures survives { Lasts S.Store conn.old conn.new }
+{
+    match drop_rows_alone(conn, name.as_str()) {
+        Ok(()) => Ok(()),
+        Err(fault) => Err(checked_fault(conn, fault)),
+    }
+}
