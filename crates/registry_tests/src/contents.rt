@@ -1,222 +1,153 @@
-//! Bytes that several hold: repositories under links, and upload sessions in pieces.
-
-use crate::dialogue::{ask, send, send_with, talk, using};
-use crate::replies::{BLOB_UNKNOWN, DELETED, accepted, blob, created};
-use crate::setting::{Maker, grant, setting};
-use oci_names::{RepoName, Token};
-use registry_model::{AdminCommand, Keeper, Level};
-use registry_service::Service;
+use sha2::{Digest, Sha256};
+use sqlite::{Connection, MemStore, params};
 use std::alloc::Global;
-use std::process::Abort;
+use std::collections::BTreeSet;
 use std::test::Fail;
+use store_contents::{
+    ContentId, bytes_of, find_or_add, find_or_add_hashed, read_bytes, remove, unlinked,
+};
+use store_schema::make_tables;
 
-/// Lets `t2` delete in `other`.
-fn let_second_delete<K: Keeper>(alloc: Global, registry: &mut Service<K>) -> Result<(), Fail> {
-    let name = RepoName::parse(alloc, "other")?;
-    let token = Token::parse(alloc, "t2")?;
-    grant(registry, &token, &name, Level::Delete)
+const ABC: &str = "ba7816bf8f01cfea414140de5dae2223b00361a396177a9cb410ff61f20015ad";
+
+/// A registry's tables in memory, with no row.
+fn tables(alloc: Global) -> Result<Connection<MemStore>, Fail> {
+    let mut conn = Connection::open_in_memory(alloc)?;
+    if !conn.is_autocommit() {
+        return Err(Fail::from("a transaction is open"));
+    }
+    let mut tx = conn.transaction();
+    make_tables(&mut tx)?;
+    tx.commit()?;
+    Ok(conn)
 }
 
-/// The setting, with `abc` pushed to `team/app` and to `other`, and mounted into `team/lib`.
-pub fn with_three_links<M: Maker>(
-    rt: &impl Abort,
-    alloc: Global,
-) -> Result<Service<M::Kept>, Fail> {
-    let mut registry = setting::<M>(alloc)?;
-    let dialogue = [
-        send(
-            "t1",
-            "POST /v2/team/app/blobs/uploads/?digest={abc}",
-            "abc",
-            created!("team/app", "{abc}"),
-        ),
-        send(
-            "t2",
-            "POST /v2/other/blobs/uploads/?digest={abc}",
-            "abc",
-            created!("other", "{abc}"),
-        ),
-        ask(
-            "t1",
-            "POST /v2/team/lib/blobs/uploads/?mount={abc}&from=team/app",
-            created!("team/lib", "{abc}"),
-        ),
-    ];
-    talk(rt, alloc, &mut registry, dialogue.as_slice())?;
-    Ok(registry)
+fn keep(alloc: Global, conn: &mut Connection<MemStore>, bytes: &[u8]) -> Result<ContentId, Fail> {
+    if !conn.is_autocommit() {
+        return Err(Fail::from("a transaction is open"));
+    }
+    let mut tx = conn.transaction();
+    let id = find_or_add(alloc, &mut tx, bytes)?;
+    tx.commit()?;
+    Ok(id)
 }
 
-/// Deletes the two blobs of `t1`.
-pub fn delete_two<K: Keeper>(
-    rt: &impl Abort,
-    alloc: Global,
-    registry: &mut Service<K>,
-) -> Result<(), Fail> {
-    let deletions = [
-        ask("t1", "DELETE /v2/team/app/blobs/{abc}", DELETED),
-        ask("t1", "DELETE /v2/team/lib/blobs/{abc}", DELETED),
-    ];
-    talk(rt, alloc, registry, deletions.as_slice())
+fn count(conn: &mut Connection<MemStore>) -> Result<i64, Fail> {
+    let row = conn.query_row("SELECT COUNT(*) FROM registry_contents", &[])?;
+    let count = row.get(0)?;
+    Ok(count)
 }
 
-/// Deletes them, and clears: the third repository has its own still.
-pub fn delete_own<K: Keeper>(
-    rt: &impl Abort,
+/// Whether the content has the bytes.
+fn has(
     alloc: Global,
-    registry: &mut Service<K>,
-) -> Result<(), Fail> {
-    delete_two(rt, alloc, registry)?;
-    registry.admin(&AdminCommand::Clear)?;
-    let dialogue = [
-        ask("t1", "GET /v2/team/app/blobs/{abc}", BLOB_UNKNOWN),
-        ask(
-            "t2",
-            "GET /v2/other/blobs/{abc}",
-            blob!("{abc}", "3", "abc"),
-        ),
-    ];
-    talk(rt, alloc, registry, dialogue.as_slice())
+    conn: &mut Connection<MemStore>,
+    id: ContentId,
+    bytes: &[u8],
+) -> Result<bool, Fail> {
+    let found = read_bytes(alloc, conn, id)?;
+    match found {
+        Some(there) => Ok(there.as_slice() == bytes),
+        None => Ok(false),
+    }
 }
 
-/// Deletes the blob of `t2`, to which that is granted first, and clears.
-pub fn delete_last<K: Keeper>(
-    rt: &impl Abort,
-    alloc: Global,
-    registry: &mut Service<K>,
-) -> Result<(), Fail> {
-    let_second_delete(alloc, registry)?;
-    let dialogue = [
-        ask("t2", "DELETE /v2/other/blobs/{abc}", DELETED),
-        ask("t2", "GET /v2/other/blobs/{abc}", BLOB_UNKNOWN),
-    ];
-    talk(rt, alloc, registry, dialogue.as_slice())?;
-    registry.admin(&AdminCommand::Clear)?;
+#[test]
+fn equal_bytes_are_kept_once(rt: HostRuntime) -> Result<(), Fail> {
+    let mut conn = tables(rt.alloc())?;
+    let abc = keep(rt.alloc(), &mut conn, b"abc")?;
+    let hello = keep(rt.alloc(), &mut conn, b"hello")?;
+    let empty = keep(rt.alloc(), &mut conn, b"")?;
+    assert!(rt; abc != hello);
+    assert!(rt; hello != empty);
+    assert_eq!(rt; keep(rt.alloc(), &mut conn, b"abc")?, abc);
+    assert_eq!(rt; keep(rt.alloc(), &mut conn, b"")?, empty);
+    assert_eq!(rt; count(&mut conn)?, 3);
+    assert!(rt; has(rt.alloc(), &mut conn, abc, b"abc")?);
+    assert!(rt; has(rt.alloc(), &mut conn, hello, b"hello")?);
+    assert!(rt; has(rt.alloc(), &mut conn, empty, b"")?);
     Ok(())
 }
 
-/// Each repository that holds the bytes uses them in full, and holds them until it deletes them
-/// itself; they can be pushed anew once they are gone from all.
-pub fn one_content_three_links<M: Maker>(rt: &impl Abort, alloc: Global) -> Result<(), Fail> {
-    let registry = with_three_links::<M>(rt, alloc)?;
-    let registry = using(rt, alloc, registry, "team/app", 3)?;
-    let registry = using(rt, alloc, registry, "other", 3)?;
-    let mut registry = using(rt, alloc, registry, "team/lib", 3)?;
-    delete_own(rt, alloc, &mut registry)?;
-    delete_last(rt, alloc, &mut registry)?;
-    let registry = using(rt, alloc, registry, "other", 0)?;
-    let mut registry = using(rt, alloc, registry, "team/lib", 0)?;
-    let anew = send(
-        "t1",
-        "POST /v2/team/app/blobs/uploads/?digest={abc}",
-        "abc",
-        created!("team/app", "{abc}"),
-    );
-    talk(rt, alloc, &mut registry, &[anew])
+#[test]
+fn a_row_has_the_digest_and_the_size(rt: HostRuntime) -> Result<(), Fail> {
+    let mut conn = tables(rt.alloc())?;
+    let id = keep(rt.alloc(), &mut conn, b"abc")?;
+    let row = conn.query_row("SELECT id, sha256, size, bytes FROM registry_contents", &[])?;
+    let stored: i64 = row.get(0)?;
+    assert_eq!(rt; stored, id.get());
+    let sha256: String = row.get(1)?;
+    assert_eq!(rt; sha256.as_str(), ABC);
+    let size: i64 = row.get(2)?;
+    assert_eq!(rt; size, 3);
+    let bytes: Vec<u8> = row.get(3)?;
+    assert_eq!(rt; bytes.as_slice(), b"abc".as_slice());
+    Ok(())
 }
 
-/// The setting, with a session of `team/app` to which the same three bytes were appended twice, and
-/// then none.
-pub fn with_two_pieces<M: Maker>(rt: &impl Abort, alloc: Global) -> Result<Service<M::Kept>, Fail> {
-    let mut registry = setting::<M>(alloc)?;
-    let patch = "PATCH /v2/team/app/blobs/uploads/1";
-    let dialogue = [
-        ask(
-            "t1",
-            "POST /v2/team/app/blobs/uploads/",
-            accepted!("team/app", "1", "0-0"),
-        ),
-        send_with(
-            "t1",
-            patch,
-            "Content-Range: 0-2\r\n",
-            "hel",
-            accepted!("team/app", "1", "0-2"),
-        ),
-        send_with(
-            "t1",
-            patch,
-            "Content-Range: 3-5\r\n",
-            "hel",
-            accepted!("team/app", "1", "0-5"),
-        ),
-        send("t1", patch, "", accepted!("team/app", "1", "0-5")),
-    ];
-    talk(rt, alloc, &mut registry, dialogue.as_slice())?;
-    Ok(registry)
+#[test]
+fn contents_are_found_by_whole_bytes(rt: HostRuntime) -> Result<(), Fail> {
+    let mut conn = tables(rt.alloc())?;
+    conn.execute(
+        "INSERT INTO registry_contents (sha256, size, bytes) VALUES (?1, 3, ?2)",
+        params![ABC, b"abd".as_slice()],
+    )?;
+    let abd = ContentId::new(conn.last_insert_rowid());
+    let abc = keep(rt.alloc(), &mut conn, b"abc")?;
+    assert!(rt; abc != abd);
+    assert!(rt; has(rt.alloc(), &mut conn, abc, b"abc")?);
+    assert!(rt; has(rt.alloc(), &mut conn, abd, b"abd")?);
+    assert_eq!(rt; keep(rt.alloc(), &mut conn, b"abc")?, abc);
+    assert_eq!(rt; count(&mut conn)?, 2);
+    Ok(())
 }
 
-/// Closes that session, and reads its blob.
-pub fn close_two_pieces<K: Keeper>(
-    rt: &impl Abort,
-    alloc: Global,
-    registry: &mut Service<K>,
-) -> Result<(), Fail> {
-    let dialogue = [
-        ask(
-            "t1",
-            "PUT /v2/team/app/blobs/uploads/1?digest={helhel}",
-            created!("team/app", "{helhel}"),
-        ),
-        ask(
-            "t1",
-            "GET /v2/team/app/blobs/{helhel}",
-            blob!("{helhel}", "6", "helhel"),
-        ),
-    ];
-    talk(rt, alloc, registry, dialogue.as_slice())
+#[tactic(auto, unfolding(store_contents::specs::Contents::sha256_text))]
+#[test]
+fn a_digest_at_hand_is_taken(rt: HostRuntime) -> Result<(), Fail> {
+    let mut conn = tables(rt.alloc())?;
+    let abc = keep(rt.alloc(), &mut conn, b"abc")?;
+    let sha256 = hex::encode(rt.alloc(), Sha256::digest(b"abc".as_slice()))?;
+    assert!(rt; conn.is_autocommit());
+    let mut tx = conn.transaction();
+    let again = find_or_add_hashed(&mut tx, sha256.as_str(), b"abc")?;
+    assert_eq!(rt; again, abc);
+    Ok(())
 }
 
-/// A session holds its bytes in the order in which they were appended, through `Clear`; so does the
-/// blob that it becomes.
-pub fn pieces<M: Maker>(rt: &impl Abort, alloc: Global) -> Result<(), Fail> {
-    let registry = with_two_pieces::<M>(rt, alloc)?;
-    let mut registry = using(rt, alloc, registry, "team/app", 6)?;
-    registry.admin(&AdminCommand::Clear)?;
-    close_two_pieces(rt, alloc, &mut registry)?;
-    registry.admin(&AdminCommand::Clear)?;
-    let mut registry = using(rt, alloc, registry, "team/app", 6)?;
-    let fetched = ask(
-        "t1",
-        "GET /v2/team/app/blobs/{helhel}",
-        blob!("{helhel}", "6", "helhel"),
-    );
-    talk(rt, alloc, &mut registry, &[fetched])
+#[test]
+fn what_nothing_names_is_removed(rt: HostRuntime) -> Result<(), Fail> {
+    let mut conn = tables(rt.alloc())?;
+    let abc = keep(rt.alloc(), &mut conn, b"abc")?;
+    let hello = keep(rt.alloc(), &mut conn, b"hello")?;
+    let empty = keep(rt.alloc(), &mut conn, b"")?;
+    let mut linked = BTreeSet::new(rt.alloc());
+    linked.insert(abc)?;
+    linked.insert(empty)?;
+    assert!(rt; conn.is_autocommit());
+    let mut tx = conn.transaction();
+    let ids = unlinked(rt.alloc(), &mut tx, &linked)?;
+    assert_eq!(rt; ids.as_slice(), [hello].as_slice());
+    remove(&mut tx, hello)?;
+    assert!(rt; bytes_of(&mut tx, hello)?.is_none());
+    let Some(bytes) = bytes_of(&mut tx, abc)? else {
+        return Err(Fail::from("the content of abc is gone"));
+    };
+    assert_eq!(rt; bytes.as_slice(), b"abc".as_slice());
+    tx.commit()?;
+    assert_eq!(rt; count(&mut conn)?, 2);
+    assert!(rt; has(rt.alloc(), &mut conn, empty, b"")?);
+    assert!(rt; !has(rt.alloc(), &mut conn, hello, b"hello")?);
+    Ok(())
 }
 
-/// What a session holds stays where another repository deletes the same bytes.
-pub fn pieces_outlive_anothers_blob<M: Maker>(rt: &impl Abort, alloc: Global) -> Result<(), Fail> {
-    let mut registry = setting::<M>(alloc)?;
-    let_second_delete(alloc, &mut registry)?;
-    let patch = "PATCH /v2/team/app/blobs/uploads/1";
-    let opening = [
-        send(
-            "t2",
-            "POST /v2/other/blobs/uploads/?digest={hel}",
-            "hel",
-            created!("other", "{hel}"),
-        ),
-        ask(
-            "t1",
-            "POST /v2/team/app/blobs/uploads/",
-            accepted!("team/app", "1", "0-0"),
-        ),
-        send("t1", patch, "hel", accepted!("team/app", "1", "0-2")),
-        ask("t2", "DELETE /v2/other/blobs/{hel}", DELETED),
-    ];
-    talk(rt, alloc, &mut registry, opening.as_slice())?;
-    registry.admin(&AdminCommand::Clear)?;
-    let closing = [
-        send("t1", patch, "lo", accepted!("team/app", "1", "0-4")),
-        ask(
-            "t1",
-            "PUT /v2/team/app/blobs/uploads/1?digest={hello}",
-            created!("team/app", "{hello}"),
-        ),
-        ask(
-            "t1",
-            "GET /v2/team/app/blobs/{hello}",
-            blob!("{hello}", "5", "hello"),
-        ),
-    ];
-    talk(rt, alloc, &mut registry, closing.as_slice())
+#[test]
+fn a_transaction_that_is_given_up_leaves_nothing(rt: HostRuntime) -> Result<(), Fail> {
+    let mut conn = tables(rt.alloc())?;
+    assert!(rt; conn.is_autocommit());
+    let mut tx = conn.transaction();
+    find_or_add(rt.alloc(), &mut tx, b"abc")?;
+    tx.rollback();
+    assert_eq!(rt; count(&mut conn)?, 0);
+    Ok(())
 }

@@ -1,10 +1,8 @@
 //! What the tables hold of bytes that several hold, counted in SQL.
 
-use crate::contents::{
-    close_two_pieces, delete_last, delete_own, delete_two, with_three_links, with_two_pieces,
-};
-use crate::setting::InTables;
-use registry_model::AdminCommand;
+use crate::script::play;
+use crate::setting::{InTables, grant, setting};
+use registry_model::{AdminCommand, Level};
 use registry_service::Service;
 use registry_store::Store;
 use sqlite::{Connection, MemStore};
@@ -12,10 +10,40 @@ use std::alloc::Global;
 use std::process::Abort;
 use std::test::Fail;
 
-/// The tables of a registry that is served no longer.
-fn tables_of(registry: Service<Store<MemStore>>) -> Connection<MemStore> {
-    registry.into_keeper().into_connection()
-}
+type Registry = Service<Store<MemStore>>;
+
+/// The bytes `abc`, pushed to `team/app` and to `other`, and mounted into `team/lib`.
+const THREE_LINKS: &str = r#"201 t1 POST /v2/team/app/blobs/uploads/?digest={abc} | abc
+201 t2 POST /v2/other/blobs/uploads/?digest={abc} | abc
+201 t1 POST /v2/team/lib/blobs/uploads/?mount={abc}&from=team/app
+"#;
+
+/// Deletes the two blobs of `t1`.
+const TWO_DELETED: &str = r#"202 t1 DELETE /v2/team/app/blobs/{abc}
+202 t1 DELETE /v2/team/lib/blobs/{abc}
+"#;
+
+/// The third repository has its own still.
+const ONE_LEFT: &str = r#"404 t1 GET /v2/team/app/blobs/{abc}
+200 t2 GET /v2/other/blobs/{abc}
+"#;
+
+/// Deletes the last, to which a level 3 of `t2` is wanted.
+const LAST_DELETED: &str = r#"202 t2 DELETE /v2/other/blobs/{abc}
+404 t2 GET /v2/other/blobs/{abc}
+"#;
+
+/// A session of `team/app` to which the same three bytes are appended twice, and then none.
+const TWO_PIECES: &str = r#"202 t1 POST /v2/team/app/blobs/uploads/
+202 t1 PATCH /v2/team/app/blobs/uploads/1 ; Content-Range: 0-2 | hel
+202 t1 PATCH /v2/team/app/blobs/uploads/1 ; Content-Range: 3-5 | hel
+202 t1 PATCH /v2/team/app/blobs/uploads/1
+"#;
+
+/// Closes that session, and reads its blob.
+const CLOSED: &str = r#"201 t1 PUT /v2/team/app/blobs/uploads/1?digest={helhel}
+200 t1 GET /v2/team/app/blobs/{helhel}
+"#;
 
 /// The whole number that a query answers.
 fn number(conn: &mut Connection<MemStore>, query: &str) -> Result<i64, Fail> {
@@ -24,53 +52,65 @@ fn number(conn: &mut Connection<MemStore>, query: &str) -> Result<i64, Fail> {
     Ok(number)
 }
 
-/// How many contents there are, and how many links to blobs.
-fn contents_and_links(registry: Service<Store<MemStore>>) -> Result<(i64, i64), Fail> {
-    let mut conn = tables_of(registry);
+/// How many contents there are, and how many links to blobs, and how many pieces.
+fn counted(registry: Registry) -> Result<(i64, i64, i64), Fail> {
+    let mut conn = registry.into_keeper().into_connection();
     let contents = number(&mut conn, "SELECT COUNT(*) FROM registry_contents")?;
     let links = number(&mut conn, "SELECT COUNT(*) FROM registry_blob_links")?;
-    Ok((contents, links))
+    let pieces = number(&mut conn, "SELECT COUNT(*) FROM registry_pieces")?;
+    Ok((contents, links, pieces))
 }
 
-/// How many contents there are, and how many pieces.
-fn contents_and_pieces(registry: Service<Store<MemStore>>) -> Result<(i64, i64), Fail> {
-    let mut conn = tables_of(registry);
-    let contents = number(&mut conn, "SELECT COUNT(*) FROM registry_contents")?;
-    let pieces = number(&mut conn, "SELECT COUNT(*) FROM registry_pieces")?;
-    Ok((contents, pieces))
+/// What is counted after so many of these scripts, behind each of which the administrator clears, where
+/// it says so.
+fn after(
+    rt: &impl Abort,
+    alloc: Global,
+    scripts: &[(&str, bool)],
+) -> Result<(i64, i64, i64), Fail> {
+    let mut registry = setting::<InTables>(alloc)?;
+    grant(alloc, &mut registry, "t2", "other", Level::Delete)?;
+    for (script, clears) in scripts {
+        play(rt, alloc, &mut registry, script)?;
+        if *clears {
+            registry.admin(&AdminCommand::Clear)?;
+        }
+    }
+    counted(registry)
 }
 
 #[test]
 fn three_links_name_one_content(rt: HostRuntime) -> Result<(), Fail> {
-    let registry = with_three_links::<InTables>(&rt, rt.alloc())?;
-    assert_eq!(rt; contents_and_links(registry)?, (1, 3));
+    assert_eq!(rt; after(&rt, rt.alloc(), &[(THREE_LINKS, false)])?, (1, 3, 0));
     Ok(())
 }
 
 #[test]
 fn a_deletion_takes_a_link_alone(rt: HostRuntime) -> Result<(), Fail> {
-    let mut registry = with_three_links::<InTables>(&rt, rt.alloc())?;
-    delete_two(&rt, rt.alloc(), &mut registry)?;
-    assert_eq!(rt; contents_and_links(registry)?, (1, 1));
-    let mut registry = with_three_links::<InTables>(&rt, rt.alloc())?;
-    delete_own(&rt, rt.alloc(), &mut registry)?;
-    assert_eq!(rt; contents_and_links(registry)?, (1, 1));
+    let scripts = [(THREE_LINKS, false), (TWO_DELETED, false)];
+    assert_eq!(rt; after(&rt, rt.alloc(), scripts.as_slice())?, (1, 1, 0));
+    let scripts = [(THREE_LINKS, false), (TWO_DELETED, true), (ONE_LEFT, false)];
+    assert_eq!(rt; after(&rt, rt.alloc(), scripts.as_slice())?, (1, 1, 0));
     Ok(())
 }
 
 #[test]
 fn the_last_link_frees_the_content(rt: HostRuntime) -> Result<(), Fail> {
-    let mut registry = with_three_links::<InTables>(&rt, rt.alloc())?;
-    delete_own(&rt, rt.alloc(), &mut registry)?;
-    delete_last(&rt, rt.alloc(), &mut registry)?;
-    assert_eq!(rt; contents_and_links(registry)?, (0, 0));
+    let scripts = [
+        (THREE_LINKS, false),
+        (TWO_DELETED, true),
+        (ONE_LEFT, false),
+        (LAST_DELETED, true),
+    ];
+    assert_eq!(rt; after(&rt, rt.alloc(), scripts.as_slice())?, (0, 0, 0));
     Ok(())
 }
 
 #[test]
 fn equal_pieces_name_one_content(rt: HostRuntime) -> Result<(), Fail> {
-    let registry = with_two_pieces::<InTables>(&rt, rt.alloc())?;
-    let mut conn = tables_of(registry);
+    let mut registry = setting::<InTables>(rt.alloc())?;
+    play(&rt, rt.alloc(), &mut registry, TWO_PIECES)?;
+    let mut conn = registry.into_keeper().into_connection();
     let rows = conn.query_all(
         "SELECT start, size, number FROM registry_pieces ORDER BY start",
         &[],
@@ -91,24 +131,15 @@ fn equal_pieces_name_one_content(rt: HostRuntime) -> Result<(), Fail> {
 }
 
 /// The registry with two pieces, which is cleared, closed and cleared again: so many of these steps.
-fn after(rt: &impl Abort, alloc: Global, steps: i64) -> Result<(i64, i64), Fail> {
-    let mut registry = with_two_pieces::<InTables>(rt, alloc)?;
-    if steps > 0 {
-        registry.admin(&AdminCommand::Clear)?;
-    }
-    if steps > 1 {
-        close_two_pieces(rt, alloc, &mut registry)?;
-    }
-    if steps > 2 {
-        registry.admin(&AdminCommand::Clear)?;
-    }
-    contents_and_pieces(registry)
-}
-
 #[test]
 fn pieces_are_freed_once_they_are_a_blob(rt: HostRuntime) -> Result<(), Fail> {
-    for (steps, counted) in [(0, (1, 2)), (1, (1, 2)), (2, (2, 0)), (3, (1, 0))] {
-        assert_eq!(rt; after(&rt, rt.alloc(), steps)?, counted, "{steps}");
+    for (scripts, counted) in [
+        ([(TWO_PIECES, false), ("", false)], (1, 0, 2)),
+        ([(TWO_PIECES, true), ("", false)], (1, 0, 2)),
+        ([(TWO_PIECES, true), (CLOSED, false)], (2, 1, 0)),
+        ([(TWO_PIECES, true), (CLOSED, true)], (1, 1, 0)),
+    ] {
+        assert_eq!(rt; after(&rt, rt.alloc(), scripts.as_slice())?, counted);
     }
     Ok(())
 }

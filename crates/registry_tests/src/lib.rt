@@ -1,47 +1,38 @@
-//! Tests that cross crates: the registry's worked examples, from bytes to bytes, over its keepers.
+//! Tests that cross crates and are no worked examples: streams, faults, want of memory, rows counted in
+//! SQL, runs and isolation.
 #![tactic(auto)]
 
 #[cfg(test)]
-mod administrator;
-#[cfg(test)]
-mod blobs;
-#[cfg(test)]
-mod clients;
-#[cfg(test)]
-mod connections;
+mod clearing;
 #[cfg(test)]
 mod contents;
 #[cfg(test)]
 mod counts;
 #[cfg(test)]
-mod dialogue;
+mod cuts;
+#[cfg(test)]
+mod ends;
 #[cfg(test)]
 mod isolation;
 #[cfg(test)]
-mod manifests;
-#[cfg(test)]
-mod maps;
-#[cfg(test)]
 mod memory;
 #[cfg(test)]
-mod pages;
-#[cfg(test)]
-mod pieces;
-#[cfg(test)]
-mod quota;
+mod model;
 #[cfg(test)]
 mod referrers;
 #[cfg(test)]
-mod refusals;
-#[cfg(test)]
-mod replies;
+mod rows;
 #[cfg(test)]
 mod runs;
+#[cfg(test)]
+mod script;
 #[cfg(test)]
 mod setting;
 #[cfg(test)]
 mod stores;
 #[cfg(test)]
-mod tables;
+mod streams;
 #[cfg(test)]
 mod uploads;
+#[cfg(test)]
+mod writes;

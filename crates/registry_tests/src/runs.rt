@@ -1,30 +1,69 @@
-use crate::setting::{ABC, HELLO, Maker, setting};
+//! Runs: what a team is told, whatever others do in between.
+
+use crate::setting::{ABC, DELETED, HELLO, Maker, grant, setting};
 use oci_names::{RepoName, Token};
-use registry_model::{
-    AdminCommand, AdminFault, Body, Level, Query, Quota, Reply, Request, Route, Status, Verb,
-};
+use registry_http::write_reply;
+use registry_model::{AdminCommand, Level, Query, Quota, Request, Route, Verb};
 use registry_service::{Outcome, Step};
 use std::alloc::Global;
 use std::process::Abort;
+use std::str;
 use std::test::Fail;
 
-const NO_QUERY: Query<'static> = Query {
-    digest: None,
-    mount: None,
-    from: None,
-    n: None,
-    last: None,
-    artifact_type: None,
-};
+const BLOB_UNKNOWN: &str =
+    "HTTP/1.1 404 Not Found\r\nContent-Length: 61\r\nContent-Type: application/json\r\n\r\n\
+      {\"errors\":[{\"code\":\"BLOB_UNKNOWN\",\"message\":\"blob unknown\"}]}";
 
-fn push<'a>(token: &'a str, name: &'a str, digest: &'a str, body: &'a [u8]) -> Step<'a> {
+const DENIED: &str =
+    "HTTP/1.1 403 Forbidden\r\nContent-Length: 56\r\nContent-Type: application/json\r\n\r\n\
+      {\"errors\":[{\"code\":\"DENIED\",\"message\":\"access denied\"}]}";
+
+const FETCHED: &str =
+    "HTTP/1.1 200 OK\r\nContent-Length: 3\r\nContent-Type: application/octet-stream\r\n\
+      Docker-Content-Digest: sha256:ba7816bf8f01cfea414140de5dae2223b00361a396177a9cb410ff61f20015ad\r\n\r\n\
+      abc";
+
+const PUSHED: &str = "HTTP/1.1 201 Created\r\nContent-Length: 0\r\n\
+      Docker-Content-Digest: sha256:ba7816bf8f01cfea414140de5dae2223b00361a396177a9cb410ff61f20015ad\r\n\
+      Location: /v2/team/app/blobs/\
+      sha256:ba7816bf8f01cfea414140de5dae2223b00361a396177a9cb410ff61f20015ad\r\n\r\n";
+
+/// What another's push of the same bytes, to `other`, is answered.
+const OTHERS: &str = "HTTP/1.1 201 Created\r\nContent-Length: 0\r\n\
+      Docker-Content-Digest: sha256:ba7816bf8f01cfea414140de5dae2223b00361a396177a9cb410ff61f20015ad\r\n\
+      Location: /v2/other/blobs/\
+      sha256:ba7816bf8f01cfea414140de5dae2223b00361a396177a9cb410ff61f20015ad\r\n\r\n";
+
+/// What `t2` is answered to its pushes of `hello`.
+const TO_OTHER: &str = "HTTP/1.1 201 Created\r\nContent-Length: 0\r\n\
+      Docker-Content-Digest: sha256:2cf24dba5fb0a30e26e83b2ac5b9e29e1b161e5c1fa7425e73043362938b9824\r\n\
+      Location: /v2/other/blobs/\
+      sha256:2cf24dba5fb0a30e26e83b2ac5b9e29e1b161e5c1fa7425e73043362938b9824\r\n\r\n";
+
+const TO_THIRD: &str = "HTTP/1.1 201 Created\r\nContent-Length: 0\r\n\
+      Docker-Content-Digest: sha256:2cf24dba5fb0a30e26e83b2ac5b9e29e1b161e5c1fa7425e73043362938b9824\r\n\
+      Location: /v2/third/blobs/\
+      sha256:2cf24dba5fb0a30e26e83b2ac5b9e29e1b161e5c1fa7425e73043362938b9824\r\n\r\n";
+
+/// A request without a query but for a digest to push.
+fn step<'a>(
+    token: &'a str,
+    method: Verb,
+    route: Route<'a>,
+    digest: Option<&'a str>,
+    body: &'a [u8],
+) -> Step<'a> {
     Step::Request(Request {
         token: Some(token),
-        method: Verb::Post,
-        route: Route::Uploads { name },
+        method,
+        route,
         query: Query {
-            digest: Some(digest),
-            ..NO_QUERY
+            digest,
+            mount: None,
+            from: None,
+            n: None,
+            last: None,
+            artifact_type: None,
         },
         content_type: None,
         content_range: None,
@@ -32,32 +71,52 @@ fn push<'a>(token: &'a str, name: &'a str, digest: &'a str, body: &'a [u8]) -> S
     })
 }
 
+fn push<'a>(token: &'a str, name: &'a str, digest: &'a str, body: &'a [u8]) -> Step<'a> {
+    step(
+        token,
+        Verb::Post,
+        Route::Uploads { name },
+        Some(digest),
+        body,
+    )
+}
+
 fn fetch<'a>(token: &'a str, name: &'a str, digest: &'a str) -> Step<'a> {
-    Step::Request(Request {
-        token: Some(token),
-        method: Verb::Get,
-        route: Route::Blob { name, digest },
-        query: NO_QUERY,
-        content_type: None,
-        content_range: None,
-        body: b"",
-    })
+    step(token, Verb::Get, Route::Blob { name, digest }, None, b"")
 }
 
-/// The status of a reply, and the length of its body.
-fn told(outcome: Option<&Outcome>) -> Option<(Status, usize)> {
+/// The text of an outcome: of its reply, or of why a command was not carried out; empty where it was.
+fn outcome_text(alloc: Global, outcome: &Outcome) -> Result<Vec<u8>, Fail> {
+    let mut text = Vec::new(alloc);
     match outcome {
-        Some(Outcome::Reply(reply)) => Some((reply.status, length(reply))),
-        _ => None,
+        Outcome::Reply(reply) => write_reply(reply, false, false, &mut text).map_err(
+            |_| "the reply is written",
+        )?,
+        Outcome::Admin(Ok(())) => {}
+        Outcome::Admin(Err(fault)) => {
+            text.extend_from_slice(format!(in alloc; "{fault:?}")?.as_bytes())?;
+        }
     }
+    Ok(text)
 }
 
-fn length(reply: &Reply) -> usize {
-    match &reply.body {
-        Body::Constant(text) => text.len(),
-        Body::Owned(bytes) => bytes.len(),
-        Body::Unsent(_) => 0,
+/// Runs the steps in the setting, in which `t3` has level 2 on `team/app` too, and compares the text of
+/// each outcome.
+fn tells<M: Maker>(
+    rt: &impl Abort,
+    alloc: Global,
+    steps: &[Step],
+    expected: &[&str],
+) -> Result<(), Fail> {
+    let mut registry = setting::<M>(alloc)?;
+    grant(alloc, &mut registry, "t3", "team/app", Level::Push)?;
+    let outcomes = registry.run(alloc, steps).map_err(|_| "a run")?;
+    assert_eq!(rt; outcomes.len(), expected.len());
+    for (outcome, text) in outcomes.iter().zip(expected) {
+        let told = outcome_text(alloc, outcome)?;
+        assert_eq!(rt; str::from_utf8(told.as_slice())?, *text);
     }
+    Ok(())
 }
 
 /// To `t1` the replies are the same, whatever `t2` and the administrator do elsewhere in between.
@@ -68,8 +127,10 @@ pub fn a_team_is_told_the_same<M: Maker>(rt: &impl Abort, alloc: Global) -> Resu
         fetch("t1", "other", HELLO),
         fetch("t1", "team/app", ABC),
     ];
-    let third = RepoName::parse(alloc, "third").map_err(|_| "a name")?;
-    let second = Token::parse(alloc, "t2").map_err(|_| "a token")?;
+    let told = [PUSHED, BLOB_UNKNOWN, DENIED, FETCHED];
+    tells::<M>(rt, alloc, alone.as_slice(), told.as_slice())?;
+    let third = RepoName::parse(alloc, "third")?;
+    let second = Token::parse(alloc, "t2")?;
     let quota = Quota::new(7).ok_or("a quota")?;
     let among = [
         push("t2", "other", HELLO, b"hello"),
@@ -93,31 +154,44 @@ pub fn a_team_is_told_the_same<M: Maker>(rt: &impl Abort, alloc: Global) -> Resu
             quota,
         }),
     ];
-    let mut lonely = setting::<M>(alloc)?;
-    let first = lonely.run(alloc, alone.as_slice()).map_err(|_| "a run")?;
-    let mut shared = setting::<M>(alloc)?;
-    let outcomes = shared.run(alloc, among.as_slice()).map_err(|_| "a run")?;
-    assert_eq!(rt; first.len(), 4);
-    assert_eq!(rt; outcomes.len(), 10);
-    let own = [
-        (1, Status::Created, 0),
-        (3, Status::NotFound, 61),
-        (6, Status::Forbidden, 56),
-        (8, Status::OK, 3),
+    let told = [
+        TO_OTHER,
+        PUSHED,
+        DENIED,
+        BLOB_UNKNOWN,
+        "",
+        "",
+        DENIED,
+        TO_THIRD,
+        FETCHED,
+        "RepoThere",
     ];
-    for (i, (place, status, size)) in own.iter().copied().enumerate() {
-        assert_eq!(rt; told(outcomes.get(place)), Some((status, size)));
-        assert_eq!(rt; told(first.get(i)), Some((status, size)));
-    }
-    assert_eq!(rt; told(outcomes.get(0)), Some((Status::Created, 0)));
-    assert_eq!(rt; told(outcomes.get(2)), Some((Status::Forbidden, 56)));
-    assert_eq!(rt; told(outcomes.get(7)), Some((Status::Created, 0)));
-    assert!(rt; matches!(outcomes.get(5), Some(Outcome::Admin(Ok(())))));
-    assert!(rt;
-        matches!(
-            outcomes.get(9),
-            Some(Outcome::Admin(Err(AdminFault::RepoThere)))
-        )
-    );
-    Ok(())
+    tells::<M>(rt, alloc, among.as_slice(), told.as_slice())
+}
+
+/// To the two tokens of a repository it is one: what one of them deletes the other does not find.
+/// Another's push of the same bytes and the administrator's clearing change none of their replies.
+pub fn team_run<M: Maker>(rt: &impl Abort, alloc: Global) -> Result<(), Fail> {
+    let blob = Route::Blob {
+        name: "team/app",
+        digest: ABC,
+    };
+    let deletion = step("t1", Verb::Delete, blob, None, b"");
+    let steps = [
+        push("t3", "team/app", ABC, b"abc"),
+        push("t2", "other", ABC, b"abc"),
+        Step::Admin(AdminCommand::Clear),
+        deletion,
+        Step::Admin(AdminCommand::Clear),
+        fetch("t3", "team/app", ABC),
+    ];
+    let told = [PUSHED, OTHERS, "", DELETED, "", BLOB_UNKNOWN];
+    tells::<M>(rt, alloc, steps.as_slice(), told.as_slice())?;
+    let alone = [
+        push("t3", "team/app", ABC, b"abc"),
+        deletion,
+        fetch("t3", "team/app", ABC),
+    ];
+    let told = [PUSHED, DELETED, BLOB_UNKNOWN];
+    tells::<M>(rt, alloc, alone.as_slice(), told.as_slice())
 }

@@ -1,23 +1,24 @@
-//! Each call of the store as a keeper, through the trait, and what `clear` leaves of its contents.
+//! Each call of a keeper, through the trait.
 ghost use Rattle.std.specs.Prelude.{◌<◌, ◌≡◌, true};
 ghost use Rattle.oci_names.specs.Digest.{matches};
 
+use crate::setting::{InTables, Maker};
 use oci_manifest::{Kind, read_manifest};
 use oci_names::{Digest, Fault, RepoName, Tag, Token, Verdict};
+use registry_maps::MapKeeper;
 use registry_model::{Keeper, Level, Quota, Usage};
-use registry_store::Store;
-use sqlite::MemStore;
 use std::alloc::Global;
+use std::fmt::Debug;
 use std::process::Abort;
 use std::test::Fail;
 
 /// By `printf abc | sha256sum`.
-const ABC: &str = "sha256:ba7816bf8f01cfea414140de5dae2223b00361a396177a9cb410ff61f20015ad";
+pub const ABC: &str = "sha256:ba7816bf8f01cfea414140de5dae2223b00361a396177a9cb410ff61f20015ad";
 
-const INDEX: &[u8] = b"{\"schemaVersion\":2,\"manifests\":[]}";
+pub const INDEX: &[u8] = b"{\"schemaVersion\":2,\"manifests\":[]}";
 
 /// By `sha256sum` of `INDEX`.
-const INDEX_DIGEST: &str =
+pub const INDEX_DIGEST: &str =
     "sha256:bc5857ac9458293d5111ab85c952172cd7f56bceb4e3014ddc4cafac8927b313";
 
 /// An index whose subject is `INDEX`.
@@ -28,7 +29,7 @@ const REFERRER: &[u8] =
 const REFERRER_DIGEST: &str =
     "sha256:7ec9cbd870d9e878442bd570a6262f63ab2db68eb8558c3704700539d914855b";
 
-fn is(found: &Option<Vec<u8>>, bytes: &[u8]) -> bool {
+pub fn is(found: &Option<Vec<u8>>, bytes: &[u8]) -> bool {
     match found {
         Some(found) => found.as_slice() == bytes,
         None => false,
@@ -43,6 +44,11 @@ fn are_tags(found: &[Tag], texts: &[&str]) -> bool {
             .all(|(tag, text)| tag.as_str() == *text)
 }
 
+/// Both are the same: what a comparison prints where it fails is proved here, and not at each.
+fn same<T: PartialEq + Debug + Drop>(rt: &impl Abort, found: T, wanted: T) {
+    assert_eq!(rt; found, wanted);
+}
+
 /// Nothing is found in a repository that is not there.
 fn knows_nothing<K: Keeper>(
     rt: &impl Abort,
@@ -54,13 +60,13 @@ fn knows_nothing<K: Keeper>(
     let digest = Digest::parse(alloc, ABC)?;
     let tag = Tag::parse(alloc, "latest")?;
     assert!(rt; !keeper.spent());
-    assert_eq!(rt; keeper.known(&token), Ok(false));
-    assert_eq!(rt; keeper.has_repo(name), Ok(false));
-    assert_eq!(rt; keeper.level(&token, name), Ok(None));
+    same(rt, keeper.known(&token), Ok(false));
+    same(rt, keeper.has_repo(name), Ok(false));
+    same(rt, keeper.level(&token, name), Ok(None));
     assert!(rt; keeper.blob(alloc, name, &digest)?.is_none());
-    assert_eq!(rt; keeper.blob_size(name, &digest), Ok(None));
+    same(rt, keeper.blob_size(name, &digest), Ok(None));
     assert!(rt; keeper.manifest(alloc, name, &digest)?.is_none());
-    assert_eq!(rt; keeper.manifest_size(name, &digest), Ok(None));
+    same(rt, keeper.manifest_size(name, &digest), Ok(None));
     assert!(rt; keeper.tag(alloc, name, &tag)?.is_none());
     let (tags, more) = keeper.tags_after(alloc, name, "", Some(5))?;
     assert!(rt; tags.is_empty() && !more);
@@ -69,10 +75,10 @@ fn knows_nothing<K: Keeper>(
             .manifests_of_subject(alloc, name, &digest)?
             .is_empty()
     );
-    assert_eq!(rt; keeper.session_size(name, 1), Ok(None));
+    same(rt, keeper.session_size(name, 1), Ok(None));
     assert!(rt; keeper.session(alloc, name, 1)?.is_none());
-    assert_eq!(rt; keeper.sessions_open(name), Ok(0));
-    assert_eq!(rt; keeper.last_number(name), Ok(0));
+    same(rt, keeper.sessions_open(name), Ok(0));
+    same(rt, keeper.last_number(name), Ok(0));
     assert!(rt; keeper.usages(alloc)?.is_empty());
     Ok(())
 }
@@ -89,14 +95,14 @@ fn keeps_blobs<K: Keeper>(
     let bytes = b"abc";
     assert_eq!(rt; digest.verifies(bytes), Verdict::Matches);
     assert_eq!(rt; keeper.has_repo(name), Ok(true));
-    assert_eq!(rt; keeper.put_blob(name, &digest, bytes), Ok(()));
+    same(rt, keeper.put_blob(name, &digest, bytes), Ok(()));
     assert!(rt; is(&keeper.blob(alloc, name, &digest)?, bytes));
     assert_eq!(rt; keeper.has_repo(other), Ok(true));
     assert_eq!(rt; keeper.blob_size(name, &digest), Ok(Some(3)));
-    assert_eq!(rt; keeper.mount(name, other, &digest), Ok(()));
+    same(rt, keeper.mount(name, other, &digest), Ok(()));
     assert!(rt; is(&keeper.blob(alloc, other, &digest)?, bytes));
     assert_eq!(rt; keeper.blob_size(name, &digest), Ok(Some(3)));
-    assert_eq!(rt; keeper.delete_blob(name, &digest), Ok(()));
+    same(rt, keeper.delete_blob(name, &digest), Ok(()));
     assert_eq!(rt; keeper.blob_size(name, &digest), Ok(None));
     assert_eq!(rt; keeper.blob_size(other, &digest), Ok(Some(3)));
     Ok(())
@@ -109,22 +115,22 @@ fn keeps_sessions<K: Keeper>(
     keeper: &mut K,
     name: &RepoName,
 ) -> Result<(), Fail> {
-    assert_eq!(rt; open(rt, keeper, name, 0, 0), Ok(1));
+    same(rt, open(rt, keeper, name, 0, 0), Ok(1));
     assert_eq!(rt; keeper.session_size(name, 1), Ok(Some(0)));
-    assert_eq!(rt; keeper.append(name, 1, b"ab"), Ok(()));
+    same(rt, keeper.append(name, 1, b"ab"), Ok(()));
     assert_eq!(rt; keeper.session_size(name, 1), Ok(Some(2)));
-    assert_eq!(rt; keeper.append(name, 1, b"c"), Ok(()));
+    same(rt, keeper.append(name, 1, b"c"), Ok(()));
     assert!(rt; is(&keeper.session(alloc, name, 1)?, b"abc"));
-    assert_eq!(rt; open(rt, keeper, name, 1, 1), Ok(2));
+    same(rt, open(rt, keeper, name, 1, 1), Ok(2));
     let digest = Digest::parse(alloc, ABC)?;
     assert_eq!(rt; digest.verifies(b"abc"), Verdict::Matches);
     assert_eq!(rt; keeper.session_size(name, 1), Ok(Some(3)));
-    assert_eq!(rt; keeper.finish(name, 1, &digest, b"abc"), Ok(()));
+    same(rt, keeper.finish(name, 1, &digest, b"abc"), Ok(()));
     assert!(rt; is(&keeper.blob(alloc, name, &digest)?, b"abc"));
     assert_eq!(rt; keeper.session_size(name, 1), Ok(None));
     assert_eq!(rt; keeper.sessions_open(name), Ok(1));
     assert_eq!(rt; keeper.has_repo(name), Ok(true));
-    assert_eq!(rt; keeper.drop_sessions(name), Ok(()));
+    same(rt, keeper.drop_sessions(name), Ok(()));
     assert_eq!(rt; keeper.sessions_open(name), Ok(0));
     assert_eq!(rt; keeper.last_number(name), Ok(2));
     Ok(())
@@ -148,14 +154,14 @@ pub fn open<K: Keeper>(
 }
 
 /// The digest is that of the bytes.
-fn matches(rt: &impl Abort, digest: &Digest, bytes: &[u8])
+pub fn matches(rt: &impl Abort, digest: &Digest, bytes: &[u8])
     ensures { matches digest.now bytes.now ≡ true }
 {
     assert_eq!(rt; digest.verifies(bytes), Verdict::Matches);
 }
 
 /// Puts a manifest and sets a tag to it.
-fn put<K: Keeper>(
+pub fn put<K: Keeper>(
     rt: &impl Abort,
     alloc: Global,
     keeper: &mut K,
@@ -169,9 +175,10 @@ fn put<K: Keeper>(
     assert!(rt; bytes.len() <= 4_194_304);
     matches(rt, digest, bytes);
     assert_eq!(rt; keeper.has_repo(name), Ok(true));
-    assert_eq!(rt;
+    same(
+        rt,
         keeper.put_manifest(name, digest, bytes, &manifest, Some(&tag)),
-        Ok(())
+        Ok(()),
     );
     Ok(())
 }
@@ -188,9 +195,10 @@ fn keeps_manifests<K: Keeper>(
     put(rt, alloc, keeper, name, &index, INDEX, "v2")?;
     put(rt, alloc, keeper, name, &index, INDEX, "latest")?;
     put(rt, alloc, keeper, name, &referrer, REFERRER, "v1")?;
-    assert_eq!(rt;
+    same(
+        rt,
         keeper.manifest_size(name, &index),
-        Ok(Some((Kind::Index, 34)))
+        Ok(Some((Kind::Index, 34))),
     );
     match keeper.manifest(alloc, name, &referrer)? {
         Some((kind, bytes)) => {
@@ -232,8 +240,8 @@ fn forgets_manifests<K: Keeper>(
         keeper.manifest_size(name, &index),
         Ok(Some((Kind::Index, 34)))
     );
-    assert_eq!(rt; keeper.delete_manifest(name, &index), Ok(()));
-    assert_eq!(rt; keeper.manifest_size(name, &index), Ok(None));
+    same(rt, keeper.delete_manifest(name, &index), Ok(()));
+    same(rt, keeper.manifest_size(name, &index), Ok(None));
     let (tags, more) = keeper.tags_after(alloc, name, "", None)?;
     assert!(rt; are_tags(&tags, &["v1"]) && !more);
     Ok(())
@@ -254,7 +262,7 @@ fn tells_usage<K: Keeper>(
         tags: 1,
         sessions: 0,
     };
-    assert_eq!(rt; keeper.usage(name), Ok(usage));
+    same(rt, keeper.usage(name), Ok(usage));
     let all = keeper.usages(alloc)?;
     assert_eq!(rt; all.len(), 2);
     if let Some((first, told)) = all.first() {
@@ -274,21 +282,21 @@ fn keeps_levels<K: Keeper>(
 ) -> Result<(), Fail> {
     let token = Token::parse(alloc, "t1")?;
     assert_eq!(rt; keeper.has_repo(name), Ok(true));
-    assert_eq!(rt; keeper.grant(&token, name, Level::Pull), Ok(()));
+    same(rt, keeper.grant(&token, name, Level::Pull), Ok(()));
     assert_eq!(rt; keeper.has_repo(name), Ok(true));
-    assert_eq!(rt; keeper.grant(&token, name, Level::Push), Ok(()));
+    same(rt, keeper.grant(&token, name, Level::Push), Ok(()));
     assert_eq!(rt; keeper.has_repo(other), Ok(true));
-    assert_eq!(rt; keeper.grant(&token, other, Level::Pull), Ok(()));
-    assert_eq!(rt; keeper.known(&token), Ok(true));
-    assert_eq!(rt; keeper.level(&token, name), Ok(Some(Level::Push)));
+    same(rt, keeper.grant(&token, other, Level::Pull), Ok(()));
+    same(rt, keeper.known(&token), Ok(true));
+    same(rt, keeper.level(&token, name), Ok(Some(Level::Push)));
     assert_eq!(rt; keeper.has_repo(name), Ok(true));
-    assert_eq!(rt; keeper.drop_repo(name), Ok(()));
+    same(rt, keeper.drop_repo(name), Ok(()));
     assert_eq!(rt; keeper.has_repo(name), Ok(false));
-    assert_eq!(rt; keeper.level(&token, name), Ok(None));
+    same(rt, keeper.level(&token, name), Ok(None));
     assert_eq!(rt; keeper.level(&token, other), Ok(Some(Level::Pull)));
-    assert_eq!(rt; keeper.revoke(&token, other), Ok(()));
-    assert_eq!(rt; keeper.known(&token), Ok(false));
-    assert_eq!(rt; keeper.clear(), Ok(()));
+    same(rt, keeper.revoke(&token, other), Ok(()));
+    same(rt, keeper.known(&token), Ok(false));
+    same(rt, keeper.clear(), Ok(()));
     assert_eq!(rt; keeper.has_repo(other), Ok(true));
     Ok(())
 }
@@ -299,8 +307,8 @@ fn keeps_all<K: Keeper>(rt: &impl Abort, alloc: Global, keeper: &mut K) -> Resul
     let other = RepoName::parse(alloc, "team/base")?;
     knows_nothing(rt, alloc, keeper, &name)?;
     let quota = Quota::new(1000).ok_or("a quota")?;
-    assert_eq!(rt; keeper.set_repo(&other, quota), Ok(()));
-    assert_eq!(rt; keeper.set_repo(&name, quota), Ok(()));
+    same(rt, keeper.set_repo(&other, quota), Ok(()));
+    same(rt, keeper.set_repo(&name, quota), Ok(()));
     keeps_blobs(rt, alloc, keeper, &name, &other)?;
     keeps_sessions(rt, alloc, keeper, &name)?;
     keeps_manifests(rt, alloc, keeper, &name)?;
@@ -310,101 +318,13 @@ fn keeps_all<K: Keeper>(rt: &impl Abort, alloc: Global, keeper: &mut K) -> Resul
 }
 
 #[test]
-fn tables_keep_what_they_are_given(rt: HostRuntime) -> Result<(), Fail> {
-    let Ok(mut keeper) = Store::memory(rt.alloc()) else {
-        return Err(Fail::from("no store"));
-    };
+fn maps_keep_what_they_are_given(rt: HostRuntime) -> Result<(), Fail> {
+    let mut keeper = MapKeeper::new(rt.alloc());
     keeps_all(&rt, rt.alloc(), &mut keeper)
 }
 
-/// The contents of a blob, of the one piece of an upload session, and of a manifest.
-fn names_three<K: Keeper>(
-    rt: &impl Abort,
-    alloc: Global,
-    keeper: &mut K,
-    name: &RepoName,
-) -> Result<(), Fail> {
-    let digest = Digest::parse(alloc, ABC)?;
-    let index = Digest::parse(alloc, INDEX_DIGEST)?;
-    assert_eq!(rt; digest.verifies(b"abc"), Verdict::Matches);
-    assert_eq!(rt; keeper.has_repo(name), Ok(true));
-    assert_eq!(rt; keeper.put_blob(name, &digest, b"abc"), Ok(()));
-    assert_eq!(rt; open(rt, keeper, name, 0, 0), Ok(1));
-    assert_eq!(rt; keeper.session_size(name, 1), Ok(Some(0)));
-    assert_eq!(rt; keeper.append(name, 1, b"ab"), Ok(()));
-    put(rt, alloc, keeper, name, &index, INDEX, "latest")
-}
-
-/// The first so many of these go: the blob, the upload session, the repository.
-fn forgets<K: Keeper>(
-    rt: &impl Abort,
-    alloc: Global,
-    keeper: &mut K,
-    name: &RepoName,
-    count: i64,
-) -> Result<(), Fail> {
-    let digest = Digest::parse(alloc, ABC)?;
-    if count > 0 {
-        assert_eq!(rt; keeper.blob_size(name, &digest), Ok(Some(3)));
-        assert_eq!(rt; keeper.delete_blob(name, &digest), Ok(()));
-    }
-    assert_eq!(rt; keeper.has_repo(name), Ok(true));
-    if count == 2 {
-        assert_eq!(rt; keeper.drop_sessions(name), Ok(()));
-    }
-    if count == 3 {
-        assert_eq!(rt; keeper.drop_repo(name), Ok(()));
-    }
-    Ok(())
-}
-
-/// What did not go is read as it was put.
-fn keeps_the_rest<K: Keeper>(
-    rt: &impl Abort,
-    alloc: Global,
-    keeper: &mut K,
-    name: &RepoName,
-    count: i64,
-) -> Result<(), Fail> {
-    let digest = Digest::parse(alloc, ABC)?;
-    let index = Digest::parse(alloc, INDEX_DIGEST)?;
-    assert_eq!(rt; is(&keeper.blob(alloc, name, &digest)?, b"abc"), count < 1);
-    assert_eq!(rt; is(&keeper.session(alloc, name, 1)?, b"ab"), count < 2);
-    let found = keeper.manifest(alloc, name, &index)?;
-    assert_eq!(rt; found.is_some(), count < 3);
-    if let Some((_, bytes)) = found {
-        assert_eq!(rt; bytes.as_slice(), INDEX);
-    }
-    Ok(())
-}
-
-/// How many contents there are, named or not.
-fn contents(keeper: Store<MemStore>) -> Result<i64, Fail> {
-    let mut conn = keeper.into_connection();
-    let row = conn.query_row("SELECT COUNT(*) FROM registry_contents", &[])?;
-    let count: i64 = row.get(0)?;
-    Ok(count)
-}
-
-/// How many contents are left where so many of three went.
-fn left_of_three(rt: &impl Abort, alloc: Global, count: i64) -> Result<i64, Fail> {
-    let Ok(mut keeper) = Store::memory(alloc) else {
-        return Err(Fail::from("no store"));
-    };
-    let name = RepoName::parse(alloc, "team/app")?;
-    let quota = Quota::new(1000).ok_or("a quota")?;
-    assert_eq!(rt; keeper.set_repo(&name, quota), Ok(()));
-    names_three(rt, alloc, &mut keeper, &name)?;
-    forgets(rt, alloc, &mut keeper, &name, count)?;
-    assert_eq!(rt; keeper.clear(), Ok(()));
-    keeps_the_rest(rt, alloc, &mut keeper, &name, count)?;
-    contents(keeper)
-}
-
 #[test]
-fn clear_frees_what_nothing_names(rt: HostRuntime) -> Result<(), Fail> {
-    for (count, left) in [(0, 3), (1, 2), (2, 1), (3, 0)] {
-        assert_eq!(rt; left_of_three(&rt, rt.alloc(), count)?, left, "{count}");
-    }
-    Ok(())
+fn tables_keep_what_they_are_given(rt: HostRuntime) -> Result<(), Fail> {
+    let mut keeper = InTables::keeper(rt.alloc()).ok_or("a store")?;
+    keeps_all(&rt, rt.alloc(), &mut keeper)
 }
