@@ -10,12 +10,14 @@ DEMO := stdio --memory --repo team/app=1000 --grant t1=team/app=3
 
 .PHONY: help demo build try test check edits check-file bench bench-http fmt clean
 
-# Minutes are those of four processors that do nothing else; docs/PERFORMANCE.md has what was measured.
+# docs/PERFORMANCE.md has what was measured.
 help:
 	@echo 'make demo            a push and a pull of the blob `abc`, then a manifest and its referrers (3 min, 2 GB;'
 	@echo '                     at once after make build)'
-	@echo 'make build           proves the program and all below it; leaves build/registry (20 min, 12 GB)'
-	@echo 'make test            the merge gate: every proof from nothing, edits, tests (50 min, 16 GB)'
+	@echo 'make build           proves the program and all below it; leaves build/registry (an hour of a'
+	@echo '                     processor, on all there are; up to 12 GB)'
+	@echo 'make test            the merge gate: every proof from nothing, edits, tests (four hours of a'
+	@echo '                     processor, on four at most; up to 16 GB)'
 	@echo 'make try ARGS=".."   runs the program unproved, for a first look: make try ARGS="--help" (3 min, 2 GB)'
 	@echo 'make check CRATE=x   proves one crate over what earlier checks kept (seconds after an edit)'
 	@echo 'make edits CRATE=x   tries the must-fail edits of one crate (20 to 60 s each)'
@@ -29,13 +31,13 @@ help:
 demo:
 	@echo '$$ registry $(DEMO) < demo/requests.http' >&2
 	@if [ -x build/registry ]; then build/registry $(DEMO) < demo/requests.http; else \
-	  echo 'This run is not proved yet: `make build` proves it (20 minutes on four processors, 12 GB).' >&2; \
+	  echo 'This run is not proved yet: `make build` proves it (an hour of a processor, on all there are; up to 12 GB).' >&2; \
 	  cd crates/registry_cli && rt try -- $(DEMO) < ../../demo/requests.http; fi
 	@echo
 
 # Proves the program and everything below it, and leaves the executable as build/registry.
 build:
-	@echo 'Proves some 800 functions: 20 minutes on four processors, up to 12 GB of memory.' >&2
+	@echo 'Proves some 900 functions: an hour of a processor, on all there are, and up to 12 GB of memory.' >&2
 	$(MAKE) --no-print-directory --jobs=$(PROCESSORS) prove-registry_cli
 	cd crates/registry_cli && rt run -- --version
 	mkdir -p build
