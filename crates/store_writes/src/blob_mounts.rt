@@ -6,11 +6,11 @@ ghost use Rattle.store_world.specs.Keys.{has_key};
 ghost use Rattle.store_statements.specs.Clauses.{GoesBack, IsCommitted, Lasts, MakesWorld, Relates, Settled, StaysOnMemory, TablesHave, WorldHas};
 ghost use Rattle.store_writes.specs.Puts.{LinkIsPut};
 
+use crate::transaction::{alone, checked};
 use oci_names::{Digest, Fault, RepoName};
 use sqlite::{Alter, Connection};
-use store_contents::{ContentId, fault_of};
+use store_contents::ContentId;
 use store_statements::blobs::{BlobLink, add_blob_link, find_blob_link};
-use store_statements::open_check::checked_fault;
 
 /// Adds a link to a content that is there, in a transaction of its own.
 fn add_blob_link_alone<S: Alter>(
@@ -29,15 +29,11 @@ fn add_blob_link_alone<S: Alter>(
     ensures back { GoesBack S.Store conn.old conn.new result }
     ensures survives { Lasts S.Store conn.old conn.new }
 {
-    if !conn.is_autocommit() {
-        return Err(Fault::Storage);
-    }
-    let mut tx = conn.transaction();
-    add_blob_link(&mut tx, repo, digest, size, content)?;
-    match tx.commit() {
-        Ok(()) => Ok(()),
-        Err(error) => Err(fault_of(error)),
-    }
+    alone!(
+        conn,
+        tx,
+        add_blob_link(&mut tx, repo, digest, size, content)
+    )
 }
 
 /// Adds the link that the one repository has to the other, which has none.
@@ -57,10 +53,10 @@ fn mount_link<S: Alter>(
     match find_blob_link(conn, from, digest) {
         // each size that a row has fits
         Ok(Some(link)) if link.size <= i64::MAX as u64 => {
-            match add_blob_link_alone(conn, to, digest, link.size, link.content) {
-                Ok(()) => Ok(()),
-                Err(fault) => Err(checked_fault(conn, fault)),
-            }
+            checked!(
+                conn,
+                add_blob_link_alone(conn, to, digest, link.size, link.content)
+            )
         }
         Ok(_) => Err(Fault::Storage),
         Err(fault) => Err(fault),

@@ -9,13 +9,12 @@ ghost use Rattle.store_writes.specs.Worlds.{StepsFrom};
 ghost use Rattle.store_statements.specs.Clauses.{CommitsStep, GoesBack, KeepsInside, Lasts, LastsUncommitted, MakesWorld, Settled, StaysOnMemory, TablesHave, WorldHas};
 ghost use Rattle.store_statements.specs.Steps.{BlobStored};
 
+use crate::transaction::{alone, checked};
 use oci_names::{Digest, Fault, RepoName};
 use sqlite::{Alter, Connection, Transaction};
 use std::alloc::Global;
-use store_contents::fault_of;
 use store_statements::blobs::{add_blob_link, find_blob_link};
 use store_statements::contents::keep_matching;
-use store_statements::open_check::checked_fault;
 
 /// Puts a blob in that the repository has not.
 pub(crate) fn store_blob<S: Alter>(
@@ -57,15 +56,7 @@ fn store_blob_alone<S: Alter>(
     ensures back { GoesBack S.Store conn.old conn.new result }
     ensures survives { Lasts S.Store conn.old conn.new }
 {
-    if !conn.is_autocommit() {
-        return Err(Fault::Storage);
-    }
-    let mut tx = conn.transaction();
-    store_blob(alloc, &mut tx, repo, digest, bytes)?;
-    match tx.commit() {
-        Ok(()) => Ok(()),
-        Err(error) => Err(fault_of(error)),
-    }
+    alone!(conn, tx, store_blob(alloc, &mut tx, repo, digest, bytes))
 }
 
 /// Puts a blob in; a digest that is there keeps its bytes.
@@ -89,10 +80,7 @@ pub fn put_blob<S: Alter>(
     let digest = digest.as_str();
     match find_blob_link(conn, repo, digest) {
         Ok(Some(_)) => Ok(()),
-        Ok(None) => match store_blob_alone(alloc, conn, repo, digest, bytes) {
-            Ok(()) => Ok(()),
-            Err(fault) => Err(checked_fault(conn, fault)),
-        },
+        Ok(None) => checked!(conn, store_blob_alone(alloc, conn, repo, digest, bytes)),
         Err(fault) => Err(fault),
     }
 }

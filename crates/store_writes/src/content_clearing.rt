@@ -5,14 +5,14 @@ ghost use Rattle.std.specs.Ordering.{int_eq};
 ghost use Rattle.store_statements.specs.Clauses.{ChangesNothingInside, CommitsStep, FindsInside, GoesBack, KeepsInside, Lasts, LastsUncommitted, MakesWorld, Relates, RelatesInside, Settled, StaysOnMemory, StepsInside};
 ghost use Rattle.store_writes.specs.Naming.{is_among, is_in_column, is_named, ContentsGone, Cleared};
 
+use crate::transaction::{alone, checked};
 use oci_names::Fault;
 use sqlite::{Alter, Connection, Transaction};
 use std::alloc::Global;
 use std::collections::BTreeSet;
-use store_contents::{ContentId, fault_of, remove, unlinked};
+use store_contents::{ContentId, remove, unlinked};
 use store_statements::blobs::blob_contents;
 use store_statements::manifests::manifest_contents;
-use store_statements::open_check::checked_fault;
 use store_statements::pieces::piece_contents;
 
 fn insert(set: &mut BTreeSet<ContentId>, id: ContentId) -> Result<(), Fault>
@@ -149,15 +149,7 @@ fn clear_contents_alone<S: Alter>(alloc: Global, conn: &mut Connection<S>) -> Re
     ensures back { GoesBack S.Store conn.old conn.new result }
     ensures survives { Lasts S.Store conn.old conn.new }
 {
-    if !conn.is_autocommit() {
-        return Err(Fault::Storage);
-    }
-    let mut tx = conn.transaction();
-    clear_contents(alloc, &mut tx)?;
-    match tx.commit() {
-        Ok(()) => Ok(()),
-        Err(error) => Err(fault_of(error)),
-    }
+    alone!(conn, tx, clear_contents(alloc, &mut tx))
 }
 
 /// Frees each content that no blob, manifest or upload session names: exactly the others stay, and the
@@ -170,8 +162,5 @@ pub fn clear<S: Alter>(alloc: Global, conn: &mut Connection<S>) -> Result<(), Fa
     ensures memory { StaysOnMemory S.Store conn.old conn.new result }
     ensures survives { Lasts S.Store conn.old conn.new }
 {
-    match clear_contents_alone(alloc, conn) {
-        Ok(()) => Ok(()),
-        Err(fault) => Err(checked_fault(conn, fault)),
-    }
+    checked!(conn, clear_contents_alone(alloc, conn))
 }

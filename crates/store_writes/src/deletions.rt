@@ -5,12 +5,11 @@ ghost use Rattle.store_world.specs.Keys.{has_key};
 ghost use Rattle.store_statements.specs.Clauses.{Changes, CommitsTables, GoesBack, KeepsInside, Lasts, LastsUncommitted, MakesWorld, Settled, StaysOnMemory};
 ghost use Rattle.store_statements.specs.Steps.{blobs_without, tags_without, without_manifest};
 
+use crate::transaction::{alone, checked};
 use oci_names::{Digest, Fault, RepoName, Tag};
 use sqlite::{Alter, Connection, Transaction};
-use store_contents::fault_of;
 use store_statements::blobs::take_blob_link;
 use store_statements::manifests::take_manifest_link;
-use store_statements::open_check::checked_fault;
 use store_statements::tags::{take_tag, take_tags_named};
 
 /// Takes a tag out, in a transaction of its own.
@@ -20,15 +19,7 @@ fn take_tag_alone<S: Alter>(conn: &mut Connection<S>, repo: &str, tag: &str) -> 
     ensures back { GoesBack S.Store conn.old conn.new result }
     ensures survives { Lasts S.Store conn.old conn.new }
 {
-    if !conn.is_autocommit() {
-        return Err(Fault::Storage);
-    }
-    let mut tx = conn.transaction();
-    take_tag(&mut tx, repo, tag)?;
-    match tx.commit() {
-        Ok(()) => Ok(()),
-        Err(error) => Err(fault_of(error)),
-    }
+    alone!(conn, tx, take_tag(&mut tx, repo, tag))
 }
 
 /// Takes a tag away.
@@ -42,10 +33,7 @@ pub fn delete_tag<S: Alter>(
     ensures memory { StaysOnMemory S.Store conn.old conn.new result }
     ensures survives { Lasts S.Store conn.old conn.new }
 {
-    match take_tag_alone(conn, repo.as_str(), tag.as_str()) {
-        Ok(()) => Ok(()),
-        Err(fault) => Err(checked_fault(conn, fault)),
-    }
+    checked!(conn, take_tag_alone(conn, repo.as_str(), tag.as_str()))
 }
 
 /// Takes a link to a blob out, in a transaction of its own.
@@ -60,15 +48,7 @@ fn take_blob_link_alone<S: Alter>(
     ensures back { GoesBack S.Store conn.old conn.new result }
     ensures survives { Lasts S.Store conn.old conn.new }
 {
-    if !conn.is_autocommit() {
-        return Err(Fault::Storage);
-    }
-    let mut tx = conn.transaction();
-    take_blob_link(&mut tx, repo, digest)?;
-    match tx.commit() {
-        Ok(()) => Ok(()),
-        Err(error) => Err(fault_of(error)),
-    }
+    alone!(conn, tx, take_blob_link(&mut tx, repo, digest))
 }
 
 /// Takes a blob away; its content stays until it is cleared.
@@ -82,10 +62,10 @@ pub fn delete_blob<S: Alter>(
     ensures memory { StaysOnMemory S.Store conn.old conn.new result }
     ensures survives { Lasts S.Store conn.old conn.new }
 {
-    match take_blob_link_alone(conn, repo.as_str(), digest.as_str()) {
-        Ok(()) => Ok(()),
-        Err(fault) => Err(checked_fault(conn, fault)),
-    }
+    checked!(
+        conn,
+        take_blob_link_alone(conn, repo.as_str(), digest.as_str())
+    )
 }
 
 /// Takes the link to a manifest out, and the tags that name it.
@@ -115,15 +95,7 @@ fn take_manifest_alone<S: Alter>(
     ensures back { GoesBack S.Store conn.old conn.new result }
     ensures survives { Lasts S.Store conn.old conn.new }
 {
-    if !conn.is_autocommit() {
-        return Err(Fault::Storage);
-    }
-    let mut tx = conn.transaction();
-    take_manifest(&mut tx, repo, digest)?;
-    match tx.commit() {
-        Ok(()) => Ok(()),
-        Err(error) => Err(fault_of(error)),
-    }
+    alone!(conn, tx, take_manifest(&mut tx, repo, digest))
 }
 
 /// Takes a manifest away, and each tag that names it.
@@ -137,8 +109,8 @@ pub fn delete_manifest<S: Alter>(
     ensures memory { StaysOnMemory S.Store conn.old conn.new result }
     ensures survives { Lasts S.Store conn.old conn.new }
 {
-    match take_manifest_alone(conn, repo.as_str(), digest.as_str()) {
-        Ok(()) => Ok(()),
-        Err(fault) => Err(checked_fault(conn, fault)),
-    }
+    checked!(
+        conn,
+        take_manifest_alone(conn, repo.as_str(), digest.as_str())
+    )
 }

@@ -7,12 +7,11 @@ ghost use Rattle.store_statements.specs.Clauses.{CommitsTables, GoesBack, GoesOn
 ghost use Rattle.store_writes.specs.Puts.{LevelIsPut};
 ghost use Rattle.store_statements.specs.Steps.{grants_without};
 
+use crate::transaction::{alone, checked};
 use oci_names::{Fault, RepoName, Token};
 use registry_model::Level;
 use sqlite::{Alter, Connection, Transaction};
-use store_contents::fault_of;
 use store_statements::grants::{add_grant, set_level, take_grant};
-use store_statements::open_check::checked_fault;
 
 /// Takes a grant out, in a transaction of its own.
 fn take_grant_alone<S: Alter>(
@@ -26,15 +25,7 @@ fn take_grant_alone<S: Alter>(
     ensures back { GoesBack S.Store conn.old conn.new result }
     ensures survives { Lasts S.Store conn.old conn.new }
 {
-    if !conn.is_autocommit() {
-        return Err(Fault::Storage);
-    }
-    let mut tx = conn.transaction();
-    take_grant(&mut tx, token, repo)?;
-    match tx.commit() {
-        Ok(()) => Ok(()),
-        Err(error) => Err(fault_of(error)),
-    }
+    alone!(conn, tx, take_grant(&mut tx, token, repo))
 }
 
 /// Takes the level of a token on a repository away.
@@ -48,10 +39,7 @@ pub fn revoke<S: Alter>(
     ensures memory { StaysOnMemory S.Store conn.old conn.new result }
     ensures survives { Lasts S.Store conn.old conn.new }
 {
-    match take_grant_alone(conn, token.as_str(), name.as_str()) {
-        Ok(()) => Ok(()),
-        Err(fault) => Err(checked_fault(conn, fault)),
-    }
+    checked!(conn, take_grant_alone(conn, token.as_str(), name.as_str()))
 }
 
 /// Sets the level, where there is a grant, and else adds one.
@@ -89,15 +77,7 @@ fn put_level_alone<S: Alter>(
     ensures back { GoesBack S.Store conn.old conn.new result }
     ensures survives { Lasts S.Store conn.old conn.new }
 {
-    if !conn.is_autocommit() {
-        return Err(Fault::Storage);
-    }
-    let mut tx = conn.transaction();
-    put_level(&mut tx, token, repo, level)?;
-    match tx.commit() {
-        Ok(()) => Ok(()),
-        Err(error) => Err(fault_of(error)),
-    }
+    alone!(conn, tx, put_level(&mut tx, token, repo, level))
 }
 
 /// Gives a token a level on a repository, in the place of the one that it has.
@@ -113,8 +93,8 @@ pub fn grant<S: Alter>(
     ensures memory { StaysOnMemory S.Store conn.old conn.new result }
     ensures survives { Lasts S.Store conn.old conn.new }
 {
-    match put_level_alone(conn, token.as_str(), name.as_str(), level) {
-        Ok(()) => Ok(()),
-        Err(fault) => Err(checked_fault(conn, fault)),
-    }
+    checked!(
+        conn,
+        put_level_alone(conn, token.as_str(), name.as_str(), level)
+    )
 }

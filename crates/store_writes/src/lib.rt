@@ -12,6 +12,7 @@ mod repo_removal;
 mod session_appends;
 mod session_changes;
 mod session_finish;
+mod transaction;
 
 pub use blob_mounts::mount;
 pub use blob_puts::put_blob;

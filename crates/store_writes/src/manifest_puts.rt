@@ -13,13 +13,13 @@ ghost use Rattle.store_writes.specs.Worlds.{KeepsWhole, TurnsFresh, TurnsThere, 
 ghost use Rattle.store_statements.specs.Clauses.{GoesBack, Lasts, LastsUncommitted, MakesWorld, Settled, StaysOnMemory, TablesHave, WorldHas};
 ghost use Rattle.store_statements.specs.Held.{held};
 
+use crate::transaction::{alone, checked};
 use oci_manifest::Manifest;
 use oci_names::{Digest, Fault, RepoName, Tag};
 use sqlite::{Alter, Connection, Transaction};
 use std::alloc::Global;
-use store_contents::{fault_of, find_or_add};
+use store_contents::find_or_add;
 use store_statements::manifests::{add_manifest_link, find_manifest_link};
-use store_statements::open_check::checked_fault;
 use store_statements::tags::{add_tag, set_tag};
 
 /// Sets the tag to the digest, where it is there, and else adds it.
@@ -148,15 +148,11 @@ fn add_tagged_alone<S: Alter>(
     ensures back { GoesBack S.Store conn.old conn.new result }
     ensures survives { Lasts S.Store conn.old conn.new }
 {
-    if !conn.is_autocommit() {
-        return Err(Fault::Storage);
-    }
-    let mut tx = conn.transaction();
-    add_tagged(alloc, &mut tx, repo, digest, bytes, manifest, tag)?;
-    match tx.commit() {
-        Ok(()) => Ok(()),
-        Err(error) => Err(fault_of(error)),
-    }
+    alone!(
+        conn,
+        tx,
+        add_tagged(alloc, &mut tx, repo, digest, bytes, manifest, tag)
+    )
 }
 
 /// Sets the tag, if there is one, to a digest that the repository has, in a transaction of its own.
@@ -173,15 +169,7 @@ fn put_tag_alone<S: Alter>(
     ensures back { GoesBack S.Store conn.old conn.new result }
     ensures survives { Lasts S.Store conn.old conn.new }
 {
-    if !conn.is_autocommit() {
-        return Err(Fault::Storage);
-    }
-    let mut tx = conn.transaction();
-    put_tag_if(&mut tx, repo, tag, digest)?;
-    match tx.commit() {
-        Ok(()) => Ok(()),
-        Err(error) => Err(fault_of(error)),
-    }
+    alone!(conn, tx, put_tag_if(&mut tx, repo, tag, digest))
 }
 
 /// The same, and a failure is told as the store's caller sees it.
@@ -198,10 +186,7 @@ fn tag_there<S: Alter>(
     ensures memory { StaysOnMemory S.Store conn.old conn.new result }
     ensures survives { Lasts S.Store conn.old conn.new }
 {
-    match put_tag_alone(conn, repo, tag, digest) {
-        Ok(()) => Ok(()),
-        Err(fault) => Err(checked_fault(conn, fault)),
-    }
+    checked!(conn, put_tag_alone(conn, repo, tag, digest))
 }
 
 /// As `add_tagged_alone`, and a failure is told as the store's caller sees it.
@@ -225,10 +210,10 @@ fn put_new<S: Alter>(
     ensures memory { StaysOnMemory S.Store conn.old conn.new result }
     ensures survives { Lasts S.Store conn.old conn.new }
 {
-    match add_tagged_alone(alloc, conn, repo, digest, bytes, manifest, tag) {
-        Ok(()) => Ok(()),
-        Err(fault) => Err(checked_fault(conn, fault)),
-    }
+    checked!(
+        conn,
+        add_tagged_alone(alloc, conn, repo, digest, bytes, manifest, tag)
+    )
 }
 
 /// Adds a manifest, where the repository has not its digest, and sets the tag to it, if one is given.

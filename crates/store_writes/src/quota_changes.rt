@@ -4,11 +4,10 @@ ghost use Rattle.registry_model.specs.Command.{set_repo};
 ghost use Rattle.store_statements.specs.Clauses.{GoesBack, GoesOn, IsCommitted, KeepsInside, Lasts, LastsUncommitted, MakesWorld, Relates, RelatesInside, Settled, StaysOnMemory};
 ghost use Rattle.store_writes.specs.Puts.{QuotaIsPut};
 
+use crate::transaction::{alone, checked};
 use oci_names::{Fault, RepoName};
 use registry_model::Quota;
 use sqlite::{Alter, Connection, Transaction};
-use store_contents::fault_of;
-use store_statements::open_check::checked_fault;
 use store_statements::repos::{add_repo, set_quota};
 
 /// Sets the quota, where the repository is there, and else adds it.
@@ -38,15 +37,7 @@ fn put_quota_alone<S: Alter>(conn: &mut Connection<S>, name: &str, quota: u64) -
     ensures back { GoesBack S.Store conn.old conn.new result }
     ensures survives { Lasts S.Store conn.old conn.new }
 {
-    if !conn.is_autocommit() {
-        return Err(Fault::Storage);
-    }
-    let mut tx = conn.transaction();
-    put_quota(&mut tx, name, quota)?;
-    match tx.commit() {
-        Ok(()) => Ok(()),
-        Err(error) => Err(fault_of(error)),
-    }
+    alone!(conn, tx, put_quota(&mut tx, name, quota))
 }
 
 /// Makes an empty repository, or sets the quota of one that is there and changes nothing else. The quota is
@@ -61,8 +52,5 @@ pub fn set_repo<S: Alter>(
     ensures memory { StaysOnMemory S.Store conn.old conn.new result }
     ensures survives { Lasts S.Store conn.old conn.new }
 {
-    match put_quota_alone(conn, name.as_str(), quota.bytes) {
-        Ok(()) => Ok(()),
-        Err(fault) => Err(checked_fault(conn, fault)),
-    }
+    checked!(conn, put_quota_alone(conn, name.as_str(), quota.bytes))
 }

@@ -4,13 +4,12 @@ ghost use Rattle.registry_model.specs.Command.{drop_repo};
 ghost use Rattle.store_statements.specs.Clauses.{Changes, CommitsTables, GoesBack, KeepsInside, Lasts, LastsUncommitted, MakesWorld, Settled, StaysOnMemory};
 ghost use Rattle.store_statements.specs.Drops.{dropped, without_links, without_sessions, without_children};
 
+use crate::transaction::{alone, checked};
 use oci_names::{Fault, RepoName};
 use sqlite::{Alter, Connection, Transaction};
-use store_contents::fault_of;
 use store_statements::blobs::take_blob_links;
 use store_statements::grants::take_grants;
 use store_statements::manifests::take_manifest_links;
-use store_statements::open_check::checked_fault;
 use store_statements::pieces::take_pieces;
 use store_statements::repos::take_repo;
 use store_statements::tags::take_tags;
@@ -70,15 +69,7 @@ fn drop_rows_alone<S: Alter>(conn: &mut Connection<S>, name: &str) -> Result<(),
     ensures back { GoesBack S.Store conn.old conn.new result }
     ensures survives { Lasts S.Store conn.old conn.new }
 {
-    if !conn.is_autocommit() {
-        return Err(Fault::Storage);
-    }
-    let mut tx = conn.transaction();
-    drop_rows(&mut tx, name)?;
-    match tx.commit() {
-        Ok(()) => Ok(()),
-        Err(error) => Err(fault_of(error)),
-    }
+    alone!(conn, tx, drop_rows(&mut tx, name))
 }
 
 /// Takes a repository away, with what it holds and every level on it.
@@ -88,8 +79,5 @@ pub fn drop_repo<S: Alter>(conn: &mut Connection<S>, name: &RepoName) -> Result<
     ensures memory { StaysOnMemory S.Store conn.old conn.new result }
     ensures survives { Lasts S.Store conn.old conn.new }
 {
-    match drop_rows_alone(conn, name.as_str()) {
-        Ok(()) => Ok(()),
-        Err(fault) => Err(checked_fault(conn, fault)),
-    }
+    checked!(conn, drop_rows_alone(conn, name.as_str()))
 }

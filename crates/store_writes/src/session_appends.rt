@@ -7,13 +7,12 @@ ghost use Rattle.store_writes.specs.Worlds.{StepsFrom};
 ghost use Rattle.store_statements.specs.Clauses.{CommitsStep, GoesBack, KeepsInside, Lasts, LastsUncommitted, MakesWorld, Settled, StaysOnMemory, TablesHave, WorldHas};
 ghost use Rattle.store_statements.specs.Steps.{PieceStored, Appended};
 
+use crate::transaction::{alone, checked};
 use oci_names::{Fault, RepoName};
 use sqlite::{Alter, Connection, Transaction};
 use std::alloc::Global;
-use store_contents::fault_of;
 use store_statements::contents::keep;
 use store_statements::numbers::{LARGEST, has_room};
-use store_statements::open_check::checked_fault;
 use store_statements::pieces::add_piece;
 use store_statements::uploads::{find_upload, set_size};
 
@@ -84,15 +83,11 @@ fn add_bytes_alone<S: Alter>(
     ensures back { GoesBack S.Store conn.old conn.new result }
     ensures survives { Lasts S.Store conn.old conn.new }
 {
-    if !conn.is_autocommit() {
-        return Err(Fault::Storage);
-    }
-    let mut tx = conn.transaction();
-    add_bytes(alloc, &mut tx, repo, number, size, bytes)?;
-    match tx.commit() {
-        Ok(()) => Ok(()),
-        Err(error) => Err(fault_of(error)),
-    }
+    alone!(
+        conn,
+        tx,
+        add_bytes(alloc, &mut tx, repo, number, size, bytes)
+    )
 }
 
 /// Puts bytes behind those of an open session; none that it has are touched.
@@ -119,12 +114,10 @@ pub fn append<S: Alter>(
     }
     let repo = repo.as_str();
     match find_upload(conn, repo, number) {
-        Ok(Some(size)) if has_room(size, bytes.len() as u64) => match add_bytes_alone(
-            alloc, conn, repo, number, size, bytes,
-        ) {
-            Ok(()) => Ok(()),
-            Err(fault) => Err(checked_fault(conn, fault)),
-        },
+        Ok(Some(size)) if has_room(size, bytes.len() as u64) => checked!(
+            conn,
+            add_bytes_alone(alloc, conn, repo, number, size, bytes)
+        ),
         Ok(_) => Err(Fault::Storage),
         Err(fault) => Err(fault),
     }

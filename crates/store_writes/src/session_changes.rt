@@ -12,9 +12,9 @@ ghost use Rattle.store_statements.specs.Clauses.{Changes, CommitsStep, CommitsTa
 ghost use Rattle.store_statements.specs.Held.{Makes, world_in};
 ghost use Rattle.store_statements.specs.Steps.{sessions_without, SessionOpened};
 
+use crate::transaction::{alone, checked};
 use oci_names::{Fault, RepoName};
 use sqlite::{Alter, Connection, Transaction};
-use store_contents::fault_of;
 use store_statements::numbers::LARGEST;
 use store_statements::open_check::checked_fault;
 use store_statements::pieces::{take_pieces, take_pieces_of};
@@ -42,15 +42,7 @@ fn take_sessions_alone<S: Alter>(conn: &mut Connection<S>, repo: &str) -> Result
     ensures back { GoesBack S.Store conn.old conn.new result }
     ensures survives { Lasts S.Store conn.old conn.new }
 {
-    if !conn.is_autocommit() {
-        return Err(Fault::Storage);
-    }
-    let mut tx = conn.transaction();
-    take_sessions(&mut tx, repo)?;
-    match tx.commit() {
-        Ok(()) => Ok(()),
-        Err(error) => Err(fault_of(error)),
-    }
+    alone!(conn, tx, take_sessions(&mut tx, repo))
 }
 
 /// Ends all upload sessions of the repository; their bytes are given up.
@@ -60,10 +52,7 @@ pub fn drop_sessions<S: Alter>(conn: &mut Connection<S>, repo: &RepoName) -> Res
     ensures memory { StaysOnMemory S.Store conn.old conn.new result }
     ensures survives { Lasts S.Store conn.old conn.new }
 {
-    match take_sessions_alone(conn, repo.as_str()) {
-        Ok(()) => Ok(()),
-        Err(fault) => Err(checked_fault(conn, fault)),
-    }
+    checked!(conn, take_sessions_alone(conn, repo.as_str()))
 }
 
 /// Takes a session out, with its pieces.
@@ -98,15 +87,7 @@ pub(crate) fn take_session_alone<S: Alter>(
     ensures back { GoesBack S.Store conn.old conn.new result }
     ensures survives { Lasts S.Store conn.old conn.new }
 {
-    if !conn.is_autocommit() {
-        return Err(Fault::Storage);
-    }
-    let mut tx = conn.transaction();
-    take_session(&mut tx, repo, number)?;
-    match tx.commit() {
-        Ok(()) => Ok(()),
-        Err(error) => Err(fault_of(error)),
-    }
+    alone!(conn, tx, take_session(&mut tx, repo, number))
 }
 
 /// Puts an empty session in under a number that none has, which becomes the repository's last.
@@ -137,15 +118,7 @@ fn add_session_alone<S: Alter>(
     ensures back { GoesBack S.Store conn.old conn.new result }
     ensures survives { Lasts S.Store conn.old conn.new }
 {
-    if !conn.is_autocommit() {
-        return Err(Fault::Storage);
-    }
-    let mut tx = conn.transaction();
-    add_session(&mut tx, repo, number)?;
-    match tx.commit() {
-        Ok(()) => Ok(()),
-        Err(error) => Err(fault_of(error)),
-    }
+    alone!(conn, tx, add_session(&mut tx, repo, number))
 }
 
 /// Opens an empty session under the number behind the repository's last, and answers it.

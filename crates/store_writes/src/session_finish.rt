@@ -10,13 +10,12 @@ ghost use Rattle.store_statements.specs.Steps.{Finished};
 
 use crate::blob_puts::store_blob;
 use crate::session_changes::{take_session, take_session_alone};
+use crate::transaction::{alone, checked};
 use oci_names::{Digest, Fault, RepoName};
 use sqlite::{Alter, Connection, Transaction};
 use std::alloc::Global;
-use store_contents::fault_of;
 use store_statements::blobs::find_blob_link;
 use store_statements::numbers::LARGEST;
-use store_statements::open_check::checked_fault;
 
 /// Takes a session out, and puts a blob in that the repository has not.
 fn end_session<S: Alter>(
@@ -62,15 +61,11 @@ fn end_session_alone<S: Alter>(
     ensures back { GoesBack S.Store conn.old conn.new result }
     ensures survives { Lasts S.Store conn.old conn.new }
 {
-    if !conn.is_autocommit() {
-        return Err(Fault::Storage);
-    }
-    let mut tx = conn.transaction();
-    end_session(alloc, &mut tx, repo, number, digest, bytes)?;
-    match tx.commit() {
-        Ok(()) => Ok(()),
-        Err(error) => Err(fault_of(error)),
-    }
+    alone!(
+        conn,
+        tx,
+        end_session(alloc, &mut tx, repo, number, digest, bytes)
+    )
 }
 
 /// Ends an open session and puts its whole bytes in as a blob; a digest that is there keeps its bytes.
@@ -97,14 +92,11 @@ pub fn finish<S: Alter>(
     let repo = repo.as_str();
     let digest = digest.as_str();
     match find_blob_link(conn, repo, digest) {
-        Ok(Some(_)) => match take_session_alone(conn, repo, number) {
-            Ok(()) => Ok(()),
-            Err(fault) => Err(checked_fault(conn, fault)),
-        },
-        Ok(None) => match end_session_alone(alloc, conn, repo, number, digest, bytes) {
-            Ok(()) => Ok(()),
-            Err(fault) => Err(checked_fault(conn, fault)),
-        },
+        Ok(Some(_)) => checked!(conn, take_session_alone(conn, repo, number)),
+        Ok(None) => checked!(
+            conn,
+            end_session_alone(alloc, conn, repo, number, digest, bytes)
+        ),
         Err(fault) => Err(fault),
     }
 }
