@@ -1,7 +1,8 @@
 //! Registries that lie in database files.
-ghost use Rattle.registry_program.specs.Failures.{IsOfOpening};
+ghost use Rattle.registry_orders.specs.Failures.{IsOfOpening};
 
-use registry_program::{Failure, Opener};
+use registry_orders::Failure;
+use registry_program::Opener;
 use registry_store::{OpenFault, Store, Written};
 use sqlite::{FileFrom, FileStore, Unknown};
 use std::marker::PhantomData;

@@ -1,7 +1,7 @@
 //! The program over database files, each test with files of its own in the folder that it is run in.
 use crate::databases::Supposed;
 use crate::files::run;
-use crate::tests::{Outcome, PUSH, REPLIES, USAGE, words_in};
+use crate::tests::{Outcome, PUSH, REPLIES, USAGE, same, same_after, words_in};
 use sqlite::{Alter, Connection, Unknown};
 use std::fs;
 use std::process::Abort;
@@ -25,9 +25,9 @@ fn order<F: Supposed>(
     line: &[u8],
 ) -> Result<(), Fail> {
     let ran = run_on::<F>(rt, words, b"");
-    assert_eq!(test; ran.status, status, "at {words:?}");
-    assert_eq!(test; ran.err.as_slice(), line, "at {words:?}");
-    assert_eq!(test; ran.out.len(), 0);
+    same_after(test, words, ran.status, status);
+    same_after(test, words, ran.err.as_slice(), line);
+    same(test, ran.out.len(), 0);
     Ok(())
 }
 
@@ -56,9 +56,9 @@ fn serves<F: Supposed>(
     replies: &[u8],
 ) -> Result<(), Fail> {
     let ran = run_on::<F>(rt, &["stdio", "--db", path], input);
-    assert_eq!(test; ran.status, 0);
-    assert_eq!(test; ran.out.as_slice(), replies);
-    assert_eq!(test; ran.err.len(), 0);
+    same(test, ran.status, 0);
+    same(test, ran.out.as_slice(), replies);
+    same(test, ran.err.len(), 0);
     Ok(())
 }
 
@@ -89,7 +89,7 @@ fn statuses<F: Supposed>(test: &impl Abort, rt: &HostRuntime) -> Result<(), Fail
         "grant --db statuses.db --token t1 --name nowhere --level 4",
     )?;
     let level = run_on::<F>(rt, words.as_slice(), b"");
-    assert_eq!(test; level.status, 2);
+    same(test, level.status, 2);
     assert!(test; level.out.is_empty() && !level.err.is_empty());
     Ok(())
 }
@@ -112,8 +112,8 @@ fn serves_a_push<F: Supposed>(test: &impl Abort, rt: &HostRuntime, path: &str) -
 fn survives<F: Supposed>(test: &impl Abort, rt: &HostRuntime) -> Result<(), Fail> {
     serves_a_push::<F>(test, rt, "survives.db")?;
     let usage = run_on::<F>(rt, &["usage", "--db", "survives.db"], b"");
-    assert_eq!(test; usage.status, 0);
-    assert_eq!(test; usage.out.as_slice(), USAGE);
+    same(test, usage.status, 0);
+    same(test, usage.out.as_slice(), USAGE);
     Ok(())
 }
 
@@ -251,19 +251,13 @@ fn is_refused<F: Supposed>(
     let path = foreign.path;
     write_by::<F>(rt, path, foreign.batch)?;
     let ran = run_on::<F>(rt, &["usage", "--db", path], b"");
-    assert_eq!(test; ran.status, 3, "{path}");
-    assert_eq!(test; ran.err.as_slice(), foreign.line, "{path}");
-    assert_eq!(test; ran.out.len(), 0);
-    assert_eq!(test;
-        number_in::<F>(rt, path, foreign.query)?,
-        foreign.number,
-        "{path}"
-    );
-    assert_eq!(test;
-        number_in::<F>(rt, path, "SELECT COUNT(*) FROM sqlite_schema")?,
-        foreign.objects,
-        "{path}"
-    );
+    same_after(test, &[path], ran.status, 3);
+    same_after(test, &[path], ran.err.as_slice(), foreign.line);
+    same(test, ran.out.len(), 0);
+    let number = number_in::<F>(rt, path, foreign.query)?;
+    same_after(test, &[path], number, foreign.number);
+    let objects = number_in::<F>(rt, path, "SELECT COUNT(*) FROM sqlite_schema")?;
+    same_after(test, &[path], objects, foreign.objects);
     Ok(())
 }
 
@@ -283,13 +277,14 @@ fn refuses_junk<F: Supposed>(test: &impl Abort, rt: &HostRuntime) -> Result<(), 
     }
     fs::write(rt, "junk.db", junk.as_str())?;
     let ran = run_on::<F>(rt, &["clear", "--db", "junk.db"], b"");
-    assert_eq!(test; ran.status, 3);
-    assert_eq!(test;
+    same(test, ran.status, 3);
+    same(
+        test,
         ran.err.as_slice(),
-        b"registry: storage failure\n".as_slice()
+        b"registry: storage failure\n".as_slice(),
     );
     let left = fs::read_to_string(rt, "junk.db")?;
-    assert_eq!(test; left.as_str(), junk.as_str());
+    same(test, left.as_str(), junk.as_str());
     Ok(())
 }
 
@@ -306,7 +301,7 @@ fn leaves_others_alone<F: Supposed>(test: &impl Abort, rt: &HostRuntime) -> Resu
         "CREATE TABLE notes (x INTEGER) STRICT; INSERT INTO notes (x) VALUES (8)",
     )?;
     serves_a_push::<F>(test, rt, path)?;
-    assert_eq!(test; number_in::<F>(rt, path, "SELECT x FROM notes")?, 8);
+    same(test, number_in::<F>(rt, path, "SELECT x FROM notes")?, 8);
     Ok(())
 }
 

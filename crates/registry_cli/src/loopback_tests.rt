@@ -2,6 +2,7 @@
 //! store's type, which keeps their proofs small.
 use crate::databases::{Databases, Supposed};
 use crate::file_tests::set_up;
+use crate::tests::same;
 use registry_http::End;
 use registry_model::Keeper;
 use registry_program::{Opener, serve_one};
@@ -27,7 +28,7 @@ fn served<K: Keeper>(
     let mut client = TcpStream::connect(rt, listener.local_addr()?)?;
     client.write_all(input)?;
     let end = serve_one(alloc, &listener, service)?;
-    assert_eq!(test; end, End::Closed);
+    same(test, end, End::Closed);
     let mut replies = Vec::new(alloc);
     client.read_to_end(&mut replies)?;
     Ok(replies)
@@ -79,11 +80,12 @@ fn on_loopback<F: Supposed>(test: &impl Abort, rt: &HostRuntime) -> Result<(), F
         "loopback.db",
         b"GET /v2/ HTTP/1.1\r\nHost: r\r\nAuthorization: Bearer t1\r\nConnection: close\r\n\r\n",
     )?;
-    assert_eq!(test;
+    same(
+        test,
         replies.as_slice(),
         b"HTTP/1.1 200 OK\r\nContent-Length: 2\r\nContent-Type: application/json\r\n\
             Connection: close\r\n\r\n{}"
-            .as_slice()
+            .as_slice(),
     );
     Ok(())
 }

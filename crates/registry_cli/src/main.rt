@@ -12,7 +12,7 @@ mod tests;
 #[cfg(test)]
 mod word_tests;
 
-use registry_program::Failure;
+use registry_orders::Failure;
 use sqlite::Unknown;
 use std::env;
 use std::process::ExitCode;

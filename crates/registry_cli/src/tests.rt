@@ -4,15 +4,16 @@ use oci_names::RepoName;
 use registry_http::{End, serve_connection};
 use registry_maps::MapKeeper;
 use registry_model::{Keeper, Level, Quota};
-use registry_program::options::{name_of, token_of};
-use registry_program::{
-    Change, Entrance, Failure, Opener, Order, carry_out, run_words, serve, serve_one,
-};
+use registry_orders::options::{name_of, token_of};
+use registry_orders::{Change, Failure, Order, carry_out};
+use registry_program::{Entrance, Opener, run_words, serve, serve_one};
 use registry_service::Service;
 use std::alloc::{AllocError, Global};
+use std::fmt::Debug;
 use std::io;
 use std::io::{Read, Write};
 use std::net::{Shutdown, TcpListener, TcpStream};
+use std::process::Abort;
 use std::test::Fail;
 
 /// What the program wrote and answered.
@@ -28,6 +29,21 @@ pub(crate) struct Outcome {
 #[derive(Drop)]
 struct Shelf {
     alloc: Global,
+}
+
+/// Both are the same: what a comparison prints where it fails is proved here, and not at each.
+pub(crate) fn same<T: PartialEq + Debug + Drop>(test: &impl Abort, found: T, wanted: T) {
+    assert_eq!(test; found, wanted);
+}
+
+/// The same, of what is found after the program was run on these words.
+pub(crate) fn same_after<T: PartialEq + Debug + Drop>(
+    test: &impl Abort,
+    words: &[&str],
+    found: T,
+    wanted: T,
+) {
+    assert_eq!(test; found, wanted, "after {words:?}");
 }
 
 /// Serves one connection over the keeper and throws the replies away.
@@ -172,10 +188,11 @@ fn a_failed_writer_is_a_failed_connection(rt: HostRuntime) -> Result<(), Fail> {
         &mut out,
         &mut err,
     );
-    assert_eq!(rt; status, 4);
-    assert_eq!(rt;
+    same(&rt, status, 4);
+    same(
+        &rt,
         err.as_slice(),
-        b"registry: connection failure\n".as_slice()
+        b"registry: connection failure\n".as_slice(),
     );
     Ok(())
 }
@@ -190,15 +207,15 @@ fn an_order_changes_the_keeper(rt: HostRuntime) -> Result<(), Fail> {
     let quota = Quota::new(5).ok_or("no quota")?;
     let order = Order::Change(Change::AddRepo { name, quota });
     let first = carry_out(alloc, MapKeeper::new(alloc), &order, &mut out, &mut err);
-    assert_eq!(rt; first.status, 0);
+    same(&rt, first.status, 0);
     let second = carry_out(alloc, first.keeper, &order, &mut out, &mut err);
-    assert_eq!(rt; second.status, 1);
+    same(&rt, second.status, 1);
     let mut keeper = second.keeper;
     let team = RepoName::parse(alloc, "team/app")?;
-    assert_eq!(rt; keeper.usage(&team)?.quota, 5);
+    same(&rt, keeper.usage(&team)?.quota, 5);
     let mut shut = Short { room: 4 };
     let told = carry_out(alloc, keeper, &Order::Usage, &mut shut, &mut err);
-    assert_eq!(rt; told.status, 4);
+    same(&rt, told.status, 4);
     Ok(())
 }
 
@@ -232,12 +249,12 @@ fn connections_are_served_until_none_is_taken(rt: HostRuntime) -> Result<(), Fai
     let mut door = Door { left: 3 };
     let kept = shelf.open("f")?;
     let served = serve(alloc, &shelf, "f", kept, &mut door, 2, &mut out);
-    assert_eq!(rt; served, Ok(()));
-    assert_eq!(rt; door.left, 1);
-    assert_eq!(rt; out.as_slice(), b"registry: listening\n".as_slice());
+    same(&rt, served, Ok(()));
+    same(&rt, door.left, 1);
+    same(&rt, out.as_slice(), b"registry: listening\n".as_slice());
     let kept = shelf.open("f")?;
     let served = serve(alloc, &shelf, "f", kept, &mut door, 2, &mut out);
-    assert_eq!(rt; served, Err(Failure::ConnectionFailure));
+    same(&rt, served, Err(Failure::ConnectionFailure));
     Ok(())
 }
 
@@ -250,9 +267,9 @@ fn a_connection_over_a_socket_is_served(rt: HostRuntime) -> Result<(), Fail> {
     client.shutdown(Shutdown::Write)?;
     let mut service = Service::new(prepared(alloc)?);
     let end = serve_one(alloc, &listener, &mut service)?;
-    assert_eq!(rt; end, End::Closed);
+    same(&rt, end, End::Closed);
     let mut replies = Vec::new(alloc);
     client.read_to_end(&mut replies)?;
-    assert_eq!(rt; replies.as_slice(), REPLIES);
+    same(&rt, replies.as_slice(), REPLIES);
     Ok(())
 }

@@ -1,5 +1,5 @@
 //! What the words of a command line come to, over registries in memory.
-use crate::tests::{OVER_MEMORY, PUSH, REPLIES, USAGE, run};
+use crate::tests::{OVER_MEMORY, PUSH, REPLIES, USAGE, run, same, same_after};
 use std::test::Fail;
 
 /// Words that are served or answered: the words, what is read and what is written.
@@ -127,11 +127,11 @@ const UNREADABLE: [&str; 11] = [
 fn words_are_served(rt: HostRuntime) -> Result<(), Fail> {
     for (words, input, written) in SERVED {
         let ran = run(&rt, words, input)?;
-        assert_eq!(rt; ran.status, 0, "at {words}");
-        assert_eq!(rt; ran.out.as_slice(), written, "at {words}");
-        assert_eq!(rt; ran.err.len(), 0, "at {words}");
+        same_after(&rt, &[words], ran.status, 0);
+        same_after(&rt, &[words], ran.out.as_slice(), written);
+        same_after(&rt, &[words], ran.err.len(), 0);
     }
-    assert_eq!(rt; REPLIES.len(), 418);
+    same(&rt, REPLIES.len(), 418);
     Ok(())
 }
 
@@ -140,9 +140,9 @@ fn words_are_carried_out_or_refused(rt: HostRuntime) -> Result<(), Fail> {
     for (status, line, lines) in TOLD {
         for words in lines.lines() {
             let ran = run(&rt, words, PUSH)?;
-            assert_eq!(rt; ran.status, status, "at {words}");
-            assert_eq!(rt; ran.err.as_slice(), line, "at {words}");
-            assert_eq!(rt; ran.out.len(), 0, "at {words}");
+            same_after(&rt, &[words], ran.status, status);
+            same_after(&rt, &[words], ran.err.as_slice(), line);
+            same_after(&rt, &[words], ran.out.len(), 0);
         }
     }
     Ok(())
@@ -153,9 +153,14 @@ fn words_are_carried_out_or_refused(rt: HostRuntime) -> Result<(), Fail> {
 fn the_command_line_refuses_first(rt: HostRuntime) -> Result<(), Fail> {
     for words in UNREADABLE {
         let ran = run(&rt, words, b"")?;
-        assert_eq!(rt; ran.status, 2, "at {words}");
-        assert!(rt; ran.out.is_empty() && !ran.err.is_empty(), "at {words}");
-        assert!(rt; !ran.err.starts_with(b"registry: "), "at {words}");
+        same_after(&rt, &[words], ran.status, 2);
+        same_after(
+            &rt,
+            &[words],
+            ran.out.is_empty() && !ran.err.is_empty(),
+            true,
+        );
+        same_after(&rt, &[words], ran.err.starts_with(b"registry: "), false);
     }
     Ok(())
 }
@@ -164,7 +169,7 @@ fn the_command_line_refuses_first(rt: HostRuntime) -> Result<(), Fail> {
 #[test]
 fn the_command_line_explains_itself(rt: HostRuntime) -> Result<(), Fail> {
     let help = run(&rt, "--help", b"")?;
-    assert_eq!(rt; help.status, 0);
+    same(&rt, help.status, 0);
     assert!(rt; !help.out.is_empty() && help.err.is_empty());
     Ok(())
 }

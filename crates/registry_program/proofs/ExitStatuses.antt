@@ -7,11 +7,12 @@ use Rattle.registry_http.specs.declared.ending.End.{End}
 use Rattle.registry_http.specs.declared.ending.End.TheVariants as ending
 use Rattle.registry_model.specs.World.{World}
 use Rattle.registry_model.specs.Keeping.{State}
-use Rattle.registry_program.specs.declared.failure.Failure.{Failure}
-use Rattle.registry_program.specs.declared.failure.Failure.TheVariants as failure
-use Rattle.registry_program.specs.declared.options.Setup.{Setup}
-use Rattle.registry_program.specs.Failures.{status_of, status_after, IsOfConnection, IsOfOpening, IsOfServing}
-use Rattle.registry_program.specs.Setting.{world_by, SetsUp}
+use Rattle.registry_orders.specs.declared.failure.Failure.{Failure}
+use Rattle.registry_orders.specs.declared.failure.Failure.TheVariants as failure
+use Rattle.registry_orders.specs.declared.options.Setup.{Setup}
+use Rattle.registry_orders.specs.Failures.{status_of, IsOfConnection, IsOfOpening, IsOfServing}
+use Rattle.registry_orders.specs.Setting.{world_by, SetsUp}
+use Rattle.registry_program.specs.Failures.{status_after}
 use Rattle.registry_program.specs.Program.{Ends, GivesUp, IsUntouched, ServesFrom, ServesMemory, Tells}
 
 pub served : (setup : Setup) (w : World) (status : ℕ) (e : Ends) → world_by setup ≡ Ok w → ServesFrom w status e → ServesMemory setup status e

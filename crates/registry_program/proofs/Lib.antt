@@ -1,4 +1,2 @@
-pub mod SettingLemmas
 pub mod ExitStatuses
-pub mod TableLemmas
 pub mod SinceOpened

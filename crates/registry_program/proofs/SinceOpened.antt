@@ -3,8 +3,8 @@ use Rattle.std.proofs.Common.{◌≡◌, ◌⊎◌, suc, false, Result, Ok, Err,
 use Rattle.registry_model.specs.Keeping.{State}
 use Rattle.registry_http.specs.declared.ending.End.{End}
 use Rattle.registry_program.specs.Sockets.{Connects, ServesSome, ServesAddress}
-use Rattle.registry_program.specs.declared.failure.Failure.{Failure}
-use Rattle.registry_program.specs.Carrying.{Output}
+use Rattle.registry_orders.specs.declared.failure.Failure.{Failure}
+use Rattle.registry_orders.specs.Carrying.{Output}
 use Rattle.registry_program.specs.Running.{Told}
 
 -- from a state in which the registry may be found, some connections lead to this one

@@ -1,11 +1,5 @@
 pub mod Failures
-pub mod Levels
-pub mod Setting
 pub mod Program
-pub mod Reading
-pub mod Table
-pub mod Orders
-pub mod Carrying
 pub mod Stored
 pub mod Sockets
 pub mod Running

@@ -7,11 +7,12 @@ use Rattle.registry_model.specs.Keeping.{State}
 use Rattle.registry_model.specs.Doing.{keeps}
 use Rattle.registry_http.specs.Serving.{Traffic, Serves}
 use Rattle.registry_http.specs.declared.ending.End.{End}
-use Rattle.registry_program.specs.declared.failure.Failure.{Failure}
-use Rattle.registry_program.specs.declared.failure.Failure.TheVariants.{OutOfMemory, ConnectionFailure}
-use Rattle.registry_program.specs.declared.options.Setup.{Setup}
-use Rattle.registry_program.specs.Failures.{status_of, status_after}
-use Rattle.registry_program.specs.Setting.{world_by}
+use Rattle.registry_orders.specs.declared.failure.Failure.{Failure}
+use Rattle.registry_orders.specs.declared.failure.Failure.TheVariants.{OutOfMemory, ConnectionFailure}
+use Rattle.registry_orders.specs.declared.options.Setup.{Setup}
+use Rattle.registry_orders.specs.Failures.{status_of}
+use Rattle.registry_orders.specs.Setting.{world_by}
+use Rattle.registry_program.specs.Failures.{status_after}
 
 -- the bytes that standard input had left before and after, and those that standard output held, where they
 -- are known

@@ -2,12 +2,12 @@
 -- its last.
 use Rattle.std.specs.Prelude.{◌≡◌, ℕ, ◌⊎◌, Result}
 use Rattle.registry_model.specs.Keeping.{State}
-use Rattle.registry_program.specs.declared.failure.Failure.{Failure}
-use Rattle.registry_program.specs.declared.options.Setup.{Setup}
-use Rattle.registry_program.specs.declared.orders.Order.{Order}
-use Rattle.registry_program.specs.Failures.{status_of, status_if, IsOfWords, IsOfOpening}
+use Rattle.registry_orders.specs.declared.failure.Failure.{Failure}
+use Rattle.registry_orders.specs.declared.options.Setup.{Setup}
+use Rattle.registry_orders.specs.declared.orders.Order.{Order}
+use Rattle.registry_orders.specs.Failures.{status_of, status_if, IsOfWords, IsOfOpening}
 use Rattle.registry_program.specs.Program.{Ends, GivesUp, ServesMemory, ServesStored, Tells}
-use Rattle.registry_program.specs.Carrying.{Output, output, IsSilent, IsCarriedOut}
+use Rattle.registry_orders.specs.Carrying.{Output, output, IsSilent, IsCarriedOut}
 use Rattle.registry_program.specs.Sockets.{ServesAddress}
 
 -- what is said of a registry that was opened, from its first state to its last

@@ -5,11 +5,11 @@ use Rattle.oci_names.specs.Text.{Text}
 use Rattle.registry_model.specs.Keeping.{State}
 use Rattle.registry_http.specs.Serving.{Serves}
 use Rattle.registry_http.specs.declared.ending.End.{End}
-use Rattle.registry_program.specs.declared.failure.Failure.{Failure}
-use Rattle.registry_program.specs.Failures.{IsOfServing}
+use Rattle.registry_orders.specs.declared.failure.Failure.{Failure}
+use Rattle.registry_orders.specs.Failures.{IsOfServing}
 use Rattle.registry_program.specs.Program.{Ends, traffic_of}
-use Rattle.registry_program.specs.Carrying.{Output}
-use Rattle.registry_program.specs.Table.{newline}
+use Rattle.registry_orders.specs.Carrying.{Output}
+use Rattle.registry_orders.specs.Table.{newline}
 
 -- some connection was served to this end, from one state to another
 abbrev pub Connects : End → State → State → Type 0

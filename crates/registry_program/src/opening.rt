@@ -1,9 +1,9 @@
 ghost use Rattle.std.specs.Prelude.{◌≡◌, ℕ, false, List, IfOk, IfErr};
 ghost use Rattle.registry_model.specs.Keeping.{State};
-ghost use Rattle.registry_program.specs.Failures.{IsOfOpening};
+ghost use Rattle.registry_orders.specs.Failures.{IsOfOpening};
 
-use crate::failure::Failure;
 use registry_model::Keeper;
+use registry_orders::Failure;
 
 /// What opens registries over databases; `K` is the keeper that an opening gives.
 pub trait Opener<K: Keeper> {

@@ -1,14 +1,14 @@
 ghost use Rattle.std.specs.Prelude.{◌≡◌, false, OnOk, IfOk, IfErr, MatchResult, ◌⊎◌};
 ghost use Rattle.std.specs.Io.KnownBytes.{Appends};
-ghost use Rattle.registry_program.specs.Failures.{IsOfOpening, IsOfServing};
-ghost use Rattle.registry_program.specs.Carrying.{output};
+ghost use Rattle.registry_orders.specs.Failures.{IsOfOpening, IsOfServing};
+ghost use Rattle.registry_orders.specs.Carrying.{output};
 ghost use Rattle.registry_program.specs.Stored.{Over};
 ghost use Rattle.registry_program.specs.Sockets.{ServesNext, ServesSome, ServesAddress, greeting};
 
-use crate::failure::Failure;
 use crate::opening::Opener;
 use registry_http::{End, serve_connection};
 use registry_model::Keeper;
+use registry_orders::Failure;
 use registry_service::Service;
 use std::alloc::Global;
 use std::io;

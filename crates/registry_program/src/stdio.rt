@@ -1,14 +1,15 @@
 ghost use Rattle.std.specs.Prelude.{◌≡◌, ◌<◌, ◌≤◌, IfErr};
-ghost use Rattle.registry_program.specs.Failures.{IsOfConnection, ended_as};
-ghost use Rattle.registry_program.specs.Setting.{with_repos, with_levels, world_from, SetsUp};
+ghost use Rattle.registry_orders.specs.Failures.{IsOfConnection};
+ghost use Rattle.registry_orders.specs.Setting.{with_repos, with_levels, world_from, SetsUp};
+ghost use Rattle.registry_program.specs.Failures.{ended_as};
 ghost use Rattle.registry_program.specs.Program.{ends, ServesMemory, ServesStored};
 
-use crate::carrying::Ended;
-use crate::failure::{Failure, of_command, say};
-use crate::options::{GrantOption, RepoOption, Setup};
 use registry_http::{End, serve_connection};
 use registry_maps::MapKeeper;
 use registry_model::Keeper;
+use registry_orders::failure::{of_command, say};
+use registry_orders::options::{GrantOption, RepoOption, Setup};
+use registry_orders::{Ended, Failure};
 use registry_service::{AdminCommand, Service};
 use std::alloc::Global;
 use std::io::{Read, Write};

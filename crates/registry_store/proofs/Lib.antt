@@ -1,6 +1,3 @@
-pub mod VersionRows
-pub mod FreshTables
 pub mod KeeperStates
 pub mod KeeperAnswers
-pub mod OpeningLemmas
-pub mod VersionAsked
+pub mod FilesFound

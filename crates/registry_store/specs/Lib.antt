@@ -1,4 +1,3 @@
 pub mod Kept
 pub mod Opening
-pub mod Asking
 pub mod Unwritten

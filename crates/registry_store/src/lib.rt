@@ -3,12 +3,9 @@
 
 mod fault_noting;
 mod keeper;
-mod making;
-mod opening;
 mod store;
-mod version;
 mod written;
 
-pub use opening::{OpenFault, take_up};
 pub use store::Store;
+pub use store_opening::OpenFault;
 pub use written::Written;

@@ -9,14 +9,15 @@ ghost use Rattle.store_schema.specs.Schema.{no_schema};
 ghost use Rattle.store_schema.specs.Making.{IsEmptyWith};
 ghost use Rattle.registry_model.specs.World.{no_world};
 ghost use Rattle.store_statements.specs.Held.{IsSettled, IsBack, world_in};
-ghost use Rattle.registry_store.specs.Opening.{IsIdle, IsOurs, HoldsRegistry, SaysTwo, OpensOn};
-ghost use Rattle.registry_store.specs.Asking.{IsWanting, IsTold};
+ghost use Rattle.store_opening.specs.Opening.{IsIdle, HoldsRegistry, SaysTwo};
+ghost use Rattle.store_opening.specs.Asking.{IsWanting, IsTold};
+ghost use Rattle.registry_store.specs.Opening.{IsOurs, OpensOn};
 
-use crate::opening::{OpenFault, fault_in_opening, take_up};
 use crate::written::Written;
 use sqlite::{Alter, Connection, FileFrom, FileStore, MemStore};
 use std::alloc::Global;
 use std::marker::Model;
+use store_opening::{OpenFault, fault_in_opening, take_up};
 
 /// Keeps a registry's world in the tables of a database. Once the storage has failed it is spent, and
 /// answers `Fault::Storage` alone.

@@ -1,7 +1,7 @@
 //! What the tables hold of bytes that several hold, counted in SQL.
 
 use crate::script::play;
-use crate::setting::{InTables, grant, setting};
+use crate::setting::{InTables, grant, same, setting};
 use registry_model::{AdminCommand, Level};
 use registry_service::Service;
 use registry_store::Store;
@@ -81,16 +81,20 @@ fn after(
 
 #[test]
 fn three_links_name_one_content(rt: HostRuntime) -> Result<(), Fail> {
-    assert_eq!(rt; after(&rt, rt.alloc(), &[(THREE_LINKS, false)])?, (1, 3, 0));
+    same(
+        &rt,
+        after(&rt, rt.alloc(), &[(THREE_LINKS, false)])?,
+        (1, 3, 0),
+    );
     Ok(())
 }
 
 #[test]
 fn a_deletion_takes_a_link_alone(rt: HostRuntime) -> Result<(), Fail> {
     let scripts = [(THREE_LINKS, false), (TWO_DELETED, false)];
-    assert_eq!(rt; after(&rt, rt.alloc(), scripts.as_slice())?, (1, 1, 0));
+    same(&rt, after(&rt, rt.alloc(), scripts.as_slice())?, (1, 1, 0));
     let scripts = [(THREE_LINKS, false), (TWO_DELETED, true), (ONE_LEFT, false)];
-    assert_eq!(rt; after(&rt, rt.alloc(), scripts.as_slice())?, (1, 1, 0));
+    same(&rt, after(&rt, rt.alloc(), scripts.as_slice())?, (1, 1, 0));
     Ok(())
 }
 
@@ -102,7 +106,7 @@ fn the_last_link_frees_the_content(rt: HostRuntime) -> Result<(), Fail> {
         (ONE_LEFT, false),
         (LAST_DELETED, true),
     ];
-    assert_eq!(rt; after(&rt, rt.alloc(), scripts.as_slice())?, (0, 0, 0));
+    same(&rt, after(&rt, rt.alloc(), scripts.as_slice())?, (0, 0, 0));
     Ok(())
 }
 
@@ -115,18 +119,23 @@ fn equal_pieces_name_one_content(rt: HostRuntime) -> Result<(), Fail> {
         "SELECT start, size, number FROM registry_pieces ORDER BY start",
         &[],
     )?;
-    assert_eq!(rt; rows.len(), 2);
+    same(&rt, rows.len(), 2);
     for (row, start) in rows.iter().zip([0_i64, 3]) {
         let found: i64 = row.get(0)?;
         let size: i64 = row.get(1)?;
         let session: i64 = row.get(2)?;
-        assert_eq!(rt; (found, size, session), (start, 3, 1));
+        same(&rt, (found, size, session), (start, 3, 1));
     }
-    assert_eq!(rt;
+    same(
+        &rt,
         number(&mut conn, "SELECT COUNT(*) FROM registry_contents")?,
-        1
+        1,
     );
-    assert_eq!(rt; number(&mut conn, "SELECT size FROM registry_uploads")?, 6);
+    same(
+        &rt,
+        number(&mut conn, "SELECT size FROM registry_uploads")?,
+        6,
+    );
     Ok(())
 }
 
@@ -139,7 +148,7 @@ fn pieces_are_freed_once_they_are_a_blob(rt: HostRuntime) -> Result<(), Fail> {
         ([(TWO_PIECES, true), (CLOSED, false)], (2, 1, 0)),
         ([(TWO_PIECES, true), (CLOSED, true)], (1, 1, 0)),
     ] {
-        assert_eq!(rt; after(&rt, rt.alloc(), scripts.as_slice())?, counted);
+        same(&rt, after(&rt, rt.alloc(), scripts.as_slice())?, counted);
     }
     Ok(())
 }

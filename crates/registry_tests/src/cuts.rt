@@ -1,7 +1,8 @@
 //! However an input is cut into reads, the same is answered; and an input that ends early.
 
 use crate::setting::{
-    ABC, DELETED, HELLO, Maker, add, ask, connect, created, empty, found, grant, serve, setting,
+    ABC, DELETED, HELLO, Maker, add, ask, connect, created, empty, found, grant, same, same_at,
+    serve, setting,
 };
 use crate::streams::Reads;
 use registry_http::End;
@@ -56,13 +57,10 @@ pub fn input_cut_after_each_byte<M: Maker>(rt: &impl Abort, alloc: Global) -> Re
         let served = serve(alloc, &mut registry, &PUSH_AND_GET[..kept]);
         let whole = kept == 0 || kept == PUSH.len() || kept == all;
         let end = if whole { End::Closed } else { End::Cut };
-        assert_eq!(rt; served.end, end, "at {kept}");
+        same_at(rt, kept, served.end, end);
         let written = written_after(kept, first);
-        assert_eq!(rt; served.output.len(), written, "at {kept}");
-        assert!(rt;
-            replies.as_bytes().starts_with(served.output.as_slice()),
-            "at {kept}"
-        );
+        same_at(rt, kept, served.output.len(), written);
+        assert!(rt; replies.as_bytes().starts_with(served.output.as_slice()));
     }
     Ok(())
 }
@@ -72,8 +70,8 @@ pub fn one_byte_a_read<M: Maker>(rt: &impl Abort, alloc: Global) -> Result<(), F
     let mut output = Vec::new(alloc);
     let mut reader = Reads::of(PUSH_AND_GET, 1);
     let end = connect(alloc, &mut registry, &mut reader, &mut output);
-    assert_eq!(rt; end, End::Closed);
-    assert_eq!(rt; output.len(), 418);
+    same(rt, end, End::Closed);
+    same(rt, output.len(), 418);
     Ok(())
 }
 
@@ -87,13 +85,13 @@ pub fn chunked_body_byte_by_byte<M: Maker>(rt: &impl Abort, alloc: Global) -> Re
     let mut registry = setting::<M>(alloc)?;
     let mut output = Vec::new(alloc);
     let end = connect(alloc, &mut registry, &mut Reads::of(whole, 1), &mut output);
-    assert_eq!(rt; end, End::Closed);
-    assert_eq!(rt; output.as_slice(), created(alloc, ABC)?.as_bytes());
+    same(rt, end, End::Closed);
+    same(rt, output.as_slice(), created(alloc, ABC)?.as_bytes());
     let mut registry = setting::<M>(alloc)?;
     let (kept, _) = whole.split_at(whole.len().saturating_sub(8));
     let cut = serve(alloc, &mut registry, kept);
-    assert_eq!(rt; cut.end, End::Cut);
-    assert_eq!(rt; cut.output.len(), 0);
+    same(rt, cut.end, End::Cut);
+    same(rt, cut.output.len(), 0);
     let absent = ask(alloc, &mut registry, "GET", ABC)?;
     assert!(rt; absent.starts_with(b"HTTP/1.1 404 Not Found\r\n"));
     Ok(())
@@ -116,17 +114,12 @@ fn is_answered<K: Keeper>(
     mut reader: Reads,
 ) -> Result<(), Fail> {
     let mut output = Vec::new(alloc);
-    let size = reader.size;
     let cut = reader.cut;
     let end = connect(alloc, registry, &mut reader, &mut output);
-    assert_eq!(rt; end, End::Closed, "cut at {cut}, in reads of {size}");
-    assert_eq!(rt;
-        output.as_slice(),
-        talk.output,
-        "cut at {cut}, in reads of {size}"
-    );
+    same_at(rt, cut, end, End::Closed);
+    same_at(rt, cut, output.as_slice(), talk.output);
     let deleted = ask(alloc, registry, "DELETE", talk.digest)?;
-    assert_eq!(rt; deleted.as_slice(), DELETED.as_bytes());
+    same(rt, deleted.as_slice(), DELETED.as_bytes());
     Ok(())
 }
 
@@ -220,8 +213,8 @@ pub fn body_longer_than_a_read<M: Maker>(rt: &impl Abort, alloc: Global) -> Resu
             let mut reader = Reads::of(input.as_bytes(), size);
             let mut output = Vec::new(alloc);
             let end = connect(alloc, &mut registry, &mut reader, &mut output);
-            assert_eq!(rt; end, End::Closed, "{chunk}, {size}");
-            assert!(rt; output.as_slice() == wanted.as_bytes(), "{chunk}, {size}");
+            same_at(rt, size, end, End::Closed);
+            assert!(rt; output.as_slice() == wanted.as_bytes());
         }
     }
     Ok(())

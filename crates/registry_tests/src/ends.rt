@@ -1,7 +1,9 @@
 //! Connections that end by a failed read or write, and heads that no byte can complete.
 
 use crate::cuts::{PUSH, PUSH_AND_GET, written_after};
-use crate::setting::{ABC, Maker, ask, connect, created, empty, found, serve, setting};
+use crate::setting::{
+    ABC, Maker, ask, connect, created, empty, found, same, same_at, serve, setting,
+};
 use crate::streams::{Reads, Writes};
 use registry_http::{End, FramingRefusal};
 use std::alloc::Global;
@@ -38,11 +40,9 @@ pub fn hopeless_heads_are_refused_at_once<M: Maker>(
         let mut reader = Reads::failing(head, usize::MAX, 1);
         let mut output = Vec::new(alloc);
         let end = connect(alloc, &mut registry, &mut reader, &mut output);
-        assert_eq!(rt; end, End::Refused(FramingRefusal::UnreadableHead));
-        assert_eq!(rt;
-            output.as_slice(),
-            b"HTTP/1.1 400 Bad Request\r\nContent-Length: 0\r\nConnection: close\r\n\r\n".as_slice()
-        );
+        same(rt, end, End::Refused(FramingRefusal::UnreadableHead));
+        let refused = b"HTTP/1.1 400 Bad Request\r\nContent-Length: 0\r\nConnection: close\r\n\r\n";
+        same(rt, output.as_slice(), refused.as_slice());
     }
     Ok(())
 }
@@ -62,15 +62,15 @@ pub fn continue_is_written_before_the_body_comes<M: Maker>(
     let mut reader = Reads::failing(head, usize::MAX, 1);
     let mut output = Vec::new(alloc);
     let end = connect(alloc, &mut registry, &mut reader, &mut output);
-    assert_eq!(rt; end, End::ReadFailed);
-    assert_eq!(rt; output.as_slice(), wanted.as_bytes());
+    same(rt, end, End::ReadFailed);
+    same(rt, output.as_slice(), wanted.as_bytes());
     let mut whole = Vec::new(alloc);
     whole.extend_from_slice(head)?;
     whole.extend_from_slice(b"abc")?;
     let served = serve(alloc, &mut registry, whole.as_slice());
     wanted.push_str(created(alloc, ABC)?.as_str())?;
-    assert_eq!(rt; served.end, End::Closed);
-    assert_eq!(rt; served.output.as_slice(), wanted.as_bytes());
+    same(rt, served.end, End::Closed);
+    same(rt, served.output.as_slice(), wanted.as_bytes());
     Ok(())
 }
 
@@ -94,14 +94,14 @@ pub fn writer_fails_midway<M: Maker>(rt: &impl Abort, alloc: Global) -> Result<(
             taken: Vec::new(alloc),
         };
         let end = connect(alloc, &mut registry, &mut reader, &mut writer);
-        assert_eq!(rt; end, End::WriteFailed { written }, "at {room}");
-        assert_eq!(rt; writer.taken.len(), room);
+        same_at(rt, room, end, End::WriteFailed { written });
+        same(rt, writer.taken.len(), room);
         if room == 82 {
             assert!(rt; writer.taken.ends_with(b"HTTP/1.1 2"));
         }
     }
     let fetched = ask(alloc, &mut registry, "GET", ABC)?;
-    assert_eq!(rt; fetched.as_slice(), found(alloc, ABC, "abc")?.as_bytes());
+    same(rt, fetched.as_slice(), found(alloc, ABC, "abc")?.as_bytes());
     Ok(())
 }
 
@@ -126,7 +126,7 @@ pub fn writer_takes_no_more<M: Maker>(rt: &impl Abort, alloc: Global) -> Result<
             taken: Vec::new(alloc),
         };
         let found = connect(alloc, &mut registry, &mut reader, &mut writer);
-        assert_eq!(rt; found, end, "at {room}");
+        same_at(rt, room, found, end);
     }
     Ok(())
 }
@@ -144,8 +144,8 @@ pub fn reader_fails_at_each_read<M: Maker>(rt: &impl Abort, alloc: Global) -> Re
         let mut reader = Reads::failing(PUSH_AND_GET, 1, room);
         let mut output = Vec::new(alloc);
         let end = connect(alloc, &mut registry, &mut reader, &mut output);
-        assert_eq!(rt; end, End::ReadFailed, "at {room}");
-        assert_eq!(rt; output.len(), written_after(room, first), "at {room}");
+        same_at(rt, room, end, End::ReadFailed);
+        same_at(rt, room, output.len(), written_after(room, first));
     }
     Ok(())
 }
@@ -166,7 +166,7 @@ pub fn reader_fails_at_a_read<M: Maker>(rt: &impl Abort, alloc: Global) -> Resul
         let mut reader = Reads::failing(input, 1, input.len());
         let mut output = Vec::new(alloc);
         let end = connect(alloc, &mut registry, &mut reader, &mut output);
-        assert_eq!(rt; end, End::ReadFailed);
+        same(rt, end, End::ReadFailed);
         assert!(rt; output.as_slice() == TOKEN_REQUIRED.repeat(alloc, replies)?.as_slice());
     }
     Ok(())

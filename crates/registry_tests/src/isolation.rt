@@ -1,7 +1,7 @@
 //! Isolation of teams, by bytes: two registries that agree on what a team sees tell it the same.
 
 use crate::script::{Line, lines, play};
-use crate::setting::{Maker, add, empty, grant, setting};
+use crate::setting::{Maker, add, empty, grant, same, same_at, setting};
 use oci_names::{Digest, RepoName};
 use registry_model::{AdminCommand, Keeper, Level, Quota};
 use registry_service::Service;
@@ -118,10 +118,7 @@ fn answers_alike<K: Keeper, L: Keeper>(
         let first = request.reply(rt, alloc, alone)?;
         meanwhile(rt, alloc, shared, round)?;
         let second = request.reply(rt, alloc, shared)?;
-        assert!(rt;
-            first.as_slice() == second.as_slice(),
-            "to the request {round}"
-        );
+        same_at(rt, round as usize, first.as_slice(), second.as_slice());
     }
     Ok(())
 }
@@ -133,7 +130,7 @@ pub fn two_registries<A: Maker, B: Maker>(rt: &impl Abort, alloc: Global) -> Res
     let mut shared = setting::<B>(alloc)?;
     play(rt, alloc, &mut shared, OTHER)?;
     let requests = lines(alloc, OWN)?;
-    assert_eq!(rt; requests.len(), 43);
+    same(rt, requests.len(), 43);
     answers_alike(rt, alloc, &mut alone, &mut shared, requests.as_slice())
 }
 
@@ -174,6 +171,6 @@ pub fn nothing_in_common_but_a_view<A: Maker, B: Maker>(
     let mut shared = among_many_others::<B>(rt, alloc)?;
     let mut requests = lines(alloc, OWN)?;
     requests.extend_from_slice(lines(alloc, OUTSIDE)?.as_slice())?;
-    assert_eq!(rt; requests.len(), 50);
+    same(rt, requests.len(), 50);
     answers_alike(rt, alloc, &mut alone, &mut shared, requests.as_slice())
 }

@@ -1,11 +1,7 @@
-//! Tests that cross crates and are no worked examples: streams, faults, want of memory, rows counted in
+//! Tests of whole registries that are no worked examples: streams, faults, want of memory, rows counted in
 //! SQL, runs and isolation.
 #![tactic(auto)]
 
-#[cfg(test)]
-mod clearing;
-#[cfg(test)]
-mod contents;
 #[cfg(test)]
 mod counts;
 #[cfg(test)]
@@ -17,10 +13,6 @@ mod isolation;
 #[cfg(test)]
 mod memory;
 #[cfg(test)]
-mod model;
-#[cfg(test)]
-mod referrers;
-#[cfg(test)]
 mod rows;
 #[cfg(test)]
 mod runs;
@@ -29,10 +21,6 @@ mod script;
 #[cfg(test)]
 mod setting;
 #[cfg(test)]
-mod stores;
-#[cfg(test)]
 mod streams;
 #[cfg(test)]
 mod uploads;
-#[cfg(test)]
-mod writes;

@@ -2,7 +2,7 @@
 //! has changed, so that the same request again is answered as ever. The tests pass as they stand;
 //! the README says how each allocation is made to fail in turn.
 
-use crate::setting::{InMaps, Maker, Served, connect};
+use crate::setting::{InMaps, Maker, Served, connect, same};
 use oci_names::{RepoName, Token};
 use registry_http::{End, FramingRefusal};
 use registry_model::{AdminCommand, Keeper, Level, Quota};
@@ -71,12 +71,8 @@ fn talk<M: Maker>(rt: &impl Abort, alloc: Global, exchanges: &[(&str, &str)]) ->
             try_serve(alloc, &mut registry, request)
         };
         let served = last.ok_or("memory for a reply")?;
-        assert_eq!(rt;
-            str::from_utf8(served.output.as_slice())?,
-            *reply,
-            "to {request}"
-        );
-        assert_eq!(rt; served.end, End::Closed, "after {request}");
+        same(rt, str::from_utf8(served.output.as_slice())?, *reply);
+        same(rt, served.end, End::Closed);
     }
     Ok(())
 }

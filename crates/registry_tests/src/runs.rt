@@ -1,6 +1,6 @@
 //! Runs: what a team is told, whatever others do in between.
 
-use crate::setting::{ABC, DELETED, HELLO, Maker, grant, setting};
+use crate::setting::{ABC, DELETED, HELLO, Maker, grant, same, setting};
 use oci_names::{RepoName, Token};
 use registry_http::write_reply;
 use registry_model::{AdminCommand, Level, Query, Quota, Request, Route, Verb};
@@ -111,10 +111,10 @@ fn tells<M: Maker>(
     let mut registry = setting::<M>(alloc)?;
     grant(alloc, &mut registry, "t3", "team/app", Level::Push)?;
     let outcomes = registry.run(alloc, steps).map_err(|_| "a run")?;
-    assert_eq!(rt; outcomes.len(), expected.len());
+    same(rt, outcomes.len(), expected.len());
     for (outcome, text) in outcomes.iter().zip(expected) {
         let told = outcome_text(alloc, outcome)?;
-        assert_eq!(rt; str::from_utf8(told.as_slice())?, *text);
+        same(rt, str::from_utf8(told.as_slice())?, *text);
     }
     Ok(())
 }

@@ -1,7 +1,7 @@
 //! Scripts: requests, one a line, each with the status that it must get. The whole replies to such
 //! requests are those of the worked examples.
 
-use crate::setting::serve;
+use crate::setting::{same, serve};
 use registry_http::End;
 use registry_model::Keeper;
 use registry_service::Service;
@@ -91,7 +91,7 @@ impl<'a> Line<'a> {
         let line = self.text;
         let status = self.status;
         let wanted = format!(in alloc; "HTTP/1.1 {status} ")?;
-        assert_eq!(rt; served.end, End::Closed, "after {line}");
+        same(rt, served.end, End::Closed);
         assert!(rt; served.output.starts_with(wanted.as_bytes()), "to {line}");
         Ok(served.output)
     }

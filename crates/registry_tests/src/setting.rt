@@ -6,7 +6,9 @@ use registry_service::Service;
 use registry_store::Store;
 use sqlite::MemStore;
 use std::alloc::Global;
+use std::fmt::Debug;
 use std::io::{Read, Write};
+use std::process::Abort;
 use std::test::Fail;
 
 /// The sha256 digests of `abc` and of `hello` (FIPS 180-4).
@@ -16,6 +18,16 @@ pub const HELLO: &str = "sha256:2cf24dba5fb0a30e26e83b2ac5b9e29e1b161e5c1fa7425e
 
 /// The reply to a deletion.
 pub const DELETED: &str = "HTTP/1.1 202 Accepted\r\nContent-Length: 0\r\n\r\n";
+
+/// Both are the same: what a comparison prints where it fails is proved here, and not at each.
+pub fn same<T: PartialEq + Debug + Drop>(rt: &impl Abort, found: T, wanted: T) {
+    assert_eq!(rt; found, wanted);
+}
+
+/// The same, of what is found at this place of a list or of an input.
+pub fn same_at<T: PartialEq + Debug + Drop>(rt: &impl Abort, place: usize, found: T, wanted: T) {
+    assert_eq!(rt; found, wanted, "at {place}");
+}
 
 /// Makes the keepers that a row runs over.
 pub trait Maker {

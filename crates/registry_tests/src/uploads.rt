@@ -1,8 +1,8 @@
 //! 1,000 upload sessions may be open in a repository, whatever is open in another.
+ghost use Rattle.std.specs.Prelude.{◌≤◌};
 
 use crate::script::lines;
-use crate::setting::{InMaps, InTables, created, setting};
-use crate::stores::open;
+use crate::setting::{InMaps, InTables, created, same, setting};
 use oci_names::RepoName;
 use registry_model::Keeper;
 use registry_service::Service;
@@ -42,10 +42,10 @@ fn is_told<K: Keeper>(
     replies: &[String],
 ) -> Result<(), Fail> {
     let requests = lines(alloc, script)?;
-    assert_eq!(rt; requests.len(), replies.len());
+    same(rt, requests.len(), replies.len());
     for (request, wanted) in requests.iter().zip(replies) {
         let reply = request.reply(rt, alloc, registry)?;
-        assert_eq!(rt; str::from_utf8(reply.as_slice())?, wanted.as_str());
+        same(rt, str::from_utf8(reply.as_slice())?, wanted.as_str());
     }
     Ok(())
 }
@@ -58,6 +58,19 @@ fn one_too_many(alloc: Global) -> Result<Vec<String>, Fail> {
     replies.push(opened(alloc, "team/app", 1001)?)?;
     replies.push(TOO_MANY.to_string(alloc)?)?;
     Ok(replies)
+}
+
+/// Opens so many sessions by the keeper's own call.
+fn open<K: Keeper>(rt: &impl Abort, keeper: &mut K, name: &RepoName, count: u64) -> Result<(), Fail>
+    requires few { count ≤ 1000 }
+{
+    for last in 0..count {
+        assert_eq!(rt; keeper.sessions_open(name), Ok(last));
+        assert_eq!(rt; keeper.last_number(name), Ok(last));
+        assert_eq!(rt; keeper.has_repo(name), Ok(true));
+        same(rt, keeper.open_session(name), Ok(last + 1));
+    }
+    Ok(())
 }
 
 #[test]
@@ -84,9 +97,7 @@ fn too_many_uploads(rt: HostRuntime) -> Result<(), Fail> {
 fn too_many_uploads_over_tables(rt: HostRuntime) -> Result<(), Fail> {
     let name = RepoName::parse(rt.alloc(), "team/app")?;
     let mut keeper = setting::<InTables>(rt.alloc())?.into_keeper();
-    for last in 0_u64..1000 {
-        assert_eq!(rt; open(&rt, &mut keeper, &name, last, last), Ok(last + 1));
-    }
+    open(&rt, &mut keeper, &name, 1000)?;
     let mut registry = Service::new(keeper);
     let replies = one_too_many(rt.alloc())?;
     is_told(

@@ -1,5 +1,3 @@
-pub mod FreshTexts
-pub mod FreshKnown
 pub mod OtherTables
 pub mod AreRows
 pub mod Statements

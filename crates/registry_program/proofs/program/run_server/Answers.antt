@@ -1,5 +1,5 @@
 use Rattle.std.proofs.Common.{Err}
-use Rattle.registry_program.specs.declared.failure.Failure.TheVariants.{ConnectionFailure}
+use Rattle.registry_orders.specs.declared.failure.Failure.TheVariants.{ConnectionFailure}
 use Rattle.registry_program.proofs.ExitStatuses.{serving_of_opening}
 use Rattle.registry_program.proofs.program.run_server.Goals as goal
 

@@ -1,8 +1,8 @@
 use Rattle.std.proofs.Common.{◌∙◌, ◌+◌, ◌∷◌, drop, refl, ap, sym}
 use Rattle.std.proofs.lemmas.List.{at_drop_more}
-use Rattle.registry_program.specs.declared.options.GrantOption.{GrantOption}
-use Rattle.registry_program.specs.Setting.{with_levels}
-use Rattle.registry_program.proofs.SettingLemmas.{level_given, level_told}
+use Rattle.registry_orders.specs.declared.options.GrantOption.{GrantOption}
+use Rattle.registry_orders.specs.Setting.{with_levels}
+use Rattle.registry_orders.proofs.SettingLemmas.{level_given, level_told}
 use Rattle.registry_program.proofs.stdio.give_levels.Goals as goal
 
 pub loop-grant-init : goal.loop-grant-init

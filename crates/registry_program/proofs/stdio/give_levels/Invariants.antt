@@ -1,5 +1,5 @@
 use Rattle.std.proofs.Common.{◌≡◌, drop}
-use Rattle.registry_program.specs.Setting.{with_levels}
+use Rattle.registry_orders.specs.Setting.{with_levels}
 use Rattle.registry_program.proofs.stdio.give_levels.Given as goal
 
 -- the levels that are left make of this world what all make of the first

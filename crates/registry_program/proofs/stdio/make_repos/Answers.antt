@@ -1,8 +1,8 @@
 use Rattle.std.proofs.Common.{◌∙◌, ◌+◌, ◌∷◌, drop, refl, ap, sym}
 use Rattle.std.proofs.lemmas.List.{at_drop_more}
-use Rattle.registry_program.specs.declared.options.RepoOption.{RepoOption}
-use Rattle.registry_program.specs.Setting.{with_repos}
-use Rattle.registry_program.proofs.SettingLemmas.{repo_made, repo_told}
+use Rattle.registry_orders.specs.declared.options.RepoOption.{RepoOption}
+use Rattle.registry_orders.specs.Setting.{with_repos}
+use Rattle.registry_orders.proofs.SettingLemmas.{repo_made, repo_told}
 use Rattle.registry_program.proofs.stdio.make_repos.Goals as goal
 
 pub loop-repo-init : goal.loop-repo-init

@@ -1,5 +1,5 @@
 use Rattle.std.proofs.Common.{◌≡◌, drop}
-use Rattle.registry_program.specs.Setting.{with_repos}
+use Rattle.registry_orders.specs.Setting.{with_repos}
 use Rattle.registry_program.proofs.stdio.make_repos.Given as goal
 
 -- the repositories that are left make of this world what all make of the first

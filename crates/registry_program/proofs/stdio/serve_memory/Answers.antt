@@ -3,7 +3,7 @@ use Rattle.registry_maps.specs.declared.map_keeper.MapKeeper.{MapKeeper}
 use Rattle.registry_model.specs.World.{no_world}
 use Rattle.registry_model.specs.Keeping.{State}
 use Rattle.registry_maps.specs.Maps.{world_of, state_of}
-use Rattle.registry_program.specs.Setting.{with_repos, levels_if, world_by}
+use Rattle.registry_orders.specs.Setting.{with_repos, levels_if, world_by}
 use Rattle.registry_program.proofs.ExitStatuses.{served}
 use Rattle.registry_program.proofs.stdio.serve_memory.Goals as goal
 

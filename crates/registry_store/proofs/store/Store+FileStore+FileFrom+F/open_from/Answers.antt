@@ -2,7 +2,7 @@ use Rattle.std.proofs.Common.{arith}
 use Rattle.sqlite.specs.State.{HasCleanDisk}
 use Rattle.sqlite.specs.Files.{file_state}
 use Rattle.sqlite.specs.WalFiles.{image_at}
-use Rattle.registry_store.proofs.OpeningLemmas.{found_now, found_ours}
+use Rattle.registry_store.proofs.FilesFound.{found_now, found_ours}
 use Rattle.registry_store.proofs.store.Store+FileStore+FileFrom+F.open_from.Goals as goal
 
 pub adopt-requires-clause-idle : goal.adopt-requires-clause-idle

@@ -1,0 +1,2 @@
+pub mod SettingLemmas
+pub mod TableLemmas

@@ -1,0 +1,48 @@
+-- What carrying an order out comes to (profile).
+use Rattle.std.specs.Prelude.{◌≡◌, ℕ, true, Option, Result, Ok, Err}
+use Rattle.std.specs.Io.KnownBytes.{Appends}
+use Rattle.oci_names.specs.Text.{Text}
+use Rattle.registry_model.specs.Lookups.{usages_of}
+use Rattle.registry_model.specs.Keeping.{State}
+use Rattle.registry_orders.specs.declared.failure.Failure.{Failure}
+use Rattle.registry_orders.specs.declared.failure.Failure.TheVariants.{OutOfMemory, StorageFailure, ConnectionFailure}
+use Rattle.registry_orders.specs.declared.orders.Order.{Order}
+use Rattle.registry_orders.specs.declared.orders.Order.TheVariants.{Change, Usage}
+use Rattle.registry_orders.specs.Failures.{status_if}
+use Rattle.registry_orders.specs.Orders.{Obeys}
+use Rattle.registry_orders.specs.Table.{table_of}
+
+-- what standard output held before and after, where it is known
+pub record Output : Type 0 where
+  pub held : Option Text
+  pub held' : Option Text
+
+abbrev pub output : Option Text → Option Text → Output
+output held held' = record { held = held; held' = held' }
+
+abbrev pub IsSilent : Output → Type 0
+IsSilent o = o.held' ≡ o.held
+
+-- the table of the world was written; or memory was wanting, the storage failed or writing did; the world
+-- stays
+abbrev pub Shows : State → Result (Unit {0}) Failure → Output → State → Type 0
+Shows s (Ok v) o s' = Appends o.held o.held' (table_of (usages_of s.world)) × (s' ≡ s)
+Shows s (Err OutOfMemory) o s' = IsSilent o × (s' ≡ s)
+Shows s (Err StorageFailure) o s' = IsSilent o × (s'.spent ≡ true)
+Shows s (Err ConnectionFailure) o s' = s' ≡ s
+Shows s (Err _) o s' = ⊥
+
+abbrev pub CarriesOrder : State → Order → Result (Unit {0}) Failure → Output → State → Type 0
+CarriesOrder s (Change change) result o s' = IsSilent o × Obeys s change result s'
+CarriesOrder s Usage result o s' = Shows s result o s'
+
+-- the order was carried out, or why not, told by the exit status
+abbrev pub IsCarriedOut : State → Order → ℕ → Output → State → Type 0
+IsCarriedOut s order status o s' =
+    (result : Result (Unit {0}) Failure) × (status ≡ status_if result) × CarriesOrder s order result o s'
+
+-- nothing was written, unless writing failed
+abbrev pub IsSilentUnlessBroken : Result (Unit {0}) Failure → Output → Type 0
+IsSilentUnlessBroken (Ok v) o = Unit {0}
+IsSilentUnlessBroken (Err ConnectionFailure) o = Unit {0}
+IsSilentUnlessBroken (Err _) o = IsSilent o

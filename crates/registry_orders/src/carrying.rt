@@ -1,0 +1,113 @@
+ghost use Rattle.std.specs.Prelude.{◌≡◌, ℕ, ◌<◌, ◌≤◌};
+ghost use Rattle.registry_orders.specs.Orders.{Obeys};
+ghost use Rattle.registry_orders.specs.Carrying.{output, Shows, CarriesOrder, IsCarriedOut};
+ghost use Rattle.registry_orders.specs.Carrying.{IsSilent, IsSilentUnlessBroken};
+
+use crate::failure::{Failure, of_command, say};
+use crate::orders::{Change, Order};
+use crate::table::write_table;
+use oci_names::Fault;
+use registry_model::Keeper;
+use registry_service::Service;
+use std::alloc::Global;
+use std::io::Write;
+
+/// How an order or a connection ended, and the keeper behind it.
+#[derive(Drop)]
+pub struct Ended<K: Keeper> {
+    pub keeper: K,
+    /// The exit status.
+    pub status: u8,
+}
+
+/// Makes a change.
+fn make_change<K: Keeper>(service: &mut Service<K>, change: &Change) -> Result<(), Failure>
+    ensures honest { K.is_honest service.new → K.is_honest service.old }
+    ensures obeys { K.is_honest service.new
+        → Obeys (K.state service.old) change.now result (K.state service.new) }
+{
+    match service.admin(&change.command()) {
+        Ok(()) => Ok(()),
+        Err(fault) => Err(of_command(fault)),
+    }
+}
+
+/// Writes what each repository holds and may hold.
+fn show_usage<K: Keeper, W: Write>(
+    alloc: Global,
+    keeper: &mut K,
+    out: &mut W,
+) -> Result<(), Failure>
+    ensures honest { K.is_honest keeper.new → K.is_honest keeper.old }
+    ensures shows { K.is_honest keeper.new
+        → Shows (K.state keeper.old) result
+        (output (W.contents out.old) (W.contents out.new)) (K.state keeper.new) }
+    ensures silent { IsSilentUnlessBroken result (output (W.contents out.old) (W.contents out.new)) }
+{
+    match keeper.usages(alloc) {
+        Ok(usages) => write_table(out, usages.as_slice()),
+        Err(Fault::Memory) => Err(Failure::OutOfMemory),
+        Err(Fault::Storage) => Err(Failure::StorageFailure),
+    }
+}
+
+/// A keeper that an order was carried out over, and what came of it.
+#[derive(Drop)]
+struct Carried<K: Keeper> {
+    keeper: K,
+    result: Result<(), Failure>,
+}
+
+fn carry<K: Keeper, W: Write>(alloc: Global, keeper: K, order: &Order, out: &mut W) -> Carried<K>
+    ensures honest { K.is_honest result.keeper → K.is_honest keeper }
+    ensures carries { K.is_honest result.keeper
+        → CarriesOrder (K.state keeper) order.now result.result
+        (output (W.contents out.old) (W.contents out.new)) (K.state result.keeper) }
+    ensures silent { IsSilentUnlessBroken result.result (output (W.contents out.old) (W.contents out.new)) }
+{
+    match order {
+        Order::Change(change) => {
+            let mut service = Service::new(keeper);
+            let result = make_change(&mut service, change);
+            Carried {
+                keeper: service.into_keeper(),
+                result,
+            }
+        }
+        Order::Usage => {
+            let mut keeper = keeper;
+            let result = show_usage(alloc, &mut keeper, out);
+            Carried { keeper, result }
+        }
+    }
+}
+
+/// Carries out an order over a keeper, and says on standard error what failed. The status is 0; 1
+/// where the order is refused; 3 where memory is wanting or the storage fails; 4 where writing fails.
+/// An order that is refused changes nothing, nor does one for which memory is wanting. Nothing is
+/// written to standard output but the table of `Order::Usage`.
+pub fn carry_out<K: Keeper, W: Write, E: Write>(
+    alloc: Global,
+    keeper: K,
+    order: &Order,
+    out: &mut W,
+    err: &mut E,
+) -> Ended<K>
+    ensures honest { K.is_honest result.keeper → K.is_honest keeper }
+    ensures carries { K.is_honest result.keeper
+        → IsCarriedOut (K.state keeper) order.now result.status
+        (output (W.contents out.old) (W.contents out.new)) (K.state result.keeper) }
+    ensures silent { 0 < result.status → result.status < 4
+        → IsSilent (output (W.contents out.old) (W.contents out.new)) }
+    ensures status { result.status ≤ 4 }
+{
+    let carried = carry(alloc, keeper, order, out);
+    let status = match carried.result {
+        Ok(()) => 0,
+        Err(failure) => say(err, failure),
+    };
+    Ended {
+        keeper: carried.keeper,
+        status,
+    }
+}

@@ -1,0 +1,124 @@
+ghost use Rattle.std.specs.Prelude.{◌≡◌};
+ghost use Rattle.registry_orders.specs.Failures.{status_of, failure_of, failure_of_text};
+
+use oci_names::NameFault;
+use registry_service::AdminFault;
+use std::alloc::AllocError;
+use std::fmt;
+use std::io::Write;
+
+/// Why the program ends with another status than 0.
+#[derive(Clone, Copy, Debug, PartialEq, Eq)]
+pub enum Failure {
+    NoRepo,
+    NoGrant,
+    RepoThere,
+    InvalidName,
+    InvalidToken,
+    InvalidOptions,
+    OutOfMemory,
+    StorageFailure,
+    /// The database has this schema, which is another than the one that is read.
+    Schema(i64),
+    NotARegistry,
+    ConnectionFailure,
+}
+
+impl Failure {
+    /// The exit status: 1 a refused command, 2 the command line, 3 storage, schema or memory, 4 a
+    /// socket, reading or writing.
+    pub fn status(self) -> u8
+        ensures { result ≡ status_of self }
+    {
+        match self {
+            Failure::NoRepo => 1,
+            Failure::NoGrant => 1,
+            Failure::RepoThere => 1,
+            Failure::InvalidName => 2,
+            Failure::InvalidToken => 2,
+            Failure::InvalidOptions => 2,
+            Failure::OutOfMemory => 3,
+            Failure::StorageFailure => 3,
+            Failure::Schema(_) => 3,
+            Failure::NotARegistry => 3,
+            Failure::ConnectionFailure => 4,
+        }
+    }
+}
+
+/// What is said of it on standard error.
+impl fmt::Display for Failure {
+    ghost use Rattle.std.specs.Prelude.{Some};
+    ghost use Rattle.registry_orders.specs.Failures.{text_of};
+
+    ghost output = { λ failure. Some (text_of failure) };
+
+    fn fmt<W: fmt::Write>(&self, f: &mut fmt::Formatter<W>) -> fmt::Result {
+        match self {
+            Failure::NoRepo => f.write_str("registry: no such repository"),
+            Failure::NoGrant => f.write_str("registry: no such grant"),
+            Failure::RepoThere => f.write_str("registry: repository already there"),
+            Failure::InvalidName => f.write_str("registry: invalid name"),
+            Failure::InvalidToken => f.write_str("registry: invalid token"),
+            Failure::InvalidOptions => f.write_str("registry: invalid options"),
+            Failure::OutOfMemory => f.write_str("registry: out of memory"),
+            Failure::StorageFailure => f.write_str("registry: storage failure"),
+            Failure::Schema(found) => write!(f, "registry: schema {found} is not supported"),
+            Failure::NotARegistry => f.write_str("registry: not a registry"),
+            Failure::ConnectionFailure => f.write_str("registry: connection failure"),
+        }
+    }
+}
+
+impl From<AllocError> for Failure {
+    ghost use Rattle.std.specs.Prelude.{◌≡◌};
+    ghost use Rattle.registry_orders.specs.declared.failure.Failure.{Failure};
+
+    ghost from_gives = { λ _ failure. failure ≡ Failure.OutOfMemory };
+
+    fn from(_: AllocError) -> Failure {
+        Failure::OutOfMemory
+    }
+}
+
+impl<T: Drop> From<std::alloc::AllocFailed<T>> for Failure {
+    ghost use Rattle.std.specs.Prelude.{◌≡◌};
+    ghost use Rattle.registry_orders.specs.declared.failure.Failure.{Failure};
+
+    ghost from_gives = { λ _ failure. failure ≡ Failure.OutOfMemory };
+
+    fn from(_: std::alloc::AllocFailed<T>) -> Failure {
+        Failure::OutOfMemory
+    }
+}
+
+/// Says why on standard error, and gives the exit status.
+pub fn say<E: Write>(err: &mut E, failure: Failure) -> u8
+    ensures { result ≡ status_of failure }
+{
+    let _ = writeln!(err, "{failure}");
+    failure.status()
+}
+
+/// Why a command was not carried out.
+pub fn of_command(fault: AdminFault) -> Failure
+    ensures { result ≡ failure_of fault }
+{
+    match fault {
+        AdminFault::NoRepo => Failure::NoRepo,
+        AdminFault::NoGrant => Failure::NoGrant,
+        AdminFault::RepoThere => Failure::RepoThere,
+        AdminFault::Memory => Failure::OutOfMemory,
+        AdminFault::Storage => Failure::StorageFailure,
+    }
+}
+
+/// Why a text is no name or no token, or that memory is wanting.
+pub fn of_text(fault: NameFault, kind: Failure) -> Failure
+    ensures { result ≡ failure_of_text fault kind }
+{
+    match fault {
+        NameFault::Memory => Failure::OutOfMemory,
+        _ => kind,
+    }
+}

@@ -1,0 +1,228 @@
+ghost use Rattle.std.specs.Prelude.{IfErr};
+ghost use Rattle.registry_orders.specs.Failures.{IsOfWords};
+ghost use Rattle.registry_orders.specs.Reading.{IsToldOfWords};
+
+use crate::failure::Failure;
+use crate::options::Setup;
+use crate::orders::{Order, read_order};
+use clap::builder::ValueParser;
+use clap::{Arg, ArgAction, ArgMatches, Command, Error};
+use registry_model::LARGEST_QUOTA;
+use std::alloc::{AllocError, Global};
+use std::convert::AsStr;
+
+/// The most connections that can be asked for.
+const MOST_CONNECTIONS: u64 = 9_223_372_036_854_775_807;
+
+/// What there is to do.
+#[derive(Drop)]
+pub enum Task<'a> {
+    /// Serve standard input over a registry in memory.
+    Memory(Setup),
+    /// Serve standard input over the registry at a path.
+    Stored {
+        path: &'a str,
+    },
+    /// Serve an address over the registry at a path, so many connections.
+    Server {
+        path: &'a str,
+        address: &'a str,
+        connections: u64,
+    },
+    /// Carry out an order over the registry at a path.
+    Order {
+        path: &'a str,
+        order: Order,
+    },
+}
+
+/// What the command line was answered.
+#[derive(Drop)]
+pub enum Told {
+    Failed(Failure),
+    Line(Error),
+}
+
+/// An option with one value.
+fn option<'a>(alloc: Global, word: &'a str, value: &'a str, help: &'a str) -> Arg<'a> {
+    Arg::new(alloc, word)
+        .long(word)
+        .value_name(value)
+        .action(ArgAction::Set)
+        .help(help)
+}
+
+fn database<'a>(alloc: Global) -> Arg<'a> {
+    option(alloc, "db", "PATH", "The database file")
+}
+
+fn name<'a>(alloc: Global) -> Arg<'a> {
+    option(alloc, "name", "NAME", "The repository").required(true)
+}
+
+fn token<'a>(alloc: Global) -> Arg<'a> {
+    let help = "The token; one that begins with - is written --token=-x";
+    option(alloc, "token", "TOKEN", help).required(true)
+}
+
+fn quota<'a>(alloc: Global) -> Arg<'a> {
+    let help = "The most bytes that the repository may use";
+    option(alloc, "quota", "BYTES", help)
+        .required(true)
+        .value_parser(ValueParser::unsigned(0, LARGEST_QUOTA))
+}
+
+fn level<'a>(alloc: Global) -> Arg<'a> {
+    option(alloc, "level", "LEVEL", "1 pull, 2 push, 3 delete")
+        .required(true)
+        .value_parser(ValueParser::unsigned(1, 3))
+}
+
+fn stdio<'a>(alloc: Global) -> Result<Command<'a>, AllocError> {
+    let memory = Arg::new(alloc, "memory")
+        .long("memory")
+        .action(ArgAction::SetTrue)
+        .help("Keep everything in memory");
+    let making = "Make a repository with a quota in bytes";
+    let repo = option(alloc, "repo", "NAME=QUOTA", making).action(ArgAction::Append);
+    let giving = "Give a token a level on a repository: 1 pull, 2 push, 3 delete";
+    let grant = option(alloc, "grant", "TOKEN=NAME=LEVEL", giving).action(ArgAction::Append);
+    Command::new(alloc, "stdio")
+        .about("Serve standard input as one connection")
+        .arg(database(alloc))?
+        .arg(memory)?
+        .arg(repo)?
+        .arg(grant)
+}
+
+fn serve<'a>(alloc: Global) -> Result<Command<'a>, AllocError> {
+    let help = "The address and port to listen on";
+    let address = option(alloc, "listen", "ADDR", help).required(true);
+    let connections = option(alloc, "connections", "N", "End after so many connections")
+        .value_parser(ValueParser::unsigned(0, MOST_CONNECTIONS))
+        .default_value("9223372036854775807");
+    Command::new(alloc, "serve")
+        .about("Serve connections, one after the other")
+        .arg(database(alloc).required(true))?
+        .arg(address)?
+        .arg(connections)
+}
+
+/// A subcommand over a database.
+fn over_database<'a>(
+    alloc: Global,
+    word: &'a str,
+    about: &'a str,
+) -> Result<Command<'a>, AllocError> {
+    Command::new(alloc, word)
+        .about(about)
+        .arg(database(alloc).required(true))
+}
+
+/// A subcommand over a repository of a database.
+fn over_repo<'a>(alloc: Global, word: &'a str, about: &'a str) -> Result<Command<'a>, AllocError> {
+    over_database(alloc, word, about)?.arg(name(alloc))
+}
+
+fn with_repo_commands<'a>(alloc: Global, command: Command<'a>) -> Result<Command<'a>, AllocError> {
+    let repo = over_repo(alloc, "repo", "Make a repository")?.arg(quota(alloc))?;
+    let quota = over_repo(alloc, "quota", "Set a repository's quota")?.arg(quota(alloc))?;
+    let drop = over_repo(alloc, "drop", "Drop a repository with its grants")?;
+    let sessions = over_repo(alloc, "sessions", "End a repository's open uploads")?;
+    command
+        .subcommand(repo)?
+        .subcommand(quota)?
+        .subcommand(drop)?
+        .subcommand(sessions)
+}
+
+fn with_other_commands<'a>(alloc: Global, command: Command<'a>) -> Result<Command<'a>, AllocError> {
+    let grant = over_database(alloc, "grant", "Give a token a level on a repository")?
+        .arg(token(alloc))?
+        .arg(name(alloc))?
+        .arg(level(alloc))?;
+    let revoke = over_database(alloc, "revoke", "Take a token's level on a repository away")?
+        .arg(token(alloc))?
+        .arg(name(alloc))?;
+    let clear = over_database(alloc, "clear", "Free what no repository holds any more")?;
+    let usage = over_database(alloc, "usage", "List what the repositories hold")?;
+    command
+        .subcommand(grant)?
+        .subcommand(revoke)?
+        .subcommand(clear)?
+        .subcommand(usage)
+}
+
+/// The command line.
+fn command<'a>(alloc: Global) -> Result<Command<'a>, AllocError> {
+    let command = Command::new(alloc, "registry")
+        .about("An OCI artifact registry")
+        .version("0.1.0")
+        .no_binary_name(true)
+        .subcommand_required(true)
+        .subcommand(serve(alloc)?)?
+        .subcommand(stdio(alloc)?)?;
+    with_other_commands(alloc, with_repo_commands(alloc, command)?)
+}
+
+/// What `registry stdio` is to serve: a database, or a registry in memory, which alone is set up here.
+fn stdio_task<'a>(alloc: Global, matches: &ArgMatches<'a>) -> Result<Task<'a>, Failure>
+    ensures { IfErr result IsOfWords }
+{
+    let repos = matches.get_strs("repo").unwrap_or(&[]);
+    let grants = matches.get_strs("grant").unwrap_or(&[]);
+    let memory = matches.get_flag("memory");
+    match matches.get_str("db") {
+        Some(path) if !memory && repos.is_empty() && grants.is_empty() => Ok(Task::Stored { path }),
+        None if memory => {
+            let setup = Setup::read(alloc, repos, grants)?;
+            Ok(Task::Memory(setup))
+        }
+        _ => Err(Failure::InvalidOptions),
+    }
+}
+
+fn serve_task<'a>(matches: &ArgMatches<'a>) -> Result<Task<'a>, Failure>
+    ensures { IfErr result IsOfWords }
+{
+    let path = matches.get_str("db").ok_or(Failure::InvalidOptions)?;
+    let address = matches.get_str("listen").ok_or(Failure::InvalidOptions)?;
+    let connections = matches
+        .get_one::<u64>("connections")
+        .ok_or(Failure::InvalidOptions)?;
+    Ok(Task::Server {
+        path,
+        address,
+        connections,
+    })
+}
+
+fn order_task<'a>(alloc: Global, word: &str, matches: &ArgMatches<'a>) -> Result<Task<'a>, Failure>
+    ensures { IfErr result IsOfWords }
+{
+    let path = matches.get_str("db").ok_or(Failure::InvalidOptions)?;
+    let order = read_order(alloc, word, matches)?;
+    Ok(Task::Order { path, order })
+}
+
+/// Reads the words: what `clap` refuses is told first, then options that do not go together or do not
+/// split, then a name, then a token that is none. No database is opened here.
+pub fn read_words<'a, S: AsStr>(alloc: Global, words: &'a [S]) -> Result<Task<'a>, Told>
+    ensures { IfErr result IsToldOfWords }
+{
+    let command = match command(alloc) {
+        Ok(command) => command,
+        Err(_) => return Err(Told::Failed(Failure::OutOfMemory)),
+    };
+    let matches = match command.try_get_matches_from(words) {
+        Ok(matches) => matches,
+        Err(error) => return Err(Told::Line(error)),
+    };
+    let task = match matches.subcommand() {
+        Some(("stdio", matches)) => stdio_task(alloc, matches),
+        Some(("serve", matches)) => serve_task(matches),
+        Some((word, matches)) => order_task(alloc, word, matches),
+        None => Err(Failure::InvalidOptions),
+    };
+    task.map_err(Told::Failed)
+}

@@ -1,0 +1,179 @@
+ghost use Rattle.std.specs.Prelude.{◌≡◌, Some, IfOk, IfErr, codes};
+ghost use Rattle.clap.specs.Words.{found_of, first_value};
+ghost use Rattle.registry_orders.specs.Failures.{IsOfWords};
+ghost use Rattle.registry_orders.specs.Orders.{IsCommandOf, IsChangeIn, IsOrderIn};
+
+use crate::failure::Failure;
+use crate::options::{level_numbered, name_of, token_of};
+use clap::ArgMatches;
+use oci_names::{RepoName, Token};
+use registry_model::{AdminCommand, Level, Quota};
+use std::alloc::Global;
+
+/// A change to a registry over a database that the administrator orders (profile).
+#[derive(Drop)]
+pub enum Change {
+    /// Makes an empty repository.
+    AddRepo {
+        name: RepoName,
+        quota: Quota,
+    },
+    /// Sets a repository's quota.
+    SetQuota {
+        name: RepoName,
+        quota: Quota,
+    },
+    /// Takes a repository away, with every level on it.
+    DropRepo {
+        name: RepoName,
+    },
+    /// Ends every open upload session of a repository.
+    DropSessions {
+        name: RepoName,
+    },
+    /// Gives a token a level on a repository.
+    Grant {
+        token: Token,
+        name: RepoName,
+        level: Level,
+    },
+    /// Takes a token's level on a repository away.
+    Revoke {
+        token: Token,
+        name: RepoName,
+    },
+    /// Frees what no repository holds any more.
+    Clear,
+}
+
+/// What the administrator orders of a registry over a database.
+#[derive(Drop)]
+pub enum Order {
+    Change(Change),
+    /// Asks what each repository holds and may hold.
+    Usage,
+}
+
+impl Change {
+    /// The command that says the same.
+    pub fn command(&self) -> AdminCommand<'_>
+        ensures { IsCommandOf self.now result }
+    {
+        match self {
+            Change::AddRepo { name, quota } => AdminCommand::AddRepo {
+                name,
+                quota: *quota,
+            },
+            Change::SetQuota { name, quota } => AdminCommand::SetQuota {
+                name,
+                quota: *quota,
+            },
+            Change::DropRepo { name } => AdminCommand::DropRepo { name },
+            Change::DropSessions { name } => AdminCommand::DropSessions { name },
+            Change::Grant { token, name, level } => AdminCommand::Grant {
+                token,
+                name,
+                level: *level,
+            },
+            Change::Revoke { token, name } => AdminCommand::Revoke { token, name },
+            Change::Clear => AdminCommand::Clear,
+        }
+    }
+}
+
+/// The value of `--name`.
+fn name_in(alloc: Global, matches: &ArgMatches) -> Result<RepoName, Failure>
+    ensures found { IfOk result (λ name. first_value (found_of matches.now) (codes "name") ≡ Some name) }
+    ensures refused { IfErr result IsOfWords }
+{
+    match matches.get_str("name") {
+        Some(text) => name_of(alloc, text),
+        None => Err(Failure::InvalidOptions),
+    }
+}
+
+/// The value of `--token`.
+fn token_in(alloc: Global, matches: &ArgMatches) -> Result<Token, Failure>
+    ensures found { IfOk result (λ token. first_value (found_of matches.now) (codes "token") ≡ Some token) }
+    ensures refused { IfErr result IsOfWords }
+{
+    match matches.get_str("token") {
+        Some(text) => token_of(alloc, text),
+        None => Err(Failure::InvalidOptions),
+    }
+}
+
+/// The value of `--quota`, in bytes.
+fn quota_in(matches: &ArgMatches) -> Result<Quota, Failure>
+    ensures { IfErr result IsOfWords }
+{
+    match matches.get_one::<u64>("quota").and_then(Quota::new) {
+        Some(quota) => Ok(quota),
+        None => Err(Failure::InvalidOptions),
+    }
+}
+
+/// The value of `--level`.
+fn level_in(matches: &ArgMatches) -> Result<Level, Failure>
+    ensures { IfErr result IsOfWords }
+{
+    match matches.get_one::<u64>("level").and_then(level_numbered) {
+        Some(level) => Ok(level),
+        None => Err(Failure::InvalidOptions),
+    }
+}
+
+/// The change of a subcommand that names a repository alone, or a repository and a quota.
+fn change_of_repo(alloc: Global, word: &str, matches: &ArgMatches) -> Result<Change, Failure>
+    ensures read { IfOk result (IsChangeIn word.now (first_value (found_of matches.now))) }
+    ensures refused { IfErr result IsOfWords }
+{
+    let name = name_in(alloc, matches)?;
+    match word {
+        "repo" => Ok(Change::AddRepo {
+            name,
+            quota: quota_in(matches)?,
+        }),
+        "quota" => Ok(Change::SetQuota {
+            name,
+            quota: quota_in(matches)?,
+        }),
+        "drop" => Ok(Change::DropRepo { name }),
+        "sessions" => Ok(Change::DropSessions { name }),
+        _ => Err(Failure::InvalidOptions),
+    }
+}
+
+/// The change of a subcommand that names a token and a repository. An invalid name is told before an
+/// invalid token.
+fn change_of_grant(alloc: Global, word: &str, matches: &ArgMatches) -> Result<Change, Failure>
+    ensures read { IfOk result (IsChangeIn word.now (first_value (found_of matches.now))) }
+    ensures refused { IfErr result IsOfWords }
+{
+    let name = name_in(alloc, matches)?;
+    let token = token_in(alloc, matches)?;
+    match word {
+        "grant" => Ok(Change::Grant {
+            token,
+            name,
+            level: level_in(matches)?,
+        }),
+        "revoke" => Ok(Change::Revoke { token, name }),
+        _ => Err(Failure::InvalidOptions),
+    }
+}
+
+/// Reads what a subcommand of the administrator orders: its word, and the values of its options. A
+/// name that is none is told before a token that is none. `InvalidOptions` is answered to a word that
+/// is no such subcommand, or where a value is missing or out of its range, which `clap` has told then.
+pub fn read_order(alloc: Global, word: &str, matches: &ArgMatches) -> Result<Order, Failure>
+    ensures read { IfOk result (IsOrderIn word.now (first_value (found_of matches.now))) }
+    ensures refused { IfErr result IsOfWords }
+{
+    match word {
+        "usage" => Ok(Order::Usage),
+        "clear" => Ok(Order::Change(Change::Clear)),
+        "grant" | "revoke" => change_of_grant(alloc, word, matches).map(Order::Change),
+        _ => change_of_repo(alloc, word, matches).map(Order::Change),
+    }
+}

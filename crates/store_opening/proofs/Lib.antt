@@ -1,0 +1,6 @@
+pub mod FreshTexts
+pub mod FreshKnown
+pub mod FreshTables
+pub mod VersionRows
+pub mod VersionAsked
+pub mod OpeningLemmas

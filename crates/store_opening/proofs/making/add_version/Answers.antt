@@ -1,0 +1,7 @@
+use Rattle.std.proofs.Common.{Ok}
+use Rattle.sqlite.specs.Held.{state}
+use Rattle.store_opening.proofs.VersionRows.{version_by}
+use Rattle.store_opening.proofs.making.add_version.Goals as goal
+
+pub returns-in-Ok-clause-added : goal.returns-in-Ok-clause-added
+returns-in-Ok-clause-added g c clean is = version_by (state g.S.Store c.args.tx.now.conn.now) (state g.S.Store c.execute.new.self.conn.now) (Ok c.in-Ok.field-0) is (c.in-Ok.ensures.runs clean is.inside)

@@ -1,0 +1,16 @@
+use Rattle.std.proofs.Common.{arith}
+use Rattle.sqlite.specs.State.{HasCleanDisk}
+use Rattle.sqlite.specs.Held.{state}
+use Rattle.store_opening.proofs.FreshTables.{then_new}
+use Rattle.store_schema.proofs.Selects.{commit_then}
+use Rattle.store_opening.proofs.making.make.Goals as goal
+
+pub returns-in-Ok-clause-made : goal.returns-in-Ok-clause-made
+returns-in-Ok-clause-made g c clean empty =
+    let mid : HasCleanDisk (state g.S.Store c.make_tables.new.tx.conn.now) = omega (arith, c.add_version.ensures.survives.clean) in
+    then_new (state g.S.Store c.make_tables.new.tx.conn.now) (state g.S.Store c.add_version.new.tx.conn.now) c.add_version.result (c.in-Ok.ensures.inside mid) (c.in-Ok.ensures.made mid empty) (λ ready. c.add_version.ensures.added clean ready)
+
+pub returns-in-Ok-clause-kept : goal.returns-in-Ok-clause-kept
+returns-in-Ok-clause-kept g c clean =
+    let mid : HasCleanDisk (state g.S.Store c.make_tables.new.tx.conn.now) = omega (arith, c.add_version.ensures.survives.clean) in
+    commit_then (state g.S.Store c.args.tx.now.conn.now) (state g.S.Store c.make_tables.new.tx.conn.now) (state g.S.Store c.add_version.new.tx.conn.now) (c.make_tables.ensures.kept mid) (c.add_version.ensures.kept clean)

@@ -1,0 +1,8 @@
+//! What a database is found to be as a registry is opened on it, and the tables that are made in a new one.
+#![tactic(auto)]
+
+mod making;
+mod opening;
+mod version;
+
+pub use opening::{OpenFault, fault_in_opening, take_up};

@@ -1,0 +1,75 @@
+//! The opening of a registry on a database.
+ghost use Rattle.std.specs.Prelude.{◌≡◌, OnOk, OnErr, IfErr};
+ghost use Rattle.sqlite.specs.State.{HasCleanDisk};
+ghost use Rattle.sqlite.specs.Held.{state};
+ghost use Rattle.store_schema.specs.Schema.{no_schema};
+ghost use Rattle.store_schema.specs.Making.{IsEmptyWith};
+ghost use Rattle.registry_model.specs.World.{no_world};
+ghost use Rattle.store_statements.specs.Clauses.{Lasts};
+ghost use Rattle.store_statements.specs.Held.{StaysSettled, Makes, IsBack};
+ghost use Rattle.store_opening.specs.Opening.{IsIdle, HoldsRegistry, SaysTwo, has_version_table};
+ghost use Rattle.store_opening.specs.Asking.{IsWanting, IsTold, IsUnnumbered};
+
+use crate::making::create;
+use crate::version::read_version;
+use sqlite::{Alter, Connection, Error, ErrorCode};
+
+/// Why a database is not opened as a registry.
+#[derive(Clone, Copy, Debug, PartialEq, Eq)]
+pub enum OpenFault {
+    /// Memory was refused.
+    Memory,
+    /// The database failed.
+    Storage,
+    /// The tables are of another schema than 2.
+    Schema(i64),
+    /// There are tables of these names that are not a registry's.
+    NotARegistry,
+}
+
+/// Why a database fails in its opening: want of memory is told apart from all others.
+pub fn fault_in_opening(error: Error) -> OpenFault
+    ensures wanting { IsWanting result }
+    ensures unnumbered { IsUnnumbered result }
+{
+    match error {
+        Error::SqliteFailure(ErrorCode::OutOfMemory) => OpenFault::Memory,
+        _ => OpenFault::Storage,
+    }
+}
+
+/// Whether a table says which schema the tables are. Reads no row.
+fn is_marked<S: Alter>(conn: &Connection<S>) -> bool
+    ensures { result ≡ has_version_table (state S.Store conn.now).now.schema }
+{
+    conn.schema().table_named(b"registry_schema").is_some()
+}
+
+/// Makes the tables of a registry where no table says that they are there; else sees that they are of
+/// schema 2. Whatever the database is: outside a transaction a refusal leaves it as it was, where it is open
+/// still, and `Schema` names the one number that it says. `NotARegistry`: it says none, or a name is taken.
+/// An empty database, and a registry's of schema 2, are refused for want of memory or a failure alone.
+pub fn take_up<S: Alter>(conn: &mut Connection<S>) -> Result<(), OpenFault>
+    ensures made { HasCleanDisk (state S.Store conn.new) → IsEmptyWith no_schema (state S.Store conn.old).now
+        → OnOk result (Makes (state S.Store conn.new) no_world) }
+    ensures found { HasCleanDisk (state S.Store conn.new) → IsIdle (state S.Store conn.old)
+        → HoldsRegistry (state S.Store conn.old).now
+        → OnOk result (StaysSettled (state S.Store conn.old) (state S.Store conn.new)) }
+    ensures unmade { HasCleanDisk (state S.Store conn.new)
+        → IsEmptyWith no_schema (state S.Store conn.old).now → IfErr result IsWanting }
+    ensures wanting { HasCleanDisk (state S.Store conn.new) → HoldsRegistry (state S.Store conn.old).now
+        → SaysTwo (state S.Store conn.old).now → IfErr result IsWanting }
+    ensures told { HasCleanDisk (state S.Store conn.new) → IfErr result (IsTold (state S.Store conn.old)) }
+    ensures back { HasCleanDisk (state S.Store conn.new) → IsIdle (state S.Store conn.old)
+        → OnErr result (IsBack (state S.Store conn.old) (state S.Store conn.new)) }
+    ensures survives { Lasts S.Store conn.old conn.new }
+{
+    if !is_marked(conn) {
+        return create(conn);
+    }
+    match read_version(conn) {
+        Ok(2) => Ok(()),
+        Ok(found) => Err(OpenFault::Schema(found)),
+        Err(fault) => Err(fault),
+    }
+}

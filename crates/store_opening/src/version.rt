@@ -1,0 +1,81 @@
+//! Which schema the tables of a database are.
+ghost use Rattle.std.specs.Prelude.{◌≡◌, ◌∷◌, [], pos, OnOk, IfOk, IfErr, map};
+ghost use Rattle.std.specs.List.Sorted.{IsPermutation};
+ghost use Rattle.sqlite.specs.State.{HasCleanDisk, IsUnchanged};
+ghost use Rattle.sqlite.specs.Held.{state};
+ghost use Rattle.sqlite.specs.Order.{column};
+ghost use Rattle.sqlite.specs.declared.types.Value.TheVariants.{Int};
+ghost use Rattle.store_statements.specs.Clauses.{Lasts};
+ghost use Rattle.store_statements.specs.Held.{HoldsTables, LeavesAsWas, held};
+ghost use Rattle.store_opening.specs.Opening.{SaysTwo};
+ghost use Rattle.store_opening.specs.Asking.{IsWanting, IsFailing, IsUnnumbered, ShowsAlone, AnswersVersion, IsOfSchema};
+
+use crate::opening::OpenFault;
+use sqlite::{Alter, Connection, Error, ErrorCode, Row};
+
+/// Why the version is not read: a text that the tables do not answer is told apart.
+fn fault_in_reading(error: Error) -> OpenFault
+    ensures wanting { IsFailing error → IsWanting result }
+    ensures unnumbered { IsUnnumbered result }
+{
+    match error {
+        Error::SqliteFailure(ErrorCode::OutOfMemory) => OpenFault::Memory,
+        Error::SqlInputError(_) => OpenFault::NotARegistry,
+        _ => OpenFault::Storage,
+    }
+}
+
+/// The versions that the tables say they are. Whatever they are, nothing is written.
+fn version_rows<S: Alter>(conn: &mut Connection<S>) -> Result<Vec<Row>, Error>
+    ensures shown { HasCleanDisk (state S.Store conn.new) → HoldsTables (state S.Store conn.old).now
+        → IfOk result
+        (λ rows. IsPermutation (map (λ r. column r 1 ∷ []) (held (state S.Store conn.old)).version)
+        rows.items) }
+    ensures same { HasCleanDisk (state S.Store conn.new) → HoldsTables (state S.Store conn.old).now
+        → OnOk result (IsUnchanged (state S.Store conn.old) (state S.Store conn.new)) }
+    ensures failing { HasCleanDisk (state S.Store conn.new) → HoldsTables (state S.Store conn.old).now
+        → IfErr result IsFailing }
+    ensures left { HasCleanDisk (state S.Store conn.new)
+        → LeavesAsWas (state S.Store conn.old) (state S.Store conn.new) }
+    ensures answered { HasCleanDisk (state S.Store conn.new)
+        → IfOk result (λ rows. AnswersVersion (state S.Store conn.old) rows.items) }
+    ensures survives { Lasts S.Store conn.old conn.new }
+{
+    conn.query_all("SELECT version FROM registry_schema", &[])
+}
+
+/// The one version that the rows say, a whole number.
+fn version_in(rows: &[Row]) -> Result<i64, OpenFault>
+    ensures two { rows.now ≡ (Int (pos 2) ∷ []) ∷ [] → IfOk result (λ n. n ≡ pos 2) × IfErr result IsWanting }
+    ensures alone { IfOk result (ShowsAlone rows.now) }
+    ensures unnumbered { IfErr result IsUnnumbered }
+{
+    let [row] = rows else {
+        return Err(OpenFault::NotARegistry);
+    };
+    match row.get(0) {
+        Ok(version) => Ok(version),
+        Err(Error::SqliteFailure(ErrorCode::OutOfMemory)) => Err(OpenFault::Memory),
+        Err(_) => Err(OpenFault::NotARegistry),
+    }
+}
+
+/// Which schema the tables are. `NotARegistry`: it is not one row that says so with a whole number.
+pub(crate) fn read_version<S: Alter>(conn: &mut Connection<S>) -> Result<i64, OpenFault>
+    ensures found { HasCleanDisk (state S.Store conn.new) → HoldsTables (state S.Store conn.old).now
+        → SaysTwo (state S.Store conn.old).now → IfOk result (λ n. n ≡ pos 2) }
+    ensures same { HasCleanDisk (state S.Store conn.new) → HoldsTables (state S.Store conn.old).now
+        → OnOk result (IsUnchanged (state S.Store conn.old) (state S.Store conn.new)) }
+    ensures wanting { HasCleanDisk (state S.Store conn.new) → HoldsTables (state S.Store conn.old).now
+        → SaysTwo (state S.Store conn.old).now → IfErr result IsWanting }
+    ensures left { HasCleanDisk (state S.Store conn.new)
+        → LeavesAsWas (state S.Store conn.old) (state S.Store conn.new) }
+    ensures told { HasCleanDisk (state S.Store conn.new) → IfOk result (IsOfSchema (state S.Store conn.old)) }
+    ensures unnumbered { IfErr result IsUnnumbered }
+    ensures survives { Lasts S.Store conn.old conn.new }
+{
+    match version_rows(conn) {
+        Ok(rows) => version_in(&rows),
+        Err(error) => Err(fault_in_reading(error)),
+    }
+}
