@@ -3,7 +3,9 @@
 
 # The crates, and those of them that each stands on, as crates.txt has them.
 CRATES := $(shell sed -n 's/^\([a-z0-9_]*\)[^:]*:.*/\1/p' crates.txt)
-below = $(filter $(CRATES),$(shell sed -n 's/^$(1)[^:]*://p' crates.txt))
+$(foreach crate,$(CRATES),$(eval below_$(crate) := $(filter $(CRATES),$(shell sed -n 's/^$(crate)[^:]*://p' crates.txt))))
+# crates.txt has each crate after those below it.
+$(foreach crate,$(CRATES),$(eval all_below_$(crate) := $(sort $(foreach below,$(below_$(crate)),$(below) $(all_below_$(below))))))
 PROCESSORS := $(shell nproc)
 # The first run: a registry in memory, with one repository and one token.
 DEMO := stdio --memory --repo team/app=1000 --grant t1=team/app=3
@@ -38,16 +40,19 @@ demo:
 # Proves the program and everything below it, and leaves the executable as build/registry.
 build:
 	@echo 'Proves some 900 functions: an hour of a processor, on all there are, and up to 12 GB of memory.' >&2
-	$(MAKE) --no-print-directory --jobs=$(PROCESSORS) prove-registry_cli
+	$(MAKE) --no-print-directory --jobs=$(PROCESSORS) $(addprefix prove-,$(all_below_registry_cli))
 	cd crates/registry_cli && rt run -- --version
 	mkdir -p build
 	cp crates/registry_cli/out/registry_cli build/registry
 
-# Each crate after those that it stands on, so that independent ones are proved side by side.
+# Each library after those that it stands on, so that independent ones are proved side by side. All wait for
+# the first three, which get more processors; none waits long for the last ones, which give way.
+FIRST := oci_names oci_manifest registry_model
+LAST := registry_maps store_opening store_reads
 define prove
 .PHONY: prove-$(1)
-prove-$(1): $(addprefix prove-,$(call below,$(1)))
-	cd crates/$(1) && rt check --jobs 2
+prove-$(1): $(addprefix prove-,$(below_$(1)))
+	JOBS=$(if $(filter $(1),$(FIRST)),4,2) $(if $(filter $(1),$(LAST)),nice) check/prove.sh $(1) $(all_below_$(1))
 endef
 $(foreach crate,$(CRATES),$(eval $(call prove,$(crate))))
 
