@@ -1,6 +1,7 @@
 pub mod LastSlash
 pub mod TextOrder
 pub mod VerdictLaws
+pub mod HeadLaws
 pub mod ViewLaws
 pub mod OwnLaws
 pub mod AsideLaws

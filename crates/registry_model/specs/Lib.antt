@@ -19,6 +19,7 @@ pub mod Referrers
 pub mod Lookups
 pub mod Operation
 pub mod Verdict
+pub mod Heads
 pub mod Command
 pub mod Keeping
 pub mod Doing

@@ -5,6 +5,7 @@ ghost use Rattle.std.specs.Prelude.{◌≡◌, true, List, All, is_some, map};
 ghost use Rattle.oci_names.specs.Text.{Text};
 ghost use Rattle.registry_model.specs.World.{World, Grants, Repo};
 ghost use Rattle.registry_model.specs.Ask.{Ask};
+ghost use Rattle.registry_model.specs.Heads.{as_head, as_get, without_content};
 ghost use Rattle.registry_model.specs.Verdict.{verdict, reply_to, after_request};
 ghost use Rattle.registry_model.specs.Keeping.{State};
 ghost use Rattle.registry_model.specs.Team.{Team, IsTeamOf, view, Step, is_own, OwnOrAside};
@@ -18,6 +19,14 @@ pub fn a_verdict_sees_granted_names_alone()
     ensures { (g : Grants) (repos others : Text → Option Repo)
         → ((name : Text) → is_some (get g name) ≡ true → repos name ≡ others name)
         → (q : Ask) → verdict g repos q ≡ verdict g others q }
+{}
+
+/// A request by HEAD is answered as it is by GET, without the content but for its length (RFC 9110,
+/// section 9.3.2), and makes the same of the world.
+pub fn head_is_get_without_its_content()
+    ensures reply { (w : World) (q : Ask)
+        → without_content (reply_to w (as_head q)) ≡ without_content (reply_to w (as_get q)) }
+    ensures world { (w : World) (q : Ask) → after_request w (as_head q) ≡ after_request w (as_get q) }
 {}
 
 /// A team's own request gets the same reply in the world and in what the team sees of it.

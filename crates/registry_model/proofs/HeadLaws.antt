@@ -1,0 +1,82 @@
+-- HEAD is answered as GET, without the content.
+use Rattle.std.proofs.Common.{◌≡◌, Bool, true, false, Option, None, Some, refl, ap, if◌then◌else◌}
+use Rattle.std.specs.Prelude.{option_map, length}
+use Rattle.oci_names.specs.Text.{Text}
+use Rattle.oci_names.specs.RepoName.{is_repo_name}
+use Rattle.oci_names.specs.Token.{is_token}
+use Rattle.registry_model.specs.declared.request.Verb.{Verb}
+use Rattle.registry_model.specs.declared.request.Verb.TheVariants.{Get, Head}
+use Rattle.registry_model.specs.World.{World, Grants, Repo, repo_at, is_known}
+use Rattle.registry_model.specs.Ask.{Ask, Keys}
+use Rattle.registry_model.specs.Form.{Form, no_form, base, blob, uploads, session, manifest, tags, referrers}
+use Rattle.registry_model.specs.Heads.{as_head, as_get, without_content}
+use Rattle.registry_model.specs.Outcome.{Outcome, refuses, in_repo}
+use Rattle.registry_model.specs.Blobs.{found_blob, found_size, read_blob, size_blob, blob_named}
+use Rattle.registry_model.specs.Manifests.{Found, found_manifest, found_manifest_size, read_manifest, size_manifest, manifest_named}
+use Rattle.registry_model.specs.Operation.{reads_blob, reads_manifest, operation_of, addressed}
+use Rattle.registry_model.specs.Verdict.{allows, granted, decide, served, judged, changed, reply_to, after_request}
+use Rattle.registry_model.specs.declared.refusal.Refusal.TheVariants.{AccessDenied, InvalidName, TokenRequired}
+
+record Alike (a b : Outcome) : Type 0 where
+  reply : without_content a.reply ≡ without_content b.reply
+  change : a.change ≡ b.change
+
+same : (a : Outcome) → Alike a a
+same a = record { reply = refl; change = refl }
+
+if_alike : (b : Bool) (x y z : Outcome) → Alike x y → Alike (if b then x else z) (if b then y else z)
+if_alike true x y z h = h
+if_alike false x y z h = same z
+
+in_repo_alike : (o : Option Repo) (f g : Repo → Outcome) → ((r : Repo) → Alike (f r) (g r)) → Alike (in_repo o f) (in_repo o g)
+in_repo_alike None f g h = same (in_repo None f)
+in_repo_alike (Some r) f g h = h r
+
+blob_alike : (r : Repo) (digest : Text) → Alike (size_blob r digest) (read_blob r digest)
+blob_alike r digest = go (blob_named r digest)
+  where
+    go : (o : Option Text) → Alike (found_size digest (option_map length o)) (found_blob digest o)
+    go None = record { reply = refl; change = refl }
+    go (Some bytes) = record { reply = refl; change = refl }
+
+manifest_alike : (r : Repo) (reference : Text) → Alike (size_manifest r reference) (read_manifest r reference)
+manifest_alike r reference = go (manifest_named r reference)
+  where
+    go : (o : Option Found) → Alike (found_manifest_size o) (found_manifest o)
+    go None = record { reply = refl; change = refl }
+    go (Some m) = record { reply = refl; change = refl }
+
+module _ (grants : Grants) (repos : Text → Option Repo) (token : Option Text) (keys : Keys) (content_type content_range : Option Text) (body : Text) where
+  abbrev asked : Verb → Form → Ask
+  asked verb form = record { token = token; verb = verb; form = form; keys = keys; content_type = content_type; content_range = content_range; body = body }
+
+  decided : (name : Text) (form : Form) → Alike (granted grants repos name form (operation_of (asked Head form)) body) (granted grants repos name form (operation_of (asked Get form)) body)
+      → Alike (decide grants repos name (asked Head form)) (decide grants repos name (asked Get form))
+  decided name form h = if_alike (is_repo_name name) _ _ (refuses InvalidName) h
+
+  served_alike : (form : Form) → Alike (served grants repos (asked Head form)) (served grants repos (asked Get form))
+  served_alike no_form = same _
+  served_alike base = same _
+  served_alike (blob name digest) =
+      decided name (blob name digest)
+      (if_alike (allows grants name (reads_blob digest)) _ _ (refuses AccessDenied) (in_repo_alike (repos name) _ _ (λ r. blob_alike r digest)))
+  served_alike (uploads name) = same _
+  served_alike (session name reference) = same _
+  served_alike (manifest name reference) =
+      decided name (manifest name reference)
+      (if_alike (allows grants name (reads_manifest reference)) _ _ (refuses AccessDenied) (in_repo_alike (repos name) _ _ (λ r. manifest_alike r reference)))
+  served_alike (tags name) = same _
+  served_alike (referrers name digest) = same _
+
+judged_alike : (w : World) (token : Option Text) (q : Ask) → Alike (judged w token (as_head q)) (judged w token (as_get q))
+judged_alike w None q = same _
+judged_alike w (Some token) q =
+    if_alike (is_token token) _ _ (refuses TokenRequired)
+    (if_alike (is_known (w.grants token)) _ _ (refuses TokenRequired)
+    (served_alike (w.grants token) (repo_at w) q.token q.keys q.content_type q.content_range q.body q.form))
+
+pub reply_alike : (w : World) (q : Ask) → without_content (reply_to w (as_head q)) ≡ without_content (reply_to w (as_get q))
+reply_alike w q = (judged_alike w q.token q).reply
+
+pub world_alike : (w : World) (q : Ask) → after_request w (as_head q) ≡ after_request w (as_get q)
+world_alike w q = ap (changed w (addressed q.form)) (judged_alike w q.token q).change
