@@ -1,6 +1,7 @@
 -- The tables that were just made have no row, and stand for the empty world.
-use Rattle.std.proofs.Common.{◌≡◌, ◌∙◌, List, [], false, Ok, Err, Result, OnOk, sym, ap, subst, refl}
+use Rattle.std.proofs.Common.{◌≡◌, ◌∙◌, ℤ, pos, List, [], ◌∷◌, ◌++◌, false, Ok, Err, Result, OnOk, sym, ap, subst, refl}
 use Rattle.std.specs.Prelude.{find, option_map, IsTrue}
+use Rattle.sqlite.specs.declared.types.Value.TheVariants.{Int}
 use Rattle.sqlite.specs.Order.{Row}
 use Rattle.sqlite.specs.Tree.{has_rowid}
 use Rattle.sqlite.specs.Table.{Table}
@@ -8,11 +9,12 @@ use Rattle.sqlite.specs.Effect.{Database}
 use Rattle.store_schema.specs.Schema.{fresh_schema, version_table, repos_table, grants_table, tags_table, contents_table, blob_links_table, manifest_links_table, uploads_table, pieces_table}
 use Rattle.store_schema.specs.Layout.{tree_of, rows_of}
 use Rattle.store_schema.specs.Making.{IsEmptyWith}
-use Rattle.store_schema.specs.Rows.{bytes_at}
+use Rattle.store_schema.specs.Rows.{bytes_at, PutsRow}
 use Rattle.store_schema.proofs.Fresh.{version_tree, repos_tree, grants_tree, tags_tree, contents_tree, blob_links_tree, manifest_links_tree, uploads_tree, pieces_tree}
 use Rattle.store_contents.proofs.Fresh.{empty_holds}
 use Rattle.store_world.specs.Tables.{Tables, AreTables, no_tables}
-use Rattle.store_world.specs.Registry.{Agree}
+use Rattle.store_world.specs.Registry.{IsOfSchemaTwo}
+use Rattle.store_world.proofs.NewTables.{are_new, agree_new}
 use Rattle.store_statements.specs.Known.{KnowsRegistry}
 use Rattle.store_statements.specs.Held.{tables_in, held, HoldsTables, IsReady, Makes}
 use Rattle.store_statements.specs.Steps.{VersionComes, IsNew}
@@ -20,21 +22,6 @@ use Rattle.store_statements.proofs.Transactions.{commits, makes}
 use Rattle.registry_model.specs.World.{no_world}
 use Rattle.sqlite.specs.State.{State, Shows}
 use Rattle.store_opening.proofs.FreshKnown.{knows_registry}
-
-are_empty : (rows : List Row) → AreTables (record no_tables { version = rows })
-are_empty rows = record {
-  repos = record { types = tt; apart = tt; ids = (tt, tt) };
-  grants = record { types = tt; apart = tt; ids = (tt, tt) };
-  tags = record { types = tt; apart = tt; ids = (tt, tt) };
-  blobs = record { types = tt; apart = tt; ids = (tt, tt) };
-  manifests = record { types = tt; apart = tt; ids = (tt, tt) };
-  uploads = record { types = tt; apart = tt; ids = (tt, tt) };
-  pieces = record { types = tt; apart = tt; ids = (tt, tt) };
-}
-
--- whatever the version is
-pub agree_empty : (rows : List Row) → Agree (record no_tables { version = rows })
-agree_empty rows = record { granted = tt; tagged = tt; blobs_repo = tt; manifests_repo = tt; uploads_repo = tt; blobs = tt; manifests = tt; uploads = tt; pieces = tt; pieces_open = tt }
 
 module _ (db : Database) (it : IsEmptyWith fresh_schema db) where
   none_in : (table : Table) (tree : Rattle.std.proofs.Common.ℕ) → tree_of fresh_schema table ≡ tree → db.trees tree ≡ [] → rows_of db table ≡ []
@@ -54,19 +41,28 @@ module _ (db : Database) (it : IsEmptyWith fresh_schema db) where
   }
 
   pub holds_none : HoldsTables db
-  holds_none = record { known = subst KnowsRegistry (sym it.schema_is) knows_registry; contents = empty_holds db it; tables = subst AreTables (sym no_rows) (are_empty []) }
+  holds_none = record { known = subst KnowsRegistry (sym it.schema_is) knows_registry; contents = empty_holds db it; tables = subst AreTables (sym no_rows) (are_new []) }
+
+-- the row that came is the only one
+alone_said : (before after : List Row) (id : ℤ) → before ++ after ≡ [] → IsOfSchemaTwo (before ++ (Int id ∷ Int (pos 2) ∷ []) ∷ after)
+alone_said [] [] id e = refl
+alone_said [] (r ∷ rs) id e = absurd cc
+alone_said (r ∷ rs) after id e = absurd cc
+
+came_two : (olds news : List Row) (id : ℤ) → PutsRow olds news id (Int (pos 2) ∷ []) → olds ≡ [] → IsOfSchemaTwo news
+came_two olds news id p none = subst IsOfSchemaTwo (sym p.news_are) (alone_said p.before p.after id (sym p.olds_are ∙ none))
 
 -- with the version they are new
 pub is_new : (old new : State) → IsTrue old.in_transaction → IsEmptyWith fresh_schema old.now → (IsReady old → VersionComes old new) → IsNew new
 is_new old new inside it comes =
     let c = comes (record { inside = inside; holds = holds_none old.now it }) in
-    record { ready = c.ready; tables = c.others ∙ ap (λ (t : Tables). record t { version = (held new).version }) (no_rows old.now it) }
+    record { ready = c.ready; version = came_two (held old).version (held new).version c.id c.puts (ap (λ (t : Tables). t.version) (no_rows old.now it)); tables = c.others ∙ ap (λ (t : Tables). record t { version = (held new).version }) (no_rows old.now it) }
 
 -- and once committed they stand for the empty world
 pub makes_none : (mid end : State) → IsNew mid → Shows mid end mid.now mid.now false → Makes end no_world
 makes_none mid end n shows =
     let c = commits mid end (record no_tables { version = (held mid).version }) (n.ready, n.tables) shows in
-    makes end (record no_tables { version = (held mid).version }) no_world c (refl, record { tables = are_empty _; agree = agree_empty _ })
+    makes end (record no_tables { version = (held mid).version }) no_world c (refl, record { tables = are_new _; agree = agree_new _ n.version })
 
 -- the same of the calls' results
 pub then_new : {A E : Type 0} (old new : State) (r : Result A E) → IsTrue old.in_transaction → IsEmptyWith fresh_schema old.now → (IsReady old → OnOk r (VersionComes old new)) → OnOk r (IsNew new)

@@ -1,6 +1,6 @@
 -- What an opening finds out of the schema and of the one row that names it.
-use Rattle.std.proofs.Common.{◌≡◌, ◌∙◌, ℕ, zero, suc, Bool, true, false, List, [], ◌∷◌, Some, None, Ok, Err, IfOk, IfErr, inl, inr, refl, sym, ap, subst}
-use Rattle.std.specs.Prelude.{is_some, slice_get, map, codes, pos}
+use Rattle.std.proofs.Common.{◌≡◌, ◌≢◌, ◌∙◌, ℕ, ℤ, zero, suc, Bool, true, false, List, [], ◌∷◌, Some, None, Ok, Err, Result, IfOk, IfErr, OnOk, OnErr, inl, inr, refl, sym, ap, subst}
+use Rattle.std.specs.Prelude.{is_some, slice_get, map, codes, pos, ⊤}
 use Rattle.sqlite.specs.declared.types.Value.TheVariants.{Int}
 use Rattle.sqlite.specs.Order.{Row, column}
 use Rattle.sqlite.specs.Table.{Table}
@@ -9,9 +9,12 @@ use Rattle.sqlite.specs.State.{State}
 use Rattle.sqlite_schema.specs.Names.{same_name}
 use Rattle.store_schema.specs.Schema.{version_table}
 use Rattle.store_schema.specs.Layout.{Stands, placed}
-use Rattle.store_statements.specs.Held.{IsSettled, HoldsTables, held, tables_in}
-use Rattle.store_opening.specs.Opening.{IsIdle, HoldsRegistry, has_version_table, SaysTwo}
-use Rattle.store_opening.specs.Asking.{IsFailing}
+use Rattle.store_statements.specs.Held.{IsSettled, HoldsTables, held}
+use Rattle.store_world.specs.Registry.{IsOfSchemaTwo}
+use Rattle.store_opening.specs.Opening.{IsIdle, HoldsRegistry, has_version_table}
+use Rattle.store_opening.specs.declared.opening.OpenFault.{OpenFault}
+use Rattle.store_opening.specs.declared.opening.OpenFault.TheVariants.{Memory, Storage, NotARegistry, Schema as Numbered}
+use Rattle.store_opening.specs.Asking.{IsFailing, IsWanting, IsWantingOr, IsTold, IsUnnumbered, IsOfSchema, ShowsAlone}
 use Rattle.store_statements.specs.VersionTexts.{version_find}
 use Rattle.store_schema.proofs.Selects.{Answer, shows}
 use Rattle.store_schema.proofs.Writes.{passes}
@@ -35,6 +38,7 @@ use Rattle.sqlite.specs.State.{Shown, FailsToQuery, IsNotRun, store_error}
 use Rattle.sqlite_trees.specs.declared.error.StoreError.{StoreError}
 use Rattle.sqlite_trees.specs.declared.error.StoreError.TheVariants.{OutOfMemory, Io, Corrupt, Full, Broken, Unstorable}
 use Rattle.std.specs.List.Sorted.{IsPermutation}
+use Rattle.std.proofs.lemmas.List.Sorted.{IsPermutation-sym}
 use Rattle.std.specs.Prelude.{filter}
 use Rattle.std.specs.List.{position_from}
 
@@ -63,8 +67,35 @@ shows_version old new (Ok rows) h shown =
     subst (λ (xs : List Row). IsPermutation (map {B = Row} (λ r. column r 1 ∷ []) xs) rows.items) (all_pass (held old).version)
     (shows old.now.schema version_find _ (tree_of old.now.schema version_table) [] (col 1 1 ∷ []) [] old new rows.items refl h.known.version_texts.find h.known.version.stored shown)
 
-pub one_version : (db : Database) (rows : List Row) → SaysTwo db → IsPermutation (map {B = Row} (λ r. column r 1 ∷ []) (tables_in db).version) rows → rows ≡ (Int (pos 2) ∷ []) ∷ []
-one_version db rows says same = one_permutation _ rows (subst (λ (xs : List Row). IsPermutation xs rows) says same)
+-- what the rows say that were answered, the table's say, and the other way round
+pub alone_in : (all rows : List Row) (n : ℤ) → IsPermutation all rows → ShowsAlone rows n → ShowsAlone all n
+alone_in all rows n same it = (it.0, one_permutation it.0 all (subst (λ (xs : List Row). IsPermutation xs all) it.1 (IsPermutation-sym all rows same)), it.2)
+
+pub alone_from : (all rows : List Row) (n : ℤ) → IsPermutation all rows → ShowsAlone all n → ShowsAlone rows n
+alone_from all rows n same it = (it.0, one_permutation it.0 rows (subst (λ (xs : List Row). IsPermutation xs rows) it.1 same), it.2)
+
+pub alone_if : {E : Type 0} (all rows items : List Row) (r : Result ℤ E) → rows ≡ items → IsPermutation all items → IfOk r (ShowsAlone rows) → IfOk r (ShowsAlone all)
+alone_if all rows items (Ok n) is same h = alone_in all items n same (subst (λ (xs : List Row). ShowsAlone xs n) is h)
+alone_if all rows items (Err e) is same h = tt
+
+-- rows say one number at most
+pub same_alone : (rows : List Row) (n m : ℤ) → ShowsAlone rows n → ShowsAlone rows m → n ≡ m
+same_alone rows n m a b =
+    let lists : a.0 ∷ [] ≡ b.0 ∷ [] = sym a.1 ∙ b.1 in
+    let row : a.0 ≡ b.0 = cc in
+    let value : Int n ≡ Int m = sym a.2 ∙ ap (λ (r : Row). column r 0) row ∙ b.2 in
+    cc
+
+-- one row that shows 2 is all that there is
+pub says_two : (rows : List Row) → ShowsAlone (map {B = Row} (λ r. column r 1 ∷ []) rows) (pos 2) → IsOfSchemaTwo rows
+says_two [] it = absurd (let e = it.1 in cc)
+says_two (r ∷ rs) it =
+    let row : it.0 ≡ column r 1 ∷ [] = (let e = it.1 in cc) in
+    let value : column r 1 ≡ Int (pos 2) = sym (ap (λ (x : Row). column x 0) row) ∙ it.2 in
+    it.1 ∙ ap (λ (x : Row). x ∷ []) (row ∙ ap (λ v. v ∷ []) value)
+
+pub shows_two : (rows : List Row) → rows ≡ (Int (pos 2) ∷ []) ∷ [] → ShowsAlone rows (pos 2)
+shows_two rows says = (Int (pos 2) ∷ [], says, refl)
 
 -- ---- how asking for it fails
 
@@ -112,3 +143,61 @@ is_marked schema it = has_position (λ t. same_name t.name (codes "registry_sche
 
 pub settled : (s : State) → IsIdle s → HoldsRegistry s.now → IsSettled s
 settled s idle it = record { is_open = idle.is_open; autocommit = idle.autocommit; committed = idle.committed; holds = it.holds; agree = it.agree }
+
+-- ---- what is answered to the number that is found
+
+unnumbered_told : (s : State) (fault : OpenFault) → IsUnnumbered fault → IsTold s fault
+unnumbered_told s Memory h = tt
+unnumbered_told s Storage h = tt
+unnumbered_told s (Numbered n) h = absurd h
+unnumbered_told s NotARegistry h = tt
+
+module _ (rows : List Row) (found : Result ℤ OpenFault) (alone : IfOk found (ShowsAlone rows)) where
+  -- 2 is served, and what is refused is told as it was found
+  abbrev Refuses : Result ⊤ OpenFault → Type 0
+  Refuses r = IfErr r (λ e. IfOk found (λ n. (n ≢ pos 2) × (e ≡ Numbered n)) × IfErr found (λ f. e ≡ f))
+
+  pub two_told : (r : Result ⊤ OpenFault) → OnOk r (found ≡ Ok (pos 2)) → OnOk r (ShowsAlone rows (pos 2))
+  two_told (Ok x) is = subst (λ f. IfOk f (ShowsAlone rows)) is alone
+  two_told (Err e) is = tt
+
+  pub wanting_told : (r : Result ⊤ OpenFault) → Refuses r → rows ≡ (Int (pos 2) ∷ []) ∷ [] → ((n : ℤ) → ShowsAlone rows n → IfErr found IsWanting) → IfErr r IsWanting
+  wanting_told (Ok x) refuses says whole = tt
+  wanting_told (Err e) refuses says whole = go found alone refuses (whole (pos 2) (shows_two rows says))
+    where
+      go : (f : Result ℤ OpenFault) → IfOk f (ShowsAlone rows) → IfOk f (λ n. (n ≢ pos 2) × (e ≡ Numbered n)) × IfErr f (λ k. e ≡ k) → IfErr f IsWanting → IsWanting e
+      go (Ok n) one is wanting = absurd (is.0.0 (same_alone rows n (pos 2) one (shows_two rows says)))
+      go (Err k) one is wanting = subst IsWanting (sym is.1) wanting
+
+  pub other_told : (r : Result ⊤ OpenFault) → Refuses r → (n : ℤ) → ShowsAlone rows n → IfErr found IsWanting → IfErr r (IsWantingOr (Numbered n))
+  other_told (Ok x) refuses n says whole = tt
+  other_told (Err e) refuses n says whole = go found alone refuses whole
+    where
+      go : (f : Result ℤ OpenFault) → IfOk f (ShowsAlone rows) → IfOk f (λ m. (m ≢ pos 2) × (e ≡ Numbered m)) × IfErr f (λ k. e ≡ k) → IfErr f IsWanting → IsWantingOr (Numbered n) e
+      go (Ok m) one is wanting = inr (is.0.1 ∙ ap Numbered (same_alone rows m n one says))
+      go (Err k) one is wanting = inl (subst IsWanting (sym is.1) wanting)
+
+  pub unsaid_told : (r : Result ⊤ OpenFault) → Refuses r → ((n : ℤ) → ShowsAlone rows n → ⊥) → IfErr found (IsWantingOr NotARegistry) → IfErr r (IsWantingOr NotARegistry)
+  unsaid_told (Ok x) refuses none or = tt
+  unsaid_told (Err e) refuses none or = go found alone refuses or
+    where
+      go : (f : Result ℤ OpenFault) → IfOk f (ShowsAlone rows) → IfOk f (λ m. (m ≢ pos 2) × (e ≡ Numbered m)) × IfErr f (λ k. e ≡ k) → IfErr f (IsWantingOr NotARegistry) → IsWantingOr NotARegistry e
+      go (Ok m) one is wanting = absurd (none m one)
+      go (Err k) one is wanting = subst (IsWantingOr NotARegistry) (sym is.1) wanting
+
+pub told_as : (s : State) (found : Result ℤ OpenFault) (r : Result ⊤ OpenFault) → IfErr r (λ e. IfOk found (λ n. (n ≢ pos 2) × (e ≡ Numbered n)) × IfErr found (λ f. e ≡ f)) → IfOk found (IsOfSchema s) → IfErr found IsUnnumbered → IfErr r (IsTold s)
+told_as s found (Ok x) refuses of none = tt
+told_as s (Ok n) (Err e) refuses of none = subst (IsTold s) (sym refuses.0.1) (refuses.0.0, of)
+told_as s (Err k) (Err e) refuses of none = subst (IsTold s) (sym refuses.1) (unnumbered_told s k none)
+
+pub is_two : (r : Result ⊤ OpenFault) (rows : List Row) → OnOk r (ShowsAlone (map {B = Row} (λ r. column r 1 ∷ []) rows) (pos 2)) → OnOk r (IsOfSchemaTwo rows)
+is_two (Ok x) rows h = says_two rows h
+is_two (Err e) rows h = tt
+
+pub on_two : (found : Result ℤ OpenFault) (r : Result ⊤ OpenFault) (P Q : Type 0) → OnOk r (found ≡ Ok (pos 2)) → OnOk found P → (P → Q) → OnOk r Q
+on_two found (Ok x) P Q is h then = then (subst (λ f. OnOk f P) is h)
+on_two found (Err e) P Q is h then = tt
+
+pub on_err : {A E : Type 0} (r : Result A E) (P : Type 0) → P → OnErr r P
+on_err (Ok x) P p = tt
+on_err (Err e) P p = p

@@ -42,6 +42,10 @@ abbrev pub IsUnnumbered : OpenFault → Type 0
 IsUnnumbered (Schema n) = ⊥
 IsUnnumbered _ = ⊤
 
+-- memory is wanting, the storage failed, or it is this
+abbrev pub IsWantingOr : OpenFault → OpenFault → Type 0
+IsWantingOr other fault = IsWanting fault ⊎ (fault ≡ other)
+
 -- a schema that is named is that of the database, and another than 2
 abbrev pub IsTold : State → OpenFault → Type 0
 IsTold s (Schema n) = (n ≢ pos 2) × IsOfSchema s n

@@ -1,19 +1,22 @@
 -- What a database is found to be: a registry's tables, of a schema that one row names (profile).
-use Rattle.std.specs.Prelude.{◌≡◌, [], ◌∷◌, codes, map, pos, false, is_some, Bool, IsTrue}
-use Rattle.sqlite.specs.declared.types.Value.TheVariants.{Int}
+use Rattle.std.specs.Prelude.{◌≡◌, List, [], ◌∷◌, codes, map, false, is_some, Bool, IsTrue}
 use Rattle.sqlite.specs.Order.{Row, column}
 use Rattle.sqlite.specs.Schema.{Schema}
 use Rattle.sqlite.specs.Effect.{Database}
 use Rattle.sqlite.specs.State.{State}
 use Rattle.sqlite_schema.specs.Names.{table_named}
-use Rattle.store_world.specs.Registry.{Agree}
+use Rattle.store_world.specs.Registry.{Agree, IsOfSchemaTwo}
 use Rattle.store_statements.specs.Held.{HoldsTables, tables_in}
+
+-- what the rows of `registry_schema` say
+abbrev pub versions_in : Database → List Row
+versions_in db = map {B = Row} (λ r. column r 1 ∷ []) (tables_in db).version
 
 -- one row says that the tables are of schema 2
 abbrev pub SaysTwo : Database → Type 0
-SaysTwo db = map {B = Row} (λ r. column r 1 ∷ []) (tables_in db).version ≡ (Int (pos 2) ∷ []) ∷ []
+SaysTwo db = IsOfSchemaTwo (tables_in db).version
 
--- a registry's tables, which stand for a world
+-- a registry's tables, of schema 2, which stand for a world
 pub record HoldsRegistry (db : Database) : Type 0 where
   pub holds : HoldsTables db
   pub agree : Agree (tables_in db)

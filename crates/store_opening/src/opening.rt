@@ -1,14 +1,14 @@
 //! The opening of a registry on a database.
-ghost use Rattle.std.specs.Prelude.{◌≡◌, OnOk, OnErr, IfErr};
+ghost use Rattle.std.specs.Prelude.{◌≡◌, ◌≢◌, ℤ, pos, Ok, OnOk, OnErr, IfOk, IfErr};
 ghost use Rattle.sqlite.specs.State.{HasCleanDisk};
 ghost use Rattle.sqlite.specs.Held.{state};
 ghost use Rattle.store_schema.specs.Schema.{no_schema};
 ghost use Rattle.store_schema.specs.Making.{IsEmptyWith};
 ghost use Rattle.registry_model.specs.World.{no_world};
 ghost use Rattle.store_statements.specs.Clauses.{Lasts};
-ghost use Rattle.store_statements.specs.Held.{StaysSettled, Makes, IsBack};
-ghost use Rattle.store_opening.specs.Opening.{IsIdle, HoldsRegistry, SaysTwo, has_version_table};
-ghost use Rattle.store_opening.specs.Asking.{IsWanting, IsTold, IsUnnumbered};
+ghost use Rattle.store_statements.specs.Held.{HoldsTables, StaysSettled, Makes, IsBack};
+ghost use Rattle.store_opening.specs.Opening.{IsIdle, HoldsRegistry, SaysTwo, versions_in, has_version_table};
+ghost use Rattle.store_opening.specs.Asking.{IsWanting, IsWantingOr, IsTold, IsUnnumbered, ShowsAlone};
 
 use crate::making::create;
 use crate::version::read_version;
@@ -45,10 +45,24 @@ fn is_marked<S: Alter>(conn: &Connection<S>) -> bool
     conn.schema().table_named(b"registry_schema").is_some()
 }
 
+/// What the schema that was found comes to: 2 alone is served.
+fn only_two(found: Result<i64, OpenFault>) -> Result<(), OpenFault>
+    ensures two { OnOk result (found ≡ Ok (pos 2)) }
+    ensures other { IfErr result
+        (λ e. IfOk found (λ n. (n ≢ pos 2) × (e ≡ OpenFault.Schema n)) × IfErr found (λ f. e ≡ f)) }
+{
+    match found {
+        Ok(2) => Ok(()),
+        Ok(found) => Err(OpenFault::Schema(found)),
+        Err(fault) => Err(fault),
+    }
+}
+
 /// Makes the tables of a registry where no table says that they are there; else sees that they are of
 /// schema 2. Whatever the database is: outside a transaction a refusal leaves it as it was, where it is open
 /// still, and `Schema` names the one number that it says. `NotARegistry`: it says none, or a name is taken.
-/// An empty database, and a registry's of schema 2, are refused for want of memory or a failure alone.
+/// Tables of another number than 2, or of none or several, are refused so, and by no other fault but want of
+/// memory or a failure; an empty database and a registry's of schema 2 by these two alone.
 pub fn take_up<S: Alter>(conn: &mut Connection<S>) -> Result<(), OpenFault>
     ensures made { HasCleanDisk (state S.Store conn.new) → IsEmptyWith no_schema (state S.Store conn.old).now
         → OnOk result (Makes (state S.Store conn.new) no_world) }
@@ -58,7 +72,15 @@ pub fn take_up<S: Alter>(conn: &mut Connection<S>) -> Result<(), OpenFault>
     ensures unmade { HasCleanDisk (state S.Store conn.new)
         → IsEmptyWith no_schema (state S.Store conn.old).now → IfErr result IsWanting }
     ensures wanting { HasCleanDisk (state S.Store conn.new) → HoldsRegistry (state S.Store conn.old).now
-        → SaysTwo (state S.Store conn.old).now → IfErr result IsWanting }
+        → IfErr result IsWanting }
+    ensures two { HasCleanDisk (state S.Store conn.new) → HoldsTables (state S.Store conn.old).now
+        → OnOk result (SaysTwo (state S.Store conn.old).now) }
+    ensures other { HasCleanDisk (state S.Store conn.new) → HoldsTables (state S.Store conn.old).now
+        → (n : ℤ) → ShowsAlone (versions_in (state S.Store conn.old).now) n → n ≢ pos 2
+        → IfErr result (IsWantingOr (OpenFault.Schema n)) }
+    ensures unsaid { HasCleanDisk (state S.Store conn.new) → HoldsTables (state S.Store conn.old).now
+        → ((n : ℤ) → ShowsAlone (versions_in (state S.Store conn.old).now) n → ⊥)
+        → IfErr result (IsWantingOr OpenFault.NotARegistry) }
     ensures told { HasCleanDisk (state S.Store conn.new) → IfErr result (IsTold (state S.Store conn.old)) }
     ensures back { HasCleanDisk (state S.Store conn.new) → IsIdle (state S.Store conn.old)
         → OnErr result (IsBack (state S.Store conn.old) (state S.Store conn.new)) }
@@ -67,9 +89,5 @@ pub fn take_up<S: Alter>(conn: &mut Connection<S>) -> Result<(), OpenFault>
     if !is_marked(conn) {
         return create(conn);
     }
-    match read_version(conn) {
-        Ok(2) => Ok(()),
-        Ok(found) => Err(OpenFault::Schema(found)),
-        Err(fault) => Err(fault),
-    }
+    only_two(read_version(conn))
 }

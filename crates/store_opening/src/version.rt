@@ -1,14 +1,13 @@
 //! Which schema the tables of a database are.
-ghost use Rattle.std.specs.Prelude.{◌≡◌, ◌∷◌, [], pos, OnOk, IfOk, IfErr, map};
+ghost use Rattle.std.specs.Prelude.{ℤ, ◌∷◌, [], OnOk, IfOk, IfErr, map};
 ghost use Rattle.std.specs.List.Sorted.{IsPermutation};
 ghost use Rattle.sqlite.specs.State.{HasCleanDisk, IsUnchanged};
 ghost use Rattle.sqlite.specs.Held.{state};
 ghost use Rattle.sqlite.specs.Order.{column};
-ghost use Rattle.sqlite.specs.declared.types.Value.TheVariants.{Int};
 ghost use Rattle.store_statements.specs.Clauses.{Lasts};
 ghost use Rattle.store_statements.specs.Held.{HoldsTables, LeavesAsWas, held};
-ghost use Rattle.store_opening.specs.Opening.{SaysTwo};
-ghost use Rattle.store_opening.specs.Asking.{IsWanting, IsFailing, IsUnnumbered, ShowsAlone, AnswersVersion, IsOfSchema};
+ghost use Rattle.store_opening.specs.Opening.{versions_in};
+ghost use Rattle.store_opening.specs.Asking.{IsWanting, IsWantingOr, IsFailing, IsUnnumbered, ShowsAlone, AnswersVersion, IsOfSchema};
 
 use crate::opening::OpenFault;
 use sqlite::{Alter, Connection, Error, ErrorCode, Row};
@@ -46,8 +45,9 @@ fn version_rows<S: Alter>(conn: &mut Connection<S>) -> Result<Vec<Row>, Error>
 
 /// The one version that the rows say, a whole number.
 fn version_in(rows: &[Row]) -> Result<i64, OpenFault>
-    ensures two { rows.now ≡ (Int (pos 2) ∷ []) ∷ [] → IfOk result (λ n. n ≡ pos 2) × IfErr result IsWanting }
     ensures alone { IfOk result (ShowsAlone rows.now) }
+    ensures whole { (n : ℤ) → ShowsAlone rows.now n → IfErr result IsWanting }
+    ensures none { IfErr result (IsWantingOr OpenFault.NotARegistry) }
     ensures unnumbered { IfErr result IsUnnumbered }
 {
     let [row] = rows else {
@@ -62,12 +62,13 @@ fn version_in(rows: &[Row]) -> Result<i64, OpenFault>
 
 /// Which schema the tables are. `NotARegistry`: it is not one row that says so with a whole number.
 pub(crate) fn read_version<S: Alter>(conn: &mut Connection<S>) -> Result<i64, OpenFault>
-    ensures found { HasCleanDisk (state S.Store conn.new) → HoldsTables (state S.Store conn.old).now
-        → SaysTwo (state S.Store conn.old).now → IfOk result (λ n. n ≡ pos 2) }
+    ensures alone { HasCleanDisk (state S.Store conn.new) → HoldsTables (state S.Store conn.old).now
+        → IfOk result (ShowsAlone (versions_in (state S.Store conn.old).now)) }
     ensures same { HasCleanDisk (state S.Store conn.new) → HoldsTables (state S.Store conn.old).now
         → OnOk result (IsUnchanged (state S.Store conn.old) (state S.Store conn.new)) }
-    ensures wanting { HasCleanDisk (state S.Store conn.new) → HoldsTables (state S.Store conn.old).now
-        → SaysTwo (state S.Store conn.old).now → IfErr result IsWanting }
+    ensures whole { HasCleanDisk (state S.Store conn.new) → HoldsTables (state S.Store conn.old).now
+        → (n : ℤ) → ShowsAlone (versions_in (state S.Store conn.old).now) n → IfErr result IsWanting }
+    ensures none { IfErr result (IsWantingOr OpenFault.NotARegistry) }
     ensures left { HasCleanDisk (state S.Store conn.new)
         → LeavesAsWas (state S.Store conn.old) (state S.Store conn.new) }
     ensures told { HasCleanDisk (state S.Store conn.new) → IfOk result (IsOfSchema (state S.Store conn.old)) }

@@ -7,6 +7,7 @@ use Rattle.oci_names.specs.Text.{Text}
 use Rattle.store_schema.specs.Rows.{PutsRow, bytes_at}
 use Rattle.store_world.specs.Keys.{of_first, of_session, has_key}
 use Rattle.store_world.specs.Tables.{Tables, no_tables}
+use Rattle.store_world.specs.Registry.{IsOfSchemaTwo}
 use Rattle.store_world.specs.Changes.{without, changed, Comes, with_last, with_size, upload_columns, blob_columns, piece_columns, Grow}
 use Rattle.store_statements.specs.Held.{IsReady, held}
 
@@ -96,6 +97,7 @@ pub record VersionComes (old new : State) : Type 0 where
 -- the tables were just made
 pub record IsNew (s : State) : Type 0 where
   pub ready : IsReady s
+  pub version : IsOfSchemaTwo (held s).version
   pub tables : held s ≡ record no_tables { version = (held s).version }
 
 -- ---- links to manifests

@@ -72,6 +72,7 @@ contents_kept t news is blobs manifests pieces = (λ i. record { repos = from_en
 
     agrees : Agree after
     agrees = record {
+      version = is.agree.version;
       granted = is.agree.granted;
       tagged = is.agree.tagged;
       blobs_repo = is.agree.blobs_repo;

@@ -110,6 +110,7 @@ open_left uploads pieces name opens = all_left _ _ (of_first name) pieces (λ p 
 
 agree_left : (t : Tables) (name : Text) → Agree t → Agree (without_repo t name)
 agree_left t name h = record {
+  version = h.version;
   granted = granted_left t.repos t.grants name h.granted;
   tagged = have_left t.repos t.tags name h.tagged;
   blobs_repo = have_left t.repos t.blobs name h.blobs_repo;

@@ -10,6 +10,7 @@ pub with_grants_rows : (t : Tables) (rows : List Row) → IsRegistry t → AreRo
 with_grants_rows t rows is are granted = record {
   tables = record { repos = is.tables.repos; grants = are; tags = is.tables.tags; blobs = is.tables.blobs; manifests = is.tables.manifests; uploads = is.tables.uploads; pieces = is.tables.pieces };
   agree = record {
+    version = is.agree.version;
     granted = granted;
     tagged = is.agree.tagged;
     blobs_repo = is.agree.blobs_repo;
@@ -27,6 +28,7 @@ pub with_tags_rows : (t : Tables) (rows : List Row) → IsRegistry t → AreRows
 with_tags_rows t rows is are tagged = record {
   tables = record { repos = is.tables.repos; grants = is.tables.grants; tags = are; blobs = is.tables.blobs; manifests = is.tables.manifests; uploads = is.tables.uploads; pieces = is.tables.pieces };
   agree = record {
+    version = is.agree.version;
     granted = is.agree.granted;
     tagged = tagged;
     blobs_repo = is.agree.blobs_repo;
@@ -44,6 +46,7 @@ pub with_blobs_rows : (t : Tables) (rows : List Row) → IsRegistry t → AreRow
 with_blobs_rows t rows is are have agrees = record {
   tables = record { repos = is.tables.repos; grants = is.tables.grants; tags = is.tables.tags; blobs = are; manifests = is.tables.manifests; uploads = is.tables.uploads; pieces = is.tables.pieces };
   agree = record {
+    version = is.agree.version;
     granted = is.agree.granted;
     tagged = is.agree.tagged;
     blobs_repo = have;
@@ -61,6 +64,7 @@ pub with_manifests_rows : (t : Tables) (rows : List Row) → IsRegistry t → Ar
 with_manifests_rows t rows is are have agrees = record {
   tables = record { repos = is.tables.repos; grants = is.tables.grants; tags = is.tables.tags; blobs = is.tables.blobs; manifests = are; uploads = is.tables.uploads; pieces = is.tables.pieces };
   agree = record {
+    version = is.agree.version;
     granted = is.agree.granted;
     tagged = is.agree.tagged;
     blobs_repo = is.agree.blobs_repo;

@@ -4,6 +4,7 @@ pub mod Others
 pub mod Kept
 pub mod Named
 pub mod Children
+pub mod NewTables
 pub mod Frames
 pub mod Contents
 pub mod Blobs

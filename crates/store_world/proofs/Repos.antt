@@ -49,6 +49,7 @@ pub with_repos_rows : (t : Tables) (repos : List Row) → IsRegistry t → AreRo
 with_repos_rows t repos is are there last = record {
   tables = record { repos = are; grants = is.tables.grants; tags = is.tables.tags; blobs = is.tables.blobs; manifests = is.tables.manifests; uploads = is.tables.uploads; pieces = is.tables.pieces };
   agree = record {
+    version = is.agree.version;
     granted = all_weaker _ _ (λ r. there (bytes_at r 2)) t.grants is.agree.granted;
     tagged = all_weaker _ _ (λ r. there (bytes_at r 1)) t.tags is.agree.tagged;
     blobs_repo = all_weaker _ _ (λ r. there (bytes_at r 1)) t.blobs is.agree.blobs_repo;

@@ -30,6 +30,7 @@ pub with_sessions_rows : (t : Tables) (pieces uploads : List Row) → IsRegistry
 with_sessions_rows t pieces uploads is are_pieces are_uploads have agrees pieces_agree opens = record {
   tables = record { repos = is.tables.repos; grants = is.tables.grants; tags = is.tables.tags; blobs = is.tables.blobs; manifests = is.tables.manifests; uploads = are_uploads; pieces = are_pieces };
   agree = record {
+    version = is.agree.version;
     granted = is.agree.granted;
     tagged = is.agree.tagged;
     blobs_repo = is.agree.blobs_repo;
@@ -88,6 +89,7 @@ registry_opened t name uploads is there c = record {
     pieces = is.tables.pieces;
   };
   agree = record {
+    version = is.agree.version;
     granted = all_weaker _ (λ r. is_repo repos (bytes_at r 2) ≡ true) (λ r h. repos_kept t.repos name number (bytes_at r 2) h) t.grants is.agree.granted;
     tagged = have t.tags is.agree.tagged;
     blobs_repo = have t.blobs is.agree.blobs_repo;

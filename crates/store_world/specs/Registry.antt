@@ -1,7 +1,7 @@
 -- What is kept true from table to table, so that the rows stand for a world: each row that names a repository
 -- names one that is there, each link and each piece names a content, sizes and what is known of a manifest
 -- agree with the bytes, and the pieces of a session lie one behind the other.
-use Rattle.std.specs.Prelude.{◌≡◌, ◌≤◌, ◌<◌, ◌+◌, ℕ, ℤ, pos, Bool, true, List, [], ◌∷◌, ◌==◌, if◌then◌else◌, find, is_some, length, Option, Some, None}
+use Rattle.std.specs.Prelude.{◌≡◌, ◌≤◌, ◌<◌, ◌+◌, ℕ, ℤ, pos, Bool, true, List, [], ◌∷◌, ◌==◌, if◌then◌else◌, find, is_some, length, map, Option, Some, None}
 use Rattle.std.specs.Option.{option_map_or}
 use Rattle.std.specs.List.{AllByRecursion}
 use Rattle.sqlite.specs.declared.types.Value.{Value}
@@ -87,9 +87,16 @@ pub record UploadAgrees (repos pieces : List Row) (r : Row) : Type 0 where
 abbrev pub IsOpen : List Row → Row → Type 0
 IsOpen uploads p = is_some (find (of_session (bytes_at p 1) (natural_at p 2)) uploads) ≡ true
 
+-- ---- the schema
+
+-- one row says that the tables are of schema 2, and no other says anything
+abbrev pub IsOfSchemaTwo : List Row → Type 0
+IsOfSchemaTwo rows = map {B = Row} (λ r. column r 1 ∷ []) rows ≡ (Int (pos 2) ∷ []) ∷ []
+
 -- ---- all of it
 
 pub record Agree (t : Tables) : Type 0 where
+  pub version : IsOfSchemaTwo t.version
   pub granted : HaveGranted t.repos t.grants
   pub tagged : HaveRepo t.repos t.tags
   pub blobs_repo : HaveRepo t.repos t.blobs

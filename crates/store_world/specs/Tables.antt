@@ -35,6 +35,10 @@ no_tables = record {
   pieces = [];
 }
 
+-- without rows, but for those of `registry_schema`
+abbrev pub new_tables : List Row → Tables
+new_tables rows = record no_tables { version = rows }
+
 -- ---- the columns of each table
 
 -- name, quota, last_session

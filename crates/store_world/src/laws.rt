@@ -1,12 +1,14 @@
 //! Laws of rows, which the store above relies on.
-ghost use Rattle.std.specs.Prelude.{◌≡◌};
+ghost use Rattle.std.specs.Prelude.{◌≡◌, List};
+ghost use Rattle.sqlite.specs.Order.{Row};
 ghost use Rattle.registry_model.specs.World.{no_world};
-ghost use Rattle.store_world.specs.Tables.{no_tables};
+ghost use Rattle.store_world.specs.Tables.{new_tables};
 ghost use Rattle.store_world.specs.World.{world_of};
-ghost use Rattle.store_world.specs.Registry.{IsRegistry};
+ghost use Rattle.store_world.specs.Registry.{IsOfSchemaTwo, IsRegistry};
 
-/// Tables without rows stand for the world without repositories and grants.
-pub fn empty_tables()
-    ensures world { world_of no_tables ≡ no_world }
-    ensures registry { IsRegistry no_tables }
+/// Tables without rows, but for one that says which schema they are, stand for the world without
+/// repositories and grants.
+pub fn tables_that_are_new()
+    ensures world { (rows : List Row) → world_of (new_tables rows) ≡ no_world }
+    ensures registry { (rows : List Row) → IsOfSchemaTwo rows → IsRegistry (new_tables rows) }
 {}

@@ -1,5 +1,7 @@
 use Rattle.sqlite.specs.Held.{state}
-use Rattle.store_opening.proofs.OpeningLemmas.{is_marked, settled}
+use Rattle.store_statements.specs.Held.{held}
+use Rattle.store_opening.specs.Opening.{versions_in}
+use Rattle.store_opening.proofs.OpeningLemmas.{is_marked, settled, is_two, two_told, wanting_told, other_told, unsaid_told, told_as, on_two, on_err}
 use Rattle.store_statements.proofs.SettledAfter.{stays_read}
 use Rattle.store_opening.proofs.VersionAsked.{back_left}
 use Rattle.store_opening.proofs.opening.take_up.Goals as goal
@@ -12,18 +14,57 @@ returns-then-not-is_marked-clause-found g c clean idle h =
     absurd cc
 
 pub returns-then-not-is_marked-clause-wanting : goal.returns-then-not-is_marked-clause-wanting
-returns-then-not-is_marked-clause-wanting g c clean h says =
+returns-then-not-is_marked-clause-wanting g c clean h =
     let there = is_marked (state g.S.Store c.args.conn.now).now.schema h.holds.known.version in
     let told = c.is_marked.ensures in
     let not = c.if-not-is_marked.true in
     absurd cc
 
-pub returns-in-Ok-eq2-clause-found : goal.returns-in-Ok-eq2-clause-found
-returns-in-Ok-eq2-clause-found g c clean idle h =
-    stays_read (state g.S.Store c.args.conn.now) (state g.S.Store c.read_version.new.conn) (settled (state g.S.Store c.args.conn.now) idle h) (c.in-Ok-eq2.ensures.same clean h.holds)
+pub returns-then-not-is_marked-clause-two : goal.returns-then-not-is_marked-clause-two
+returns-then-not-is_marked-clause-two g c clean h =
+    let there = is_marked (state g.S.Store c.args.conn.now).now.schema h.known.version in
+    let told = c.is_marked.ensures in
+    let not = c.if-not-is_marked.true in
+    absurd cc
 
-pub returns-in-Ok-clause-back : goal.returns-in-Ok-clause-back
-returns-in-Ok-clause-back g c clean idle = back_left (state g.S.Store c.args.conn.now) (state g.S.Store c.read_version.new.conn) idle.committed (c.read_version.ensures.left clean)
+pub returns-then-not-is_marked-clause-other : goal.returns-then-not-is_marked-clause-other
+returns-then-not-is_marked-clause-other g c clean h n alone not_two =
+    let there = is_marked (state g.S.Store c.args.conn.now).now.schema h.known.version in
+    let told = c.is_marked.ensures in
+    let not = c.if-not-is_marked.true in
+    absurd cc
 
-pub returns-in-Err-clause-back : goal.returns-in-Err-clause-back
-returns-in-Err-clause-back g c clean idle = back_left (state g.S.Store c.args.conn.now) (state g.S.Store c.read_version.new.conn) idle.committed (c.read_version.ensures.left clean)
+pub returns-then-not-is_marked-clause-unsaid : goal.returns-then-not-is_marked-clause-unsaid
+returns-then-not-is_marked-clause-unsaid g c clean h none =
+    let there = is_marked (state g.S.Store c.args.conn.now).now.schema h.known.version in
+    let told = c.is_marked.ensures in
+    let not = c.if-not-is_marked.true in
+    absurd cc
+
+pub returns-clause-found : goal.returns-clause-found
+returns-clause-found g c clean idle h =
+    on_two c.read_version.result c.only_two.result _ _ c.only_two.ensures.two (c.read_version.ensures.same clean h.holds)
+    (stays_read (state g.S.Store c.args.conn.now) (state g.S.Store c.read_version.new.conn) (settled (state g.S.Store c.args.conn.now) idle h))
+
+pub returns-clause-wanting : goal.returns-clause-wanting
+returns-clause-wanting g c clean h =
+    wanting_told (versions_in (state g.S.Store c.args.conn.now).now) c.read_version.result (c.read_version.ensures.alone clean h.holds) c.only_two.result c.only_two.ensures.other h.agree.version (c.read_version.ensures.whole clean h.holds)
+
+pub returns-clause-two : goal.returns-clause-two
+returns-clause-two g c clean h =
+    is_two c.only_two.result (held (state g.S.Store c.args.conn.now)).version
+    (two_told (versions_in (state g.S.Store c.args.conn.now).now) c.read_version.result (c.read_version.ensures.alone clean h) c.only_two.result c.only_two.ensures.two)
+
+pub returns-clause-other : goal.returns-clause-other
+returns-clause-other g c clean h n alone not_two =
+    other_told (versions_in (state g.S.Store c.args.conn.now).now) c.read_version.result (c.read_version.ensures.alone clean h) c.only_two.result c.only_two.ensures.other n alone (c.read_version.ensures.whole clean h n alone)
+
+pub returns-clause-unsaid : goal.returns-clause-unsaid
+returns-clause-unsaid g c clean h none =
+    unsaid_told (versions_in (state g.S.Store c.args.conn.now).now) c.read_version.result (c.read_version.ensures.alone clean h) c.only_two.result c.only_two.ensures.other none c.read_version.ensures.none
+
+pub returns-clause-told : goal.returns-clause-told
+returns-clause-told g c clean = told_as (state g.S.Store c.args.conn.now) c.read_version.result c.only_two.result c.only_two.ensures.other (c.read_version.ensures.told clean) c.read_version.ensures.unnumbered
+
+pub returns-clause-back : goal.returns-clause-back
+returns-clause-back g c clean idle = on_err c.only_two.result _ (back_left (state g.S.Store c.args.conn.now) (state g.S.Store c.read_version.new.conn) idle.committed (c.read_version.ensures.left clean))
