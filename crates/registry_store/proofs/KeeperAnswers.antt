@@ -9,8 +9,12 @@ use Rattle.oci_names.specs.declared.fault.Fault.TheVariants.{Memory, Storage}
 use Rattle.registry_model.specs.World.{World}
 use Rattle.registry_model.specs.Keeping.{State, ReadsBy, Writes, WritesBy}
 use Rattle.registry_store.specs.Kept.{Kept}
-use Rattle.store_statements.specs.Held.{IsSettled, StaysSettled, Makes, is_storage, world_in}
+use Rattle.store_world.specs.Tables.{Tables}
+use Rattle.store_statements.specs.Held.{IsSettled, StaysSettled, Makes, is_storage, world_in, held}
 use Rattle.registry_store.proofs.KeeperStates.{found, wrote, stood}
+
+abbrev tables : {S : Type 0} → Ghosts S → Held S → Tables
+tables g conn = held (state g conn)
 
 -- nothing was noted
 pub unfailed : (failed spent later : Bool) → later ≡ (failed || spent) → later ≡ false → failed ≡ false
@@ -52,6 +56,12 @@ module _ {S : Type 0} (g : Ghosts S) (conn : Held S) (old : Kept S) (spent : Boo
       subst (λ b. ◌≡◌ {A = State} (after b) (record { world = change (world_in (state g old.conn)); spent = false })) (sym notes) (wrote g conn old spent is new change unspent made.1)
   write change (Err Memory) later unspent notes made stays = subst (λ b. ◌≡◌ {A = State} (after b) before) (sym notes) (stood g conn old spent is new (stays refl).1)
   write change (Err Storage) later unspent notes made stays = tt
+
+  -- what a write did to the tables
+  pub did_told : {A : Type 0} (P : Tables → Tables → Type 0) (r answer : Result A Fault) → r ≡ answer → OnOk answer (P (tables g conn) (tables g new)) → OnOk r (P (tables g old.conn) (tables g new))
+  did_told P r answer same h =
+      subst (λ x. OnOk x (P (tables g old.conn) (tables g new))) (sym same)
+      (subst (λ (k : Kept S). OnOk answer (P (tables g k.conn) (tables g new))) is h)
 
   -- a write made its change, or none
   pub write_told : {A : Type 0} (change : World → World) (r answer : Result A Fault) (later : Bool) → spent ≡ false → r ≡ answer → later ≡ (is_storage answer || spent)

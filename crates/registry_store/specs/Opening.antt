@@ -24,9 +24,9 @@ pub record MayFind (image : Image) (trees : Trees) : Type 0 where
 abbrev pub WereOurs : Image → Type 0
 WereOurs image = (db : Database) → IsDatabase db → MayFind image db.trees → IsOurs db
 
--- the tables of a store that was opened on the files: those that were found, or new ones that stand for the
--- empty world
+-- the tables of a store that was opened on the files: those of a database that was found there, or new ones
+-- that stand for the empty world
 abbrev pub OpensOn : Image → Database → Type 0
-OpensOn image now = (db : Database) × MayFind image db.trees
+OpensOn image now = (db : Database) × IsDatabase db × MayFind image db.trees
     × (IsEmptyWith no_schema db → world_of (tables_in now) ≡ no_world)
     × (HoldsRegistry db → now ≡ db)

@@ -1,7 +1,12 @@
 //! The store as a keeper: each call asks the tables, and what is said of rows is said of the world.
+ghost use Rattle.std.specs.Prelude.{◌≡◌, ℤ, None, if◌then◌else◌};
 ghost use Rattle.sqlite.specs.State.{HasCleanDisk};
 ghost use Rattle.sqlite.specs.Held.{state};
+ghost use Rattle.registry_model.specs.Keeping.{Writes, Spends};
 ghost use Rattle.store_statements.specs.Held.{world_in};
+ghost use Rattle.store_statements.specs.Clauses.{Relates};
+ghost use Rattle.store_writes.specs.Naming.{is_named};
+ghost use Rattle.registry_store.specs.Kept.{shown};
 
 use crate::fault_noting::note_fault;
 use crate::store::Store;
@@ -241,7 +246,17 @@ impl<S: Alter> Keeper for Store<S> {
         unless_spent!(self, store_writes::drop_sessions(&mut self.conn, name))
     }
 
-    fn clear(&mut self) -> Result<(), Fault> {
+    /// Frees each content that no blob, manifest or upload session names: exactly the others stay, and the
+    /// world does not change. A failure frees nothing.
+    fn clear(&mut self) -> Result<(), Fault>
+        ensures made { HasCleanDisk (state S.Store self.new.conn)
+            → Writes result (shown S.Store self.old).world (shown S.Store self.old) (shown S.Store self.new) }
+        ensures spends { Spends result (shown S.Store self.old) (shown S.Store self.new) }
+        ensures honest { HasCleanDisk (state S.Store self.new.conn)
+            → HasCleanDisk (state S.Store self.old.conn) }
+        ensures freed { Relates S.Store self.old.conn self.new.conn result
+            (λ t u. (id : ℤ) → u.contents id ≡ (if is_named t id then t.contents id else None)) }
+    {
         unless_spent!(self, store_writes::clear(self.alloc, &mut self.conn))
     }
 }

@@ -9,7 +9,7 @@ ghost use Rattle.store_schema.specs.Schema.{no_schema};
 ghost use Rattle.store_schema.specs.Making.{IsEmptyWith};
 ghost use Rattle.registry_model.specs.World.{no_world};
 ghost use Rattle.store_statements.specs.Held.{IsSettled, IsBack, world_in};
-ghost use Rattle.store_opening.specs.Opening.{IsIdle, HoldsRegistry, SaysTwo};
+ghost use Rattle.store_opening.specs.Opening.{IsIdle, HoldsRegistry};
 ghost use Rattle.store_opening.specs.Asking.{IsWanting, IsTold};
 ghost use Rattle.registry_store.specs.Opening.{IsOurs, OpensOn};
 
@@ -90,7 +90,7 @@ impl<S: Alter + Drop> Store<S> {
             → IsWanting e.0) }
         ensures wanting { IfErr result
             (λ e. HasCleanDisk (state S.Store e.1) → HoldsRegistry (state S.Store conn).now
-            → SaysTwo (state S.Store conn).now → IsWanting e.0) }
+            → IsWanting e.0) }
     {
         match take_up(&mut conn) {
             Ok(()) => Ok(Store {
@@ -129,7 +129,7 @@ impl<F: Written> Store<FileStore<FileFrom<F>>> {
             Err((error, _)) => return Err(fault_in_opening(error)),
         };
         match Store::adopt(rt.alloc(), conn) {
-            Ok(store) => Ok(store),
+            Ok(opened) => Ok(opened),
             Err((fault, _)) => Err(fault),
         }
     }

@@ -1,5 +1,7 @@
+use Rattle.std.proofs.Common.{◌≡◌, ℤ, None, if◌then◌else◌}
 use Rattle.sqlite.specs.Held.{state}
-use Rattle.registry_store.proofs.KeeperAnswers.{write_told, written, unfailed}
+use Rattle.store_writes.specs.Naming.{is_named}
+use Rattle.registry_store.proofs.KeeperAnswers.{write_told, did_told, written, unfailed}
 use Rattle.registry_store.proofs.keeper.StoreKeeper.clear.Goals as goal
 
 pub clear-answer-requires : goal.clear-answer-requires
@@ -10,3 +12,7 @@ invariant_of-self g c unspent clean = written c.clear-answer.result (state g.S.S
 
 pub returns-clause-made : goal.returns-clause-made
 returns-clause-made g c clean = write_told g.S.Store c.self.inside.conn c.args.self.now c.self.inside.spent c.self.view_is c.clear-answer.new.conn (λ w. w) c.note_fault.result c.clear-answer.result c.note_fault.new.spent c.if-self.false c.note_fault.ensures.same c.note_fault.ensures.noted (c.clear-answer.ensures.made clean) (c.clear-answer.ensures.memory clean)
+
+pub returns-clause-freed : goal.returns-clause-freed
+returns-clause-freed g c clean =
+    did_told g.S.Store c.self.inside.conn c.args.self.now c.self.inside.spent c.self.view_is c.clear-answer.new.conn (λ t u. (id : ℤ) → u.contents id ≡ (if is_named t id then t.contents id else None)) c.note_fault.result c.clear-answer.result c.note_fault.ensures.same (c.clear-answer.ensures.freed clean)

@@ -18,9 +18,10 @@ adopt-requires-clause-ours g c clean =
 pub returns-in-Ok-adopt-clause-found : goal.returns-in-Ok-adopt-clause-found
 returns-in-Ok-adopt-clause-found g c clean =
     let early : HasCleanDisk (file_state c.in-Ok.conn) = omega (arith, c.in-Ok-adopt.ensures.survives.clean) in
-    let opens = (c.in-Ok.ensures.opened early).0 in (
+    let it = c.in-Ok.ensures.opened early in (
       (file_state c.in-Ok.conn).now,
-      found_now (image_at g.F.Start) (file_state c.in-Ok.conn) opens (c.in-Ok.ensures.found early),
+      (it.1 it.0.is_open).0,
+      found_now (image_at g.F.Start) (file_state c.in-Ok.conn) it.0 (c.in-Ok.ensures.found early),
       (λ bare. c.in-Ok-adopt.ensures.made clean bare),
       (λ h. c.in-Ok-adopt.ensures.found clean h),
     )
