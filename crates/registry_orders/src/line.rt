@@ -78,34 +78,48 @@ fn level<'a>(alloc: Global) -> Arg<'a> {
         .value_parser(ValueParser::unsigned(1, 3))
 }
 
-fn stdio<'a>(alloc: Global) -> Result<Command<'a>, AllocError> {
-    let memory = Arg::new(alloc, "memory")
+fn memory<'a>(alloc: Global) -> Arg<'a> {
+    Arg::new(alloc, "memory")
         .long("memory")
         .action(ArgAction::SetTrue)
-        .help("Keep everything in memory");
-    let making = "Make a repository with a quota in bytes";
-    let repo = option(alloc, "repo", "NAME=QUOTA", making).action(ArgAction::Append);
-    let giving = "Give a token a level on a repository: 1 pull, 2 push, 3 delete";
-    let grant = option(alloc, "grant", "TOKEN=NAME=LEVEL", giving).action(ArgAction::Append);
+        .help("Keep everything in memory")
+}
+
+fn repos<'a>(alloc: Global) -> Arg<'a> {
+    let help = "Make a repository with a quota in bytes";
+    option(alloc, "repo", "NAME=QUOTA", help).action(ArgAction::Append)
+}
+
+fn grants<'a>(alloc: Global) -> Arg<'a> {
+    let help = "Give a token a level on a repository: 1 pull, 2 push, 3 delete";
+    option(alloc, "grant", "TOKEN=NAME=LEVEL", help).action(ArgAction::Append)
+}
+
+fn stdio<'a>(alloc: Global) -> Result<Command<'a>, AllocError> {
     Command::new(alloc, "stdio")
         .about("Serve standard input as one connection")
         .arg(database(alloc))?
-        .arg(memory)?
-        .arg(repo)?
-        .arg(grant)
+        .arg(memory(alloc))?
+        .arg(repos(alloc))?
+        .arg(grants(alloc))
+}
+
+fn address<'a>(alloc: Global) -> Arg<'a> {
+    option(alloc, "listen", "ADDR", "The address and port to listen on").required(true)
+}
+
+fn connections<'a>(alloc: Global) -> Arg<'a> {
+    option(alloc, "connections", "N", "End after so many connections")
+        .value_parser(ValueParser::unsigned(0, MOST_CONNECTIONS))
+        .default_value("9223372036854775807")
 }
 
 fn serve<'a>(alloc: Global) -> Result<Command<'a>, AllocError> {
-    let help = "The address and port to listen on";
-    let address = option(alloc, "listen", "ADDR", help).required(true);
-    let connections = option(alloc, "connections", "N", "End after so many connections")
-        .value_parser(ValueParser::unsigned(0, MOST_CONNECTIONS))
-        .default_value("9223372036854775807");
     Command::new(alloc, "serve")
         .about("Serve connections, one after the other")
         .arg(database(alloc).required(true))?
-        .arg(address)?
-        .arg(connections)
+        .arg(address(alloc))?
+        .arg(connections(alloc))
 }
 
 /// A subcommand over a database.
@@ -124,33 +138,52 @@ fn over_repo<'a>(alloc: Global, word: &'a str, about: &'a str) -> Result<Command
     over_database(alloc, word, about)?.arg(name(alloc))
 }
 
+/// One that sets the repository's quota.
+fn over_quota<'a>(alloc: Global, word: &'a str, about: &'a str) -> Result<Command<'a>, AllocError> {
+    over_repo(alloc, word, about)?.arg(quota(alloc))
+}
+
+/// A subcommand over a token and a repository.
+fn over_token<'a>(alloc: Global, word: &'a str, about: &'a str) -> Result<Command<'a>, AllocError> {
+    over_database(alloc, word, about)?
+        .arg(token(alloc))?
+        .arg(name(alloc))
+}
+
+fn grant<'a>(alloc: Global) -> Result<Command<'a>, AllocError> {
+    over_token(alloc, "grant", "Give a token a level on a repository")?.arg(level(alloc))
+}
+
+/// The command with one more subcommand.
+fn with<'a>(
+    command: Command<'a>,
+    made: Result<Command<'a>, AllocError>,
+) -> Result<Command<'a>, AllocError> {
+    command.subcommand(made?)
+}
+
 fn with_repo_commands<'a>(alloc: Global, command: Command<'a>) -> Result<Command<'a>, AllocError> {
-    let repo = over_repo(alloc, "repo", "Make a repository")?.arg(quota(alloc))?;
-    let quota = over_repo(alloc, "quota", "Set a repository's quota")?.arg(quota(alloc))?;
-    let drop = over_repo(alloc, "drop", "Drop a repository with its grants")?;
-    let sessions = over_repo(alloc, "sessions", "End a repository's open uploads")?;
-    command
-        .subcommand(repo)?
-        .subcommand(quota)?
-        .subcommand(drop)?
-        .subcommand(sessions)
+    let command = with(command, over_quota(alloc, "repo", "Make a repository"))?;
+    let command = with(
+        command,
+        over_quota(alloc, "quota", "Set a repository's quota"),
+    )?;
+    let dropping = "Drop a repository with its grants";
+    let command = with(command, over_repo(alloc, "drop", dropping))?;
+    let ending = "End a repository's open uploads";
+    with(command, over_repo(alloc, "sessions", ending))
 }
 
 fn with_other_commands<'a>(alloc: Global, command: Command<'a>) -> Result<Command<'a>, AllocError> {
-    let grant = over_database(alloc, "grant", "Give a token a level on a repository")?
-        .arg(token(alloc))?
-        .arg(name(alloc))?
-        .arg(level(alloc))?;
-    let revoke = over_database(alloc, "revoke", "Take a token's level on a repository away")?
-        .arg(token(alloc))?
-        .arg(name(alloc))?;
-    let clear = over_database(alloc, "clear", "Free what no repository holds any more")?;
-    let usage = over_database(alloc, "usage", "List what the repositories hold")?;
-    command
-        .subcommand(grant)?
-        .subcommand(revoke)?
-        .subcommand(clear)?
-        .subcommand(usage)
+    let command = with(command, grant(alloc))?;
+    let revoking = "Take a token's level on a repository away";
+    let command = with(command, over_token(alloc, "revoke", revoking))?;
+    let clearing = "Free what no repository holds any more";
+    let command = with(command, over_database(alloc, "clear", clearing))?;
+    with(
+        command,
+        over_database(alloc, "usage", "List what the repositories hold"),
+    )
 }
 
 /// The command line.
