@@ -1,14 +1,17 @@
 -- What a run says: the laws of single steps, over lists of steps.
-use Rattle.std.proofs.Common.{◌≡◌, ◌∙◌, ◌⊎◌, inl, inr, suc, Bool, true, false, List, [], ◌∷◌, ◌++◌, map, length, All, refl, sym, ap, subst}
+use Rattle.std.proofs.Common.{◌≡◌, ◌≢◌, ◌≤◌, ◌∙◌, ◌⊎◌, inl, inr, is_some, ℕ, zero, suc, Bool, true, false, List, [], ◌∷◌, ◌++◌, map, length, take, All, refl, sym, ap, subst}
+use Rattle.std.proofs.lemmas.List.{take-take}
 use Rattle.std.proofs.lemmas.List.Elements.{All-head, All-tail, All-cons, All-nil}
+use Rattle.std.proofs.lemmas.Slice.Eq.{bytes_eq-Decides}
 use Rattle.oci_names.specs.Text.{Text}
-use Rattle.registry_model.specs.World.{World}
+use Rattle.registry_model.specs.World.{World, level_at}
 use Rattle.registry_model.specs.Operation.{addressed}
 use Rattle.registry_model.specs.Verdict.{reply_to, after_request}
 use Rattle.registry_model.specs.Keeping.{State}
 use Rattle.registry_model.specs.Doing.{Kind, answered, missed, lost, kind_of, outcome_kind, DoesAs, CarriesOutAs}
-use Rattle.registry_model.specs.Team.{Team, IsTeamOf, view, Step, asks, orders, is_own, is_reading, GivesNoPush, MayNotPush, IsElsewhere, OwnOrAside}
-use Rattle.registry_model.specs.Runs.{Outcome, told, did, comes_to, after, kind, Takes, TakesAll, kept_as, kept, Follow, after_all, AllLost, LostToTheEnd, own, replies, IsToldAlone, RunSays}
+use Rattle.registry_model.specs.Team.{Team, IsTeamOf, team_of_token, view, Step, asks, orders, is_own, is_reading, GivesNoPush, MayNotPush, IsElsewhere, OwnOrAside}
+use Rattle.registry_model.specs.Ask.{Ask}
+use Rattle.registry_model.specs.Runs.{Outcome, told, did, comes_to, after, kind, Takes, OneByOne, TakesAll, kept_as, kept, Follow, after_all, AllLost, LostToTheEnd, own, requests_of, asked, answers_to, NoneMissed, replies, IsToldAlone, RunSays}
 use Rattle.registry_model.proofs.OwnLaws.{own_reply, own_after}
 use Rattle.registry_model.proofs.AsideLaws.{Since, still_team, since, aside_request, aside_order}
 
@@ -139,21 +142,85 @@ run_says s steps outcomes s' r =
           steps outcomes h (λ u n x. x) facts.0.0;
     }
 
--- two registries that agree on what a team sees, and are asked the same by it
-pub same_told : (s t : State) (steps others : List Step) (outcomes results : List Outcome) (s' t' : State) → TakesAll s steps outcomes s' → TakesAll t others results t'
-    → (team : Team) → IsTeamOf s.world team → IsTeamOf t.world team → view s.world team ≡ view t.world team
-    → All (OwnOrAside s.world steps team) steps → All (OwnOrAside t.world others team) others
-    → map (λ p. p.0) (own team (kept steps outcomes)) ≡ map (λ p. p.0) (own team (kept others results))
-    → map (λ p. p.1) (own team (kept steps outcomes)) ≡ map (λ p. p.1) (own team (kept others results))
-same_told s t steps others outcomes results s' t' r q team mine yours same aside beside asked =
-    (run_says s steps outcomes s' r).private team mine aside
-    ∙ (λ i. replies (same i) (asked i))
-    ∙ sym ((run_says t others results t' q).private team yours beside)
+-- the first replies are the replies to the first requests
+replies_take : (w : World) (requests : List Ask) (n : ℕ) → replies w (take n requests) ≡ take n (replies w requests)
+replies_take w requests zero = refl
+replies_take w [] (suc n) = refl
+replies_take w (q ∷ requests) (suc n) = λ i. reply_to w q ∷ replies_take (after_request w q) requests n i
+
+-- without want of memory the team is answered in order, up to the first storage failure
+answered_first : (s : State) (steps : List Step) (outcomes : List Outcome) (s' : State) → TakesAll s steps outcomes s' → (team : Team) → NoneMissed outcomes
+    → asked team steps outcomes ≡ take (length (asked team steps outcomes)) (requests_of team steps)
+answered_first s [] [] s' r team none = refl
+answered_first s [] (o ∷ outcomes) s' r team none = absurd r
+answered_first s (st ∷ steps) [] s' r team none = absurd r
+answered_first s (asks q ∷ steps) (told a ∷ outcomes) s' r team none =
+    by_kind (kind_of a) (All-head (λ o. kind o ≢ missed) (told a) outcomes none)
+    (answered_first r.0 steps outcomes s' r.2 team (All-tail (λ o. kind o ≢ missed) (told a) outcomes none))
+  where
+    request : asked team steps outcomes ≡ take (length (asked team steps outcomes)) (requests_of team steps) → (b : Bool) → is_own team q.token ≡ b
+        → map (λ p. p.0) (own team ((asks q, told a) ∷ kept steps outcomes))
+        ≡ take (length (map (λ p. p.0) (own team ((asks q, told a) ∷ kept steps outcomes)))) (requests_of team (asks q ∷ steps))
+    request later true e = rw e (λ i. q ∷ later i)
+    request later false e = rw e later
+
+    by_kind : (k : Kind) → k ≢ missed → asked team steps outcomes ≡ take (length (asked team steps outcomes)) (requests_of team steps)
+        → map (λ p. p.0) (own team (kept_as k (asks q) (told a) (kept steps outcomes)))
+        ≡ take (length (map (λ p. p.0) (own team (kept_as k (asks q) (told a) (kept steps outcomes))))) (requests_of team (asks q ∷ steps))
+    by_kind answered d later = request later (is_own team q.token) refl
+    by_kind missed d later = absurd (d refl)
+    by_kind lost d later = refl
+answered_first s (orders a ∷ steps) (did x ∷ outcomes) s' r team none =
+    by_kind (outcome_kind x) (All-head (λ o. kind o ≢ missed) (did x) outcomes none)
+    (answered_first r.0 steps outcomes s' r.2 team (All-tail (λ o. kind o ≢ missed) (did x) outcomes none))
+  where
+    by_kind : (k : Kind) → k ≢ missed → asked team steps outcomes ≡ take (length (asked team steps outcomes)) (requests_of team steps)
+        → map (λ p. p.0) (own team (kept_as k (orders a) (did x) (kept steps outcomes)))
+        ≡ take (length (map (λ p. p.0) (own team (kept_as k (orders a) (did x) (kept steps outcomes))))) (requests_of team steps)
+    by_kind answered d later = later
+    by_kind missed d later = absurd (d refl)
+    by_kind lost d later = refl
+answered_first s (asks q ∷ steps) (did x ∷ outcomes) s' r team none = absurd r.1
+answered_first s (orders a ∷ steps) (told x ∷ outcomes) s' r team none = absurd r.1
+
+-- two registries that agree on what a team sees: the first replies are the same where the first requests are
+module _ (s t : State) (steps others : List Step) (outcomes results : List Outcome) (s' t' : State) (r : TakesAll s steps outcomes s') (q : TakesAll t others results t')
+  (team : Team) (mine : IsTeamOf s.world team) (yours : IsTeamOf t.world team) (same : view s.world team ≡ view t.world team)
+  (aside : All (OwnOrAside s.world steps team) steps) (beside : All (OwnOrAside t.world others team) others) where
+  pub same_told : asked team steps outcomes ≡ asked team others results → answers_to team steps outcomes ≡ answers_to team others results
+  same_told e =
+      (run_says s steps outcomes s' r).private team mine aside
+      ∙ (λ i. replies (same i) (e i))
+      ∙ sym ((run_says t others results t' q).private team yours beside)
+
+  pub same_front : (n : ℕ) → take n (asked team steps outcomes) ≡ take n (asked team others results)
+      → take n (answers_to team steps outcomes) ≡ take n (answers_to team others results)
+  same_front n e =
+      ap (take n) ((run_says s steps outcomes s' r).private team mine aside)
+      ∙ sym (replies_take (view s.world team) (asked team steps outcomes) n)
+      ∙ (λ i. replies (same i) (e i))
+      ∙ replies_take (view t.world team) (asked team others results) n
+      ∙ ap (take n) (sym ((run_says t others results t' q).private team yours beside))
+
+  pub same_asked : NoneMissed outcomes → NoneMissed results → requests_of team steps ≡ requests_of team others → (n : ℕ)
+      → n ≤ length (asked team steps outcomes) → n ≤ length (asked team others results)
+      → take n (answers_to team steps outcomes) ≡ take n (answers_to team others results)
+  same_asked none never e n fits room = same_front n
+      (ap (take n) (answered_first s steps outcomes s' r team none)
+      ∙ take-take n (length (asked team steps outcomes)) (requests_of team steps) fits
+      ∙ ap (take n) e
+      ∙ sym (take-take n (length (asked team others results)) (requests_of team others) room)
+      ∙ ap (take n) (sym (answered_first t others results t' q team never)))
 
 -- one step more at the end
-pub TakesAll-more : (s : State) (steps : List Step) (outcomes : List Outcome) (mid : State) (st : Step) (o : Outcome) (s' : State)
-    → TakesAll s steps outcomes mid → Takes mid st o s' → TakesAll s (steps ++ st ∷ []) (outcomes ++ o ∷ []) s'
-TakesAll-more s [] [] mid st o s' r d = (s', subst (λ x. Takes x st o s') r d, refl)
-TakesAll-more s [] (p ∷ outcomes) mid st o s' r d = absurd r
-TakesAll-more s (x ∷ steps) [] mid st o s' r d = absurd r
-TakesAll-more s (x ∷ steps) (p ∷ outcomes) mid st o s' r d = (r.0, r.1, TakesAll-more r.0 steps outcomes mid st o s' r.2 d)
+pub one_more : (One : State → Step → Outcome → State → Type 0) (s : State) (steps : List Step) (outcomes : List Outcome) (mid : State) (st : Step) (o : Outcome)
+    (s' : State) → OneByOne One s steps outcomes mid → One mid st o s' → OneByOne One s (steps ++ st ∷ []) (outcomes ++ o ∷ []) s'
+one_more One s [] [] mid st o s' r d = (s', subst (λ x. One x st o s') r d, refl)
+one_more One s [] (p ∷ outcomes) mid st o s' r d = absurd r
+one_more One s (x ∷ steps) [] mid st o s' r d = absurd r
+one_more One s (x ∷ steps) (p ∷ outcomes) mid st o s' r d = (r.0, r.1, one_more One r.0 steps outcomes mid st o s' r.2 d)
+
+-- ---- one token
+
+pub token_is_team : (w : World) (token : Text) → IsTeamOf w (team_of_token w token)
+token_is_team w token other name is has = subst (λ t. is_some (level_at w t name) ≡ true) ((bytes_eq-Decides other token).0 is) has

@@ -1,5 +1,5 @@
 -- Steps one after the other, and what a team is told among them (profile).
-use Rattle.std.specs.Prelude.{◌≡◌, false, if◌then◌else◌, List, [], ◌∷◌, map, length, All, ⊤, Result}
+use Rattle.std.specs.Prelude.{◌≡◌, ◌≢◌, false, if◌then◌else◌, List, [], ◌∷◌, map, length, All, ⊤, Result}
 use Rattle.registry_model.specs.declared.admin.AdminFault.{AdminFault}
 use Rattle.registry_model.specs.World.{World}
 use Rattle.registry_model.specs.Answer.{Answer}
@@ -7,7 +7,7 @@ use Rattle.registry_model.specs.Ask.{Ask}
 use Rattle.registry_model.specs.Verdict.{reply_to, after_request}
 use Rattle.registry_model.specs.Command.{refusal_of, after_command}
 use Rattle.registry_model.specs.Keeping.{State}
-use Rattle.registry_model.specs.Doing.{Kind, answered, missed, lost, kind_of, outcome_kind, outcome_of, Does, CarriesOut}
+use Rattle.registry_model.specs.Doing.{Kind, answered, missed, lost, kind_of, outcome_kind, outcome_of, Does, CarriesOut, SpendsAs}
 use Rattle.registry_model.specs.Team.{Team, IsTeamOf, view, Step, asks, orders, is_own, OwnOrAside}
 
 -- what came of a step
@@ -36,12 +36,25 @@ Takes s (orders a) (did r) s' = CarriesOut s a r s'
 Takes s (asks q) (did r) s' = ⊥
 Takes s (orders a) (told r) s' = ⊥
 
--- steps one after the other
+-- a reply comes of a request and a result of a command, and each says by its kind whether the storage is lost
+abbrev pub Shows : State → Step → Outcome → State → Type 0
+Shows s (asks q) (told a) s' = SpendsAs (kind_of a) s s'
+Shows s (orders a) (did r) s' = SpendsAs (outcome_kind r) s s'
+Shows s (asks q) (did r) s' = ⊥
+Shows s (orders a) (told r) s' = ⊥
+
+-- steps one after the other, each from the state that the one before it left
+abbrev pub OneByOne : (State → Step → Outcome → State → Type 0) → State → List Step → List Outcome → State → Type 0
+OneByOne One s [] [] s' = s' ≡ s
+OneByOne One s (st ∷ steps) (o ∷ outcomes) s' = (mid : State) × One s st o mid × OneByOne One mid steps outcomes s'
+OneByOne One s [] (o ∷ outcomes) s' = ⊥
+OneByOne One s (st ∷ steps) [] s' = ⊥
+
 abbrev pub TakesAll : State → List Step → List Outcome → State → Type 0
-TakesAll s [] [] s' = s' ≡ s
-TakesAll s (st ∷ steps) (o ∷ outcomes) s' = (mid : State) × Takes s st o mid × TakesAll mid steps outcomes s'
-TakesAll s [] (o ∷ outcomes) s' = ⊥
-TakesAll s (st ∷ steps) [] s' = ⊥
+TakesAll s steps outcomes s' = OneByOne Takes s steps outcomes s'
+
+abbrev pub ShowsAll : State → List Step → List Outcome → State → Type 0
+ShowsAll s steps outcomes s' = OneByOne Shows s steps outcomes s'
 
 -- ---- what remains of a list of steps
 
@@ -85,6 +98,24 @@ own_of team st o others = others
 abbrev pub own : Team → List (Step × Outcome) → List (Ask × Answer)
 own team [] = []
 own team (p ∷ others) = own_of team p.0 p.1 (own team others)
+
+-- what the team asks among the steps
+abbrev pub requests_of : Team → List Step → List Ask
+requests_of team [] = []
+requests_of team (asks q ∷ steps) =
+    if is_own team q.token then q ∷ requests_of team steps else requests_of team steps
+requests_of team (orders a ∷ steps) = requests_of team steps
+
+-- what the team asked and was answered, and the replies
+abbrev pub asked : Team → List Step → List Outcome → List Ask
+asked team steps outcomes = map (λ p. p.0) (own team (kept steps outcomes))
+
+abbrev pub answers_to : Team → List Step → List Outcome → List Answer
+answers_to team steps outcomes = map (λ p. p.1) (own team (kept steps outcomes))
+
+-- no step failed for want of memory
+abbrev pub NoneMissed : List Outcome → Type 0
+NoneMissed outcomes = All (λ o. kind o ≢ missed) outcomes
 
 -- the replies to requests, one after the other
 abbrev pub replies : World → List Ask → List Answer

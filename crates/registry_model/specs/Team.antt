@@ -1,5 +1,5 @@
 -- A team, what it sees of a world, and which steps are its own or leave what it sees (profile).
-use Rattle.std.specs.Prelude.{◌≡◌, ◌≤◌, ◌⊎◌, Bool, true, false, if◌then◌else◌, List, Option, Some, None, is_some, IfSome, All, ⊤}
+use Rattle.std.specs.Prelude.{◌≡◌, ◌≤◌, ◌⊎◌, Bool, true, false, if◌then◌else◌, List, Option, Some, None, is_some, IfSome, All, ⊤, bytes_eq}
 use Rattle.std.specs.FinMap.{retain_keys, empty}
 use Rattle.oci_names.specs.Text.{Text}
 use Rattle.registry_model.specs.declared.request.Verb.{Verb}
@@ -21,6 +21,13 @@ abbrev pub IsTeamOf : World → Team → Type 0
 IsTeamOf w team =
     (token name : Text) → team.tokens token ≡ true → is_some (level_at w token name) ≡ true
     → team.names name ≡ true
+
+-- the smallest team: one token, with the names on which it has a level
+abbrev pub team_of_token : World → Text → Team
+team_of_token w token = record {
+  tokens = λ other. bytes_eq other token;
+  names = λ name. is_some (level_at w token name);
+}
 
 -- the grants of the team's tokens alone, and the repositories of its names alone
 abbrev pub view : World → Team → World

@@ -1,15 +1,15 @@
 //! Laws of the definitions, each the contract of a function that does nothing: the crates above cite
 //! them.
 
-ghost use Rattle.std.specs.Prelude.{◌≡◌, true, List, All, is_some, map};
+ghost use Rattle.std.specs.Prelude.{◌≡◌, ◌≤◌, ℕ, true, List, All, is_some, length, take};
 ghost use Rattle.oci_names.specs.Text.{Text};
 ghost use Rattle.registry_model.specs.World.{World, Grants, Repo};
 ghost use Rattle.registry_model.specs.Ask.{Ask};
 ghost use Rattle.registry_model.specs.Heads.{as_head, as_get, without_content};
 ghost use Rattle.registry_model.specs.Verdict.{verdict, reply_to, after_request};
 ghost use Rattle.registry_model.specs.Keeping.{State};
-ghost use Rattle.registry_model.specs.Team.{Team, IsTeamOf, view, Step, is_own, OwnOrAside};
-ghost use Rattle.registry_model.specs.Runs.{Outcome, TakesAll, RunSays, kept, own};
+ghost use Rattle.registry_model.specs.Team.{Team, IsTeamOf, team_of_token, view, Step, is_own, OwnOrAside};
+ghost use Rattle.registry_model.specs.Runs.{Outcome, TakesAll, RunSays, kept, requests_of, asked, answers_to, NoneMissed, IsToldAlone};
 ghost use Rattle.std.specs.Prelude.{Option};
 ghost use Rattle.std.specs.FinMap.{get};
 
@@ -48,15 +48,41 @@ pub fn a_run_is_private()
         → TakesAll s steps outcomes s' → RunSays s steps outcomes s' }
 {}
 
-/// Two registries, whatever else they hold and do: where they agree on what a team sees, the steps
-/// of each are the team's own or aside, and the team's own requests that were answered are the same,
-/// the team is told the same.
+/// Two registries, whatever else they hold and do, over whatever keepers: where they agree on what a
+/// team sees, and the steps of each are the team's own or aside, the team is told the same by both as
+/// long as it asks the same. So it is of its requests that were answered; and of all its requests,
+/// where memory was not wanting, up to the first storage failure in either.
 pub fn two_registries_tell_a_team_the_same()
-    ensures { (s t : State) (steps others : List Step) (outcomes results : List Outcome) (s' t' : State)
+    ensures whole { (s t : State) (steps others : List Step) (outcomes results : List Outcome) (s' t' : State)
         → TakesAll s steps outcomes s' → TakesAll t others results t'
         → (team : Team) → IsTeamOf s.world team → IsTeamOf t.world team
         → view s.world team ≡ view t.world team
         → All (OwnOrAside s.world steps team) steps → All (OwnOrAside t.world others team) others
-        → map (λ p. p.0) (own team (kept steps outcomes)) ≡ map (λ p. p.0) (own team (kept others results))
-        → map (λ p. p.1) (own team (kept steps outcomes)) ≡ map (λ p. p.1) (own team (kept others results)) }
+        → asked team steps outcomes ≡ asked team others results
+        → answers_to team steps outcomes ≡ answers_to team others results }
+    ensures front { (s t : State) (steps others : List Step) (outcomes results : List Outcome) (s' t' : State)
+        → TakesAll s steps outcomes s' → TakesAll t others results t'
+        → (team : Team) → IsTeamOf s.world team → IsTeamOf t.world team
+        → view s.world team ≡ view t.world team
+        → All (OwnOrAside s.world steps team) steps → All (OwnOrAside t.world others team) others → (n : ℕ)
+        → take n (asked team steps outcomes) ≡ take n (asked team others results)
+        → take n (answers_to team steps outcomes) ≡ take n (answers_to team others results) }
+    ensures all { (s t : State) (steps others : List Step) (outcomes results : List Outcome) (s' t' : State)
+        → TakesAll s steps outcomes s' → TakesAll t others results t'
+        → (team : Team) → IsTeamOf s.world team → IsTeamOf t.world team
+        → view s.world team ≡ view t.world team
+        → All (OwnOrAside s.world steps team) steps → All (OwnOrAside t.world others team) others
+        → NoneMissed outcomes → NoneMissed results → requests_of team steps ≡ requests_of team others
+        → (n : ℕ) → n ≤ length (asked team steps outcomes) → n ≤ length (asked team others results)
+        → take n (answers_to team steps outcomes) ≡ take n (answers_to team others results) }
+{}
+
+/// A token with the names on which it has a level is a team, and the smallest: steps under the token,
+/// and steps aside of it, leave what it is told as it would be told alone.
+pub fn a_token_is_told_alone()
+    ensures team { (w : World) (token : Text) → IsTeamOf w (team_of_token w token) }
+    ensures alone { (s : State) (steps : List Step) (outcomes : List Outcome) (s' : State)
+        → TakesAll s steps outcomes s' → (token : Text)
+        → All (OwnOrAside s.world steps (team_of_token s.world token)) steps
+        → IsToldAlone s.world (team_of_token s.world token) (kept steps outcomes) }
 {}

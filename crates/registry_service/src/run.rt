@@ -1,5 +1,5 @@
 ghost use Rattle.std.specs.Prelude.{◌≡◌, IfOk, IfErr, map};
-ghost use Rattle.registry_model.specs.Runs.{Takes, RunSays};
+ghost use Rattle.registry_model.specs.Runs.{Takes, Shows, TakesAll, ShowsAll, RunSays};
 ghost use Rattle.registry_service.specs.Steps.{shown_step, shown_outcome};
 
 use crate::service::Service;
@@ -26,6 +26,8 @@ impl<K: Keeper> Service<K> {
     fn take(&mut self, alloc: Global, step: &Step) -> Outcome
         ensures takes { K.is_honest self.new →
             Takes (K.state self.old) (shown_step step.now) (shown_outcome result) (K.state self.new) }
+        ensures shows { Shows (K.state self.old) (shown_step step.now) (shown_outcome result)
+            (K.state self.new) }
         ensures honest { K.is_honest self.new → K.is_honest self.old }
     {
         match step {
@@ -36,13 +38,19 @@ impl<K: Keeper> Service<K> {
 
     /// Steps one after the other, with an outcome for each.
     ///
-    /// Up to the first storage failure the outcomes are those of the definitions, those for which
+    /// The steps are taken one by one, each as `handle` or `admin` takes it. So up to the first storage failure the outcomes are those of the definitions, those for which
     /// memory was wanting left out, and after it every outcome is a storage failure. To each team
     /// (tokens, and names that hold every name on which one of them has a level) for which each step
     /// is its own or aside, the replies to its requests are those that it would get alone, in a
     /// registry that holds only what it sees. `Fault::Memory` comes before any step, and nothing has
     /// changed; no other fault comes.
     pub fn run(&mut self, alloc: Global, steps: &[Step]) -> Result<Vec<Outcome>, Fault>
+        ensures takes { K.is_honest self.new → IfOk result (λ outcomes.
+            TakesAll (K.state self.old) (map shown_step steps.now) (map shown_outcome outcomes.items)
+            (K.state self.new)) }
+        ensures shows { IfOk result (λ outcomes.
+            ShowsAll (K.state self.old) (map shown_step steps.now) (map shown_outcome outcomes.items)
+            (K.state self.new)) }
         ensures says { K.is_honest self.new → IfOk result (λ outcomes.
             RunSays (K.state self.old) (map shown_step steps.now) (map shown_outcome outcomes.items)
             (K.state self.new)) }
