@@ -1,5 +1,5 @@
 -- What a connection has done so far, and what follows at its end.
-use Rattle.std.proofs.Common.{◌≡◌, ℕ, ◌<◌, ◌≤◌, ◌⊎◌, inl, inr, List, [], ◌∷◌, ◌++◌, length, take, drop, Option, Some, None, IfSome, true, false, refl, sym, ap, subst, ◌∙◌, append_assoc, append-nil}
+use Rattle.std.proofs.Common.{◌≡◌, ℕ, ◌<◌, ◌≤◌, ◌⊎◌, inl, inr, List, [], ◌∷◌, ◌++◌, length, take, drop, Option, Some, None, true, false, refl, sym, ap, subst, ◌∙◌, append_assoc, append-nil}
 use Rattle.std.proofs.lemmas.List.Concat.{flat_map-append}
 use Rattle.std.specs.Io.KnownBytes.{Consumes, Appends, IsAtEnd}
 use Rattle.std.proofs.KnownBytes.{Consumes-nil, Consumes-trans, Appends-nil, Appends-trans}
@@ -16,7 +16,7 @@ use Rattle.registry_http.specs.Framing.{framing}
 use Rattle.registry_http.specs.Expecting.{continue_if, text_before, IsBefore}
 use Rattle.registry_http.specs.Spelling.{Item, IsRequest, IsRefused, IsCut, HeadIsCut, HeadIsUnreadable, BodyIsCut, BodyIsRefused, closes, print_item, Ends, Then, Spells, Front}
 use Rattle.registry_http.specs.ReplyText.{refusal_text}
-use Rattle.registry_http.specs.Serving.{reply_for, Replies, Run, joined, end_text, Traffic, Leftover, Answers, StopsForMemory, InHand, StopsAtWrite, StopsAtRead, Serves}
+use Rattle.registry_http.specs.Serving.{reply_for, Replies, Run, joined, end_text, Traffic, Leftover, Answers, StopsForMemory, InHand, StopsAtWrite, StopsAtRead, Gave, Serves}
 use Rattle.registry_http.specs.Reading.{Pulls, HeadIsRead, HeadIsReady, HeadStops}
 use Rattle.registry_http.specs.declared.intake.Ready.{Ready}
 use Rattle.registry_http.specs.Taking.{EndsFrom}
@@ -132,16 +132,16 @@ continued b t text w p sent = record {
 }
 
 module _ (b before : Text) (t : Traffic) (p : Progress b before t) where
-  -- with the bytes that the reader has left, the bytes so far are all
-  some_of : (P : Text → Type 0) (l l' : Option Text) → Consumes l l' p.read → ((x rest : Text) → x ≡ p.read ++ rest → P x) → IfSome l P
-  some_of P None l' c f = tt
+  -- with the bytes that the reader has left, as far as it tells, the bytes so far are all
+  some_of : (P : Text → Type 0) (l l' : Option Text) → Consumes l l' p.read → ((x rest : Text) → x ≡ p.read ++ rest → P x) → Gave l P
+  some_of P None l' c f = (p.read ++ [], tt, f (p.read ++ []) [] refl)
   some_of P (Some x) None c f = absurd c
-  some_of P (Some x) (Some rest) c f = f x rest c
+  some_of P (Some x) (Some rest) c f = (x, refl, f x rest c)
 
-  all_of : (P : Text → Type 0) (l l' : Option Text) → Consumes l l' p.read → IsAtEnd l' → P p.read → IfSome l P
-  all_of P None l' c e h = tt
+  all_of : (P : Text → Type 0) (l l' : Option Text) → Consumes l l' p.read → IsAtEnd l' → P p.read → Gave l P
+  all_of P None l' c e h = (p.read, tt, h)
   all_of P (Some x) None c e h = absurd c
-  all_of P (Some x) (Some rest) c e h = subst P (sym (c ∙ ap (λ y. p.read ++ y) e ∙ append-nil p.read)) h
+  all_of P (Some x) (Some rest) c e h = (p.read, c ∙ ap (λ y. p.read ++ y) e ∙ append-nil p.read, h)
 
   on : (x rest : Text) → x ≡ p.read ++ rest → Front x p.items (b ++ rest)
   on x rest e = subst (λ y. Front y p.items (b ++ rest)) (sym e) (Front-on p.read p.items b rest p.front)
@@ -163,7 +163,7 @@ module _ (b before : Text) (t : Traffic) (p : Progress b before t) where
     written = rw (none, append-nil) p.written;
   }
 
-  pub at_end : (e : End) → IsAtEnd t.left' → Ends b e → IsBefore b before → end_text e ≡ [] → IfSome t.left (λ x. Answers x e t)
+  pub at_end : (e : End) → IsAtEnd t.left' → Ends b e → IsBefore b before → end_text e ≡ [] → Gave t.left (λ x. Answers x e t)
   at_end e done h is none = all_of (λ x. Answers x e t) t.left t.left' p.consumed done (here e h is none)
 
   pub broken : (b ≡ []) ⊎ IsCut b → IsBefore b before → StopsAtRead t

@@ -1,5 +1,6 @@
 -- What a connection does, by its end.
 use Rattle.std.specs.Prelude.{◌≡◌, ℕ, ◌<◌, ◌⊎◌, List, [], ◌∷◌, ◌++◌, length, take, Option, IfSome}
+use mathlib.Core.Logic.{inl, inr}
 use Rattle.std.specs.Bool.{MatchBool}
 use Rattle.std.specs.List.{flat_map}
 use Rattle.std.specs.Io.KnownBytes.{Consumes, Appends}
@@ -113,11 +114,38 @@ pub record StopsAtRead (t : Traffic) : Type 0 where
   pub consumed : Consumes t.left t.left' read
   pub answers : Answers read Closed t ⊎ Answers read Cut t
 
+-- there are bytes, all that the reader had left where it tells, of which P holds
+abbrev pub Gave : Option Text → (Text → Type 0) → Type 0
+Gave left P = (b : Text) × IfSome left (λ known. known ≡ b) × P b
+
 -- what a connection did, by its end
 abbrev pub Serves : End → Traffic → Type 0
-Serves Closed t = IfSome t.left (λ b. Answers b Closed t)
-Serves Cut t = IfSome t.left (λ b. Answers b Cut t)
+Serves Closed t = Gave t.left (λ b. Answers b Closed t)
+Serves Cut t = Gave t.left (λ b. Answers b Cut t)
 Serves (Refused r) t =
-    IfSome t.left (λ b. Answers b (Refused r) t ⊎ ((r ≡ NoBufferMemory) × StopsForMemory b t))
+    Gave t.left (λ b. Answers b (Refused r) t ⊎ ((r ≡ NoBufferMemory) × StopsForMemory b t))
 Serves ReadFailed t = StopsAtRead t
-Serves (WriteFailed n) t = IfSome t.left (λ b. StopsAtWrite b n t)
+Serves (WriteFailed n) t = Gave t.left (λ b. StopsAtWrite b n t)
+
+-- ---- the requests that were answered on a connection, in order, and their texts
+
+abbrev pub of_hand : (rest before text : Text) (t : Traffic) (items : List Item) (texts : List Text)
+    → InHand rest before text t items texts → List Item × List Text
+of_hand rest before text t items texts (inl h) = (items ++ h.0 ∷ [], texts ++ (before ++ text) ∷ [])
+of_hand rest before text t items texts (inr h) = (items, texts)
+
+abbrev pub of_refusal : (b : Text) (r : FramingRefusal) (t : Traffic)
+    → Answers b (Refused r) t ⊎ ((r ≡ NoBufferMemory) × StopsForMemory b t) → List Item × List Text
+of_refusal b r t (inl h) = (h.items, h.texts)
+of_refusal b r t (inr h) = (h.1.items, h.1.texts)
+
+abbrev pub of_broken : (b : Text) (t : Traffic) → Answers b Closed t ⊎ Answers b Cut t → List Item × List Text
+of_broken b t (inl h) = (h.items, h.texts)
+of_broken b t (inr h) = (h.items, h.texts)
+
+abbrev pub served : (e : End) (t : Traffic) → Serves e t → List Item × List Text
+served Closed t h = (h.2.items, h.2.texts)
+served Cut t h = (h.2.items, h.2.texts)
+served (Refused r) t h = of_refusal h.0 r t h.2
+served ReadFailed t h = of_broken h.read t h.answers
+served (WriteFailed n) t h = of_hand h.2.rest h.2.before h.2.text t h.2.items h.2.texts h.2.in_hand

@@ -11,5 +11,5 @@ pub mod stdio;
 
 pub use opening::Opener;
 pub use program::run_words;
-pub use sockets::{Entrance, serve, serve_one};
+pub use sockets::{Entrance, connections_are_private, serve, serve_one};
 pub use stdio::{serve_from, serve_memory, serve_stdio};

@@ -1,9 +1,11 @@
-ghost use Rattle.std.specs.Prelude.{◌≡◌, false, OnOk, IfOk, IfErr, MatchResult, ◌⊎◌};
+ghost use Rattle.std.specs.Prelude.{◌≡◌, ℕ, false, OnOk, IfOk, IfErr, MatchResult, ◌⊎◌};
 ghost use Rattle.std.specs.Io.KnownBytes.{Appends};
 ghost use Rattle.registry_orders.specs.Failures.{IsOfOpening, IsOfServing};
 ghost use Rattle.registry_orders.specs.Carrying.{output};
 ghost use Rattle.registry_program.specs.Stored.{Over};
-ghost use Rattle.registry_program.specs.Sockets.{ServesNext, ServesSome, ServesAddress, greeting};
+ghost use Rattle.registry_program.specs.Sockets.{ServesNext, ServesMany, ServesSome, ServesAddress, served_by, greeting};
+ghost use Rattle.registry_model.specs.Keeping.{State};
+ghost use Rattle.registry_http.specs.Privacy.{IsPrivateRun};
 
 use crate::opening::Opener;
 use registry_http::{End, serve_connection};
@@ -137,3 +139,11 @@ pub fn serve<K: Keeper + Drop, O: Opener<K>, D: Entrance, W: Write>(
         Err(failure) => Err(failure),
     }
 }
+
+/// Connections that are served one after the other, however each of them ends: their requests, connection
+/// after connection, are one run; so to each team for which every request on any of them is its own or
+/// aside, the texts of its own requests are those of the replies that it would get alone.
+pub fn connections_are_private()
+    ensures { (n : ℕ) (s s' : State) → (h : ServesMany n s s')
+        → IsPrivateRun s (served_by n s s' h).0 (served_by n s s' h).1 s' }
+{}
