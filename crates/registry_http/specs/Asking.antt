@@ -25,10 +25,6 @@ verb_of method =
     else (if bytes_eq method (codes "DELETE") then Delete
     else Other)))))
 
-abbrev pub is_head : Verb → Bool
-is_head Head = true
-is_head _ = false
-
 -- ---- the target: a path, and a query behind the first '?' (RFC 9112, section 3.2.1)
 
 abbrev pub is_question_mark : ℕ → Bool

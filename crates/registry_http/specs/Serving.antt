@@ -8,7 +8,8 @@ use Rattle.oci_names.specs.Text.{Text}
 use Rattle.registry_model.specs.Answer.{Answer}
 use Rattle.registry_model.specs.Keeping.{State}
 use Rattle.registry_model.specs.Doing.{Does}
-use Rattle.registry_http.specs.Asking.{ask_in, verb_of, is_head}
+use Rattle.registry_model.specs.Heads.{is_head}
+use Rattle.registry_http.specs.Asking.{ask_in, verb_of}
 use Rattle.registry_http.specs.Spelling.{Item, IsRequest, IsRefused, print_item, closes, Spells, Front}
 use Rattle.registry_http.specs.Expecting.{text_before, IsBefore}
 use Rattle.registry_http.specs.ReplyText.{reply_text, refusal_text}

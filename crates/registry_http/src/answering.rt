@@ -1,8 +1,10 @@
-ghost use Rattle.std.specs.Prelude.{◌≡◌, IfOk, length};
+ghost use Rattle.std.specs.Prelude.{◌≡◌, true, false, IfOk, length};
+ghost use Rattle.httparse.specs.Spans.{span_bytes};
+ghost use Rattle.registry_model.specs.Heads.{is_head, is_sent};
 ghost use Rattle.httparse.specs.Grammar.{RequestHead};
 ghost use Rattle.registry_model.specs.Answer.{answer_of};
 ghost use Rattle.registry_model.specs.Doing.{Does};
-ghost use Rattle.registry_http.specs.Asking.{ask_in, path_text, query_in, keys_in};
+ghost use Rattle.registry_http.specs.Asking.{ask_in, verb_of, path_text, query_in, keys_in};
 ghost use Rattle.registry_http.specs.Decoding.{cow_text, keys_shown};
 ghost use Rattle.registry_http.specs.Reading.{HeadFits, IsHeadAt};
 
@@ -46,6 +48,8 @@ pub fn answer<K: Keeper>(
     requires { HeadFits (length head.now) fields.now spans.now }
     ensures does { K.is_honest service.new → (h : RequestHead) → IsHeadAt head.now fields.now spans.now h
         → Does (K.state service.old) (ask_in h body.now) (answer_of result) (K.state service.new) }
+    ensures carries { is_head (verb_of (span_bytes head.now spans.now.method)) ≡ false
+        → is_sent (answer_of result).body ≡ true }
     ensures honest { K.is_honest service.new → K.is_honest service.old }
 {
     match decode_target(alloc, spans.path.of(head)) {

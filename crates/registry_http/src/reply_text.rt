@@ -1,4 +1,5 @@
-ghost use Rattle.std.specs.Prelude.{◌≡◌, [], unwrap_or};
+ghost use Rattle.std.specs.Prelude.{◌≡◌, true, false, [], unwrap_or};
+ghost use Rattle.registry_model.specs.Heads.{is_sent};
 ghost use Rattle.http.specs.StatusCode.{IsStatusCode, reason_phrase};
 ghost use Rattle.registry_model.specs.Answer.{answer_of, content_of, code_of, owned};
 ghost use Rattle.registry_model.specs.Ask.{text_in};
@@ -148,7 +149,8 @@ fn body_length(body: &Body) -> u64
 
 /// Writes a reply (RFC 9112, sections 2.1 and 4): the status line, the fields in the profile's
 /// order, an empty line and the body. With `head` the body is left out (RFC 9110, section 9.3.2),
-/// with `close` the reply says that the connection is closed after it.
+/// with `close` the reply says that the connection is closed after it. A reply that has the length of
+/// its body alone is one to HEAD.
 ///
 /// Takes no memory. Fails only where the writer does, and says how many bytes were written before.
 pub fn write_reply<W: Write>(
@@ -157,6 +159,7 @@ pub fn write_reply<W: Write>(
     close: bool,
     writer: &mut W,
 ) -> Result<(), WriteFault>
+    requires whole { head ≡ false → is_sent (answer_of reply.now).body ≡ true }
     ensures { SendsReply result (W.contents writer.old) (W.contents writer.new)
         (reply_text head close (answer_of reply.now)) }
 {

@@ -1,7 +1,8 @@
 ghost use Rattle.std.specs.Prelude.{◌≡◌, ◌==◌, IfOk, position};
 ghost use Rattle.registry_model.specs.Form.{form_of};
 ghost use Rattle.registry_model.specs.Ask.{text_in};
-ghost use Rattle.registry_http.specs.Asking.{verb_of, is_head, path_in, query_in, path_text, form_if};
+ghost use Rattle.registry_model.specs.Heads.{is_head};
+ghost use Rattle.registry_http.specs.Asking.{verb_of, path_in, query_in, path_text, form_if};
 ghost use Rattle.registry_http.specs.Decoding.{cow_text};
 
 use percent_encoding::{DecodeError, percent_decode};

@@ -185,8 +185,8 @@ answered_first s (orders a ∷ steps) (told x ∷ outcomes) s' r team none = abs
 
 -- two registries that agree on what a team sees: the first replies are the same where the first requests are
 module _ (s t : State) (steps others : List Step) (outcomes results : List Outcome) (s' t' : State) (r : TakesAll s steps outcomes s') (q : TakesAll t others results t')
-  (team : Team) (mine : IsTeamOf s.world team) (yours : IsTeamOf t.world team) (same : view s.world team ≡ view t.world team)
-  (aside : All (OwnOrAside s.world steps team) steps) (beside : All (OwnOrAside t.world others team) others) where
+    (team : Team) (mine : IsTeamOf s.world team) (yours : IsTeamOf t.world team) (same : view s.world team ≡ view t.world team)
+    (aside : All (OwnOrAside s.world steps team) steps) (beside : All (OwnOrAside t.world others team) others) where
   pub same_told : asked team steps outcomes ≡ asked team others results → answers_to team steps outcomes ≡ answers_to team others results
   same_told e =
       (run_says s steps outcomes s' r).private team mine aside

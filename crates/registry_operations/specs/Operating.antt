@@ -5,6 +5,7 @@ use Rattle.oci_names.specs.declared.fault.Fault.{Fault}
 use Rattle.registry_model.specs.declared.reply.Reply.{Reply}
 use Rattle.registry_model.specs.World.{World, Repo, repo_at, has_repo}
 use Rattle.registry_model.specs.Answer.{answer_of}
+use Rattle.registry_model.specs.Heads.{is_sent}
 use Rattle.registry_model.specs.Outcome.{Outcome, in_repo}
 use Rattle.registry_model.specs.Verdict.{changed}
 use Rattle.registry_model.specs.Doing.{kind_of, answered}
@@ -21,6 +22,10 @@ HasRepo s name = has_repo s.world name ≡ true
 -- a reply, if there is one, answers: it is not that of a fault
 abbrev pub Answers : Result Reply Fault → Type 0
 Answers r = IfOk r (λ reply. kind_of (answer_of reply) ≡ answered)
+
+-- a reply, if there is one, has its content itself, and not its length alone
+abbrev pub Carries : Result Reply Fault → Type 0
+Carries r = IfOk r (λ reply. is_sent (answer_of reply).body ≡ true)
 
 -- the reply of the outcome, and its change to the repository of the name
 abbrev pub Comes : Result Reply Fault → Text → Outcome → State → State → Type 0

@@ -4,7 +4,7 @@ ghost use Rattle.registry_model.specs.Limits.{largest_blob};
 ghost use Rattle.registry_model.specs.Outcome.{within_quota};
 ghost use Rattle.registry_model.specs.Blobs.{created_blob, with_blob, read_blob, size_blob, delete_blob, push_blob};
 ghost use Rattle.registry_model.specs.Keeping.{Spends};
-ghost use Rattle.registry_operations.specs.Operating.{Operates, IsUnspent, HasRepo, Answers};
+ghost use Rattle.registry_operations.specs.Operating.{Operates, IsUnspent, HasRepo, Answers, Carries};
 
 use crate::digests::read_digest;
 use crate::quota::blob_goes_over;
@@ -25,6 +25,7 @@ pub fn read_blob<K: Keeper>(
     ensures comes { K.is_honest keeper.new →
         Operates result name.now (λ r. read_blob r text.now) (K.state keeper.old) (K.state keeper.new) }
     ensures answers { Answers result }
+    ensures carries { Carries result }
     ensures spends { Spends result (K.state keeper.old) (K.state keeper.new) }
     ensures honest { K.is_honest keeper.new → K.is_honest keeper.old }
 {
@@ -83,6 +84,7 @@ pub fn delete_blob<K: Keeper>(
     ensures comes { K.is_honest keeper.new →
         Operates result name.now (λ r. delete_blob r text.now) (K.state keeper.old) (K.state keeper.new) }
     ensures answers { Answers result }
+    ensures carries { Carries result }
     ensures spends { Spends result (K.state keeper.old) (K.state keeper.new) }
     ensures honest { K.is_honest keeper.new → K.is_honest keeper.old }
 {
@@ -113,6 +115,7 @@ fn add_blob<K: Keeper>(
         (λ r. within_quota r (with_blob r digest body.now) (created_blob name.now digest))
         (K.state keeper.old) (K.state keeper.new) }
     ensures answers { Answers result }
+    ensures carries { Carries result }
     ensures spends { Spends result (K.state keeper.old) (K.state keeper.new) }
     ensures honest { K.is_honest keeper.new → K.is_honest keeper.old }
 {
@@ -139,6 +142,7 @@ pub fn push_blob<K: Keeper>(
     ensures comes { K.is_honest keeper.new → Operates result name.now
         (λ r. push_blob r name.now text.now body.now) (K.state keeper.old) (K.state keeper.new) }
     ensures answers { Answers result }
+    ensures carries { Carries result }
     ensures spends { Spends result (K.state keeper.old) (K.state keeper.new) }
     ensures honest { K.is_honest keeper.new → K.is_honest keeper.old }
 {

@@ -8,7 +8,7 @@ ghost use Rattle.registry_model.specs.Keeping.{Spends, entries_shown};
 ghost use Rattle.registry_model.specs.TagPage.{size_in, text_or_empty, link_behind, tags_reply, list_tags};
 ghost use Rattle.registry_model.specs.Referrers.{referrer_in, filter_in, referrers_reply, list_referrers};
 ghost use Rattle.oci_manifest.specs.Referrers.{referrer_shown, referrers_shown};
-ghost use Rattle.registry_operations.specs.Operating.{Operates, IsUnspent, HasRepo, Answers};
+ghost use Rattle.registry_operations.specs.Operating.{Operates, IsUnspent, HasRepo, Answers, Carries};
 ghost use Rattle.registry_operations.specs.Listing.{lets_through, added_by, wanted_of};
 
 use crate::digests::read_digest;
@@ -104,6 +104,7 @@ pub fn list_tags<K: Keeper>(
         (λ r. list_tags r name.now (text_in n.entry) (text_in last.entry))
         (K.state keeper.old) (K.state keeper.new) }
     ensures answers { Answers result }
+    ensures carries { Carries result }
     ensures spends { Spends result (K.state keeper.old) (K.state keeper.new) }
     ensures honest { K.is_honest keeper.new → K.is_honest keeper.old }
 {
@@ -242,6 +243,7 @@ pub fn list_referrers<K: Keeper>(
         (λ r. list_referrers r digest.now (text_in artifact_type.entry))
         (K.state keeper.old) (K.state keeper.new) }
     ensures answers { Answers result }
+    ensures carries { Carries result }
     ensures spends { Spends result (K.state keeper.old) (K.state keeper.new) }
     ensures honest { K.is_honest keeper.new → K.is_honest keeper.old }
 {

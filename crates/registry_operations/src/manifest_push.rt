@@ -8,7 +8,7 @@ ghost use Rattle.registry_model.specs.Limits.{largest_manifest};
 ghost use Rattle.registry_model.specs.Ask.{text_in};
 ghost use Rattle.registry_model.specs.Keeping.{Spends};
 ghost use Rattle.registry_model.specs.Manifests.{push_manifest};
-ghost use Rattle.registry_operations.specs.Operating.{Operates, IsUnspent, HasRepo, Answers};
+ghost use Rattle.registry_operations.specs.Operating.{Operates, IsUnspent, HasRepo, Answers, Carries};
 ghost use Rattle.registry_operations.specs.Push.{has_needs_at, keep_manifest, push_under, push_checked};
 ghost use Rattle.registry_operations.specs.Finding.{Finds};
 
@@ -56,6 +56,7 @@ fn keep_manifest<K: Keeper>(
         (λ r. keep_manifest r name.now digest (text_in tag.entry) body.now (shown manifest))
         (K.state keeper.old) (K.state keeper.new) }
     ensures answers { Answers result }
+    ensures carries { Carries result }
     ensures spends { Spends result (K.state keeper.old) (K.state keeper.new) }
     ensures honest { K.is_honest keeper.new → K.is_honest keeper.old }
 {
@@ -96,6 +97,7 @@ fn push_under<K: Keeper>(
         (λ r. push_under r name.now digest (text_in tag.entry) (text_in content_type.entry) body.now
         (manifest_in body.now)) (K.state keeper.old) (K.state keeper.new) }
     ensures answers { Answers result }
+    ensures carries { Carries result }
     ensures spends { Spends result (K.state keeper.old) (K.state keeper.new) }
     ensures honest { K.is_honest keeper.new → K.is_honest keeper.old }
 {
@@ -128,6 +130,7 @@ fn push_by_tag<K: Keeper>(
         (λ r. push_under r name.now (sha256_digest body.now) (Some tag.now) (text_in content_type.entry)
         body.now (manifest_in body.now)) (K.state keeper.old) (K.state keeper.new) }
     ensures answers { Answers result }
+    ensures carries { Carries result }
     ensures spends { Spends result (K.state keeper.old) (K.state keeper.new) }
     ensures honest { K.is_honest keeper.new → K.is_honest keeper.old }
 {
@@ -153,6 +156,7 @@ fn push_by_digest<K: Keeper>(
         (λ r. push_checked r name.now digest (text_in content_type.entry) body.now
         (verdict_of digest body.now)) (K.state keeper.old) (K.state keeper.new) }
     ensures answers { Answers result }
+    ensures carries { Carries result }
     ensures spends { Spends result (K.state keeper.old) (K.state keeper.new) }
     ensures honest { K.is_honest keeper.new → K.is_honest keeper.old }
 {
@@ -180,6 +184,7 @@ pub fn push_manifest<K: Keeper>(
         (λ r. push_manifest r name.now reference.now (text_in content_type.entry) body.now)
         (K.state keeper.old) (K.state keeper.new) }
     ensures answers { Answers result }
+    ensures carries { Carries result }
     ensures spends { Spends result (K.state keeper.old) (K.state keeper.new) }
     ensures honest { K.is_honest keeper.new → K.is_honest keeper.old }
 {

@@ -3,7 +3,7 @@
 
 ghost use Rattle.registry_model.specs.Keeping.{Spends};
 ghost use Rattle.registry_model.specs.Manifests.{reference_digest, read_manifest, size_manifest, delete_manifest, delete_tag, delete_digest};
-ghost use Rattle.registry_operations.specs.Operating.{Operates, IsUnspent, HasRepo, Answers};
+ghost use Rattle.registry_operations.specs.Operating.{Operates, IsUnspent, HasRepo, Answers, Carries};
 ghost use Rattle.registry_operations.specs.Finding.{FindsIn};
 
 use oci_names::{Digest, Fault, NameFault, Reference, RepoName, Tag};
@@ -47,6 +47,7 @@ pub fn read_manifest<K: Keeper>(
     ensures comes { K.is_honest keeper.new → Operates result name.now
         (λ r. read_manifest r reference.now) (K.state keeper.old) (K.state keeper.new) }
     ensures answers { Answers result }
+    ensures carries { Carries result }
     ensures spends { Spends result (K.state keeper.old) (K.state keeper.new) }
     ensures honest { K.is_honest keeper.new → K.is_honest keeper.old }
 {
@@ -104,6 +105,7 @@ fn delete_tag<K: Keeper>(
     ensures comes { K.is_honest keeper.new →
         Operates result name.now (λ r. delete_tag r tag.now) (K.state keeper.old) (K.state keeper.new) }
     ensures answers { Answers result }
+    ensures carries { Carries result }
     ensures spends { Spends result (K.state keeper.old) (K.state keeper.new) }
     ensures honest { K.is_honest keeper.new → K.is_honest keeper.old }
 {
@@ -124,6 +126,7 @@ fn delete_digest<K: Keeper>(
     ensures comes { K.is_honest keeper.new →
         Operates result name.now (λ r. delete_digest r digest.now) (K.state keeper.old) (K.state keeper.new) }
     ensures answers { Answers result }
+    ensures carries { Carries result }
     ensures spends { Spends result (K.state keeper.old) (K.state keeper.new) }
     ensures honest { K.is_honest keeper.new → K.is_honest keeper.old }
 {
@@ -147,6 +150,7 @@ pub fn delete_manifest<K: Keeper>(
     ensures comes { K.is_honest keeper.new → Operates result name.now
         (λ r. delete_manifest r reference.now) (K.state keeper.old) (K.state keeper.new) }
     ensures answers { Answers result }
+    ensures carries { Carries result }
     ensures spends { Spends result (K.state keeper.old) (K.state keeper.new) }
     ensures honest { K.is_honest keeper.new → K.is_honest keeper.old }
 {

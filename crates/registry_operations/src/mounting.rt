@@ -6,7 +6,7 @@ ghost use Rattle.registry_model.specs.Ask.{text_in};
 ghost use Rattle.registry_model.specs.Keeping.{Spends};
 ghost use Rattle.registry_model.specs.Lookups.{blob_at, blob_size_at};
 ghost use Rattle.registry_model.specs.Mount as mounts;
-ghost use Rattle.registry_operations.specs.Operating.{IsUnspent, HasRepo, Answers, OperatesWith};
+ghost use Rattle.registry_operations.specs.Operating.{IsUnspent, HasRepo, Answers, Carries, OperatesWith};
 ghost use Rattle.registry_operations.specs.Mounting.{source_at};
 ghost use Rattle.registry_operations.specs.Finding.{Finds};
 
@@ -75,6 +75,7 @@ fn mount_from<K: Keeper>(
         (λ w r. mounts.mounted r name.now digest (blob_at w source.now.name digest))
         (K.state keeper.old) (K.state keeper.new) }
     ensures answers { Answers result }
+    ensures carries { Carries result }
     ensures spends { Spends result (K.state keeper.old) (K.state keeper.new) }
     ensures honest { K.is_honest keeper.new → K.is_honest keeper.old }
 {
@@ -105,6 +106,7 @@ pub fn mount_blob<K: Keeper>(
         (λ w r. mounts.mount_blob (w.grants token.now) (repo_at w) r name.now digest.now (text_in from.entry))
         (K.state keeper.old) (K.state keeper.new) }
     ensures answers { Answers result }
+    ensures carries { Carries result }
     ensures spends { Spends result (K.state keeper.old) (K.state keeper.new) }
     ensures honest { K.is_honest keeper.new → K.is_honest keeper.old }
 {

@@ -1,6 +1,7 @@
 //! Replies that carry texts of their own. Each is made whole before what it tells is written.
 
-ghost use Rattle.std.specs.Prelude.{◌≡◌, ◌++◌, ℕ, List, Some, IfOk, codes, string_bytes};
+ghost use Rattle.registry_model.specs.Heads.{is_sent};
+ghost use Rattle.std.specs.Prelude.{◌≡◌, true, ◌++◌, ℕ, List, Some, IfOk, codes, string_bytes};
 ghost use Rattle.registry_model.specs.Answer.{answer_of};
 ghost use Rattle.registry_model.specs.Blobs.{blob_location, created_blob};
 ghost use Rattle.registry_model.specs.Manifests.{manifest_location};
@@ -47,8 +48,9 @@ pub fn manifest_location(
 /// The reply of a blob that was added and is fetched at the location (OCI Distribution Specification
 /// 1.1, Pushing blobs). Takes no memory.
 pub fn created_blob(location: String, digest: Digest) -> Reply
-    ensures { (name : List ℕ) → string_bytes location ≡ blob_location name digest →
+    ensures shown { (name : List ℕ) → string_bytes location ≡ blob_location name digest →
         answer_of result ≡ created_blob name digest }
+    ensures carries { is_sent (answer_of result).body ≡ true }
 {
     Reply {
         location: Some(location),

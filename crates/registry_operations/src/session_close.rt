@@ -7,7 +7,7 @@ ghost use Rattle.registry_model.specs.Ask.{text_in};
 ghost use Rattle.registry_model.specs.Keeping.{Spends};
 ghost use Rattle.registry_model.specs.Sessions as sessions;
 ghost use Rattle.registry_model.specs.Sessions.{last_range_verdict};
-ghost use Rattle.registry_operations.specs.Operating.{Operates, IsUnspent, HasRepo, Answers};
+ghost use Rattle.registry_operations.specs.Operating.{Operates, IsUnspent, HasRepo, Answers, Carries};
 ghost use Rattle.registry_operations.specs.Uploads.{bytes_so_far, finish_with, IsOpen};
 
 use crate::digests::{has_digest, verifiable_digest};
@@ -47,6 +47,7 @@ fn finish<K: Keeper>(
         (λ r. finish_with r name.now upload.number digest bytes.now)
         (K.state keeper.old) (K.state keeper.new) }
     ensures answers { Answers result }
+    ensures carries { Carries result }
     ensures spends { Spends result (K.state keeper.old) (K.state keeper.new) }
     ensures honest { K.is_honest keeper.new → K.is_honest keeper.old }
 {
@@ -85,6 +86,7 @@ fn close_with<K: Keeper>(
         (λ r. finish_with r name.now upload.number digest (bytes_so_far r upload.number ++ body.now))
         (K.state keeper.old) (K.state keeper.new) }
     ensures answers { Answers result }
+    ensures carries { Carries result }
     ensures spends { Spends result (K.state keeper.old) (K.state keeper.new) }
     ensures honest { K.is_honest keeper.new → K.is_honest keeper.old }
 {
@@ -117,6 +119,7 @@ pub fn close_session<K: Keeper>(
         (λ r. sessions.close_session r name.now reference.now (text_in digest.entry) (text_in range.entry)
         body.now) (K.state keeper.old) (K.state keeper.new) }
     ensures answers { Answers result }
+    ensures carries { Carries result }
     ensures spends { Spends result (K.state keeper.old) (K.state keeper.new) }
     ensures honest { K.is_honest keeper.new → K.is_honest keeper.old }
 {

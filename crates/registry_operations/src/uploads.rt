@@ -7,7 +7,7 @@ ghost use Rattle.registry_model.specs.Ask.{text_in};
 ghost use Rattle.registry_model.specs.Doing.{kind_of, answered};
 ghost use Rattle.registry_model.specs.Keeping.{Spends};
 ghost use Rattle.registry_model.specs.Sessions as sessions;
-ghost use Rattle.registry_operations.specs.Operating.{Operates, IsUnspent, HasRepo, Answers};
+ghost use Rattle.registry_operations.specs.Operating.{Operates, IsUnspent, HasRepo, Answers, Carries};
 ghost use Rattle.registry_operations.specs.Uploads.{upload_at, next_number_at, chunk_refusal, append_more, IsOpen};
 ghost use Rattle.registry_operations.specs.Finding.{Finds};
 
@@ -76,6 +76,7 @@ pub fn open_session<K: Keeper>(
     ensures comes { K.is_honest keeper.new → Operates result name.now
         (λ r. sessions.open_session r name.now) (K.state keeper.old) (K.state keeper.new) }
     ensures answers { Answers result }
+    ensures carries { Carries result }
     ensures spends { Spends result (K.state keeper.old) (K.state keeper.new) }
     ensures honest { K.is_honest keeper.new → K.is_honest keeper.old }
 {
@@ -102,6 +103,7 @@ pub fn read_session<K: Keeper>(
     ensures comes { K.is_honest keeper.new → Operates result name.now
         (λ r. sessions.read_session r name.now reference.now) (K.state keeper.old) (K.state keeper.new) }
     ensures answers { Answers result }
+    ensures carries { Carries result }
     ensures spends { Spends result (K.state keeper.old) (K.state keeper.new) }
     ensures honest { K.is_honest keeper.new → K.is_honest keeper.old }
 {
@@ -166,6 +168,7 @@ fn append<K: Keeper>(
     ensures comes { K.is_honest keeper.new → Operates result name.now
         (λ r. append_more r name.now upload.number body.now) (K.state keeper.old) (K.state keeper.new) }
     ensures answers { Answers result }
+    ensures carries { Carries result }
     ensures spends { Spends result (K.state keeper.old) (K.state keeper.new) }
     ensures honest { K.is_honest keeper.new → K.is_honest keeper.old }
 {
@@ -197,6 +200,7 @@ pub fn append_chunk<K: Keeper>(
         (λ r. sessions.append_chunk r name.now reference.now (text_in range.entry) body.now)
         (K.state keeper.old) (K.state keeper.new) }
     ensures answers { Answers result }
+    ensures carries { Carries result }
     ensures spends { Spends result (K.state keeper.old) (K.state keeper.new) }
     ensures honest { K.is_honest keeper.new → K.is_honest keeper.old }
 {

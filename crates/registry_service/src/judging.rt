@@ -1,4 +1,5 @@
-ghost use Rattle.std.specs.Prelude.{◌≡◌, None, IsOkAnd};
+ghost use Rattle.std.specs.Prelude.{◌≡◌, true, false, None, IsOkAnd};
+ghost use Rattle.registry_model.specs.Heads.{is_head, is_sent, is_sizing};
 ghost use Rattle.registry_model.specs.declared.refusal.Refusal.TheVariants.{TokenRequired};
 ghost use Rattle.registry_model.specs.World.{repo_at};
 ghost use Rattle.registry_model.specs.Form.{form_of};
@@ -6,7 +7,7 @@ ghost use Rattle.registry_model.specs.Answer.{answer_of, refused};
 ghost use Rattle.registry_model.specs.Ask.{ask_of};
 ghost use Rattle.registry_model.specs.Verdict.{operate, not_allowed, at_base, decide, reply_to, after_request};
 ghost use Rattle.registry_model.specs.Keeping.{Spends, WritesBy};
-ghost use Rattle.registry_operations.specs.Operating.{Comes, IsUnspent, Answers, OperatesWith};
+ghost use Rattle.registry_operations.specs.Operating.{Comes, IsUnspent, Answers, Carries, OperatesWith};
 ghost use Rattle.registry_service.specs.Operations.{shown_operation};
 
 use crate::operation::{Operation, allowed_methods, allows, find_operation};
@@ -34,6 +35,7 @@ fn operate<K: Keeper>(
         (λ w r. operate (w.grants token.now) (repo_at w) r name.now (shown_operation operation.entry)
         body.now) (K.state keeper.old) (K.state keeper.new) }
     ensures answers { Answers result }
+    ensures carries { is_sizing (shown_operation operation.entry) ≡ false → Carries result }
     ensures spends { Spends result (K.state keeper.old) (K.state keeper.new) }
     ensures honest { K.is_honest keeper.new → K.is_honest keeper.old }
 {
@@ -75,7 +77,8 @@ fn operate<K: Keeper>(
 
 /// The refusal that names the methods which the form has.
 fn not_allowed(route: &Route) -> Reply
-    ensures { answer_of result ≡ (not_allowed (form_of route.now)).reply }
+    ensures refusal { answer_of result ≡ (not_allowed (form_of route.now)).reply }
+    ensures carries { is_sent (answer_of result).body ≡ true }
 {
     Reply {
         allow: Some(allowed_methods(route)),
@@ -96,6 +99,7 @@ fn decide<K: Keeper>(
         (decide ((K.state keeper.old).world.grants token.now) (repo_at (K.state keeper.old).world) name.now
         (ask_of request.now)) (K.state keeper.old) (K.state keeper.new) }
     ensures answers { Answers result }
+    ensures carries { is_head request.now.method ≡ false → Carries result }
     ensures spends { Spends result (K.state keeper.old) (K.state keeper.new) }
     ensures honest { K.is_honest keeper.new → K.is_honest keeper.old }
 {
@@ -118,7 +122,8 @@ fn decide<K: Keeper>(
 
 /// The reply to a known token that asks for the base.
 fn base_reply(method: Verb) -> Reply
-    ensures { answer_of result ≡ (at_base method).reply }
+    ensures told { answer_of result ≡ (at_base method).reply }
+    ensures carries { is_sent (answer_of result).body ≡ true }
 {
     match method {
         Verb::Get | Verb::Head => Reply {
@@ -137,6 +142,7 @@ pub fn judge<K: Keeper>(keeper: &mut K, alloc: Global, request: &Request) -> Res
         (after_request (K.state keeper.old).world (ask_of request.now))
         (K.state keeper.old) (K.state keeper.new) }
     ensures answers { Answers result }
+    ensures carries { is_head request.now.method ≡ false → Carries result }
     ensures spends { Spends result (K.state keeper.old) (K.state keeper.new) }
     ensures no_token { request.now.token ≡ None → IsUnspent (K.state keeper.old) →
         IsOkAnd result (λ r. answer_of r ≡ refused TokenRequired) }

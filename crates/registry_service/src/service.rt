@@ -1,4 +1,5 @@
-ghost use Rattle.std.specs.Prelude.{◌≡◌, false, None};
+ghost use Rattle.std.specs.Prelude.{◌≡◌, true, false, None};
+ghost use Rattle.registry_model.specs.Heads.{is_head, is_sent};
 ghost use Rattle.registry_model.specs.declared.refusal.Refusal.TheVariants.{TokenRequired};
 ghost use Rattle.registry_model.specs.Answer.{answer_of, refused};
 ghost use Rattle.registry_model.specs.Ask.{ask_of};
@@ -50,10 +51,12 @@ impl<K: Keeper> Service<K> {
     ///
     /// The reply and the world afterwards are those of the definitions; or the reply is 503, where
     /// memory was wanting, and nothing has changed; or it is 500, and the service is spent. A request
-    /// with no token is answered `TokenRequired` as long as the service is not spent.
+    /// with no token is answered `TokenRequired` as long as the service is not spent. A reply that has
+    /// the length of its content alone comes of HEAD.
     pub fn handle(&mut self, alloc: Global, request: &Request) -> Reply
         ensures does { K.is_honest self.new →
             Does (K.state self.old) (ask_of request.now) (answer_of result) (K.state self.new) }
+        ensures carries { is_head request.now.method ≡ false → is_sent (answer_of result).body ≡ true }
         ensures spends { SpendsAs (kind_of (answer_of result)) (K.state self.old) (K.state self.new) }
         ensures no_token { request.now.token ≡ None → (K.state self.old).spent ≡ false →
             answer_of result ≡ refused TokenRequired }

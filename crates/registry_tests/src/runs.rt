@@ -1,9 +1,13 @@
 //! Runs: what a team is told, whatever others do in between.
 
+ghost use Rattle.std.specs.Prelude.{◌≡◌, true, false};
+ghost use Rattle.registry_model.specs.Answer.{answer_of};
+ghost use Rattle.registry_model.specs.Heads.{is_sent};
+
 use crate::setting::{ABC, DELETED, HELLO, Maker, grant, same, setting};
 use oci_names::{RepoName, Token};
 use registry_http::write_reply;
-use registry_model::{AdminCommand, Level, Query, Quota, Request, Route, Verb};
+use registry_model::{AdminCommand, Body, Level, Query, Quota, Reply, Request, Route, Verb};
 use registry_service::{Outcome, Step};
 use std::alloc::Global;
 use std::process::Abort;
@@ -85,13 +89,25 @@ fn fetch<'a>(token: &'a str, name: &'a str, digest: &'a str) -> Step<'a> {
     step(token, Verb::Get, Route::Blob { name, digest }, None, b"")
 }
 
+/// Whether a reply has the length of its content alone, as one to HEAD.
+fn is_for_head(reply: &Reply) -> bool
+    ensures { result ≡ false → is_sent (answer_of reply.now).body ≡ true }
+{
+    match reply.body {
+        Body::Unsent(_) => true,
+        _ => false,
+    }
+}
+
 /// The text of an outcome: of its reply, or of why a command was not carried out; empty where it was.
 fn outcome_text(alloc: Global, outcome: &Outcome) -> Result<Vec<u8>, Fail> {
     let mut text = Vec::new(alloc);
     match outcome {
-        Outcome::Reply(reply) => write_reply(reply, false, false, &mut text).map_err(
-            |_| "the reply is written",
-        )?,
+        Outcome::Reply(reply) => {
+            write_reply(reply, is_for_head(reply), false, &mut text).map_err(
+                |_| "the reply is written",
+            )?;
+        }
         Outcome::Admin(Ok(())) => {}
         Outcome::Admin(Err(fault)) => {
             text.extend_from_slice(format!(in alloc; "{fault:?}")?.as_bytes())?;

@@ -4,7 +4,8 @@ use Rattle.httparse.specs.Spans.{span_bytes}
 use Rattle.httparse.specs.declared.spans.HeaderSpan.{HeaderSpan}
 use Rattle.registry_model.specs.Answer.{answer_of}
 use Rattle.registry_model.specs.Doing.{Does}
-use Rattle.registry_http.specs.Asking.{ask_in, verb_of, is_head}
+use Rattle.registry_model.specs.Heads.{is_head}
+use Rattle.registry_http.specs.Asking.{ask_in, verb_of}
 use Rattle.registry_http.specs.ReplyText.{reply_text}
 use Rattle.registry_http.specs.Reading.{IsHeadAt}
 use Rattle.registry_http.specs.Intaking.{taken}

@@ -17,4 +17,4 @@ returns-clause-comes g c honest =
     let there = c.requires.there (c.in_ok-blob_goes_over.ensures.honest before) in
     adds _ _ c.args.name.now c.requires.unspent there c.args.digest c.args.body.now _ (sym c.if-branch.false ∙ found.0)
     (subst (λ (x : State). g.K.Keeper.state c.put_blob.new.self ≡ record { world = lookups.put_blob x.world c.args.name.now c.args.digest c.args.body.now; spent = false }) found.1 (c.in_ok-put_blob.ensures.made honest))
-    (c.created_blob.ensures c.args.name.now c.in-Ok.ensures)
+    (c.created_blob.ensures.shown c.args.name.now c.in-Ok.ensures)

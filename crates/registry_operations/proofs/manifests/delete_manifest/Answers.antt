@@ -13,6 +13,7 @@ returns-in_default g c =
     record {
       comes = λ honest. deletes_nothing _ c.args.name.now c.args.reference.now (c.requires.there honest) c.requires.unspent none _ c.refusal.ensures;
       answers = search rules;
+      carries = search rules;
       spends = search rules;
       honest = λ h. h;
     }

@@ -25,7 +25,7 @@ returns-clause-comes g c honest =
     let asked = c.in_ok-blob_goes_over.ensures.found between in
     let before = c.in_ok-blob_goes_over.ensures.honest between in
     let here = there_is (repo_at s.world name) (c.requires.there before) in
-    made s _ name (λ r. mounts.mounted r name c.args.digest (blob_at s.world from c.args.digest)) here.0 here.1 _ _ (c.created_blob.ensures name c.in-Ok.ensures)
+    made s _ name (λ r. mounts.mounted r name c.args.digest (blob_at s.world from c.args.digest)) here.0 here.1 _ _ (c.created_blob.ensures.shown name c.in-Ok.ensures)
     (with_mounted c.args.digest (blob_at s.world from c.args.digest))
     (rw asked.1 at (c.in_ok-mount.ensures.made honest))
     (mount_taken s.world name from c.args.digest c.args.source.now.size here.0 here.1 (c.requires.source before) c.in_ok-blob_goes_over.field-0 asked.0 c.if-branch.false)

@@ -24,7 +24,7 @@ returns-clause-comes g c honest =
     let before = c.in_ok-finish.ensures.honest honest in
     let asked = c.in_ok-blob_goes_over.ensures.found before in
     let f = found_session s.world name number c.args.upload.size (c.requires.open (c.in_ok-blob_goes_over.ensures.honest before)) in
-    made s _ name (λ r. finish_with r name number c.args.digest c.args.bytes.now) f.repo f.at _ _ (c.created_blob.ensures name c.in-Ok.ensures)
+    made s _ name (λ r. finish_with r name number c.args.digest c.args.bytes.now) f.repo f.at _ _ (c.created_blob.ensures.shown name c.in-Ok.ensures)
     (λ r. finished r number c.args.digest c.args.bytes.now)
     (rw asked.1 at (c.in_ok-finish.ensures.made honest))
     (finish_taken s.world name number c.args.upload.size f c.args.digest c.args.bytes.now (sym c.has_digest.ensures ∙ c.if-not-has_digest.false) c.in_ok-blob_goes_over.field-0 asked.0 c.if-branch.false)
