@@ -7,6 +7,8 @@ use Rattle.oci_names.specs.Text.{Text}
 use Rattle.registry_model.specs.World.{World, level_at}
 use Rattle.registry_model.specs.Operation.{addressed}
 use Rattle.registry_model.specs.Verdict.{reply_to, after_request}
+use Rattle.registry_model.specs.Command.{after_command}
+use Rattle.registry_model.specs.declared.admin.AdminCommand.{AdminCommand}
 use Rattle.registry_model.specs.Keeping.{State}
 use Rattle.registry_model.specs.Doing.{Kind, answered, missed, lost, kind_of, outcome_kind, DoesAs, CarriesOutAs}
 use Rattle.registry_model.specs.Team.{Team, IsTeamOf, team_of_token, view, Step, asks, orders, is_own, is_reading, GivesNoPush, MayNotPush, IsElsewhere, OwnOrAside}
@@ -224,3 +226,18 @@ one_more One s (x ∷ steps) (p ∷ outcomes) mid st o s' r d = (r.0, r.1, one_m
 
 pub token_is_team : (w : World) (token : Text) → IsTeamOf w (team_of_token w token)
 token_is_team w token other name is has = subst (λ t. is_some (level_at w t name) ≡ true) ((bytes_eq-Decides other token).0 is) has
+
+-- ---- one step
+
+-- a world is the first of any list
+from_itself : (team : Team) (w : World) (all : List Step) → Since w all team w
+from_itself team w all = record { same = λ token t. refl; low = λ u name x. x.0 }
+
+pub request_aside : (w : World) (team : Team) (q : Ask) → IsTeamOf w team → is_own team q.token ≡ false
+    → OwnOrAside w (asks q ∷ []) team (asks q) → view (after_request w q) team ≡ view w team
+request_aside w team q mine other (inl own_request) = absurd (let bad = sym own_request ∙ other in cc)
+request_aside w team q mine other (inr h) = aside_request w (asks q ∷ []) team mine w (from_itself team w (asks q ∷ [])) q h
+
+pub order_aside : (w : World) (team : Team) (a : AdminCommand) → IsTeamOf w team
+    → OwnOrAside w (orders a ∷ []) team (orders a) → view (after_command w a) team ≡ view w team
+order_aside w team a mine h = aside_order w (orders a ∷ []) team mine w (from_itself team w (orders a ∷ [])) a h

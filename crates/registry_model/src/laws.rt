@@ -1,14 +1,16 @@
 //! Laws of the definitions, each the contract of a function that does nothing: the crates above cite
 //! them.
 
-ghost use Rattle.std.specs.Prelude.{◌≡◌, ◌≤◌, ℕ, true, List, All, is_some, length, take};
+ghost use Rattle.std.specs.Prelude.{◌≡◌, ◌≤◌, ℕ, true, false, List, [], ◌∷◌, All, is_some, length, take};
 ghost use Rattle.oci_names.specs.Text.{Text};
 ghost use Rattle.registry_model.specs.World.{World, Grants, Repo};
 ghost use Rattle.registry_model.specs.Ask.{Ask};
 ghost use Rattle.registry_model.specs.Heads.{as_head, as_get, without_content};
 ghost use Rattle.registry_model.specs.Verdict.{verdict, reply_to, after_request};
+ghost use Rattle.registry_model.specs.Command.{after_command};
+ghost use Rattle.registry_model.specs.declared.admin.AdminCommand.{AdminCommand};
 ghost use Rattle.registry_model.specs.Keeping.{State};
-ghost use Rattle.registry_model.specs.Team.{Team, IsTeamOf, team_of_token, view, Step, is_own, OwnOrAside};
+ghost use Rattle.registry_model.specs.Team.{Team, IsTeamOf, team_of_token, view, Step, asks, orders, is_own, OwnOrAside};
 ghost use Rattle.registry_model.specs.Runs.{Outcome, TakesAll, RunSays, kept, requests_of, asked, answers_to, NoneMissed, IsToldAlone};
 ghost use Rattle.std.specs.Prelude.{Option};
 ghost use Rattle.std.specs.FinMap.{get};
@@ -39,6 +41,16 @@ pub fn an_own_request_is_answered_from_the_view()
 pub fn an_own_request_changes_the_view_alike()
     ensures { (w : World) (team : Team) (q : Ask) → IsTeamOf w team → is_own team q.token ≡ true
         → view (after_request w q) team ≡ after_request (view w team) q }
+{}
+
+/// A step that is aside of a team leaves what the team sees: a request that addresses no name of the
+/// team, or reads, or is under a token that may not push there, and a command on other names or
+/// tokens.
+pub fn a_step_aside_leaves_the_view()
+    ensures request { (w : World) (team : Team) (q : Ask) → IsTeamOf w team → is_own team q.token ≡ false
+        → OwnOrAside w (asks q ∷ []) team (asks q) → view (after_request w q) team ≡ view w team }
+    ensures command { (w : World) (team : Team) (a : AdminCommand) → IsTeamOf w team
+        → OwnOrAside w (orders a ∷ []) team (orders a) → view (after_command w a) team ≡ view w team }
 {}
 
 /// Steps one after the other: one outcome for each, the definitions' up to a storage failure, and to
