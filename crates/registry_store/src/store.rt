@@ -10,7 +10,7 @@ ghost use Rattle.store_schema.specs.Making.{IsEmptyWith};
 ghost use Rattle.registry_model.specs.World.{no_world};
 ghost use Rattle.store_statements.specs.Held.{IsSettled, IsBack, world_in};
 ghost use Rattle.store_opening.specs.Opening.{IsIdle, HoldsRegistry};
-ghost use Rattle.store_opening.specs.Asking.{IsWanting, IsTold};
+ghost use Rattle.store_opening.specs.Asking.{IsWanting, IsTold, NamesNotTwo};
 ghost use Rattle.registry_store.specs.Opening.{IsOurs, OpensOn};
 
 use crate::written::Written;
@@ -83,6 +83,7 @@ impl<S: Alter + Drop> Store<S> {
         ensures survives { IfOk result (λ s. Survives (state S.Store conn) (state S.Store s.conn) (λ _. ⊤)) }
         ensures told { IfErr result
             (λ e. HasCleanDisk (state S.Store e.1) → IsTold (state S.Store conn) e.0) }
+        ensures another { IfErr result (λ e. NamesNotTwo e.0) }
         ensures refused { IfErr result
             (λ e. HasCleanDisk (state S.Store e.1) → IsBack (state S.Store conn) (state S.Store e.1)) }
         ensures unmade { IfErr result
@@ -114,7 +115,8 @@ impl<S: Alter + Drop> Store<S> {
 
 impl<F: Written> Store<FileStore<FileFrom<F>>> {
     /// The registry in the database file at the path, which is made where there is none, its log beside it.
-    /// It is read whole once. The refusals are those of `adopt`; a file that is no database is `Storage`.
+    /// It is read whole once. The refusals are those of `adopt`; a file that is no database is `Storage`. A
+    /// schema that is named is never 2.
     pub fn open_from(
         rt: &HostRuntime,
         path: &str,
@@ -123,6 +125,7 @@ impl<F: Written> Store<FileStore<FileFrom<F>>> {
         ensures found { IfOk result
             (λ s. HasCleanDisk (file_state s.conn) → OpensOn (image_at F.Start) (file_state s.conn).now) }
         ensures unspent { IfOk result (λ s. s.spent ≡ false) }
+        ensures another { IfErr result NamesNotTwo }
     {
         let conn = match Connection::open_from(rt, path, false, start) {
             Ok(conn) => conn,

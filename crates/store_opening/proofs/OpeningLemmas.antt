@@ -14,7 +14,7 @@ use Rattle.store_world.specs.Registry.{IsOfSchemaTwo}
 use Rattle.store_opening.specs.Opening.{IsIdle, HoldsRegistry, has_version_table}
 use Rattle.store_opening.specs.declared.opening.OpenFault.{OpenFault}
 use Rattle.store_opening.specs.declared.opening.OpenFault.TheVariants.{Memory, Storage, NotARegistry, Schema as Numbered}
-use Rattle.store_opening.specs.Asking.{IsFailing, IsWanting, IsWantingOr, IsTold, IsUnnumbered, IsOfSchema, ShowsAlone}
+use Rattle.store_opening.specs.Asking.{IsFailing, IsWanting, IsWantingOr, IsTold, IsUnnumbered, NamesNotTwo, IsOfSchema, ShowsAlone}
 use Rattle.store_statements.specs.VersionTexts.{version_find}
 use Rattle.store_schema.proofs.Selects.{Answer, shows}
 use Rattle.store_schema.proofs.Writes.{passes}
@@ -189,6 +189,21 @@ pub told_as : (s : State) (found : Result ℤ OpenFault) (r : Result ⊤ OpenFau
 told_as s found (Ok x) refuses of none = tt
 told_as s (Ok n) (Err e) refuses of none = subst (IsTold s) (sym refuses.0.1) (refuses.0.0, of)
 told_as s (Err k) (Err e) refuses of none = subst (IsTold s) (sym refuses.1) (unnumbered_told s k none)
+
+unnumbered_names : (k : OpenFault) → IsUnnumbered k → NamesNotTwo k
+unnumbered_names Memory none = tt
+unnumbered_names Storage none = tt
+unnumbered_names NotARegistry none = tt
+unnumbered_names (Numbered n) none = absurd none
+
+pub never_two : (found : Result ℤ OpenFault) (r : Result ⊤ OpenFault) → IfErr r (λ e. IfOk found (λ n. (n ≢ pos 2) × (e ≡ Numbered n)) × IfErr found (λ f. e ≡ f)) → IfErr found IsUnnumbered → IfErr r NamesNotTwo
+never_two found (Ok x) refuses none = tt
+never_two (Ok n) (Err e) refuses none = subst NamesNotTwo (sym refuses.0.1) refuses.0.0
+never_two (Err k) (Err e) refuses none = subst NamesNotTwo (sym refuses.1) (unnumbered_names k none)
+
+pub names_none : {A : Type 0} (r : Result A OpenFault) → IfErr r IsUnnumbered → IfErr r NamesNotTwo
+names_none (Ok x) none = tt
+names_none (Err k) none = unnumbered_names k none
 
 pub is_two : (r : Result ⊤ OpenFault) (rows : List Row) → OnOk r (ShowsAlone (map {B = Row} (λ r. column r 1 ∷ []) rows) (pos 2)) → OnOk r (IsOfSchemaTwo rows)
 is_two (Ok x) rows h = says_two rows h

@@ -42,6 +42,11 @@ abbrev pub IsUnnumbered : OpenFault → Type 0
 IsUnnumbered (Schema n) = ⊥
 IsUnnumbered _ = ⊤
 
+-- it names no schema, or another than 2
+abbrev pub NamesNotTwo : OpenFault → Type 0
+NamesNotTwo (Schema n) = n ≢ pos 2
+NamesNotTwo _ = ⊤
+
 -- memory is wanting, the storage failed, or it is this
 abbrev pub IsWantingOr : OpenFault → OpenFault → Type 0
 IsWantingOr other fault = IsWanting fault ⊎ (fault ≡ other)

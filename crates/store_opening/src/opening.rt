@@ -8,7 +8,7 @@ ghost use Rattle.registry_model.specs.World.{no_world};
 ghost use Rattle.store_statements.specs.Clauses.{Lasts};
 ghost use Rattle.store_statements.specs.Held.{HoldsTables, StaysSettled, Makes, IsBack};
 ghost use Rattle.store_opening.specs.Opening.{IsIdle, HoldsRegistry, SaysTwo, versions_in, has_version_table};
-ghost use Rattle.store_opening.specs.Asking.{IsWanting, IsWantingOr, IsTold, IsUnnumbered, ShowsAlone};
+ghost use Rattle.store_opening.specs.Asking.{IsWanting, IsWantingOr, IsTold, IsUnnumbered, NamesNotTwo, ShowsAlone};
 
 use crate::making::create;
 use crate::version::read_version;
@@ -82,6 +82,7 @@ pub fn take_up<S: Alter>(conn: &mut Connection<S>) -> Result<(), OpenFault>
         → ((n : ℤ) → ShowsAlone (versions_in (state S.Store conn.old).now) n → ⊥)
         → IfErr result (IsWantingOr OpenFault.NotARegistry) }
     ensures told { HasCleanDisk (state S.Store conn.new) → IfErr result (IsTold (state S.Store conn.old)) }
+    ensures another { IfErr result NamesNotTwo }
     ensures back { HasCleanDisk (state S.Store conn.new) → IsIdle (state S.Store conn.old)
         → OnErr result (IsBack (state S.Store conn.old) (state S.Store conn.new)) }
     ensures survives { Lasts S.Store conn.old conn.new }

@@ -1,7 +1,7 @@
 use Rattle.sqlite.specs.Held.{state}
 use Rattle.store_statements.specs.Held.{held}
 use Rattle.store_opening.specs.Opening.{versions_in}
-use Rattle.store_opening.proofs.OpeningLemmas.{is_marked, settled, is_two, two_told, wanting_told, other_told, unsaid_told, told_as, on_two, on_err}
+use Rattle.store_opening.proofs.OpeningLemmas.{is_marked, settled, is_two, two_told, wanting_told, other_told, unsaid_told, told_as, never_two, names_none, on_two, on_err}
 use Rattle.store_statements.proofs.SettledAfter.{stays_read}
 use Rattle.store_opening.proofs.VersionAsked.{back_left}
 use Rattle.store_opening.proofs.opening.take_up.Goals as goal
@@ -68,3 +68,9 @@ returns-clause-told g c clean = told_as (state g.S.Store c.args.conn.now) c.read
 
 pub returns-clause-back : goal.returns-clause-back
 returns-clause-back g c clean idle = on_err c.only_two.result _ (back_left (state g.S.Store c.args.conn.now) (state g.S.Store c.read_version.new.conn) idle.committed (c.read_version.ensures.left clean))
+
+pub returns-then-not-is_marked-clause-another : goal.returns-then-not-is_marked-clause-another
+returns-then-not-is_marked-clause-another g c = names_none c.create.result c.create.ensures.unnumbered
+
+pub returns-clause-another : goal.returns-clause-another
+returns-clause-another g c = never_two c.read_version.result c.only_two.result c.only_two.ensures.other c.read_version.ensures.unnumbered
