@@ -13,5 +13,6 @@ pub mod ChunkSequences
 pub mod TrailerLemmas
 pub mod BodyLemmas
 pub mod BodyUniqueness
+pub mod ChunkEnds
 pub mod PrivacyLemmas
 pub mod BufferLemmas

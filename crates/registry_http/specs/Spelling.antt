@@ -1,7 +1,7 @@
 -- What the bytes on a connection spell: requests, one after the other, and an end (RFC 9112, sections 2, 3
 -- and 6; the limits are the profile's).
 use Rattle.std.specs.Prelude.{◌≡◌, ◌<◌, ◌≤◌, ◌⊎◌, Bool, true, false, List, [], ◌∷◌, ◌++◌, length, take}
-use Rattle.httparse.specs.Grammar.{RequestHead, print_request, IsRequestHead, ReadsRequest, HasNoRequest, NeverHasRequest}
+use Rattle.httparse.specs.Grammar.{RequestHead, print_request, IsRequestHead, ReadsRequest, HasNoRequest, NeverHasRequest, MayBecomeRequest}
 use Rattle.oci_names.specs.Text.{Text}
 use Rattle.registry_http.specs.Fields.{fields_of, closes_by}
 use Rattle.registry_http.specs.Framing.{framing}
@@ -69,8 +69,9 @@ abbrev pub HeadIsUnreadable : Text → Type 0
 HeadIsUnreadable b =
     HoldsNoHead b ⊎ ((h : RequestHead) × (rest : Text) × BeginsWithHead b h rest × (64 < length h.fields))
 
+-- no whole head stands there, and more bytes can make it one
 abbrev pub HeadIsCut : Text → Type 0
-HeadIsCut b = (0 < length b) × (length b < 16384) × HasNoRequest b
+HeadIsCut b = (0 < length b) × (length b < 16384) × HasNoRequest b × MayBecomeRequest b
 
 -- the input ends inside a request that is not refused
 abbrev pub IsCut : Text → Type 0

@@ -2,7 +2,7 @@ ghost use Rattle.std.specs.Prelude.{◌≡◌, length, take};
 ghost use Rattle.registry_http.specs.Reading.{Parses};
 
 use httparse::spans::{HeaderSpan, RequestSpans, parse_request};
-use httparse::{Error, Status};
+use httparse::Status;
 
 /// What the buffer begins with.
 pub enum Parsed {
@@ -40,16 +40,7 @@ pub fn parse_head(buffer: &[u8], headers: &mut [HeaderSpan]) -> Parsed
                 Parsed::NotYet
             }
         }
-        Err(error) => match error {
-            // No head of so few bytes has so many fields.
-            Error::TooManyHeaders => {
-                if seen.len() == 16384 {
-                    Parsed::Never
-                } else {
-                    Parsed::NotYet
-                }
-            }
-            _ => Parsed::Never,
-        },
+        // So few bytes have no room for too many fields.
+        Err(_) => Parsed::Never,
     }
 }
