@@ -14,5 +14,8 @@ pub mod TrailerLemmas
 pub mod BodyLemmas
 pub mod BodyUniqueness
 pub mod ChunkEnds
+pub mod TargetText
+pub mod OpenHeads
+pub mod EndUniqueness
 pub mod PrivacyLemmas
 pub mod BufferLemmas
