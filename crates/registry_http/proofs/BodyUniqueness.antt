@@ -30,7 +30,7 @@ same_front (c ∷ a) (d ∷ b) x y n e =
 line_whole : (b : Text) (l : ChunkLine) (rest : Text) → ReadsChunkLine b l rest → LineIsCut b → ⊥
 line_whole b l rest reads cut = cut.1 l rest reads
 
-line_served : (b : Text) (l : ChunkLine) (rest : Text) (r : FramingRefusal) → ReadsChunkLine b l rest → length (print_chunk_line l) ≤ 1024 → LineIsRefused b r → ⊥
+pub line_served : (b : Text) (l : ChunkLine) (rest : Text) (r : FramingRefusal) → ReadsChunkLine b l rest → length (print_chunk_line l) ≤ 1024 → LineIsRefused b r → ⊥
 line_served b l rest r reads short (e, inl x) =
     let p = print_chunk_line l in
     let n : 1024 ≡ length p + (1024 - length p) = omega arith in
@@ -94,10 +94,10 @@ module _ (total : ℕ) (u : ChunkLine) (y : Text) (is : IsLast u) (fits : total 
 -- ---- all chunks
 
 -- a chunk, other chunks, and what follows them
-chunks_opened : (c : Chunk) (cs : List Chunk) (r : Text) → print_chunks (c ∷ cs) ++ r ≡ print_chunk c ++ (print_chunks cs ++ r)
+pub chunks_opened : (c : Chunk) (cs : List Chunk) (r : Text) → print_chunks (c ∷ cs) ++ r ≡ print_chunk c ++ (print_chunks cs ++ r)
 chunks_opened c cs r = ap (λ (x : Text). x ++ r) (flat_map-cons print_chunk c cs) ∙ append_assoc (print_chunk c) (print_chunks cs) r
 
-data_opened : (c : Chunk) (cs : List Chunk) → length (data_of (c ∷ cs)) ≡ length c.carried + length (data_of cs)
+pub data_opened : (c : Chunk) (cs : List Chunk) → length (data_of (c ∷ cs)) ≡ length c.carried + length (data_of cs)
 data_opened c cs = ap length (flat_map-cons (λ (x : Chunk). x.carried) c cs) ∙ length-append c.carried (data_of cs)
 
 no_zero : (c : Chunk) (u : ChunkLine) → IsChunk c → IsLast u → u ≡ c.line → ⊥
@@ -106,7 +106,7 @@ no_zero c u x z same =
     omega (arith, size, z.zero, x.sized, x.some)
 
 -- two chunks at the front are one
-one_chunk : (c d : Chunk) (x y : Text) → IsChunk c → IsChunk d → print_chunk c ++ x ≡ print_chunk d ++ y → (c ≡ d) × (x ≡ y)
+pub one_chunk : (c d : Chunk) (x y : Text) → IsChunk c → IsChunk d → print_chunk c ++ x ≡ print_chunk d ++ y → (c ≡ d) × (x ≡ y)
 one_chunk c d x y p q e =
     let line = chunk_line_unique _ c.line d.line _ _ (p.line, refl) (q.line, sym (opened c x) ∙ e ∙ opened d y) in
     let size : length c.carried ≡ length d.carried = sym p.sized ∙ ap chunk_size line.0 ∙ q.sized in
@@ -116,7 +116,7 @@ one_chunk c d x y p q e =
     behind_end : (a b : Text) → 13 ∷ 10 ∷ a ≡ 13 ∷ 10 ∷ b → a ≡ b
     behind_end a b h = cc
 
-chunks_unique : (xs ys : List Chunk) (u v : ChunkLine) (r q : Text) → All IsChunk xs → All IsChunk ys → IsLast u → IsLast v
+pub chunks_unique : (xs ys : List Chunk) (u v : ChunkLine) (r q : Text) → All IsChunk xs → All IsChunk ys → IsLast u → IsLast v
     → print_chunks xs ++ (print_chunk_line u ++ r) ≡ print_chunks ys ++ (print_chunk_line v ++ q) → (xs ≡ ys) × (u ≡ v) × (r ≡ q)
 chunks_unique [] [] u v r q each others last end e =
     let same = chunk_line_unique (print_chunk_line u ++ r) u v r q (last.line, refl) (end.line, e) in
@@ -139,7 +139,7 @@ chunks_unique (x ∷ xs) (y ∷ ys) u v r q each others last end e =
 module _ (P : ℕ → Text → Type 0)
     (no_chunk : (total : ℕ) (c : Chunk) (y : Text) → IsChunk c → total + length c.carried ≤ limit → P total (print_chunk c ++ y) → ⊥)
     (no_last : (total : ℕ) (u : ChunkLine) (y : Text) → IsLast u → total ≤ limit → P total (print_chunk_line u ++ y) → ⊥) where
-  none_behind : (total : ℕ) (xs ws : List Chunk) (u : ChunkLine) (r rest : Text) → All IsChunk xs → All IsChunk ws → IsLast u → total + length (data_of xs) ≤ limit
+  pub none_behind : (total : ℕ) (xs ws : List Chunk) (u : ChunkLine) (r rest : Text) → All IsChunk xs → All IsChunk ws → IsLast u → total + length (data_of xs) ≤ limit
       → print_chunks xs ++ (print_chunk_line u ++ r) ≡ print_chunks ws ++ rest → P (total + length (data_of ws)) rest → ⊥
   none_behind total [] [] u r rest each others last fits e h =
       no_last (total + 0) u r last (omega arith) (subst (P (total + 0)) (sym e) h)

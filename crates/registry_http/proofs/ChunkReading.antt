@@ -2,7 +2,7 @@
 use Rattle.std.proofs.Common.{◌≡◌, ◌≢◌, ℕ, ◌+◌, ◌-◌, ◌<◌, ◌≤◌, inl, inr, [], ◌∷◌, ◌++◌, length, take, drop, get_or, slice_index, Option, refl, sym, ap, ◌∙◌, subst, append_assoc, append-nil, arith, add-one, drop-cons, length-append, length-take}
 use Rattle.std.proofs.lemmas.List.{get_or_append_left, take_at, take-append-le, take-append-drop}
 use Rattle.std.proofs.lemmas.Grind.{common_steps}
-use Rattle.httparse.specs.Grammar.{ChunkLine, print_chunk_line, HasNoChunkLine, NeverHasChunkLine, ReadsChunkLine}
+use Rattle.httparse.specs.Grammar.{ChunkLine, print_chunk_line, HasNoChunkLine, NeverHasChunkLine, MayBecomeChunkLine, ReadsChunkLine}
 use Rattle.httparse.specs.Spans.{IsChunkLineAt}
 use Rattle.httparse.proofs.ChunkLemmas.{ReadsChunkLine-append}
 use Rattle.oci_names.specs.Text.{Text}
@@ -31,12 +31,12 @@ line_full b none full tail =
     let long : 1024 ≤ length b = omega (arith, length-take 1024 b) in
     inl (omega (arith, length-append b tail), rw take-append-le none)
 
-pub line_not_yet : (b : Text) → HasNoChunkLine (take 1024 b) → length (take 1024 b) ≢ 1024 → LineIsCut b
-line_not_yet b none short =
+pub line_not_yet : (b : Text) → HasNoChunkLine (take 1024 b) → MayBecomeChunkLine (take 1024 b) → length (take 1024 b) ≢ 1024 → LineIsCut b
+line_not_yet b none may short =
     let few : length b < 1024 = omega (arith, length-take 1024 b) in
     let fits : length b ≤ 1024 = omega arith in
     let all = take_whole 1024 b fits in
-    (few, rw all at none)
+    (few, rw all at none, rw all at may)
 
 pub drop_front : (n : ℕ) (front rest b : Text) → b ≡ front ++ rest → n ≡ length front → rest ≡ drop n b
 drop_front n front rest b e h = grind (arith, common_steps)

@@ -6,13 +6,13 @@ use Rattle.std.proofs.Math.Seq.{drop-append_seam}
 use Rattle.std.proofs.lemmas.Grind.{common_steps}
 use Rattle.std.specs.Prelude.{All}
 use Rattle.std.specs.List.{flat_map}
-use Rattle.httparse.specs.Grammar.{Field, LineEnd, crlf, lf, print_end, print_field, RequestHead, print_request, HasNoRequest, NeverHasRequest}
-use Rattle.httparse.specs.Spans.{RequestOverflows, IsRequestAt, IsRequestWithin, IsHeaderWithin, IsWithin, header_bytes, span_bytes}
+use Rattle.httparse.specs.Grammar.{Field, LineEnd, crlf, lf, print_end, print_field, RequestHead, print_request, HasNoRequest, NeverHasRequest, EndsInTarget, MayBecomeRequest}
+use Rattle.httparse.specs.Spans.{RequestExceeds, IsRequestAt, IsRequestWithin, IsHeaderWithin, IsWithin, header_bytes, span_bytes}
 use Rattle.httparse.specs.declared.spans.Span.{Span}
 use Rattle.httparse.specs.declared.spans.HeaderSpan.{HeaderSpan}
 use Rattle.httparse.specs.declared.spans.RequestSpans.{RequestSpans}
 use Rattle.oci_names.specs.Text.{Text}
-use Rattle.registry_http.specs.Spelling.{HoldsNoHead}
+use Rattle.registry_http.specs.Spelling.{HoldsNoHead, MayBecomeHead}
 use Rattle.registry_http.specs.Reading.{HeadIsRead}
 
 pub take_whole : {A : Type 0} (n : ℕ) (xs : List A) → length xs ≤ n → take n xs ≡ xs
@@ -56,13 +56,12 @@ request_some h =
     behind_long _ (flat_map print_field h.fields ++ print_end h.last) 1
     (omega (arith, end_long h.last, length-append (flat_map print_field h.fields) (print_end h.last)))
 
--- no head of so few bytes has so many fields
-pub overflow_none : (s : Text) → length s ≤ 16384 → RequestOverflows 8192 s → HasNoRequest s
-overflow_none s short over h rest reads =
-    let many : 8192 < length h.fields = over [] h rest (rw append-nil reads) in
-    let long = request_long h in
-    let size = ap length reads.1 in
-    absurd (omega (arith, length-append (print_request h) rest))
+-- so few bytes do not begin with so many fields
+pub not_exceeded : (s : Text) → length s ≤ 16384 → RequestExceeds 8192 s → ⊥
+not_exceeded s short over =
+    let size = ap length over.4.1 in
+    let whole = ap length over.2 in
+    omega (arith, over.5, request_long over.3, length-append (print_request over.3) [], length-append over.0 (print_end lf), length-append over.0 over.1)
 
 -- ---- what holds of the first 16,384 bytes, of the whole buffer
 
@@ -79,12 +78,18 @@ refuses_full b none full tail =
     let long : 16384 ≤ length b = omega (arith, length-take 16384 b) in
     inl (omega (arith, length-append b tail), rw take-append-le none)
 
-pub not_yet : (b : Text) → HasNoRequest (take 16384 b) → length (take 16384 b) ≢ 16384 → (length b < 16384) × HasNoRequest b
-not_yet b none short =
+-- where the bytes end in a target, that it goes on is shown apart
+pub may_become_head : (s : Text) → MayBecomeRequest s → (EndsInTarget s → MayBecomeHead s) → MayBecomeHead s
+may_become_head s (inl may) on = may
+may_become_head s (inr ends) on = on ends
+
+pub not_yet : (b : Text) → HasNoRequest (take 16384 b) → MayBecomeHead (take 16384 b) → length (take 16384 b) ≢ 16384
+    → (length b < 16384) × HasNoRequest b × MayBecomeHead b
+not_yet b none may short =
     let few : length b < 16384 = omega (arith, length-take 16384 b) in
     let fits : length b ≤ 16384 = omega arith in
     let all = take_whole 16384 b fits in
-    (few, rw all at none)
+    (few, rw all at none, rw all at may)
 
 -- ---- the parts of a head
 

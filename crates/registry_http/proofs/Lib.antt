@@ -13,5 +13,9 @@ pub mod ChunkSequences
 pub mod TrailerLemmas
 pub mod BodyLemmas
 pub mod BodyUniqueness
+pub mod ChunkEnds
+pub mod TargetText
+pub mod OpenHeads
+pub mod EndUniqueness
 pub mod PrivacyLemmas
 pub mod BufferLemmas

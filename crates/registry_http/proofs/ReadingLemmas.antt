@@ -1,9 +1,14 @@
 -- What reads add to the buffer.
-use Rattle.std.proofs.Common.{◌≡◌, ◌++◌, sym, ap, subst, ◌∙◌, append_assoc}
-use Rattle.std.proofs.Common.{Option}
+use Rattle.std.proofs.Common.{◌≡◌, ◌<◌, ◌⊎◌, ◌==◌, inl, inr, Bool, true, false, [], ◌∷◌, ◌++◌, length, Option, refl, sym, ap, subst, ◌∙◌, append_assoc, arith}
+use Rattle.std.proofs.lemmas.Bool.Decides.{nat_tests}
 use Rattle.std.proofs.KnownBytes.{Consumes-trans}
 use Rattle.oci_names.specs.Text.{Text}
-use Rattle.registry_http.specs.Reading.{Pulls, Leaves}
+use Rattle.registry_http.specs.declared.ending.Stop.{Stop}
+use Rattle.registry_http.specs.declared.ending.Stop.TheVariants.{Between, AtEnd, Broken, Refuse}
+use Rattle.registry_http.specs.declared.head.Parsed.TheVariants.{NotYet}
+use Rattle.registry_http.specs.Refusals.{stop_at_head}
+use Rattle.registry_http.specs.Spelling.{HeadIsCut}
+use Rattle.registry_http.specs.Reading.{Pulls, Leaves, Parses, FillStops, HeadStops}
 
 -- the bytes so far, where nothing more is read
 pub leaves : {old new : Text} {l l' : Option Text} (P : Text → Type 0) → Pulls old new l l' → P new → Leaves old l l' P
@@ -28,3 +33,36 @@ pulls-on {a} {l = l} {l' = l'} {l'' = l''} p q = record {
   grown = q.grown ∙ ap (λ x. x ++ q.bytes) p.grown ∙ append_assoc a p.bytes q.bytes;
   taken = Consumes-trans l l' l'' p.bytes q.bytes p.taken q.taken;
 }
+
+-- ---- where no whole head is unread
+
+empty_or_some : (b : Text) → (b ≡ []) ⊎ (0 < length b)
+empty_or_some [] = inl refl
+empty_or_some (x ∷ b) = inr (omega arith)
+
+-- a read gave no bytes, and more could have made a head
+pub stops_at_head : (stop : Stop) (empty : Bool) (a b : Text) (l l' l'' : Option Text) → empty ≡ (length b == 0) → Pulls a b l l'
+    → FillStops stop b l' l'' → Parses NotYet b [] → HeadStops (stop_at_head stop empty) a l l''
+stops_at_head stop empty a b l l' l'' e p s found = by_stop stop empty e s
+  where
+    on : (P : Text → Type 0) → P b → Leaves b l' l'' (λ y. y ≡ b) → Leaves a l l'' P
+    on P h q = leaves-on (λ y. y ≡ b) P p q (λ more same. subst P (sym same) h)
+
+    cut : 0 < length b → HeadIsCut b
+    cut some = (some, found.0, found.1, found.2)
+
+    by_stop : (stop : Stop) (empty : Bool) → empty ≡ (length b == 0) → FillStops stop b l' l'' → HeadStops (stop_at_head stop empty) a l l''
+    by_stop Between empty e s = absurd s
+    by_stop AtEnd true e s = elim (empty_or_some b) [
+      | inl none ↦ (on (λ x. x ≡ []) none s.0, s.1)
+      | inr some ↦ absurd (grind (arith, nat_tests))
+    ]
+    by_stop AtEnd false e s = elim (empty_or_some b) [
+      | inl none ↦ absurd (grind (arith, nat_tests, ap length none))
+      | inr some ↦ (on HeadIsCut (cut some) s.0, s.1)
+    ]
+    by_stop Broken empty e s = elim (empty_or_some b) [
+      | inl none ↦ on (λ x. (x ≡ []) ⊎ HeadIsCut x) (inl none) s
+      | inr some ↦ on (λ x. (x ≡ []) ⊎ HeadIsCut x) (inr (cut some)) s
+    ]
+    by_stop (Refuse r) empty e s = inl s

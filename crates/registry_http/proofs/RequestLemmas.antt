@@ -92,7 +92,7 @@ module _ (b : Text) (headers : List HeaderSpan) (spans : RequestSpans) (h : Requ
 
 -- ---- where no head stands
 
-none_empty : (b : Text) → b ≡ [] → (h : RequestHead) (rest : Text) → BeginsWithHead b h rest → ⊥
+pub none_empty : (b : Text) → b ≡ [] → (h : RequestHead) (rest : Text) → BeginsWithHead b h rest → ⊥
 none_empty b e h rest x =
     let size = ap length (sym e ∙ x.reads.1) in
     omega (arith, request_some h, length-append (print_request h) rest, size)
@@ -103,16 +103,16 @@ before_empty b e = inr (λ h rest x few. none_empty b e h rest x, refl)
 pub before_cut : (b : Text) → HeadIsCut b → IsBefore b []
 before_cut b cut = inr (λ h rest x few. cut.2 h rest x.reads, refl)
 
+pub head_readable : (b : Text) → HeadIsUnreadable b → (h : RequestHead) (rest : Text) → BeginsWithHead b h rest → length h.fields ≤ 64 → ⊥
+head_readable b (inl (inl y)) h rest x few =
+    let p = print_request h in
+    let n : 16384 ≡ length p + (16384 - length p) = omega (arith, x.short) in
+    y.1 h (take (16384 - length p) rest)
+    (x.reads.0, ap (take 16384) x.reads.1 ∙ ap (λ k. take k (p ++ rest)) n ∙ take-append-add p rest (16384 - length p))
+head_readable b (inl (inr never)) h rest x few = never (drop 16384 b) h rest (rw take-append-drop x.reads)
+head_readable b (inr (other, behind, y, many)) h rest x few =
+    let same = request_unique b h other rest behind x.reads y.reads in
+    omega (arith, many, few, ap (λ (k : RequestHead). length k.fields) same.0)
+
 pub before_unreadable : (b : Text) → HeadIsUnreadable b → IsBefore b []
-before_unreadable b bad = inr (λ h rest x few. none b bad h rest x few, refl)
-  where
-    none : (b : Text) → HeadIsUnreadable b → (h : RequestHead) (rest : Text) → BeginsWithHead b h rest → length h.fields ≤ 64 → ⊥
-    none b (inl (inl y)) h rest x few =
-        let p = print_request h in
-        let n : 16384 ≡ length p + (16384 - length p) = omega (arith, x.short) in
-        y.1 h (take (16384 - length p) rest)
-        (x.reads.0, ap (take 16384) x.reads.1 ∙ ap (λ k. take k (p ++ rest)) n ∙ take-append-add p rest (16384 - length p))
-    none b (inl (inr never)) h rest x few = never (drop 16384 b) h rest (rw take-append-drop x.reads)
-    none b (inr (other, behind, y, many)) h rest x few =
-        let same = request_unique b h other rest behind x.reads y.reads in
-        omega (arith, many, few, ap (λ (k : RequestHead). length k.fields) same.0)
+before_unreadable b bad = inr (λ h rest x few. head_readable b bad h rest x few, refl)

@@ -2,8 +2,8 @@
 use Rattle.std.proofs.Common.{◌≡◌, ℕ, ◌<◌, ◌≤◌, ◌≢◌, inl, inr, List, [], ◌++◌, length, take, drop, Option, refl, sym, ap, ◌∙◌, subst, append_assoc, append-nil, arith, length-append, length-take}
 use Rattle.std.proofs.lemmas.List.{take-append-le, take-append-drop, length-map, take_at}
 use Rattle.std.specs.List.{flat_map}
-use Rattle.httparse.specs.Grammar.{Field, LineEnd, print_end, print_field, print_section, ReadsSection, HasNoSection, NeverHasSection, print_chunk_line}
-use Rattle.httparse.specs.Spans.{SectionOverflows, IsSectionWithin, IsSectionAt, header_bytes, name_and_value}
+use Rattle.httparse.specs.Grammar.{Field, LineEnd, lf, print_end, print_field, print_section, ReadsSection, HasNoSection, NeverHasSection, MayBecomeSection, print_chunk_line}
+use Rattle.httparse.specs.Spans.{SectionExceeds, IsSectionWithin, IsSectionAt, header_bytes, name_and_value}
 use Rattle.httparse.specs.declared.spans.HeaderSpan.{HeaderSpan}
 use Rattle.httparse.proofs.GrammarLemmas.{ReadsSection-append}
 use Rattle.oci_names.specs.Text.{Text}
@@ -15,12 +15,15 @@ use Rattle.registry_http.proofs.HeadLemmas.{take_whole, take_on, fields_long}
 use Rattle.registry_http.proofs.TakingLemmas.{nothing_taken, takes-on, skipped, ends_behind, ends_as}
 use Rattle.registry_http.proofs.ChunkReading.{drop_front}
 
--- no trailer of so few bytes has so many fields
-pub section_overflow_none : (s : Text) → length s ≤ 16384 → SectionOverflows 8192 s → HasNoSection s
-section_overflow_none s short over fields last rest reads =
-    let many : 8192 < length fields = over [] fields last rest (rw append-nil reads) in
-    let size = ap length reads.1 in
-    absurd (omega (arith, fields_long fields, length-append (flat_map print_field fields) (print_end last), length-append (print_section fields last) rest))
+-- so few bytes do not begin with so many fields
+pub section_not_exceeded : (s : Text) → length s ≤ 16384 → SectionExceeds 8192 s → ⊥
+section_not_exceeded s short over =
+    let size = ap length over.4.1 in
+    let whole = ap length over.2 in
+    omega (
+      arith, over.5, fields_long over.3, length-append (flat_map print_field over.3) (print_end lf), length-append (print_section over.3 lf) [],
+      length-append over.0 (print_end lf), length-append over.0 over.1
+    )
 
 never_on : (s more : Text) → NeverHasSection s → NeverHasSection (s ++ more)
 never_on s more never behind fields last rest reads = never (more ++ behind) fields last rest (rw (← append_assoc s more behind) reads)
@@ -35,12 +38,12 @@ trailer_full b none full tail =
     let long : 16384 ≤ length b = omega (arith, length-take 16384 b) in
     inl (inl (omega (arith, length-append b tail), rw take-append-le none))
 
-pub trailer_not_yet : (b : Text) → HasNoSection (take 16384 b) → length (take 16384 b) ≢ 16384 → TrailerIsCut b
-trailer_not_yet b none short =
+pub trailer_not_yet : (b : Text) → HasNoSection (take 16384 b) → MayBecomeSection (take 16384 b) → length (take 16384 b) ≢ 16384 → TrailerIsCut b
+trailer_not_yet b none may short =
     let few : length b < 16384 = omega (arith, length-take 16384 b) in
     let fits : length b ≤ 16384 = omega arith in
     let all = take_whole 16384 b fits in
-    (few, rw all at none)
+    (few, rw all at none, rw all at may)
 
 module _ (b : Text) (headers : List HeaderSpan) (len count : ℕ) (fields : List Field) (last : LineEnd)
     (within : IsSectionWithin (take 16384 b) headers len count) (at : IsSectionAt (take 16384 b) 0 headers len count fields last) where

@@ -2,7 +2,7 @@
 -- are the profile's).
 use Rattle.std.specs.Prelude.{◌≡◌, ◌≢◌, ℕ, ◌+◌, ◌<◌, ◌≤◌, ◌⊎◌, List, [], ◌∷◌, ◌++◌, length, take, slice_index, All}
 use Rattle.std.specs.List.{flat_map}
-use Rattle.httparse.specs.Grammar.{ChunkLine, print_chunk_line, IsChunkLine, ReadsChunkLine, HasNoChunkLine, NeverHasChunkLine, chunk_size, Field, IsField, LineEnd, print_section, ReadsSection, HasNoSection, NeverHasSection}
+use Rattle.httparse.specs.Grammar.{ChunkLine, print_chunk_line, IsChunkLine, ReadsChunkLine, HasNoChunkLine, NeverHasChunkLine, MayBecomeChunkLine, chunk_size, Field, IsField, LineEnd, print_section, ReadsSection, HasNoSection, NeverHasSection, MayBecomeSection}
 use Rattle.oci_names.specs.Text.{Text}
 use Rattle.registry_model.specs.Limits.{largest_blob}
 use Rattle.registry_http.specs.declared.ending.FramingRefusal.{FramingRefusal}
@@ -23,8 +23,9 @@ pub record BeginsWithLine (b : Text) (l : ChunkLine) (rest : Text) : Type 0 wher
 abbrev pub HoldsNoLine : Text → Type 0
 HoldsNoLine b = ((1024 ≤ length b) × HasNoChunkLine (take 1024 b)) ⊎ NeverHasChunkLine (take 1024 b)
 
+-- no whole line stands there, and more bytes can make it one
 abbrev pub LineIsCut : Text → Type 0
-LineIsCut b = (length b < 1024) × HasNoChunkLine b
+LineIsCut b = (length b < 1024) × HasNoChunkLine b × MayBecomeChunkLine b
 
 abbrev pub LineIsRefused : Text → FramingRefusal → Type 0
 LineIsRefused b r = (r ≡ UnreadableChunk) × HoldsNoLine b
@@ -131,8 +132,9 @@ HoldsNoTrailer b =
     ⊎ ((fields : List Field) × (last : LineEnd) × (rest : Text) × BeginsWithTrailer b fields last rest
     × (64 < length fields))
 
+-- no whole trailer stands there, and more bytes can make it one
 abbrev pub TrailerIsCut : Text → Type 0
-TrailerIsCut b = (length b < 16384) × HasNoSection b
+TrailerIsCut b = (length b < 16384) × HasNoSection b × MayBecomeSection b
 
 abbrev pub TrailerIsRefused : Text → FramingRefusal → Type 0
 TrailerIsRefused b r = (r ≡ UnreadableChunk) × HoldsNoTrailer b

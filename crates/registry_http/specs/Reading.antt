@@ -8,7 +8,7 @@ use Rattle.httparse.specs.declared.spans.RequestSpans.{RequestSpans}
 use Rattle.oci_names.specs.Text.{Text}
 use Rattle.registry_http.specs.Fields.{fields_of, closes_by}
 use Rattle.registry_http.specs.Framing.{framing}
-use Rattle.registry_http.specs.Spelling.{Item, IsRequest, closes, HoldsNoHead, HeadIsCut, HeadIsUnreadable}
+use Rattle.registry_http.specs.Spelling.{Item, IsRequest, closes, HoldsNoHead, MayBecomeHead, HeadIsCut, HeadIsUnreadable}
 use Rattle.registry_http.specs.Expecting.{awaits_by}
 use Rattle.registry_http.specs.declared.ending.FramingRefusal.TheVariants.{UnreadableHead, NoBufferMemory}
 use Rattle.registry_http.specs.declared.ending.Stop.{Stop}
@@ -49,7 +49,8 @@ pub record HeadIsRead (buffer : Text) (headers : List HeaderSpan) (spans : Reque
 -- what a parser finds at the front of the buffer
 abbrev pub Parses : Parsed → Text → List HeaderSpan → Type 0
 Parses (Whole spans) buffer headers = (h : RequestHead) × HeadIsRead buffer headers spans h
-Parses NotYet buffer headers = (length buffer < 16384) × HasNoRequest buffer
+Parses NotYet buffer headers =
+    (length buffer < 16384) × HasNoRequest buffer × MayBecomeHead buffer
 Parses Never buffer headers = (tail : Text) → HoldsNoHead (buffer ++ tail)
 
 -- ---- reading

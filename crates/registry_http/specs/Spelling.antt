@@ -1,7 +1,7 @@
 -- What the bytes on a connection spell: requests, one after the other, and an end (RFC 9112, sections 2, 3
 -- and 6; the limits are the profile's).
-use Rattle.std.specs.Prelude.{◌≡◌, ◌<◌, ◌≤◌, ◌⊎◌, Bool, true, false, List, [], ◌∷◌, ◌++◌, length, take}
-use Rattle.httparse.specs.Grammar.{RequestHead, print_request, IsRequestHead, ReadsRequest, HasNoRequest, NeverHasRequest}
+use Rattle.std.specs.Prelude.{◌≡◌, ◌<◌, ◌≤◌, ◌⊎◌, Bool, true, false, List, [], ◌∷◌, ◌++◌, length, take, IsUtf8}
+use Rattle.httparse.specs.Grammar.{RequestHead, print_request, IsRequestHead, ReadsRequest, HasNoRequest, NeverHasRequest, AllPass, is_uri_byte}
 use Rattle.oci_names.specs.Text.{Text}
 use Rattle.registry_http.specs.Fields.{fields_of, closes_by}
 use Rattle.registry_http.specs.Framing.{framing}
@@ -69,8 +69,21 @@ abbrev pub HeadIsUnreadable : Text → Type 0
 HeadIsUnreadable b =
     HoldsNoHead b ⊎ ((h : RequestHead) × (rest : Text) × BeginsWithHead b h rest × (64 < length h.fields))
 
+-- bytes of a target can follow that make these text
+abbrev pub MayBecomeText : Text → Type 0
+MayBecomeText b = (more : Text) × AllPass is_uri_byte more × IsUtf8 (b ++ more)
+
+-- no bytes can
+abbrev pub NeverBecomesText : Text → Type 0
+NeverBecomesText b = (more : Text) → ¬ (IsUtf8 (b ++ more))
+
+-- bytes can follow that make b a head
+abbrev pub MayBecomeHead : Text → Type 0
+MayBecomeHead b = (more : Text) × (h : RequestHead) × ReadsRequest (b ++ more) h []
+
+-- no whole head stands there, and more bytes can make it one
 abbrev pub HeadIsCut : Text → Type 0
-HeadIsCut b = (0 < length b) × (length b < 16384) × HasNoRequest b
+HeadIsCut b = (0 < length b) × (length b < 16384) × HasNoRequest b × MayBecomeHead b
 
 -- the input ends inside a request that is not refused
 abbrev pub IsCut : Text → Type 0

@@ -130,8 +130,10 @@ pub fn serve_connection<R: Read, W: Write, K: Keeper>(
     }
 }
 
-/// Bytes spell one list of requests.
+/// Bytes spell one list of requests, and one end.
 pub fn spelling_is_unique()
-    ensures { (b : Text) (items others : List Item) (e f : End)
+    ensures items { (b : Text) (items others : List Item) (e f : End)
         → Spells b items e → Spells b others f → items ≡ others }
+    ensures end { (b : Text) (items others : List Item) (e f : End)
+        → Spells b items e → Spells b others f → e ≡ f }
 {}

@@ -3,7 +3,7 @@ ghost use Rattle.registry_http.specs.Taking.{FindsTrailer};
 
 use crate::head::head_bytes;
 use httparse::spans::{HeaderSpan, parse_headers};
-use httparse::{Error, Status};
+use httparse::Status;
 
 /// What the unread bytes begin with.
 pub enum FoundTrailer {
@@ -37,16 +37,7 @@ pub fn find_trailer(unread: &[u8], fields: &mut [HeaderSpan]) -> FoundTrailer
                 FoundTrailer::NotYet
             }
         }
-        Err(error) => match error {
-            // No trailer of so few bytes has so many fields.
-            Error::TooManyHeaders => {
-                if seen.len() == 16384 {
-                    FoundTrailer::Never
-                } else {
-                    FoundTrailer::NotYet
-                }
-            }
-            _ => FoundTrailer::Never,
-        },
+        // So few bytes have no room for too many fields.
+        Err(_) => FoundTrailer::Never,
     }
 }

@@ -15,7 +15,9 @@ returns-then-seen-eq1024 c =
 pub returns-else-seen-eq1024 : goal.returns-else-seen-eq1024
 returns-else-seen-eq1024 c =
     let e = c.line_bytes-seen.ensures in
-    line_not_yet c.args.unread.now (rw (c.in-Ok-Partial.field-0-is, e) at c.in-Ok-Partial.ensures.partial) (rw e at c.if-seen-eq1024.false)
+    let none = rw (c.in-Ok-Partial.field-0-is, e) at c.in-Ok-Partial.ensures.partial in
+    let may = rw (c.in-Ok-Partial.field-0-is, e) at c.in-Ok-Partial.ensures.unfinished in
+    line_not_yet c.args.unread.now none may (rw e at c.if-seen-eq1024.false)
 
 pub returns-in-Err : goal.returns-in-Err
 returns-in-Err c = line_never c.args.unread.now (rw c.line_bytes-seen.ensures at c.in-Err.ensures.invalid)

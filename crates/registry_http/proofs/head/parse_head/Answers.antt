@@ -1,5 +1,5 @@
-use Rattle.std.proofs.Common.{take, arith, length-take}
-use Rattle.registry_http.proofs.HeadLemmas.{overflow_none, refuses_never, refuses_full, not_yet, head_read}
+use Rattle.std.proofs.Common.{◌≤◌, Err, length, take, ap, arith, length-take}
+use Rattle.registry_http.proofs.HeadLemmas.{not_exceeded, refuses_never, refuses_full, may_become_head, not_yet, head_read}
 use Rattle.registry_http.proofs.head.parse_head.Goals as goal
 
 pub returns-then-seen-eq16384 : goal.returns-then-seen-eq16384
@@ -7,27 +7,25 @@ returns-then-seen-eq16384 c =
     let e = c.head_bytes-seen.ensures in
     refuses_full c.args.buffer.now (rw (c.in-Ok-Partial.field-0-is, e) at c.in-Ok-Partial.ensures.partial) (rw e at c.if-seen-eq16384.true)
 
-pub returns-else-seen-eq16384 : goal.returns-else-seen-eq16384
-returns-else-seen-eq16384 c =
-    let e = c.head_bytes-seen.ensures in
-    not_yet c.args.buffer.now (rw (c.in-Ok-Partial.field-0-is, e) at c.in-Ok-Partial.ensures.partial) (rw e at c.if-seen-eq16384.false)
+pub returns-then-target_is_spoiled : goal.returns-then-target_is_spoiled
+returns-then-target_is_spoiled c =
+    let never = rw c.head_bytes-seen.ensures at (c.target_is_spoiled.ensures.never c.if-target_is_spoiled.true) in
+    refuses_never c.args.buffer.now never
 
-pub returns-then-seen-eq16384-2 : goal.returns-then-seen-eq16384-2
-returns-then-seen-eq16384-2 c =
+pub returns-else-target_is_spoiled : goal.returns-else-target_is_spoiled
+returns-else-target_is_spoiled c =
     let e = c.head_bytes-seen.ensures in
-    let none = overflow_none (take 16384 c.args.buffer.now) (omega (arith, length-take 16384 c.args.buffer.now)) (rw (c.requires, e) at c.in-Err.ensures.no_room) in
-    refuses_full c.args.buffer.now none (rw e at c.if-seen-eq16384-2.true)
+    let none = rw (c.in-Ok-Partial.field-0-is, e) at c.in-Ok-Partial.ensures.partial in
+    let unfinished = rw (c.in-Ok-Partial.field-0-is, e) at c.in-Ok-Partial.ensures.unfinished in
+    let goes_on = rw e at (c.target_is_spoiled.ensures.may c.if-target_is_spoiled.false) in
+    not_yet c.args.buffer.now none (may_become_head (take 16384 c.args.buffer.now) unfinished goes_on) (rw e at c.if-seen-eq16384.false)
 
-pub returns-else-seen-eq16384-2 : goal.returns-else-seen-eq16384-2
-returns-else-seen-eq16384-2 c =
+pub returns-in-Err : goal.returns-in-Err
+returns-in-Err c =
     let e = c.head_bytes-seen.ensures in
-    let none = overflow_none (take 16384 c.args.buffer.now) (omega (arith, length-take 16384 c.args.buffer.now)) (rw (c.requires, e) at c.in-Err.ensures.no_room) in
-    not_yet c.args.buffer.now none (rw e at c.if-seen-eq16384-2.false)
-
-pub returns-in_default : goal.returns-in_default
-returns-in_default c =
-    let e = c.head_bytes-seen.ensures in
-    refuses_never c.args.buffer.now (rw e at (c.in-Err.ensures.invalid c.in_default.not-TooManyHeaders))
+    let few : length (take 16384 c.args.buffer.now) ≤ 16384 = omega (arith, length-take 16384 c.args.buffer.now) in
+    refuses_never c.args.buffer.now
+    (rw e at (c.in-Err.ensures.invalid (λ same. not_exceeded (take 16384 c.args.buffer.now) few (rw (c.requires, e) at (c.in-Err.ensures.too_many (ap Err same))))))
 
 pub returns-in-Ok-Complete : goal.returns-in-Ok-Complete
 returns-in-Ok-Complete c =

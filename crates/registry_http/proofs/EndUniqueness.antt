@@ -1,0 +1,89 @@
+-- Bytes end in one way where no further request is read.
+use Rattle.std.proofs.Common.{◌≡◌, ◌≤◌, inl, inr, [], ◌∷◌, ◌++◌, length, take, refl, sym, ap, subst, ◌∙◌, append-nil, arith}
+use Rattle.httparse.specs.Grammar.{RequestHead, print_request, ReadsRequest}
+use Rattle.httparse.proofs.GrammarLemmas.{request_unique}
+use Rattle.oci_names.specs.Text.{Text}
+use Rattle.registry_http.specs.Framing.{framing}
+use Rattle.registry_http.specs.declared.framing.Framing.{Framing}
+use Rattle.registry_http.specs.declared.framing.Framing.TheVariants as framed
+use Rattle.registry_http.specs.declared.ending.FramingRefusal.{FramingRefusal}
+use Rattle.registry_http.specs.declared.ending.End.{End}
+use Rattle.registry_http.specs.declared.ending.End.TheVariants.{Closed, Cut, Refused, ReadFailed, WriteFailed}
+use Rattle.registry_http.specs.Spelling.{BeginsWithHead, BodyIsCut, BodyIsRefused, HeadIsCut, HeadIsUnreadable, IsCut, IsRefused, Ends}
+use Rattle.registry_http.proofs.HeadLemmas.{take_whole}
+use Rattle.registry_http.proofs.RequestLemmas.{none_empty, head_readable}
+use Rattle.registry_http.proofs.ChunkEnds.{chunks_cut_refused, chunks_refused_once}
+use Rattle.registry_http.proofs.OpenHeads.{some_head}
+
+-- ---- the head
+
+head_cut_unreadable : (b : Text) → HeadIsCut b → HeadIsUnreadable b → ⊥
+head_cut_unreadable b cut (inl (inl long)) = omega (arith, cut.1, long.0)
+head_cut_unreadable b cut (inl (inr never)) =
+    let all : b ≡ take 16384 b = sym (take_whole 16384 b (omega (arith, cut.1))) in
+    let may = cut.3 in
+    never may.0 may.1 [] (subst (λ x. ReadsRequest (x ++ may.0) may.1 []) all may.2)
+head_cut_unreadable b cut (inr (h, rest, begins, many)) = cut.2 h rest begins.reads
+
+-- ---- the body
+
+body_cut_refused : (f : Framing) (b : Text) (r : FramingRefusal) → BodyIsCut f b → BodyIsRefused f b r → ⊥
+body_cut_refused (framed.Length n) b r cut bad = bad
+body_cut_refused framed.Chunked b r cut bad = chunks_cut_refused b r cut bad
+body_cut_refused (framed.Refused s) b r cut bad = cut
+
+body_refused_once : (f : Framing) (b : Text) (r s : FramingRefusal) → BodyIsRefused f b r → BodyIsRefused f b s → r ≡ s
+body_refused_once (framed.Length n) b r s bad worse = absurd bad
+body_refused_once framed.Chunked b r s bad worse = chunks_refused_once b r s bad worse
+body_refused_once (framed.Refused q) b r s bad worse = bad ∙ sym worse
+
+-- what holds of the body behind one head holds of the body behind the other
+moved : (P : Framing → Text → Type 0) (b : Text) (h k : RequestHead) (x y : Text) → BeginsWithHead b h x → BeginsWithHead b k y → P (framing h) x → P (framing k) y
+moved P b h k x y p q body =
+    let same = request_unique b h k x y p.reads q.reads in
+    subst (P (framing k)) same.1 (subst (λ (j : RequestHead). P (framing j) x) same.0 body)
+
+-- ---- the end
+
+pub cut_refused : (b : Text) (r : FramingRefusal) → IsCut b → IsRefused b r → ⊥
+cut_refused b r (inl cut) (inl bad) = head_cut_unreadable b cut bad.1
+cut_refused b r (inl cut) (inr (h, rest, begins, few, bad)) = cut.2 h rest begins.reads
+cut_refused b r (inr (h, rest, begins, few, cut)) (inl bad) = head_readable b bad.1 h rest begins few
+cut_refused b r (inr (h, rest, begins, few, cut)) (inr (k, behind, here, room, bad)) =
+    body_cut_refused (framing k) behind r (moved BodyIsCut b h k rest behind begins here cut) bad
+
+pub refused_once : (b : Text) (r s : FramingRefusal) → IsRefused b r → IsRefused b s → r ≡ s
+refused_once b r s (inl bad) (inl worse) = bad.0 ∙ sym worse.0
+refused_once b r s (inl bad) (inr (h, rest, begins, few, worse)) = absurd (head_readable b bad.1 h rest begins few)
+refused_once b r s (inr (h, rest, begins, few, bad)) (inl worse) = absurd (head_readable b worse.1 h rest begins few)
+refused_once b r s (inr (h, rest, begins, few, bad)) (inr (k, behind, here, room, worse)) =
+    body_refused_once (framing k) behind r s (moved (λ f x. BodyIsRefused f x r) b h k rest behind begins here bad) worse
+
+-- no bytes at all are neither cut nor refused
+empty_not_cut : (b : Text) → b ≡ [] → IsCut b → ⊥
+empty_not_cut b e (inl cut) = omega (arith, cut.0, ap length e)
+empty_not_cut b e (inr (h, rest, begins, few, cut)) = none_empty b e h rest begins
+
+empty_not_refused : (b : Text) (r : FramingRefusal) → b ≡ [] → IsRefused b r → ⊥
+empty_not_refused b r e (inl (same, inl (inl long))) = omega (arith, long.0, ap length e)
+empty_not_refused b r e (inl (same, inl (inr never))) =
+    let none : take 16384 b ≡ [] = ap (take 16384) e in
+    let any = some_head in
+    never any.0 any.1 [] (subst (λ x. ReadsRequest (x ++ any.0) any.1 []) (sym none) any.2)
+empty_not_refused b r e (inl (same, inr (h, rest, begins, many))) = none_empty b e h rest begins
+empty_not_refused b r e (inr (h, rest, begins, few, bad)) = none_empty b e h rest begins
+
+pub one_end : (b : Text) (e f : End) → Ends b e → Ends b f → e ≡ f
+one_end b Closed Closed x y = refl
+one_end b Closed Cut x y = absurd (empty_not_cut b x y)
+one_end b Closed (Refused r) x y = absurd (empty_not_refused b r x y)
+one_end b Cut Closed x y = absurd (empty_not_cut b y x)
+one_end b Cut Cut x y = refl
+one_end b Cut (Refused r) x y = absurd (cut_refused b r x y)
+one_end b (Refused r) Closed x y = absurd (empty_not_refused b r y x)
+one_end b (Refused r) Cut x y = absurd (cut_refused b r y x)
+one_end b (Refused r) (Refused s) x y = ap Refused (refused_once b r s x y)
+one_end b ReadFailed f x y = absurd x
+one_end b (WriteFailed n) f x y = absurd x
+one_end b e ReadFailed x y = absurd y
+one_end b e (WriteFailed n) x y = absurd y
