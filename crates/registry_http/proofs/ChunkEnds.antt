@@ -1,11 +1,11 @@
 -- Where a body in chunks ends, it ends in one way.
-use Rattle.std.proofs.Common.{◌≡◌, ℕ, ◌+◌, ◌≤◌, inl, inr, List, [], ◌∷◌, ◌++◌, length, take, All, refl, sym, ap, subst, ◌∙◌, append_assoc, arith}
+use Rattle.std.proofs.Common.{◌≡◌, ℕ, ◌+◌, ◌≤◌, inl, inr, List, [], ◌∷◌, ◌++◌, length, take, All, sym, ap, subst, ◌∙◌, append_assoc, arith}
 use Rattle.std.proofs.lemmas.List.Elements.{All-head, All-tail}
 use Rattle.httparse.specs.Grammar.{ChunkLine, print_chunk_line, chunk_size, ReadsChunkLine, ReadsSection}
 use Rattle.httparse.proofs.ChunkLemmas.{chunk_line_unique}
 use Rattle.oci_names.specs.Text.{Text}
 use Rattle.registry_http.specs.declared.ending.FramingRefusal.{FramingRefusal}
-use Rattle.registry_http.specs.Chunks.{limit, BeginsWithLine, BeginsWithSize, LineIsCut, LineIsRefused, DataIsCut, HasBadEnd, Chunk, IsChunk, IsLast, print_chunk, print_chunks, data_of, ChunkIsCut, ChunkIsRefused, BehindChunks, BehindLast, TrailerIsCut, TrailerIsRefused, ChunksAreCut, ChunksAreRefused}
+use Rattle.registry_http.specs.Chunks.{limit, BeginsWithLine, LineIsCut, LineIsRefused, DataIsCut, HasBadEnd, Chunk, IsChunk, IsLast, print_chunk, print_chunks, data_of, ChunkIsCut, ChunkIsRefused, BehindChunks, BehindLast, TrailerIsCut, TrailerIsRefused, ChunksAreCut, ChunksAreRefused}
 use Rattle.registry_http.proofs.HeadLemmas.{take_whole}
 use Rattle.registry_http.proofs.BodyUniqueness.{line_served, chunk_whole, chunk_served, last_whole, last_served, chunks_opened, data_opened, one_chunk, chunks_unique, none_behind}
 

@@ -1,29 +1,33 @@
 -- Bytes end in one way where no further request is read.
-use Rattle.std.proofs.Common.{◌≡◌, ◌≤◌, inl, inr, [], ◌∷◌, ◌++◌, length, take, refl, sym, ap, subst, ◌∙◌, append-nil, arith}
-use Rattle.httparse.specs.Grammar.{RequestHead, print_request, ReadsRequest}
+use Rattle.std.proofs.Common.{◌≡◌, ◌⊎◌, inl, inr, [], ◌++◌, length, take, refl, sym, ap, subst, ◌∙◌, arith}
+use Rattle.httparse.specs.Grammar.{RequestHead, ReadsRequest, EndsInTarget}
 use Rattle.httparse.proofs.GrammarLemmas.{request_unique}
 use Rattle.oci_names.specs.Text.{Text}
 use Rattle.registry_http.specs.Framing.{framing}
 use Rattle.registry_http.specs.declared.framing.Framing.{Framing}
 use Rattle.registry_http.specs.declared.framing.Framing.TheVariants as framed
 use Rattle.registry_http.specs.declared.ending.FramingRefusal.{FramingRefusal}
+use Rattle.registry_http.specs.declared.ending.FramingRefusal.TheVariants.{UnreadableHead}
 use Rattle.registry_http.specs.declared.ending.End.{End}
 use Rattle.registry_http.specs.declared.ending.End.TheVariants.{Closed, Cut, Refused, ReadFailed, WriteFailed}
-use Rattle.registry_http.specs.Spelling.{BeginsWithHead, BodyIsCut, BodyIsRefused, HeadIsCut, HeadIsUnreadable, IsCut, IsRefused, Ends}
+use Rattle.registry_http.specs.Spelling.{BeginsWithHead, BodyIsCut, BodyIsRefused, HeadIsCut, HeadIsUnreadable, IsCut, IsRefused, Ends, OneWaits}
 use Rattle.registry_http.proofs.HeadLemmas.{take_whole}
 use Rattle.registry_http.proofs.RequestLemmas.{none_empty, head_readable}
 use Rattle.registry_http.proofs.ChunkEnds.{chunks_cut_refused, chunks_refused_once}
-use Rattle.registry_http.proofs.OpenHeads.{some_head}
+use Rattle.registry_http.proofs.SomeHead.{some_head}
 
 -- ---- the head
 
-head_cut_unreadable : (b : Text) → HeadIsCut b → HeadIsUnreadable b → ⊥
-head_cut_unreadable b cut (inl (inl long)) = omega (arith, cut.1, long.0)
+-- the head that is waited for ends in a target
+head_cut_unreadable : (b : Text) → HeadIsCut b → HeadIsUnreadable b → EndsInTarget b
+head_cut_unreadable b cut (inl (inl long)) = absurd (omega (arith, cut.1, long.0))
 head_cut_unreadable b cut (inl (inr never)) =
     let all : b ≡ take 16384 b = sym (take_whole 16384 b (omega (arith, cut.1))) in
-    let may = cut.3 in
-    never may.0 may.1 [] (subst (λ x. ReadsRequest (x ++ may.0) may.1 []) all may.2)
-head_cut_unreadable b cut (inr (h, rest, begins, many)) = cut.2 h rest begins.reads
+    elim cut.3 [
+      | inl may ↦ absurd (never may.0 may.1 [] (subst (λ x. ReadsRequest (x ++ may.0) may.1 []) all may.2))
+      | inr ends ↦ ends
+    ]
+head_cut_unreadable b cut (inr (h, rest, begins, many)) = absurd (cut.2 h rest begins.reads)
 
 -- ---- the body
 
@@ -45,12 +49,12 @@ moved P b h k x y p q body =
 
 -- ---- the end
 
-pub cut_refused : (b : Text) (r : FramingRefusal) → IsCut b → IsRefused b r → ⊥
-cut_refused b r (inl cut) (inl bad) = head_cut_unreadable b cut bad.1
-cut_refused b r (inl cut) (inr (h, rest, begins, few, bad)) = cut.2 h rest begins.reads
-cut_refused b r (inr (h, rest, begins, few, cut)) (inl bad) = head_readable b bad.1 h rest begins few
+pub cut_refused : (b : Text) (r : FramingRefusal) → IsCut b → IsRefused b r → (r ≡ UnreadableHead) × EndsInTarget b
+cut_refused b r (inl cut) (inl bad) = (bad.0, head_cut_unreadable b cut bad.1)
+cut_refused b r (inl cut) (inr (h, rest, begins, few, bad)) = absurd (cut.2 h rest begins.reads)
+cut_refused b r (inr (h, rest, begins, few, cut)) (inl bad) = absurd (head_readable b bad.1 h rest begins few)
 cut_refused b r (inr (h, rest, begins, few, cut)) (inr (k, behind, here, room, bad)) =
-    body_cut_refused (framing k) behind r (moved BodyIsCut b h k rest behind begins here cut) bad
+    absurd (body_cut_refused (framing k) behind r (moved BodyIsCut b h k rest behind begins here cut) bad)
 
 pub refused_once : (b : Text) (r s : FramingRefusal) → IsRefused b r → IsRefused b s → r ≡ s
 refused_once b r s (inl bad) (inl worse) = bad.0 ∙ sym worse.0
@@ -73,16 +77,22 @@ empty_not_refused b r e (inl (same, inl (inr never))) =
 empty_not_refused b r e (inl (same, inr (h, rest, begins, many))) = none_empty b e h rest begins
 empty_not_refused b r e (inr (h, rest, begins, few, bad)) = none_empty b e h rest begins
 
-pub one_end : (b : Text) (e f : End) → Ends b e → Ends b f → e ≡ f
-one_end b Closed Closed x y = refl
+-- the same, or one of them waits for the end of a target
+abbrev pub OneOf : Text → End → End → Type 0
+OneOf b e f = (e ≡ f) ⊎ (EndsInTarget b × OneWaits e f)
+
+pub one_end : (b : Text) (e f : End) → Ends b e → Ends b f → OneOf b e f
+one_end b Closed Closed x y = inl refl
 one_end b Closed Cut x y = absurd (empty_not_cut b x y)
 one_end b Closed (Refused r) x y = absurd (empty_not_refused b r x y)
 one_end b Cut Closed x y = absurd (empty_not_cut b y x)
-one_end b Cut Cut x y = refl
-one_end b Cut (Refused r) x y = absurd (cut_refused b r x y)
+one_end b Cut Cut x y = inl refl
+one_end b Cut (Refused r) x y =
+    let h = cut_refused b r x y in inr (h.1, inl (refl, ap Refused h.0))
 one_end b (Refused r) Closed x y = absurd (empty_not_refused b r y x)
-one_end b (Refused r) Cut x y = absurd (cut_refused b r y x)
-one_end b (Refused r) (Refused s) x y = ap Refused (refused_once b r s x y)
+one_end b (Refused r) Cut x y =
+    let h = cut_refused b r y x in inr (h.1, inr (ap Refused h.0, refl))
+one_end b (Refused r) (Refused s) x y = inl (ap Refused (refused_once b r s x y))
 one_end b ReadFailed f x y = absurd x
 one_end b (WriteFailed n) f x y = absurd x
 one_end b e ReadFailed x y = absurd y

@@ -1,18 +1,18 @@
 -- Heads at the front of the buffer, whatever bytes follow.
-use Rattle.std.proofs.Common.{◌≡◌, ℕ, ◌*◌, ◌-◌, ◌<◌, ◌≤◌, ◌≢◌, inl, inr, zero, suc, List, [], ◌∷◌, ◌++◌, length, take, drop, map, slice_range, refl, sym, ap, subst, ◌∙◌, append_assoc, append-nil, arith, length-append, length-take, length-drop}
+use Rattle.std.proofs.Common.{◌≡◌, ℕ, ◌*◌, ◌-◌, ◌<◌, ◌≤◌, ◌≢◌, inl, inr, zero, suc, List, [], ◌∷◌, ◌++◌, length, take, drop, map, slice_range, refl, sym, ap, subst, ◌∙◌, append_assoc, arith, length-append, length-take, length-drop}
 use Rattle.std.proofs.lemmas.List.{length-map, take-append-le, take-append-drop, drop-append-le}
 use Rattle.std.proofs.lemmas.List.Elements.{All-head, All-tail}
 use Rattle.std.proofs.Math.Seq.{drop-append_seam}
 use Rattle.std.proofs.lemmas.Grind.{common_steps}
 use Rattle.std.specs.Prelude.{All}
 use Rattle.std.specs.List.{flat_map}
-use Rattle.httparse.specs.Grammar.{Field, LineEnd, crlf, lf, print_end, print_field, RequestHead, print_request, HasNoRequest, NeverHasRequest, EndsInTarget, MayBecomeRequest}
+use Rattle.httparse.specs.Grammar.{Field, LineEnd, crlf, lf, print_end, print_field, RequestHead, print_request, HasNoRequest, NeverHasRequest, MayBecomeRequest}
 use Rattle.httparse.specs.Spans.{RequestExceeds, IsRequestAt, IsRequestWithin, IsHeaderWithin, IsWithin, header_bytes, span_bytes}
 use Rattle.httparse.specs.declared.spans.Span.{Span}
 use Rattle.httparse.specs.declared.spans.HeaderSpan.{HeaderSpan}
 use Rattle.httparse.specs.declared.spans.RequestSpans.{RequestSpans}
 use Rattle.oci_names.specs.Text.{Text}
-use Rattle.registry_http.specs.Spelling.{HoldsNoHead, MayBecomeHead}
+use Rattle.registry_http.specs.Spelling.{HoldsNoHead}
 use Rattle.registry_http.specs.Reading.{HeadIsRead}
 
 pub take_whole : {A : Type 0} (n : ℕ) (xs : List A) → length xs ≤ n → take n xs ≡ xs
@@ -78,13 +78,8 @@ refuses_full b none full tail =
     let long : 16384 ≤ length b = omega (arith, length-take 16384 b) in
     inl (omega (arith, length-append b tail), rw take-append-le none)
 
--- where the bytes end in a target, that it goes on is shown apart
-pub may_become_head : (s : Text) → MayBecomeRequest s → (EndsInTarget s → MayBecomeHead s) → MayBecomeHead s
-may_become_head s (inl may) on = may
-may_become_head s (inr ends) on = on ends
-
-pub not_yet : (b : Text) → HasNoRequest (take 16384 b) → MayBecomeHead (take 16384 b) → length (take 16384 b) ≢ 16384
-    → (length b < 16384) × HasNoRequest b × MayBecomeHead b
+pub not_yet : (b : Text) → HasNoRequest (take 16384 b) → MayBecomeRequest (take 16384 b) → length (take 16384 b) ≢ 16384
+    → (length b < 16384) × HasNoRequest b × MayBecomeRequest b
 not_yet b none may short =
     let few : length b < 16384 = omega (arith, length-take 16384 b) in
     let fits : length b ≤ 16384 = omega arith in

@@ -14,8 +14,7 @@ pub mod TrailerLemmas
 pub mod BodyLemmas
 pub mod BodyUniqueness
 pub mod ChunkEnds
-pub mod TargetText
-pub mod OpenHeads
+pub mod SomeHead
 pub mod EndUniqueness
 pub mod PrivacyLemmas
 pub mod BufferLemmas

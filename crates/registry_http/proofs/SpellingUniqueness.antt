@@ -8,10 +8,10 @@ use Rattle.oci_names.specs.Text.{Text}
 use Rattle.registry_http.specs.Framing.{framing}
 use Rattle.registry_http.specs.declared.ending.End.{End}
 use Rattle.registry_http.specs.declared.ending.End.TheVariants.{Closed, Cut, Refused, ReadFailed, WriteFailed}
-use Rattle.registry_http.specs.Spelling.{Item, IsBody, BodyIsCut, BodyIsRefused, IsRequest, BeginsWithHead, closes, print_item, Ends, Then, Spells}
+use Rattle.registry_http.specs.Spelling.{Item, IsBody, BodyIsCut, BodyIsRefused, IsRequest, BeginsWithHead, closes, print_item, Ends, Then, Spells, AreOneEnd}
 use Rattle.registry_http.proofs.HeadLemmas.{request_some}
 use Rattle.registry_http.proofs.BodyUniqueness.{body_unique, body_whole, body_served}
-use Rattle.registry_http.proofs.EndUniqueness.{one_end}
+use Rattle.registry_http.proofs.EndUniqueness.{OneOf, one_end}
 
 -- ---- where a request stands, nothing has ended
 
@@ -49,13 +49,23 @@ module _ (b : Text) (j : Item) (more : Text) (r : IsRequest j) (whole : b ≡ pr
   not_ended (WriteFailed n) h = h
 
 -- the requests behind one that both begin with
-tails : (c : Bool) (items others : List Item) (e f : End) (P Q : Type 0) → (P → Q → (items ≡ others) × (e ≡ f)) → Then c items e P → Then c others f Q
-    → (items ≡ others) × (e ≡ f)
-tails true items others e f P Q later x y = (x.0 ∙ sym y.0, x.1 ∙ sym y.1)
-tails false items others e f P Q later x y = later x y
+tails : (c : Bool) (items others : List Item) (e f : End) (P Q S : Type 0) → (e ≡ f → S) → (P → Q → (items ≡ others) × S) → Then c items e P → Then c others f Q
+    → (items ≡ others) × S
+tails true items others e f P Q S same later x y = (x.0 ∙ sym y.0, same (x.1 ∙ sym y.1))
+tails false items others e f P Q S same later x y = later x y
 
-pub one_spelling : (b : Text) (items others : List Item) (e f : End) → Spells b items e → Spells b others f → (items ≡ others) × (e ≡ f)
-one_spelling b [] [] e f s z = (refl, one_end b e f s z)
+-- what is said of the ends behind other bytes
+behind_others : (b front rest : Text) (e f : End) → b ≡ front ++ rest → AreOneEnd rest e f → AreOneEnd b e f
+behind_others b front rest e f whole (inl same) = inl same
+behind_others b front rest e f whole (inr (more, last, is, ends, waits)) =
+    inr (front ++ more, last, whole ∙ ap (λ x. front ++ x) is ∙ sym (append_assoc front more last), ends, waits)
+
+at_once : (b : Text) (e f : End) → OneOf b e f → AreOneEnd b e f
+at_once b e f (inl same) = inl same
+at_once b e f (inr (ends, waits)) = inr ([], b, refl, ends, waits)
+
+pub one_spelling : (b : Text) (items others : List Item) (e f : End) → Spells b items e → Spells b others f → (items ≡ others) × AreOneEnd b e f
+one_spelling b [] [] e f s z = (refl, at_once b e f (one_end b e f s z))
 one_spelling b [] (j ∷ js) e f s z = absurd (not_ended b j z.0 z.1 z.2 e s)
 one_spelling b (i ∷ items) [] e f s z = absurd (not_ended b i s.0 s.1 s.2 f z)
 one_spelling b (i ∷ items) (j ∷ js) e f s z =
@@ -63,7 +73,7 @@ one_spelling b (i ∷ items) (j ∷ js) e f s z =
     let bodies = body_unique (framing j.head) i.coded i.body j.coded j.body s.0 z.0
     (subst (λ h. IsBody (framing h) i.coded i.body) heads.0 s.1.body) z.1.body heads.1 in
     let one : i ≡ j = (λ k. record { head = heads.0 k; coded = bodies.0 k; body = bodies.1 k }) in
-    let behind : (items ≡ js) × (e ≡ f) =
-    tails (closes j) items js e f (Spells z.0 items e) (Spells z.0 js f) (λ x y. one_spelling z.0 items js e f x y)
+    let behind : (items ≡ js) × AreOneEnd z.0 e f =
+    tails (closes j) items js e f (Spells z.0 items e) (Spells z.0 js f) (AreOneEnd z.0 e f) (λ same. inl same) (λ x y. one_spelling z.0 items js e f x y)
     (subst (λ c. Then c items e (Spells z.0 items e)) (ap closes one) (subst (λ x. Then (closes i) items e (Spells x items e)) bodies.2 s.3)) z.3 in
-    ((λ k. one k ∷ behind.0 k), behind.1)
+    ((λ k. one k ∷ behind.0 k), behind_others b (print_item j) z.0 e f z.2 behind.1)

@@ -1,14 +1,14 @@
 -- What the buffer takes from the reader, and what it then begins with.
 use Rattle.std.specs.Prelude.{◌≡◌, ℕ, ◌<◌, ◌≤◌, ◌⊎◌, List, [], ◌++◌, length, take, drop, map, All, Option, Result, MatchResult}
 use Rattle.std.specs.Io.KnownBytes.{Consumes, IsAtEnd}
-use Rattle.httparse.specs.Grammar.{RequestHead, print_request, IsRequestHead, HasNoRequest}
+use Rattle.httparse.specs.Grammar.{RequestHead, print_request, IsRequestHead, HasNoRequest, MayBecomeRequest}
 use Rattle.httparse.specs.Spans.{span_bytes, IsWithin, IsHeaderWithin, header_bytes, name_and_value}
 use Rattle.httparse.specs.declared.spans.HeaderSpan.{HeaderSpan}
 use Rattle.httparse.specs.declared.spans.RequestSpans.{RequestSpans}
 use Rattle.oci_names.specs.Text.{Text}
 use Rattle.registry_http.specs.Fields.{fields_of, closes_by}
 use Rattle.registry_http.specs.Framing.{framing}
-use Rattle.registry_http.specs.Spelling.{Item, IsRequest, closes, HoldsNoHead, MayBecomeHead, HeadIsCut, HeadIsUnreadable}
+use Rattle.registry_http.specs.Spelling.{Item, IsRequest, closes, HoldsNoHead, HeadIsCut, HeadIsUnreadable}
 use Rattle.registry_http.specs.Expecting.{awaits_by}
 use Rattle.registry_http.specs.declared.ending.FramingRefusal.TheVariants.{UnreadableHead, NoBufferMemory}
 use Rattle.registry_http.specs.declared.ending.Stop.{Stop}
@@ -50,7 +50,7 @@ pub record HeadIsRead (buffer : Text) (headers : List HeaderSpan) (spans : Reque
 abbrev pub Parses : Parsed → Text → List HeaderSpan → Type 0
 Parses (Whole spans) buffer headers = (h : RequestHead) × HeadIsRead buffer headers spans h
 Parses NotYet buffer headers =
-    (length buffer < 16384) × HasNoRequest buffer × MayBecomeHead buffer
+    (length buffer < 16384) × HasNoRequest buffer × MayBecomeRequest buffer
 Parses Never buffer headers = (tail : Text) → HoldsNoHead (buffer ++ tail)
 
 -- ---- reading

@@ -1,7 +1,7 @@
 -- What the bytes on a connection spell: requests, one after the other, and an end (RFC 9112, sections 2, 3
 -- and 6; the limits are the profile's).
-use Rattle.std.specs.Prelude.{◌≡◌, ◌<◌, ◌≤◌, ◌⊎◌, Bool, true, false, List, [], ◌∷◌, ◌++◌, length, take, IsUtf8}
-use Rattle.httparse.specs.Grammar.{RequestHead, print_request, IsRequestHead, ReadsRequest, HasNoRequest, NeverHasRequest, AllPass, is_uri_byte}
+use Rattle.std.specs.Prelude.{◌≡◌, ◌<◌, ◌≤◌, ◌⊎◌, Bool, true, false, List, [], ◌∷◌, ◌++◌, length, take}
+use Rattle.httparse.specs.Grammar.{RequestHead, print_request, IsRequestHead, ReadsRequest, HasNoRequest, NeverHasRequest, EndsInTarget, MayBecomeRequest}
 use Rattle.oci_names.specs.Text.{Text}
 use Rattle.registry_http.specs.Fields.{fields_of, closes_by}
 use Rattle.registry_http.specs.Framing.{framing}
@@ -69,21 +69,10 @@ abbrev pub HeadIsUnreadable : Text → Type 0
 HeadIsUnreadable b =
     HoldsNoHead b ⊎ ((h : RequestHead) × (rest : Text) × BeginsWithHead b h rest × (64 < length h.fields))
 
--- bytes of a target can follow that make these text
-abbrev pub MayBecomeText : Text → Type 0
-MayBecomeText b = (more : Text) × AllPass is_uri_byte more × IsUtf8 (b ++ more)
-
--- no bytes can
-abbrev pub NeverBecomesText : Text → Type 0
-NeverBecomesText b = (more : Text) → ¬ (IsUtf8 (b ++ more))
-
--- bytes can follow that make b a head
-abbrev pub MayBecomeHead : Text → Type 0
-MayBecomeHead b = (more : Text) × (h : RequestHead) × ReadsRequest (b ++ more) h []
-
--- no whole head stands there, and more bytes can make it one
+-- no whole head stands there, and more bytes can make it one; or it ends in a target, of which only its end
+-- tells whether it is text
 abbrev pub HeadIsCut : Text → Type 0
-HeadIsCut b = (0 < length b) × (length b < 16384) × HasNoRequest b × MayBecomeHead b
+HeadIsCut b = (0 < length b) × (length b < 16384) × HasNoRequest b × MayBecomeRequest b
 
 -- the input ends inside a request that is not refused
 abbrev pub IsCut : Text → Type 0
@@ -127,3 +116,16 @@ Front b [] rest = b ≡ rest
 Front b (i ∷ items) rest =
     (behind : Text) × IsRequest i × (b ≡ print_item i ++ behind) × (closes i ≡ false)
     × Front behind items rest
+
+-- ---- the end is one
+
+-- one of them waits for the end of a head, and the other refuses it
+abbrev pub OneWaits : End → End → Type 0
+OneWaits e f =
+    ((e ≡ Cut) × (f ≡ Refused UnreadableHead)) ⊎ ((e ≡ Refused UnreadableHead) × (f ≡ Cut))
+
+-- the ends are the same; or the bytes end in the target of a head, which may be no text, and one of them waits
+-- for its end
+abbrev pub AreOneEnd : Text → End → End → Type 0
+AreOneEnd b e f =
+    (e ≡ f) ⊎ ((front : Text) × (rest : Text) × (b ≡ front ++ rest) × EndsInTarget rest × OneWaits e f)

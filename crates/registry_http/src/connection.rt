@@ -3,7 +3,7 @@ ghost use Rattle.oci_names.specs.Text.{Text};
 ghost use Rattle.registry_model.specs.Answer.{Answer};
 ghost use Rattle.registry_model.specs.Doing.{Does};
 ghost use Rattle.registry_http.specs.Asking.{ask_in};
-ghost use Rattle.registry_http.specs.Spelling.{Item, Spells};
+ghost use Rattle.registry_http.specs.Spelling.{Item, Spells, AreOneEnd};
 ghost use Rattle.registry_http.specs.Serving.{reply_for, Serves};
 ghost use Rattle.registry_http.specs.Sending.{SendsReply};
 ghost use Rattle.registry_http.specs.Intaking.{taken};
@@ -130,10 +130,11 @@ pub fn serve_connection<R: Read, W: Write, K: Keeper>(
     }
 }
 
-/// Bytes spell one list of requests, and one end.
+/// Bytes spell one list of requests, and one end; but where they end in the target of a head, which may
+/// be no text, an end that waits for the target's end is as good as one that refuses it.
 pub fn spelling_is_unique()
     ensures items { (b : Text) (items others : List Item) (e f : End)
         → Spells b items e → Spells b others f → items ≡ others }
     ensures end { (b : Text) (items others : List Item) (e f : End)
-        → Spells b items e → Spells b others f → e ≡ f }
+        → Spells b items e → Spells b others f → AreOneEnd b e f }
 {}

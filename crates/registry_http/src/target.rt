@@ -49,7 +49,7 @@ pub fn is_head(method: &[u8]) -> bool
 }
 
 /// The first place of a byte.
-pub fn find_byte(bytes: &[u8], byte: u8) -> Option<usize>
+fn find_byte(bytes: &[u8], byte: u8) -> Option<usize>
     ensures { result ≡ position (λ b. b == byte) bytes.now }
 {
     bytes.iter().position(|other| *other == byte)

@@ -1,5 +1,5 @@
 use Rattle.std.proofs.Common.{◌≤◌, Err, length, take, ap, arith, length-take}
-use Rattle.registry_http.proofs.HeadLemmas.{not_exceeded, refuses_never, refuses_full, may_become_head, not_yet, head_read}
+use Rattle.registry_http.proofs.HeadLemmas.{not_exceeded, refuses_never, refuses_full, not_yet, head_read}
 use Rattle.registry_http.proofs.head.parse_head.Goals as goal
 
 pub returns-then-seen-eq16384 : goal.returns-then-seen-eq16384
@@ -7,18 +7,12 @@ returns-then-seen-eq16384 c =
     let e = c.head_bytes-seen.ensures in
     refuses_full c.args.buffer.now (rw (c.in-Ok-Partial.field-0-is, e) at c.in-Ok-Partial.ensures.partial) (rw e at c.if-seen-eq16384.true)
 
-pub returns-then-target_is_spoiled : goal.returns-then-target_is_spoiled
-returns-then-target_is_spoiled c =
-    let never = rw c.head_bytes-seen.ensures at (c.target_is_spoiled.ensures.never c.if-target_is_spoiled.true) in
-    refuses_never c.args.buffer.now never
-
-pub returns-else-target_is_spoiled : goal.returns-else-target_is_spoiled
-returns-else-target_is_spoiled c =
+pub returns-else-seen-eq16384 : goal.returns-else-seen-eq16384
+returns-else-seen-eq16384 c =
     let e = c.head_bytes-seen.ensures in
     let none = rw (c.in-Ok-Partial.field-0-is, e) at c.in-Ok-Partial.ensures.partial in
     let unfinished = rw (c.in-Ok-Partial.field-0-is, e) at c.in-Ok-Partial.ensures.unfinished in
-    let goes_on = rw e at (c.target_is_spoiled.ensures.may c.if-target_is_spoiled.false) in
-    not_yet c.args.buffer.now none (may_become_head (take 16384 c.args.buffer.now) unfinished goes_on) (rw e at c.if-seen-eq16384.false)
+    not_yet c.args.buffer.now none unfinished (rw e at c.if-seen-eq16384.false)
 
 pub returns-in-Err : goal.returns-in-Err
 returns-in-Err c =
