@@ -1,2 +1,4 @@
+pub mod GivenLemmas
 pub mod SettingLemmas
+pub mod SplittingLemmas
 pub mod TableLemmas

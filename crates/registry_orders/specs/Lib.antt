@@ -1,5 +1,7 @@
 pub mod Failures
 pub mod Levels
+pub mod Options
+pub mod Splitting
 pub mod Setting
 pub mod Reading
 pub mod Table
