@@ -1,3 +1,4 @@
+pub mod CommandLine
 pub mod Failures
 pub mod Levels
 pub mod Options
@@ -6,4 +7,5 @@ pub mod Setting
 pub mod Reading
 pub mod Table
 pub mod Orders
+pub mod Tasks
 pub mod Carrying

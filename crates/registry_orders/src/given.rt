@@ -1,8 +1,8 @@
 //! What a subcommand was given, as `clap` found it.
 ghost use Rattle.std.specs.Prelude.{◌≡◌, ◌↔◌, IfOk, IfErr, Some, codes, map, option_map, true};
-ghost use Rattle.clap.specs.Words.{found_of, rows_of, first_of, one_of};
+ghost use Rattle.clap.specs.Words.{found_of, rows_of, all_of, first_of, one_of};
 ghost use Rattle.registry_orders.specs.Failures.{IsOfWords};
-ghost use Rattle.registry_orders.specs.Options.{IsNumberOf, texts_of};
+ghost use Rattle.registry_orders.specs.Options.{IsNumberOf};
 
 use crate::failure::Failure;
 use clap::ArgMatches;
@@ -15,10 +15,11 @@ pub fn text_given<'a>(matches: &ArgMatches<'a>, option: &str) -> Option<&'a str>
 }
 
 /// The texts of an option that may be given more than once.
-pub fn texts_given<'a>(matches: &'a ArgMatches<'a>, option: &str) -> &'a [&'a str]
-    ensures { map (λ text. text.now) result.now ≡ texts_of option.now (rows_of (found_of matches.now)) }
+pub fn texts_given<'b, 'a>(matches: &'b ArgMatches<'a>, option: &str) -> Option<&'b [&'a str]>
+    ensures { option_map (λ texts. map (λ text. text.now) texts.now) result
+        ≡ all_of option.now (rows_of (found_of matches.now)) }
 {
-    matches.get_strs(option).unwrap_or(&[])
+    matches.get_strs(option)
 }
 
 /// The number of an option.
