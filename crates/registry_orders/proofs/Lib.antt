@@ -1,2 +1,6 @@
+pub mod CommandLemmas
+pub mod GivenLemmas
+pub mod OrderStatuses
 pub mod SettingLemmas
+pub mod SplittingLemmas
 pub mod TableLemmas

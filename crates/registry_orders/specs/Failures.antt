@@ -60,6 +60,17 @@ IsOfWords InvalidToken = ⊤
 IsOfWords OutOfMemory = ⊤
 IsOfWords _ = ⊥
 
+-- why an order that was read is not carried out: it is refused, or memory is wanting, or the storage or writing
+-- fails
+abbrev pub IsOfOrder : Failure → Type 0
+IsOfOrder NoRepo = ⊤
+IsOfOrder NoGrant = ⊤
+IsOfOrder RepoThere = ⊤
+IsOfOrder OutOfMemory = ⊤
+IsOfOrder StorageFailure = ⊤
+IsOfOrder ConnectionFailure = ⊤
+IsOfOrder _ = ⊥
+
 -- why a registry over a database is not opened: want of memory, the storage, another schema, or no registry
 -- at all
 abbrev pub IsOfOpening : Failure → Type 0

@@ -1,7 +1,11 @@
+pub mod CommandLine
 pub mod Failures
 pub mod Levels
+pub mod Options
+pub mod Splitting
 pub mod Setting
 pub mod Reading
 pub mod Table
 pub mod Orders
+pub mod Tasks
 pub mod Carrying

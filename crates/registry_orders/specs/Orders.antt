@@ -1,5 +1,6 @@
 -- What the administrator orders of a registry over a database (profile).
-use Rattle.std.specs.Prelude.{◌≡◌, Option, Some, Result, Ok, Err, codes}
+use Rattle.std.specs.Prelude.{◌≡◌, List, Some, Result, Ok, Err, codes}
+use Rattle.clap.specs.Words.{Row, first_of, one_of}
 use Rattle.oci_names.specs.Text.{Text}
 use Rattle.registry_model.specs.declared.admin.AdminCommand.{AdminCommand}
 use Rattle.registry_model.specs.declared.admin.AdminCommand.TheVariants as command
@@ -12,6 +13,7 @@ use Rattle.registry_orders.specs.declared.orders.Change.TheVariants.{AddRepo, Se
 use Rattle.registry_orders.specs.declared.orders.Order.{Order}
 use Rattle.registry_orders.specs.declared.orders.Order.TheVariants as order
 use Rattle.registry_orders.specs.Failures.{failure_of}
+use Rattle.registry_orders.specs.Options.{IsNumberOf, IsLevelOf}
 
 -- the command says the same as the change
 abbrev pub IsCommandOf : Change → AdminCommand → Type 0
@@ -24,21 +26,30 @@ IsCommandOf (Revoke token name) (command.Revoke t n) = (t.now ≡ token) × (n.n
 IsCommandOf Clear command.Clear = Unit {0}
 IsCommandOf _ _ = ⊥
 
--- the word and the values of the options (`--name`, `--token`) that a change is read from
-abbrev pub IsChangeIn : Text → (Text → Option Text) → Change → Type 0
-IsChangeIn word value (AddRepo name quota) = (word ≡ codes "repo") × (value (codes "name") ≡ Some name)
-IsChangeIn word value (SetQuota name quota) = (word ≡ codes "quota") × (value (codes "name") ≡ Some name)
-IsChangeIn word value (DropRepo name) = (word ≡ codes "drop") × (value (codes "name") ≡ Some name)
-IsChangeIn word value (DropSessions name) = (word ≡ codes "sessions") × (value (codes "name") ≡ Some name)
-IsChangeIn word value (Grant token name level) =
-    (word ≡ codes "grant") × (value (codes "name") ≡ Some name) × (value (codes "token") ≡ Some token)
-IsChangeIn word value (Revoke token name) =
-    (word ≡ codes "revoke") × (value (codes "name") ≡ Some name) × (value (codes "token") ≡ Some token)
-IsChangeIn word value Clear = word ≡ codes "clear"
+-- the option was given this text
+abbrev pub HasValue : List Row → Text → Text → Type 0
+HasValue options name text = first_of name options ≡ Some text
 
-abbrev pub IsOrderIn : Text → (Text → Option Text) → Order → Type 0
-IsOrderIn word value (order.Change change) = IsChangeIn word value change
-IsOrderIn word value order.Usage = word ≡ codes "usage"
+-- the word of the subcommand, and the options that it was given, say what the change is
+abbrev pub IsChangeIn : Text → List Row → Change → Type 0
+IsChangeIn word options (AddRepo name quota) =
+    (word ≡ codes "repo") × HasValue options (codes "name") name
+    × IsNumberOf (one_of (codes "quota") options) quota.bytes
+IsChangeIn word options (SetQuota name quota) =
+    (word ≡ codes "quota") × HasValue options (codes "name") name
+    × IsNumberOf (one_of (codes "quota") options) quota.bytes
+IsChangeIn word options (DropRepo name) = (word ≡ codes "drop") × HasValue options (codes "name") name
+IsChangeIn word options (DropSessions name) = (word ≡ codes "sessions") × HasValue options (codes "name") name
+IsChangeIn word options (Grant token name level) =
+    (word ≡ codes "grant") × HasValue options (codes "name") name × HasValue options (codes "token") token
+    × IsLevelOf (one_of (codes "level") options) level
+IsChangeIn word options (Revoke token name) =
+    (word ≡ codes "revoke") × HasValue options (codes "name") name × HasValue options (codes "token") token
+IsChangeIn word options Clear = word ≡ codes "clear"
+
+abbrev pub IsOrderIn : Text → List Row → Order → Type 0
+IsOrderIn word options (order.Change change) = IsChangeIn word options change
+IsOrderIn word options order.Usage = word ≡ codes "usage"
 
 -- the outcome of a command, as the program tells it
 abbrev pub told : Result (Unit {0}) AdminFault → Result (Unit {0}) Failure

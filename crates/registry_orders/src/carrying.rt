@@ -1,4 +1,5 @@
-ghost use Rattle.std.specs.Prelude.{◌≡◌, ℕ, ◌<◌, ◌≤◌};
+ghost use Rattle.std.specs.Prelude.{◌≡◌, ◌≢◌, ℕ, ◌<◌, ◌≤◌, IfErr};
+ghost use Rattle.registry_orders.specs.Failures.{IsOfOrder};
 ghost use Rattle.registry_orders.specs.Orders.{Obeys};
 ghost use Rattle.registry_orders.specs.Carrying.{output, Shows, CarriesOrder, IsCarriedOut};
 ghost use Rattle.registry_orders.specs.Carrying.{IsSilent, IsSilentUnlessBroken};
@@ -21,10 +22,12 @@ pub struct Ended<K: Keeper> {
 }
 
 /// Makes a change.
+#[tactic(auto, using(crate::proofs::OrderStatuses::of_fault))]
 fn make_change<K: Keeper>(service: &mut Service<K>, change: &Change) -> Result<(), Failure>
     ensures honest { K.is_honest service.new → K.is_honest service.old }
     ensures obeys { K.is_honest service.new
         → Obeys (K.state service.old) change.now result (K.state service.new) }
+    ensures told { IfErr result IsOfOrder }
 {
     match service.admin(&change.command()) {
         Ok(()) => Ok(()),
@@ -43,6 +46,7 @@ fn show_usage<K: Keeper, W: Write>(
         → Shows (K.state keeper.old) result
         (output (W.contents out.old) (W.contents out.new)) (K.state keeper.new) }
     ensures silent { IsSilentUnlessBroken result (output (W.contents out.old) (W.contents out.new)) }
+    ensures told { IfErr result IsOfOrder }
 {
     match keeper.usages(alloc) {
         Ok(usages) => write_table(out, usages.as_slice()),
@@ -64,6 +68,7 @@ fn carry<K: Keeper, W: Write>(alloc: Global, keeper: K, order: &Order, out: &mut
         → CarriesOrder (K.state keeper) order.now result.result
         (output (W.contents out.old) (W.contents out.new)) (K.state result.keeper) }
     ensures silent { IsSilentUnlessBroken result.result (output (W.contents out.old) (W.contents out.new)) }
+    ensures told { IfErr result.result IsOfOrder }
 {
     match order {
         Order::Change(change) => {
@@ -86,6 +91,7 @@ fn carry<K: Keeper, W: Write>(alloc: Global, keeper: K, order: &Order, out: &mut
 /// where the order is refused; 3 where memory is wanting or the storage fails; 4 where writing fails.
 /// An order that is refused changes nothing, nor does one for which memory is wanting. Nothing is
 /// written to standard output but the table of `Order::Usage`.
+#[tactic(auto, using(crate::proofs::OrderStatuses::order_status))]
 pub fn carry_out<K: Keeper, W: Write, E: Write>(
     alloc: Global,
     keeper: K,
@@ -100,6 +106,7 @@ pub fn carry_out<K: Keeper, W: Write, E: Write>(
     ensures silent { 0 < result.status → result.status < 4
         → IsSilent (output (W.contents out.old) (W.contents out.new)) }
     ensures status { result.status ≤ 4 }
+    ensures read { result.status ≢ 2 }
 {
     let carried = carry(alloc, keeper, order, out);
     let status = match carried.result {

@@ -7,6 +7,7 @@
 
 pub mod carrying;
 pub mod failure;
+pub mod given;
 pub mod line;
 pub mod options;
 pub mod orders;

@@ -1,8 +1,13 @@
-ghost use Rattle.std.specs.Prelude.{IfErr};
+ghost use Rattle.std.specs.Prelude.{◌≡◌, ◌∷◌, [], true, IfErr, IfOk, codes, map};
+ghost use Rattle.clap.specs.Words.{App, Shape, found_of, rows_of};
+ghost use Rattle.registry_orders.specs.CommandLine as spec;
+ghost use Rattle.registry_orders.specs.CommandLine.{HasRule, IsApp, IsSub};
 ghost use Rattle.registry_orders.specs.Failures.{IsOfWords};
 ghost use Rattle.registry_orders.specs.Reading.{IsToldOfWords};
+ghost use Rattle.registry_orders.specs.Tasks.{IsTask, IsTaskIn};
 
 use crate::failure::Failure;
+use crate::given::{is_given, number_given, text_given, texts_given};
 use crate::options::Setup;
 use crate::orders::{Order, read_order};
 use clap::builder::ValueParser;
@@ -44,7 +49,9 @@ pub enum Told {
 }
 
 /// An option with one value.
-fn option<'a>(alloc: Global, word: &'a str, value: &'a str, help: &'a str) -> Arg<'a> {
+fn option<'a>(alloc: Global, word: &'a str, value: &'a str, help: &'a str) -> Arg<'a>
+    ensures { HasRule (spec.option word.entry.now) result }
+{
     Arg::new(alloc, word)
         .long(word)
         .value_name(value)
@@ -52,50 +59,68 @@ fn option<'a>(alloc: Global, word: &'a str, value: &'a str, help: &'a str) -> Ar
         .help(help)
 }
 
-fn database<'a>(alloc: Global) -> Arg<'a> {
+fn database<'a>(alloc: Global) -> Arg<'a>
+    ensures { HasRule spec.db result }
+{
     option(alloc, "db", "PATH", "The database file")
 }
 
-fn name<'a>(alloc: Global) -> Arg<'a> {
+fn name<'a>(alloc: Global) -> Arg<'a>
+    ensures { HasRule spec.name result }
+{
     option(alloc, "name", "NAME", "The repository").required(true)
 }
 
-fn token<'a>(alloc: Global) -> Arg<'a> {
+fn token<'a>(alloc: Global) -> Arg<'a>
+    ensures { HasRule spec.token result }
+{
     let help = "The token; one that begins with - is written --token=-x";
     option(alloc, "token", "TOKEN", help).required(true)
 }
 
-fn quota<'a>(alloc: Global) -> Arg<'a> {
+fn quota<'a>(alloc: Global) -> Arg<'a>
+    ensures { HasRule spec.quota result }
+{
     let help = "The most bytes that the repository may use";
     option(alloc, "quota", "BYTES", help)
         .required(true)
         .value_parser(ValueParser::unsigned(0, LARGEST_QUOTA))
 }
 
-fn level<'a>(alloc: Global) -> Arg<'a> {
+fn level<'a>(alloc: Global) -> Arg<'a>
+    ensures { HasRule spec.level result }
+{
     option(alloc, "level", "LEVEL", "1 pull, 2 push, 3 delete")
         .required(true)
         .value_parser(ValueParser::unsigned(1, 3))
 }
 
-fn memory<'a>(alloc: Global) -> Arg<'a> {
+fn memory<'a>(alloc: Global) -> Arg<'a>
+    ensures { HasRule (spec.flag (codes "memory")) result }
+{
     Arg::new(alloc, "memory")
         .long("memory")
         .action(ArgAction::SetTrue)
         .help("Keep everything in memory")
 }
 
-fn repos<'a>(alloc: Global) -> Arg<'a> {
+fn repos<'a>(alloc: Global) -> Arg<'a>
+    ensures { HasRule (spec.repeated (codes "repo")) result }
+{
     let help = "Make a repository with a quota in bytes";
     option(alloc, "repo", "NAME=QUOTA", help).action(ArgAction::Append)
 }
 
-fn grants<'a>(alloc: Global) -> Arg<'a> {
+fn grants<'a>(alloc: Global) -> Arg<'a>
+    ensures { HasRule (spec.repeated (codes "grant")) result }
+{
     let help = "Give a token a level on a repository: 1 pull, 2 push, 3 delete";
     option(alloc, "grant", "TOKEN=NAME=LEVEL", help).action(ArgAction::Append)
 }
 
-fn stdio<'a>(alloc: Global) -> Result<Command<'a>, AllocError> {
+fn stdio<'a>(alloc: Global) -> Result<Command<'a>, AllocError>
+    ensures { IfOk result (IsSub spec.stdio) }
+{
     Command::new(alloc, "stdio")
         .about("Serve standard input as one connection")
         .arg(database(alloc))?
@@ -104,17 +129,23 @@ fn stdio<'a>(alloc: Global) -> Result<Command<'a>, AllocError> {
         .arg(grants(alloc))
 }
 
-fn address<'a>(alloc: Global) -> Arg<'a> {
+fn address<'a>(alloc: Global) -> Arg<'a>
+    ensures { HasRule spec.listen result }
+{
     option(alloc, "listen", "ADDR", "The address and port to listen on").required(true)
 }
 
-fn connections<'a>(alloc: Global) -> Arg<'a> {
+fn connections<'a>(alloc: Global) -> Arg<'a>
+    ensures { HasRule spec.connections result }
+{
     option(alloc, "connections", "N", "End after so many connections")
         .value_parser(ValueParser::unsigned(0, MOST_CONNECTIONS))
         .default_value("9223372036854775807")
 }
 
-fn serve<'a>(alloc: Global) -> Result<Command<'a>, AllocError> {
+fn serve<'a>(alloc: Global) -> Result<Command<'a>, AllocError>
+    ensures { IfOk result (IsSub spec.serve) }
+{
     Command::new(alloc, "serve")
         .about("Serve connections, one after the other")
         .arg(database(alloc).required(true))?
@@ -127,30 +158,40 @@ fn over_database<'a>(
     alloc: Global,
     word: &'a str,
     about: &'a str,
-) -> Result<Command<'a>, AllocError> {
+) -> Result<Command<'a>, AllocError>
+    ensures { IfOk result (IsSub (spec.over_database word.entry.now)) }
+{
     Command::new(alloc, word)
         .about(about)
         .arg(database(alloc).required(true))
 }
 
 /// A subcommand over a repository of a database.
-fn over_repo<'a>(alloc: Global, word: &'a str, about: &'a str) -> Result<Command<'a>, AllocError> {
+fn over_repo<'a>(alloc: Global, word: &'a str, about: &'a str) -> Result<Command<'a>, AllocError>
+    ensures { IfOk result (IsSub (spec.over_repo word.entry.now)) }
+{
     over_database(alloc, word, about)?.arg(name(alloc))
 }
 
 /// One that sets the repository's quota.
-fn over_quota<'a>(alloc: Global, word: &'a str, about: &'a str) -> Result<Command<'a>, AllocError> {
+fn over_quota<'a>(alloc: Global, word: &'a str, about: &'a str) -> Result<Command<'a>, AllocError>
+    ensures { IfOk result (IsSub (spec.over_quota word.entry.now)) }
+{
     over_repo(alloc, word, about)?.arg(quota(alloc))
 }
 
 /// A subcommand over a token and a repository.
-fn over_token<'a>(alloc: Global, word: &'a str, about: &'a str) -> Result<Command<'a>, AllocError> {
+fn over_token<'a>(alloc: Global, word: &'a str, about: &'a str) -> Result<Command<'a>, AllocError>
+    ensures { IfOk result (IsSub (spec.over_token word.entry.now)) }
+{
     over_database(alloc, word, about)?
         .arg(token(alloc))?
         .arg(name(alloc))
 }
 
-fn grant<'a>(alloc: Global) -> Result<Command<'a>, AllocError> {
+fn grant<'a>(alloc: Global) -> Result<Command<'a>, AllocError>
+    ensures { IfOk result (IsSub spec.grant) }
+{
     over_token(alloc, "grant", "Give a token a level on a repository")?.arg(level(alloc))
 }
 
@@ -158,11 +199,17 @@ fn grant<'a>(alloc: Global) -> Result<Command<'a>, AllocError> {
 fn with<'a>(
     command: Command<'a>,
     made: Result<Command<'a>, AllocError>,
-) -> Result<Command<'a>, AllocError> {
+) -> Result<Command<'a>, AllocError>
+    ensures { (app : App) (sub : Shape) → IsApp app command.entry → IfOk made.entry (IsSub sub)
+        → sub.is_plain ≡ true → IfOk result (IsApp (spec.with_subcommands (sub ∷ []) app)) }
+{
     command.subcommand(made?)
 }
 
-fn with_repo_commands<'a>(alloc: Global, command: Command<'a>) -> Result<Command<'a>, AllocError> {
+fn with_repo_commands<'a>(alloc: Global, command: Command<'a>) -> Result<Command<'a>, AllocError>
+    ensures { IsApp spec.serving command.entry
+        → IfOk result (IsApp (spec.with_subcommands spec.repo_commands spec.serving)) }
+{
     let command = with(command, over_quota(alloc, "repo", "Make a repository"))?;
     let command = with(
         command,
@@ -174,7 +221,10 @@ fn with_repo_commands<'a>(alloc: Global, command: Command<'a>) -> Result<Command
     with(command, over_repo(alloc, "sessions", ending))
 }
 
-fn with_other_commands<'a>(alloc: Global, command: Command<'a>) -> Result<Command<'a>, AllocError> {
+fn with_other_commands<'a>(alloc: Global, command: Command<'a>) -> Result<Command<'a>, AllocError>
+    ensures { IsApp (spec.with_subcommands spec.repo_commands spec.serving) command.entry
+        → IfOk result (IsApp spec.registry) }
+{
     let command = with(command, grant(alloc))?;
     let revoking = "Take a token's level on a repository away";
     let command = with(command, over_token(alloc, "revoke", revoking))?;
@@ -187,7 +237,9 @@ fn with_other_commands<'a>(alloc: Global, command: Command<'a>) -> Result<Comman
 }
 
 /// The command line.
-fn command<'a>(alloc: Global) -> Result<Command<'a>, AllocError> {
+fn command<'a>(alloc: Global) -> Result<Command<'a>, AllocError>
+    ensures { IfOk result (IsApp spec.registry) }
+{
     let command = Command::new(alloc, "registry")
         .about("An OCI artifact registry")
         .version("0.1.0")
@@ -200,12 +252,13 @@ fn command<'a>(alloc: Global) -> Result<Command<'a>, AllocError> {
 
 /// What `registry stdio` is to serve: a database, or a registry in memory, which alone is set up here.
 fn stdio_task<'a>(alloc: Global, matches: &ArgMatches<'a>) -> Result<Task<'a>, Failure>
-    ensures { IfErr result IsOfWords }
+    ensures read { IfOk result (IsTaskIn (codes "stdio") (rows_of (found_of matches.now))) }
+    ensures refused { IfErr result IsOfWords }
 {
-    let repos = matches.get_strs("repo").unwrap_or(&[]);
-    let grants = matches.get_strs("grant").unwrap_or(&[]);
-    let memory = matches.get_flag("memory");
-    match matches.get_str("db") {
+    let repos = texts_given(matches, "repo").unwrap_or(&[]);
+    let grants = texts_given(matches, "grant").unwrap_or(&[]);
+    let memory = is_given(matches, "memory");
+    match text_given(matches, "db") {
         Some(path) if !memory && repos.is_empty() && grants.is_empty() => Ok(Task::Stored { path }),
         None if memory => {
             let setup = Setup::read(alloc, repos, grants)?;
@@ -216,13 +269,12 @@ fn stdio_task<'a>(alloc: Global, matches: &ArgMatches<'a>) -> Result<Task<'a>, F
 }
 
 fn serve_task<'a>(matches: &ArgMatches<'a>) -> Result<Task<'a>, Failure>
-    ensures { IfErr result IsOfWords }
+    ensures read { IfOk result (IsTaskIn (codes "serve") (rows_of (found_of matches.now))) }
+    ensures refused { IfErr result IsOfWords }
 {
-    let path = matches.get_str("db").ok_or(Failure::InvalidOptions)?;
-    let address = matches.get_str("listen").ok_or(Failure::InvalidOptions)?;
-    let connections = matches
-        .get_one::<u64>("connections")
-        .ok_or(Failure::InvalidOptions)?;
+    let path = text_given(matches, "db").ok_or(Failure::InvalidOptions)?;
+    let address = text_given(matches, "listen").ok_or(Failure::InvalidOptions)?;
+    let connections = number_given(matches, "connections")?;
     Ok(Task::Server {
         path,
         address,
@@ -231,17 +283,31 @@ fn serve_task<'a>(matches: &ArgMatches<'a>) -> Result<Task<'a>, Failure>
 }
 
 fn order_task<'a>(alloc: Global, word: &str, matches: &ArgMatches<'a>) -> Result<Task<'a>, Failure>
-    ensures { IfErr result IsOfWords }
+    ensures read { IfOk result (IsTaskIn word.now (rows_of (found_of matches.now))) }
+    ensures refused { IfErr result IsOfWords }
 {
-    let path = matches.get_str("db").ok_or(Failure::InvalidOptions)?;
+    let path = text_given(matches, "db").ok_or(Failure::InvalidOptions)?;
     let order = read_order(alloc, word, matches)?;
     Ok(Task::Order { path, order })
+}
+
+/// The task of a subcommand, by its word and its options.
+fn task_of<'a>(alloc: Global, word: &str, matches: &ArgMatches<'a>) -> Result<Task<'a>, Failure>
+    ensures read { IfOk result (IsTaskIn word.now (rows_of (found_of matches.now))) }
+    ensures refused { IfErr result IsOfWords }
+{
+    match word {
+        "stdio" => stdio_task(alloc, matches),
+        "serve" => serve_task(matches),
+        _ => order_task(alloc, word, matches),
+    }
 }
 
 /// Reads the words: what `clap` refuses is told first, then options that do not go together or do not
 /// split, then a name, then a token that is none. No database is opened here.
 pub fn read_words<'a, S: AsStr>(alloc: Global, words: &'a [S]) -> Result<Task<'a>, Told>
-    ensures { IfErr result IsToldOfWords }
+    ensures read { IfOk result (IsTask (map S.text words.entry.now)) }
+    ensures refused { IfErr result IsToldOfWords }
 {
     let command = match command(alloc) {
         Ok(command) => command,
@@ -251,11 +317,11 @@ pub fn read_words<'a, S: AsStr>(alloc: Global, words: &'a [S]) -> Result<Task<'a
         Ok(matches) => matches,
         Err(error) => return Err(Told::Line(error)),
     };
-    let task = match matches.subcommand() {
-        Some(("stdio", matches)) => stdio_task(alloc, matches),
-        Some(("serve", matches)) => serve_task(matches),
-        Some((word, matches)) => order_task(alloc, word, matches),
-        None => Err(Failure::InvalidOptions),
-    };
-    task.map_err(Told::Failed)
+    match matches.subcommand() {
+        Some((word, matches)) => match task_of(alloc, word, matches) {
+            Ok(task) => Ok(task),
+            Err(failure) => Err(Told::Failed(failure)),
+        },
+        None => Err(Told::Failed(Failure::InvalidOptions)),
+    }
 }

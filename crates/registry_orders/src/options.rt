@@ -1,6 +1,8 @@
-ghost use Rattle.std.specs.Prelude.{◌≡◌, IfOk, IfErr};
+ghost use Rattle.std.specs.Prelude.{◌≡◌, IfSome, IfOk, IfErr, map};
 ghost use Rattle.registry_orders.specs.Failures.{IsOfWords};
 ghost use Rattle.registry_orders.specs.Levels.{level_numbered};
+ghost use Rattle.registry_orders.specs.Options.{EachPair, IsDecimal, SpellsSetup};
+ghost use Rattle.registry_orders.specs.Splitting.{SplitsRepo, SplitsGrant, NamesRepo, NamesGrant, GivesToken};
 
 use crate::failure::{Failure, of_text};
 use oci_names::{RepoName, Token};
@@ -30,8 +32,11 @@ pub struct Setup {
 }
 
 /// The number that decimal digits write; leading zeros are allowed.
-fn decimal(text: &str) -> Option<u64> {
-    if text.is_empty() || !text.bytes().all(|byte| byte.is_ascii_digit()) {
+fn decimal(text: &str) -> Option<u64>
+    ensures { IfSome result (IsDecimal text.now) }
+{
+    // `parse` takes a plus before the digits.
+    if text.starts_with('+') {
         return None;
     }
     text.parse().ok()
@@ -49,22 +54,22 @@ pub fn level_numbered(number: u64) -> Option<Level>
     }
 }
 
-fn level_of(text: &str) -> Option<Level> {
-    level_numbered(decimal(text)?)
-}
-
 /// `NAME=QUOTA`, split at the last `=`.
-fn split_repo(text: &str) -> Option<(&str, Quota)> {
+fn split_repo(text: &str) -> Option<(&str, Quota)>
+    ensures { IfSome result (SplitsRepo text.entry) }
+{
     let (name, quota) = text.rsplit_once('=')?;
     let quota = Quota::new(decimal(quota)?)?;
     Some((name, quota))
 }
 
 /// `TOKEN=NAME=LEVEL`, split at the last two `=`.
-fn split_grant(text: &str) -> Option<(&str, &str, Level)> {
+fn split_grant(text: &str) -> Option<(&str, &str, Level)>
+    ensures { IfSome result (SplitsGrant text.entry) }
+{
     let (front, level) = text.rsplit_once('=')?;
     let (token, name) = front.rsplit_once('=')?;
-    let level = level_of(level)?;
+    let level = level_numbered(decimal(level)?)?;
     Some((token, name, level))
 }
 
@@ -90,37 +95,94 @@ pub fn token_of(alloc: Global, text: &str) -> Result<Token, Failure>
     }
 }
 
+/// The texts of `--repo`, split.
+fn split_repos<'a>(alloc: Global, texts: &[&'a str]) -> Result<Vec<(&'a str, Quota)>, Failure>
+    ensures split { IfOk result (λ repos. EachPair SplitsRepo texts.now repos.items) }
+    ensures refused { IfErr result IsOfWords }
+{
+    let mut repos = Vec::new(alloc);
+    for text in texts {
+        repos.push(split_repo(text).ok_or(Failure::InvalidOptions)?)?;
+    }
+    Ok(repos)
+}
+
+/// The texts of `--grant`, split.
+fn split_grants<'a>(
+    alloc: Global,
+    texts: &[&'a str],
+) -> Result<Vec<(&'a str, &'a str, Level)>, Failure>
+    ensures split { IfOk result (λ grants. EachPair SplitsGrant texts.now grants.items) }
+    ensures refused { IfErr result IsOfWords }
+{
+    let mut grants = Vec::new(alloc);
+    for text in texts {
+        grants.push(split_grant(text).ok_or(Failure::InvalidOptions)?)?;
+    }
+    Ok(grants)
+}
+
+/// The repositories, with names that are some.
+fn name_repos(alloc: Global, split: &[(&str, Quota)]) -> Result<Vec<RepoOption>, Failure>
+    ensures named { IfOk result (λ repos. EachPair NamesRepo split.now repos.items) }
+    ensures refused { IfErr result IsOfWords }
+{
+    let mut repos = Vec::new(alloc);
+    for (name, quota) in split {
+        let name = name_of(alloc, name)?;
+        repos.push(RepoOption {
+            name,
+            quota: *quota,
+        })?;
+    }
+    Ok(repos)
+}
+
+/// The grants, with names that are some.
+fn name_grants<'a>(
+    alloc: Global,
+    split: &[(&'a str, &'a str, Level)],
+) -> Result<Vec<(&'a str, RepoName, Level)>, Failure>
+    ensures named { IfOk result (λ grants. EachPair NamesGrant split.now grants.items) }
+    ensures refused { IfErr result IsOfWords }
+{
+    let mut grants = Vec::new(alloc);
+    for (token, name, level) in split {
+        let name = name_of(alloc, name)?;
+        grants.push((*token, name, *level))?;
+    }
+    Ok(grants)
+}
+
+/// The grants, with tokens that are some.
+fn token_grants(
+    alloc: Global,
+    named: Vec<(&str, RepoName, Level)>,
+) -> Result<Vec<GrantOption>, Failure>
+    ensures given { IfOk result (λ grants. EachPair GivesToken named.entry.items grants.items) }
+    ensures refused { IfErr result IsOfWords }
+{
+    let mut grants = Vec::new(alloc);
+    for (token, name, level) in named {
+        let token = token_of(alloc, token)?;
+        grants.push(GrantOption { token, name, level })?;
+    }
+    Ok(grants)
+}
+
 impl Setup {
     /// Reads the values of `--repo` and `--grant`. What does not split or has no number in range is
     /// told first, then what is no name, then what is no token.
     pub fn read(alloc: Global, repos: &[&str], grants: &[&str]) -> Result<Setup, Failure>
-        ensures { IfErr result IsOfWords }
+        ensures spells { IfOk result
+            (SpellsSetup (map (λ text. text.now) repos.now) (map (λ text. text.now) grants.now)) }
+        ensures refused { IfErr result IsOfWords }
     {
-        let mut split_repos = Vec::new(alloc);
-        for text in repos {
-            split_repos.push(split_repo(text).ok_or(Failure::InvalidOptions)?)?;
-        }
-        let mut split_grants = Vec::new(alloc);
-        for text in grants {
-            split_grants.push(split_grant(text).ok_or(Failure::InvalidOptions)?)?;
-        }
-        let mut named_repos = Vec::new(alloc);
-        for (name, quota) in split_repos {
-            let name = name_of(alloc, name)?;
-            named_repos.push(RepoOption { name, quota })?;
-        }
-        let mut named_grants = Vec::new(alloc);
-        for (token, name, level) in split_grants {
-            named_grants.push((token, name_of(alloc, name)?, level))?;
-        }
-        let mut all_grants = Vec::new(alloc);
-        for (token, name, level) in named_grants {
-            let token = token_of(alloc, token)?;
-            all_grants.push(GrantOption { token, name, level })?;
-        }
-        Ok(Setup {
-            repos: named_repos,
-            grants: all_grants,
-        })
+        let repos = split_repos(alloc, repos)?;
+        let grants = split_grants(alloc, grants)?;
+        let repos = name_repos(alloc, &repos)?;
+        let grants = name_grants(alloc, &grants)?;
+        let grants = token_grants(alloc, grants)?;
+        Ok(Setup { repos, grants })
     }
 }

@@ -1,9 +1,11 @@
 ghost use Rattle.std.specs.Prelude.{◌≡◌, Some, IfOk, IfErr, codes};
-ghost use Rattle.clap.specs.Words.{found_of, first_value};
+ghost use Rattle.clap.specs.Words.{found_of, rows_of, one_of};
 ghost use Rattle.registry_orders.specs.Failures.{IsOfWords};
-ghost use Rattle.registry_orders.specs.Orders.{IsCommandOf, IsChangeIn, IsOrderIn};
+ghost use Rattle.registry_orders.specs.Options.{IsNumberOf, IsLevelOf};
+ghost use Rattle.registry_orders.specs.Orders.{HasValue, IsCommandOf, IsChangeIn, IsOrderIn};
 
 use crate::failure::Failure;
+use crate::given::{number_given, text_given};
 use crate::options::{level_numbered, name_of, token_of};
 use clap::ArgMatches;
 use oci_names::{RepoName, Token};
@@ -83,10 +85,10 @@ impl Change {
 
 /// The value of `--name`.
 fn name_in(alloc: Global, matches: &ArgMatches) -> Result<RepoName, Failure>
-    ensures found { IfOk result (λ name. first_value (found_of matches.now) (codes "name") ≡ Some name) }
+    ensures found { IfOk result (λ name. HasValue (rows_of (found_of matches.now)) (codes "name") name) }
     ensures refused { IfErr result IsOfWords }
 {
-    match matches.get_str("name") {
+    match text_given(matches, "name") {
         Some(text) => name_of(alloc, text),
         None => Err(Failure::InvalidOptions),
     }
@@ -94,10 +96,10 @@ fn name_in(alloc: Global, matches: &ArgMatches) -> Result<RepoName, Failure>
 
 /// The value of `--token`.
 fn token_in(alloc: Global, matches: &ArgMatches) -> Result<Token, Failure>
-    ensures found { IfOk result (λ token. first_value (found_of matches.now) (codes "token") ≡ Some token) }
+    ensures found { IfOk result (λ token. HasValue (rows_of (found_of matches.now)) (codes "token") token) }
     ensures refused { IfErr result IsOfWords }
 {
-    match matches.get_str("token") {
+    match text_given(matches, "token") {
         Some(text) => token_of(alloc, text),
         None => Err(Failure::InvalidOptions),
     }
@@ -105,27 +107,26 @@ fn token_in(alloc: Global, matches: &ArgMatches) -> Result<Token, Failure>
 
 /// The value of `--quota`, in bytes.
 fn quota_in(matches: &ArgMatches) -> Result<Quota, Failure>
-    ensures { IfErr result IsOfWords }
+    ensures found { IfOk result (λ quota.
+        IsNumberOf (one_of (codes "quota") (rows_of (found_of matches.now))) quota.bytes) }
+    ensures refused { IfErr result IsOfWords }
 {
-    match matches.get_one::<u64>("quota").and_then(Quota::new) {
-        Some(quota) => Ok(quota),
-        None => Err(Failure::InvalidOptions),
-    }
+    let bytes = number_given(matches, "quota")?;
+    Quota::new(bytes).ok_or(Failure::InvalidOptions)
 }
 
 /// The value of `--level`.
 fn level_in(matches: &ArgMatches) -> Result<Level, Failure>
-    ensures { IfErr result IsOfWords }
+    ensures found { IfOk result (IsLevelOf (one_of (codes "level") (rows_of (found_of matches.now)))) }
+    ensures refused { IfErr result IsOfWords }
 {
-    match matches.get_one::<u64>("level").and_then(level_numbered) {
-        Some(level) => Ok(level),
-        None => Err(Failure::InvalidOptions),
-    }
+    let number = number_given(matches, "level")?;
+    level_numbered(number).ok_or(Failure::InvalidOptions)
 }
 
 /// The change of a subcommand that names a repository alone, or a repository and a quota.
 fn change_of_repo(alloc: Global, word: &str, matches: &ArgMatches) -> Result<Change, Failure>
-    ensures read { IfOk result (IsChangeIn word.now (first_value (found_of matches.now))) }
+    ensures read { IfOk result (IsChangeIn word.now (rows_of (found_of matches.now))) }
     ensures refused { IfErr result IsOfWords }
 {
     let name = name_in(alloc, matches)?;
@@ -147,7 +148,7 @@ fn change_of_repo(alloc: Global, word: &str, matches: &ArgMatches) -> Result<Cha
 /// The change of a subcommand that names a token and a repository. An invalid name is told before an
 /// invalid token.
 fn change_of_grant(alloc: Global, word: &str, matches: &ArgMatches) -> Result<Change, Failure>
-    ensures read { IfOk result (IsChangeIn word.now (first_value (found_of matches.now))) }
+    ensures read { IfOk result (IsChangeIn word.now (rows_of (found_of matches.now))) }
     ensures refused { IfErr result IsOfWords }
 {
     let name = name_in(alloc, matches)?;
@@ -167,7 +168,7 @@ fn change_of_grant(alloc: Global, word: &str, matches: &ArgMatches) -> Result<Ch
 /// name that is none is told before a token that is none. `InvalidOptions` is answered to a word that
 /// is no such subcommand, or where a value is missing or out of its range, which `clap` has told then.
 pub fn read_order(alloc: Global, word: &str, matches: &ArgMatches) -> Result<Order, Failure>
-    ensures read { IfOk result (IsOrderIn word.now (first_value (found_of matches.now))) }
+    ensures read { IfOk result (IsOrderIn word.now (rows_of (found_of matches.now))) }
     ensures refused { IfErr result IsOfWords }
 {
     match word {

@@ -1,0 +1,118 @@
+-- The command line: the subcommands, and the options that each takes (profile).
+use Rattle.std.specs.Prelude.{◌≡◌, ℕ, true, false, List, [], ◌∷◌, ◌++◌, Some, codes}
+use Rattle.clap.specs.Words.{App, Shape, Rule, Text, new_rule, app_of, rule_of}
+use Rattle.clap.specs.Simple.{new_shape}
+use Rattle.clap.specs.declared.builder.ArgAction.TheVariants.{Set, SetTrue, Append}
+use Rattle.clap.specs.declared.builder.ValueParser.TheVariants.{Unsigned}
+use Rattle.clap.specs.declared.builder.Arg.{Arg}
+use Rattle.clap.specs.declared.builder.Command.{Command}
+
+-- `--word VALUE`, at most once
+abbrev pub option : Text → Rule
+option word = record (new_rule word) { long = Some word; action = Some Set; value_names = 1 }
+
+abbrev pub required : Rule → Rule
+required r = record r { required = true }
+
+-- `--word VALUE`, any number of times
+abbrev pub repeated : Text → Rule
+repeated word = record (option word) { action = Some Append }
+
+abbrev pub flag : Text → Rule
+flag word = record (new_rule word) { long = Some word; action = Some SetTrue }
+
+-- with a number from the first to the last
+abbrev pub within : ℕ → ℕ → Rule → Rule
+within first last r = record r { parser = Some (Unsigned first last) }
+
+abbrev pub most : ℕ
+most = 9223372036854775807
+
+abbrev pub db : Rule
+db = option (codes "db")
+
+abbrev pub name : Rule
+name = required (option (codes "name"))
+
+abbrev pub token : Rule
+token = required (option (codes "token"))
+
+abbrev pub quota : Rule
+quota = within 0 most (required (option (codes "quota")))
+
+abbrev pub level : Rule
+level = within 1 3 (required (option (codes "level")))
+
+abbrev pub listen : Rule
+listen = required (option (codes "listen"))
+
+abbrev pub connections : Rule
+connections =
+    record (within 0 most (option (codes "connections"))) { defaults = codes "9223372036854775807" ∷ [] }
+
+abbrev pub subcommand : Text → List Rule → Shape
+subcommand word options = record (new_shape word) { rules = options }
+
+abbrev pub serve : Shape
+serve = subcommand (codes "serve") (required db ∷ listen ∷ connections ∷ [])
+
+abbrev pub stdio : Shape
+stdio = subcommand (codes "stdio")
+    (db ∷ flag (codes "memory") ∷ repeated (codes "repo") ∷ repeated (codes "grant") ∷ [])
+
+abbrev pub over_database : Text → Shape
+over_database word = subcommand word (required db ∷ [])
+
+abbrev pub over_repo : Text → Shape
+over_repo word = subcommand word (required db ∷ name ∷ [])
+
+abbrev pub over_quota : Text → Shape
+over_quota word = subcommand word (required db ∷ name ∷ quota ∷ [])
+
+abbrev pub over_token : Text → Shape
+over_token word = subcommand word (required db ∷ token ∷ name ∷ [])
+
+abbrev pub grant : Shape
+grant = subcommand (codes "grant") (required db ∷ token ∷ name ∷ level ∷ [])
+
+abbrev pub repo_commands : List Shape
+repo_commands = over_quota (codes "repo") ∷ over_quota (codes "quota") ∷ over_repo (codes "drop")
+    ∷ over_repo (codes "sessions") ∷ []
+
+abbrev pub other_commands : List Shape
+other_commands = grant ∷ over_token (codes "revoke") ∷ over_database (codes "clear")
+    ∷ over_database (codes "usage") ∷ []
+
+abbrev pub with_subcommands : List Shape → App → App
+with_subcommands subs a = record { top = record a.top { is_leaf = false }; subs = a.subs ++ subs }
+
+-- the program by itself, which has a version and wants a subcommand; the words do not begin with its name
+abbrev pub program : App
+program = record {
+  top = record (new_shape (codes "registry")) {
+    no_binary_name = true;
+    subcommand_required = true;
+    has_version = true;
+  };
+  subs = [];
+}
+
+abbrev pub serving : App
+serving = with_subcommands (serve ∷ stdio ∷ []) program
+
+abbrev pub registry : App
+registry = with_subcommands other_commands (with_subcommands repo_commands serving)
+
+abbrev pub alone : Shape → App
+alone s = record { top = s; subs = [] }
+
+-- the argument is read by the rule, in its own command alone
+abbrev pub HasRule : Rule → Arg → Type 0
+HasRule r a = (rule_of a ≡ r) × (a.global ≡ false)
+
+-- the command is this one
+abbrev pub IsApp : App → Command → Type 0
+IsApp a c = app_of c ≡ a
+
+abbrev pub IsSub : Shape → Command → Type 0
+IsSub s c = IsApp (alone s) c

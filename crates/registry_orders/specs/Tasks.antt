@@ -1,0 +1,36 @@
+-- What the words of a command line ask for (profile).
+use Rattle.std.specs.Prelude.{◌≡◌, List, [], Option, Some, None, codes}
+use Rattle.clap.specs.Words.{Row, first_of, one_of, subcommand_of}
+use Rattle.oci_names.specs.Text.{Text}
+use Rattle.registry_orders.specs.declared.line.Task.{Task}
+use Rattle.registry_orders.specs.declared.line.Task.TheVariants.{Memory, Stored, Server, Order}
+use Rattle.registry_orders.specs.CommandLine.{registry}
+use Rattle.registry_orders.specs.Options.{texts_of, IsNumberOf, SpellsSetup}
+use Rattle.registry_orders.specs.Orders.{HasValue, IsOrderIn}
+
+abbrev pub HasFlag : List Row → Text → Type 0
+HasFlag options flag = one_of flag options ≡ Some (codes "true")
+
+-- the word of the subcommand, and the options that it was given, say what the task is
+abbrev pub IsTaskIn : Text → List Row → Task → Type 0
+IsTaskIn word options (Memory setup) =
+    (word ≡ codes "stdio") × HasFlag options (codes "memory") × (first_of (codes "db") options ≡ None)
+    × SpellsSetup (texts_of (codes "repo") options) (texts_of (codes "grant") options) setup
+IsTaskIn word options (Stored path) =
+    (word ≡ codes "stdio") × ¬ (HasFlag options (codes "memory")) × HasValue options (codes "db") path.now
+    × (texts_of (codes "repo") options ≡ []) × (texts_of (codes "grant") options ≡ [])
+IsTaskIn word options (Server path address connections) =
+    (word ≡ codes "serve") × HasValue options (codes "db") path.now
+    × HasValue options (codes "listen") address.now
+    × IsNumberOf (one_of (codes "connections") options) connections
+IsTaskIn word options (Order path order) = HasValue options (codes "db") path.now × IsOrderIn word options order
+
+-- the same of a subcommand that was found, with its options
+abbrev pub IsTaskOf : Option (Text × List Row) → Task → Type 0
+IsTaskOf None task = ⊥
+IsTaskOf (Some found) task = IsTaskIn found.0 found.1 task
+
+-- the task that the words spell: of the subcommand and the options that `clap` finds in them, for the command
+-- line of the program
+abbrev pub IsTask : List Text → Task → Type 0
+IsTask words task = IsTaskOf (subcommand_of registry words) task
