@@ -1,8 +1,9 @@
 //! The words of a command line, the administrator's orders and what each comes to, exit statuses and
 //! messages.
 //!
-//! The crate above relies on `read_words`, which refuses words only as stated, on `carry_out`, which
-//! carries an order out as the command that says the same, and on `Failure`, with its status and text.
+//! The crate above relies on `read_words`, which gives the task that the words spell and refuses words
+//! only as stated, on `carry_out`, which carries an order out as the command that says the same, and on
+//! `Failure`, with its status and text.
 #![tactic(auto)]
 
 pub mod carrying;

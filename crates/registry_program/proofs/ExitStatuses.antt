@@ -1,17 +1,20 @@
 -- What exit statuses say of what was read and written, and of why the program ended.
-use Rattle.std.proofs.Common.{arith, ◌≡◌, ◌⊎◌, ◌∙◌, ◌<◌, ◌≤◌, ℕ, true, false, Result, Ok, Err, inl, inr, sym, subst}
-use Rattle.std.specs.Prelude.{MatchResult}
+use Rattle.std.proofs.Common.{arith, ◌≡◌, ◌⊎◌, ◌∙◌, ◌<◌, ◌≤◌, ◌≢◌, ℕ, Bool, true, false, List, [], ◌∷◌, Result, Ok, Err, inl, inr, refl, ap, sym, subst}
+use Rattle.std.specs.Prelude.{MatchResult, if◌then◌else◌}
 use Rattle.std.specs.Io.KnownBytes.{Appends}
 use Rattle.oci_names.specs.Text.{Text}
 use Rattle.registry_http.specs.declared.ending.End.{End}
 use Rattle.registry_http.specs.declared.ending.End.TheVariants as ending
-use Rattle.registry_model.specs.World.{World}
+use Rattle.registry_model.specs.World.{World, no_world, has_repo}
+use Rattle.registry_model.specs.Command.{set_repo, grant}
 use Rattle.registry_model.specs.Keeping.{State}
 use Rattle.registry_orders.specs.declared.failure.Failure.{Failure}
 use Rattle.registry_orders.specs.declared.failure.Failure.TheVariants as failure
 use Rattle.registry_orders.specs.declared.options.Setup.{Setup}
+use Rattle.registry_orders.specs.declared.options.RepoOption.{RepoOption}
+use Rattle.registry_orders.specs.declared.options.GrantOption.{GrantOption}
 use Rattle.registry_orders.specs.Failures.{status_of, IsOfConnection, IsOfOpening, IsOfServing}
-use Rattle.registry_orders.specs.Setting.{world_by, SetsUp}
+use Rattle.registry_orders.specs.Setting.{with_repos, with_levels, levels_if, world_by, SetsUp}
 use Rattle.registry_program.specs.Failures.{status_after}
 use Rattle.registry_program.specs.Program.{Ends, GivesUp, IsUntouched, ServesFrom, ServesMemory, Tells}
 
@@ -105,3 +108,52 @@ untouched_telling status e t more less = go t.1
     go (inl h) = record { left = t.0; held = h.1 }
     go (inr (inl z)) = absurd (let x = z.0 in omega arith)
     go (inr (inr f)) = absurd (omega arith)
+
+-- ---- status 2 is told of words alone
+
+there_fault : (there : Bool) (next : Result World Failure) (f : Failure) → (next ≡ Err f → status_of f ≡ 1)
+    → (if there then Err failure.RepoThere else next) ≡ Err f → status_of f ≡ 1
+there_fault true next f later e = ap status_of (sym (let same : failure.RepoThere ≡ f = cc in same))
+there_fault false next f later e = later e
+
+missing_fault : (there : Bool) (next : Result World Failure) (f : Failure) → (next ≡ Err f → status_of f ≡ 1)
+    → (if there then next else Err failure.NoRepo) ≡ Err f → status_of f ≡ 1
+missing_fault true next f later e = later e
+missing_fault false next f later e = ap status_of (sym (let same : failure.NoRepo ≡ f = cc in same))
+
+repos_fault : (os : List RepoOption) (w : World) (f : Failure) → with_repos w os ≡ Err f → status_of f ≡ 1
+repos_fault [] w f e = absurd (let x : Ok w ≡ Err f = e in cc)
+repos_fault (o ∷ os) w f e = there_fault (has_repo w o.name) (with_repos (set_repo w o.name o.quota.bytes) os) f (repos_fault os (set_repo w o.name o.quota.bytes) f) e
+
+levels_fault : (os : List GrantOption) (w : World) (f : Failure) → with_levels w os ≡ Err f → status_of f ≡ 1
+levels_fault [] w f e = absurd (let x : Ok w ≡ Err f = e in cc)
+levels_fault (o ∷ os) w f e = missing_fault (has_repo w o.name) (with_levels (grant w o.token o.name o.level) os) f (levels_fault os (grant w o.token o.name o.level) f) e
+
+setup_fault : (setup : Setup) (f : Failure) → world_by setup ≡ Err f → status_of f ≡ 1
+setup_fault setup f e = go (with_repos no_world setup.repos.items) (repos_fault setup.repos.items no_world f) e
+  where
+    go : (r : Result World Failure) → (r ≡ Err f → status_of f ≡ 1) → levels_if r setup.grants.items ≡ Err f → status_of f ≡ 1
+    go (Ok w) first e = levels_fault setup.grants.items w f e
+    go (Err x) first e = first e
+
+serving_read : (w : World) (status : ℕ) (e : Ends) → ServesFrom w status e → status ≢ 2
+serving_read w status e s two = go s.end s.ends
+  where
+    go : (end : End) → status ≡ status_after end false → ⊥
+    go ending.Closed i = omega arith
+    go ending.Cut i = omega arith
+    go (ending.Refused r) i = omega arith
+    go ending.ReadFailed i = omega arith
+    go (ending.WriteFailed n) i = omega arith
+
+pub memory_read : (setup : Setup) (status : ℕ) (e : Ends) → ServesMemory setup status e → status ≢ 2
+memory_read setup status e (inl g) two = let three : status ≡ 3 = g.0 in omega arith
+memory_read setup status e (inr m) two = go (world_by setup) (setup_fault setup) m
+  where
+    go : (r : Result World Failure) → ((f : Failure) → r ≡ Err f → status_of f ≡ 1)
+        → MatchResult r (λ w. ServesFrom w status e) (λ f. GivesUp f status e) → ⊥
+    go (Ok w) fault s = serving_read w status e s two
+    go (Err f) fault g = let one : status ≡ 1 = g.0 ∙ fault f refl in omega arith
+
+pub opening_read : (f : Failure) → IsOfOpening f → status_of f ≢ 2
+opening_read f is two = let more : 3 ≤ status_of f = serving_status f (serving_of_opening f is) in omega arith

@@ -1,15 +1,12 @@
 -- Connections since a registry was last opened.
-use Rattle.std.proofs.Common.{◌≡◌, ◌⊎◌, ℕ, zero, suc, false, Result, Ok, Err, inl, inr, refl, sym, subst}
+use Rattle.std.proofs.Common.{◌≡◌, ◌⊎◌, ℕ, zero, suc, false, inl, inr, refl, sym, subst}
 use Rattle.registry_model.specs.Keeping.{State}
 use Rattle.registry_http.specs.declared.ending.End.{End}
 use Rattle.registry_http.specs.Serving.{Run, served}
 use Rattle.registry_http.specs.Privacy.{IsPrivateRun}
 use Rattle.registry_http.proofs.PrivacyLemmas.{private_run, runs_join, served_runs}
 use Rattle.registry_program.specs.Program.{traffic_of}
-use Rattle.registry_program.specs.Sockets.{Connects, ServesMany, served_by, ServesSome, ServesAddress}
-use Rattle.registry_orders.specs.declared.failure.Failure.{Failure}
-use Rattle.registry_orders.specs.Carrying.{Output}
-use Rattle.registry_program.specs.Running.{Told}
+use Rattle.registry_program.specs.Sockets.{Connects, ServesMany, served_by, ServesSome}
 
 -- connections one after the other are one run
 served_by_runs : (n : ℕ) (s s' : State) (h : ServesMany n s s') → Run s (served_by n s s' h).0 (served_by n s s' h).1 s'
@@ -41,8 +38,3 @@ pub since_resumed : {K : Type 0} (is_honest : K → Type 0) (state : K → State
     → (is_honest k → Since opens (state k)) → (next ≡ k) ⊎ (is_honest next → opens (state next)) → is_honest next → Since opens (state next)
 since_resumed is_honest state opens k next so_far (inl same) honest = subst (λ x. Since opens (state x)) (sym same) (so_far (subst is_honest same honest))
 since_resumed is_honest state opens k next so_far (inr opened) honest = since_opened opens (state next) (opened honest)
-
--- the same of a registry at some path
-pub served_at : (over over' : Told) → (over ServesSome → over' ServesSome) → (result : Result (Unit {0}) Failure) (o : Output) → ServesAddress over result o → ServesAddress over' result o
-served_at over over' more (Ok v) o serves = (serves.0, more serves.1)
-served_at over over' more (Err f) o serves = serves

@@ -1,11 +1,14 @@
 -- What words come to. Here `over P` is that P is told of a registry that was opened, from its first state to
--- its last.
-use Rattle.std.specs.Prelude.{◌≡◌, ℕ, ◌⊎◌, Result}
+-- its last, and `at path` is the same of the registry at a path.
+use Rattle.std.specs.Prelude.{◌≡◌, ◌≢◌, ℕ, ◌⊎◌, List, Result}
+use Rattle.oci_names.specs.Text.{Text}
 use Rattle.registry_model.specs.Keeping.{State}
 use Rattle.registry_orders.specs.declared.failure.Failure.{Failure}
-use Rattle.registry_orders.specs.declared.options.Setup.{Setup}
+use Rattle.registry_orders.specs.declared.line.Task.{Task}
+use Rattle.registry_orders.specs.declared.line.Task.TheVariants as task
 use Rattle.registry_orders.specs.declared.orders.Order.{Order}
 use Rattle.registry_orders.specs.Failures.{status_of, status_if, IsOfWords, IsOfOpening}
+use Rattle.registry_orders.specs.Tasks.{IsTask}
 use Rattle.registry_program.specs.Program.{Ends, GivesUp, ServesMemory, ServesStored, Tells}
 use Rattle.registry_orders.specs.Carrying.{Output, output, IsSilent, IsCarriedOut}
 use Rattle.registry_program.specs.Sockets.{ServesAddress}
@@ -21,10 +24,9 @@ output_of e = output e.held e.held'
 abbrev pub IsNotOpened : ℕ → Output → Type 0
 IsNotOpened status o = (f : Failure) × IsOfOpening f × (status ≡ status_of f) × IsSilent o
 
--- an order over a registry that is opened
-abbrev pub RunsOrder : Told → ℕ → Output → Type 0
-RunsOrder over status o =
-    IsNotOpened status o ⊎ ((order : Order) × over (λ s s'. IsCarriedOut s order status o s'))
+-- the order over a registry that is opened
+abbrev pub RunsOrder : Told → Order → ℕ → Output → Type 0
+RunsOrder over order status o = IsNotOpened status o ⊎ over (λ s s'. IsCarriedOut s order status o s')
 
 -- one connection over a registry that is opened
 abbrev pub RunsStored : Told → ℕ → Ends → Type 0
@@ -36,13 +38,21 @@ abbrev pub RunsServer : Told → ℕ → Output → Type 0
 RunsServer over status o =
     (result : Result (Unit {0}) Failure) × (status ≡ status_if result) × ServesAddress over result o
 
--- what words come to: a registry over memory that they set up is served; or they are not read, and nothing is
--- done; or something is told of them; or one over a database is served, by one connection or over sockets, or
--- is given an order
-abbrev pub RunsWords : Told → ℕ → Ends → Type 0
-RunsWords over status e =
-    ((setup : Setup) × ServesMemory setup status e)
-    ⊎ (((f : Failure) × IsOfWords f × GivesUp f status e)
-    ⊎ (Tells status e
-    ⊎ (RunsStored over status e
-    ⊎ ((e.left' ≡ e.left) × (RunsServer over status (output_of e) ⊎ RunsOrder over status (output_of e))))))
+-- what a task comes to: a registry over memory that is set up so is served; or the one at the path is, by one
+-- connection or over sockets, or is given the order
+abbrev pub RunsTask : (Text → Told) → Task → ℕ → Ends → Type 0
+RunsTask at (task.Memory setup) status e = ServesMemory setup status e
+RunsTask at (task.Stored path) status e = RunsStored (at path.now) status e
+RunsTask at (task.Server path address connections) status e =
+    (e.left' ≡ e.left) × RunsServer (at path.now) status (output_of e)
+RunsTask at (task.Order path order) status e =
+    (e.left' ≡ e.left) × RunsOrder (at path.now) order status (output_of e)
+
+-- words are not read, and nothing is done; or something is told of them
+abbrev pub IsNotRead : ℕ → Ends → Type 0
+IsNotRead status e = ((f : Failure) × IsOfWords f × GivesUp f status e) ⊎ Tells status e
+
+-- what words come to: the task that they spell is done, and then the status is not 2; or they are not read
+abbrev pub RunsWords : (Text → Told) → List Text → ℕ → Ends → Type 0
+RunsWords at words status e =
+    ((task : Task) × IsTask words task × (status ≢ 2) × RunsTask at task status e) ⊎ IsNotRead status e

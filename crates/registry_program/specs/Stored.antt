@@ -9,7 +9,7 @@ pub record Over {K : Type 0} (is_honest : K → Type 0) (state : K → State) (o
   pub last : K
   pub says : is_honest last → (first : State) × opens first × Says first (state last)
 
--- the same of a registry at some path
-abbrev pub OverSome : {K : Type 0} → (K → Type 0) → (K → State) → (Text → State → Type 0)
+-- the same of a registry at the path
+abbrev pub OverAt : {K : Type 0} → (K → Type 0) → (K → State) → (Text → State → Type 0) → Text
     → (State → State → Type 0) → Type 0
-OverSome {K} is_honest state opens Says = (path : Text) × Over {K = K} is_honest state (opens path) Says
+OverAt {K} is_honest state opens path Says = Over {K = K} is_honest state (opens path) Says

@@ -1,5 +1,5 @@
-ghost use Rattle.std.specs.Prelude.{◌≡◌, ◌<◌, ◌≤◌, None};
-ghost use Rattle.registry_program.specs.Stored.{OverSome};
+ghost use Rattle.std.specs.Prelude.{◌≡◌, ◌≢◌, ◌<◌, ◌≤◌, None, map};
+ghost use Rattle.registry_program.specs.Stored.{OverAt};
 ghost use Rattle.registry_program.specs.Program.{ends, IsUntouched, Tells};
 ghost use Rattle.registry_program.specs.Running.{RunsOrder, RunsStored, RunsServer, RunsWords};
 ghost use Rattle.registry_orders.specs.Carrying.{output, IsSilent};
@@ -40,6 +40,7 @@ fn tell<W: Write, E: Write>(alloc: Global, error: &Error, out: &mut W, err: &mut
 }
 
 /// Opens the registry at a path, and carries an order out over it.
+#[tactic(auto, using(crate::proofs::ExitStatuses::opening_read))]
 fn run_order<K: Keeper + Drop, O: Opener<K>, W: Write, E: Write>(
     alloc: Global,
     opener: &O,
@@ -48,11 +49,12 @@ fn run_order<K: Keeper + Drop, O: Opener<K>, W: Write, E: Write>(
     out: &mut W,
     err: &mut E,
 ) -> u8
-    ensures runs { RunsOrder (OverSome K.is_honest K.state (O.opens opener.now)) result
+    ensures runs { RunsOrder (OverAt K.is_honest K.state (O.opens opener.now) path.now) order.now result
         (output (W.contents out.old) (W.contents out.new)) }
     ensures silent { 0 < result → result < 4
         → IsSilent (output (W.contents out.old) (W.contents out.new)) }
     ensures status { result ≤ 4 }
+    ensures read { result ≢ 2 }
 {
     match opener.open(path) {
         Ok(kept) => {
@@ -72,7 +74,7 @@ fn run_stored<K: Keeper + Drop, O: Opener<K>, R: Read, W: Write, E: Write>(
     out: &mut W,
     err: &mut E,
 ) -> u8
-    ensures runs { RunsStored (OverSome K.is_honest K.state (O.opens opener.now)) result
+    ensures runs { RunsStored (OverAt K.is_honest K.state (O.opens opener.now) path.now) result
         (ends (R.remaining reader.old) (R.remaining reader.new) (W.contents out.old) (W.contents out.new)) }
     ensures failed { 0 < result → 3 ≤ result }
     ensures status { result ≤ 4 }
@@ -94,7 +96,7 @@ fn run_server<
     W: Write,
     E: Write,
 >(rt: &T, opener: &O, path: &str, address: &str, connections: u64, out: &mut W, err: &mut E) -> u8
-    ensures runs { RunsServer (OverSome K.is_honest K.state (O.opens opener.now)) result
+    ensures runs { RunsServer (OverAt K.is_honest K.state (O.opens opener.now) path.now) result
         (output (W.contents out.old) (W.contents out.new)) }
     ensures failed { 0 < result → 3 ≤ result }
     ensures status { result ≤ 4 }
@@ -133,7 +135,8 @@ pub fn run_words<
     W: Write,
     E: Write,
 >(rt: &T, opener: &O, words: &[S], reader: &mut R, out: &mut W, err: &mut E) -> u8
-    ensures runs { RunsWords (OverSome K.is_honest K.state (O.opens opener.now)) result
+    ensures runs { RunsWords (OverAt K.is_honest K.state (O.opens opener.now))
+        (map S.text words.now) result
         (ends (R.remaining reader.old) (R.remaining reader.new) (W.contents out.old) (W.contents out.new)) }
     ensures refused { 0 < result → result < 3
         → IsUntouched
