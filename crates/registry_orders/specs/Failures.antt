@@ -60,8 +60,8 @@ IsOfWords InvalidToken = ⊤
 IsOfWords OutOfMemory = ⊤
 IsOfWords _ = ⊥
 
--- why an order that was read is not carried out: it is refused, or memory is wanting, or the storage or writing
--- fails
+-- why an order that was read is not carried out: it is refused, or memory is wanting, or the storage or
+-- writing fails
 abbrev pub IsOfOrder : Failure → Type 0
 IsOfOrder NoRepo = ⊤
 IsOfOrder NoGrant = ⊤

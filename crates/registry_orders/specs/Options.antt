@@ -57,4 +57,5 @@ EachPair Says _ _ = ⊥
 
 -- the setup has a repository for each value of `--repo`, and a grant for each of `--grant`, in their order
 abbrev pub SpellsSetup : List Text → List Text → Setup → Type 0
-SpellsSetup repos grants s = EachPair SpellsRepo repos s.repos.items × EachPair SpellsGrant grants s.grants.items
+SpellsSetup repos grants s =
+    EachPair SpellsRepo repos s.repos.items × EachPair SpellsGrant grants s.grants.items

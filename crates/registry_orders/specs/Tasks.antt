@@ -23,7 +23,8 @@ IsTaskIn word options (Server path address connections) =
     (word ≡ codes "serve") × HasValue options (codes "db") path.now
     × HasValue options (codes "listen") address.now
     × IsNumberOf (one_of (codes "connections") options) connections
-IsTaskIn word options (Order path order) = HasValue options (codes "db") path.now × IsOrderIn word options order
+IsTaskIn word options (Order path order) =
+    HasValue options (codes "db") path.now × IsOrderIn word options order
 
 -- the same of a subcommand that was found, with its options
 abbrev pub IsTaskOf : Option (Text × List Row) → Task → Type 0
