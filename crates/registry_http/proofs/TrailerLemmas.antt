@@ -21,8 +21,13 @@ section_not_exceeded s short over =
     let size = ap length over.4.1 in
     let whole = ap length over.2 in
     omega (
-      arith, over.5, fields_long over.3, length-append (flat_map print_field over.3) (print_end lf), length-append (print_section over.3 lf) [],
-      length-append over.0 (print_end lf), length-append over.0 over.1
+      arith,
+      over.5,
+      fields_long over.3,
+      length-append (flat_map print_field over.3) (print_end lf),
+      length-append (print_section over.3 lf) [],
+      length-append over.0 (print_end lf),
+      length-append over.0 over.1,
     )
 
 never_on : (s more : Text) → NeverHasSection s → NeverHasSection (s ++ more)

@@ -124,8 +124,8 @@ abbrev pub OneWaits : End → End → Type 0
 OneWaits e f =
     ((e ≡ Cut) × (f ≡ Refused UnreadableHead)) ⊎ ((e ≡ Refused UnreadableHead) × (f ≡ Cut))
 
--- the ends are the same; or the bytes end in the target of a head, which may be no text, and one of them waits
--- for its end
+-- the ends are the same; or the bytes end in the target of a head, which may be no text, and one of them
+-- waits for its end
 abbrev pub AreOneEnd : Text → End → End → Type 0
 AreOneEnd b e f =
     (e ≡ f) ⊎ ((front : Text) × (rest : Text) × (b ≡ front ++ rest) × EndsInTarget rest × OneWaits e f)

@@ -2,8 +2,8 @@ ghost use Rattle.std.specs.Prelude.{◌≡◌, length};
 ghost use Rattle.registry_http.specs.Taking.{FindsTrailer};
 
 use crate::head::head_bytes;
-use httparse::spans::{HeaderSpan, parse_headers};
 use httparse::Status;
+use httparse::spans::{HeaderSpan, parse_headers};
 
 /// What the unread bytes begin with.
 pub enum FoundTrailer {

@@ -44,9 +44,11 @@ Shows s (asks q) (did r) s' = ⊥
 Shows s (orders a) (told r) s' = ⊥
 
 -- steps one after the other, each from the state that the one before it left
-abbrev pub OneByOne : (State → Step → Outcome → State → Type 0) → State → List Step → List Outcome → State → Type 0
+abbrev pub OneByOne : (State → Step → Outcome → State → Type 0)
+    → State → List Step → List Outcome → State → Type 0
 OneByOne One s [] [] s' = s' ≡ s
-OneByOne One s (st ∷ steps) (o ∷ outcomes) s' = (mid : State) × One s st o mid × OneByOne One mid steps outcomes s'
+OneByOne One s (st ∷ steps) (o ∷ outcomes) s' =
+    (mid : State) × One s st o mid × OneByOne One mid steps outcomes s'
 OneByOne One s [] (o ∷ outcomes) s' = ⊥
 OneByOne One s (st ∷ steps) [] s' = ⊥
 

@@ -38,12 +38,13 @@ impl<K: Keeper> Service<K> {
 
     /// Steps one after the other, with an outcome for each.
     ///
-    /// The steps are taken one by one, each as `handle` or `admin` takes it. So up to the first storage failure the outcomes are those of the definitions, those for which
-    /// memory was wanting left out, and after it every outcome is a storage failure. To each team
-    /// (tokens, and names that hold every name on which one of them has a level) for which each step
-    /// is its own or aside, the replies to its requests are those that it would get alone, in a
-    /// registry that holds only what it sees. `Fault::Memory` comes before any step, and nothing has
-    /// changed; no other fault comes.
+    /// The steps are taken one by one, each as `handle` or `admin` takes it, and whatever the keeper
+    /// does an outcome says by its kind whether the storage is lost. So up to the first storage
+    /// failure the outcomes are those of the definitions, those for which memory was wanting left
+    /// out, and after it every outcome is a storage failure. To each team (tokens, and names that
+    /// hold every name on which one of them has a level) for which each step is its own or aside, the
+    /// replies to its requests are those that it would get alone, in a registry that holds only what
+    /// it sees. `Fault::Memory` comes before any step, and nothing has changed; no other fault comes.
     pub fn run(&mut self, alloc: Global, steps: &[Step]) -> Result<Vec<Outcome>, Fault>
         ensures takes { K.is_honest self.new → IfOk result (λ outcomes.
             TakesAll (K.state self.old) (map shown_step steps.now) (map shown_outcome outcomes.items)
