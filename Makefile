@@ -10,7 +10,7 @@ PROCESSORS := $(shell nproc)
 # The first run: a registry in memory, with one repository and one token.
 DEMO := stdio --memory --repo team/app=1000 --grant t1=team/app=3
 
-.PHONY: help demo build try test check edits check-file bench bench-http fmt clean
+.PHONY: help demo build try test check edits check-file check-hostile bench bench-http fmt clean
 
 # docs/PERFORMANCE.md has what was measured.
 help:
@@ -24,6 +24,8 @@ help:
 	@echo 'make check CRATE=x   proves one crate over what earlier checks kept (seconds after an edit)'
 	@echo 'make edits CRATE=x   tries the must-fail edits of one crate (20 to 60 s each)'
 	@echo 'make check-file      a server'"'"'s file after pushes by curl, looked at by sqlite3'
+	@echo 'make check-hostile   refuses each growth of memory, stops the disk at each write, kills servers (after'
+	@echo '                     make test; 5 min)'
 	@echo 'make bench           requests a second over loopback, beside docker-registry where installed'
 	@echo 'make bench-http      requests a second over standard input, beside cat and sha256sum'
 	@echo 'make fmt, make clean lays out the sources; removes what was built'
@@ -75,6 +77,11 @@ test:
 # A server's database file, looked at by another program: needs curl and sqlite3 beside python3.
 check-file: build
 	python3 check/file.py
+
+# Hostile memory, a hostile disk and kills, over the executables that `make test` leaves: python3 and rustc.
+KILLS = 100
+check-hostile:
+	python3 check/hostile.py --kills $(KILLS)
 
 # Requests a second over loopback on a database file, beside docker-registry where installed (python3).
 bench: build

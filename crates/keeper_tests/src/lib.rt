@@ -1,5 +1,5 @@
 //! Tests of a keeper's calls, over ordered maps and over tables: what each keeps, what `clear` leaves, that
-//! equal bytes are kept once, want of memory at a write; and single calls against values of other tools.
+//! equal bytes are kept once; and single calls against values of other tools.
 #![tactic(auto)]
 
 #[cfg(test)]
@@ -12,5 +12,3 @@ mod keeping;
 mod model;
 #[cfg(test)]
 mod referrers;
-#[cfg(test)]
-mod writes;

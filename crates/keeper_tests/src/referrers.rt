@@ -11,7 +11,13 @@ const EMPTY_OBJECT: &str =
     "sha256:44136fa355b3678a1146ad16f7e8649e94fb4fc21fe77e8310c060f61caaff8a";
 
 const REFERRERS: &str =
-    r#"{"manifests":[{"annotations":{"B":"x","Bé":"2\"","a":"","b":"1"},"artifactType":"application/x.sbom","digest":"sha256:44136fa355b3678a1146ad16f7e8649e94fb4fc21fe77e8310c060f61caaff8a","mediaType":"application/vnd.oci.image.manifest.v1+json","size":379},{"digest":"sha256:ba7816bf8f01cfea414140de5dae2223b00361a396177a9cb410ff61f20015ad","mediaType":"application/vnd.oci.image.index.v1+json","size":18446744073709551615}],"mediaType":"application/vnd.oci.image.index.v1+json","schemaVersion":2}"#;
+    "{\"manifests\":[{\"annotations\":{\"B\":\"x\",\"Bé\":\"2\\\"\",\"a\":\"\",\"b\":\"1\"},\
+      \"artifactType\":\"application/x.sbom\",\
+      \"digest\":\"sha256:44136fa355b3678a1146ad16f7e8649e94fb4fc21fe77e8310c060f61caaff8a\",\
+      \"mediaType\":\"application/vnd.oci.image.manifest.v1+json\",\"size\":379},\
+      {\"digest\":\"sha256:ba7816bf8f01cfea414140de5dae2223b00361a396177a9cb410ff61f20015ad\",\
+      \"mediaType\":\"application/vnd.oci.image.index.v1+json\",\"size\":18446744073709551615}],\
+      \"mediaType\":\"application/vnd.oci.image.index.v1+json\",\"schemaVersion\":2}";
 
 #[test]
 fn referrer_texts(rt: HostRuntime) -> Result<(), Fail> {

@@ -8,7 +8,7 @@ use Rattle.oci_manifest.specs.declared.fault.ManifestFault.TheVariants as fault
 use Rattle.oci_manifest.specs.declared.manifest.Manifest.{Manifest}
 use Rattle.oci_manifest.specs.Rules.{◌>>=◌, or_fault, Gives}
 use Rattle.oci_manifest.specs.Manifest.{document_in, ManifestShown, shown, manifest_of, manifest_in}
-use Rattle.oci_manifest.specs.Reads.{Reads}
+use Rattle.oci_manifest.specs.Reads.{ReadsAs}
 use Rattle.oci_manifest.specs.FirstFault.{Refuses}
 use Rattle.oci_manifest.proofs.ManifestLaws.{manifest_found, manifest_only}
 use Rattle.oci_manifest.proofs.FaultLaws.{refused_found}
@@ -31,7 +31,7 @@ gives_no_document (Err f) bytes e why is = λ other. let none = why (λ memory. 
 
 -- ---- what a call that gives this promises
 
-pub gives_found : (r : Result Manifest ManifestFault) (bytes : Text) → Gives shown r (manifest_in bytes) → IfOk r (λ m. Reads bytes (shown m))
+pub gives_found : (r : Result Manifest ManifestFault) (bytes : Text) → Gives shown r (manifest_in bytes) → IfOk r (λ m. ReadsAs bytes (shown m))
 gives_found (Ok m) bytes h = manifest_found bytes (shown m) h
 gives_found (Err e) bytes h = tt
 
@@ -47,7 +47,7 @@ no_other fault.Subject other = absurd (other (λ is. absurd cc))
 no_other fault.ArtifactType other = absurd (other (λ is. absurd cc))
 no_other fault.Memory other = refl
 
-pub gives_only : (r : Result Manifest ManifestFault) (bytes : Text) → Gives shown r (manifest_in bytes) → (said : ManifestShown) → Reads bytes said → MatchResult r (λ m. shown m ≡ said) (λ e. e ≡ fault.Memory)
+pub gives_only : (r : Result Manifest ManifestFault) (bytes : Text) → Gives shown r (manifest_in bytes) → (said : ManifestShown) → ReadsAs bytes said → MatchResult r (λ m. shown m ≡ said) (λ e. e ≡ fault.Memory)
 gives_only (Ok m) bytes h said reads = let is = manifest_only bytes said reads in cc
 gives_only (Err e) bytes h said reads = no_other e (λ other. let given = h other in let is = manifest_only bytes said reads in absurd cc)
 

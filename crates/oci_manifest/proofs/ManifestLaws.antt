@@ -9,7 +9,7 @@ use Rattle.oci_manifest.specs.declared.fault.ManifestFault.TheVariants as fault
 use Rattle.oci_manifest.specs.Rules.{◌>>=◌, or_fault}
 use Rattle.oci_manifest.specs.Member.{Pairs, optional_text_at, texts_at}
 use Rattle.oci_manifest.specs.Manifest.{document_in, version_of, BodyShown, body_kind, body_of, own_type_of, ContentsShown, contents_of, subject_of, artifact_type_of, ManifestShown, manifest_of, manifest_in}
-use Rattle.oci_manifest.specs.Reads.{Says, Reads}
+use Rattle.oci_manifest.specs.Reads.{Says, ReadsAs}
 use Rattle.oci_manifest.proofs.Parts.{as_object-found, optional_text_found, optional_text_only, texts_found, texts_only}
 use Rattle.oci_manifest.proofs.RuleLaws.{document_found, document_only, version_found, version_only, body_found, body_only, own_type_found, own_type_only, contents_found, contents_only, subject_found, subject_only, type_shown, type_only}
 
@@ -107,12 +107,12 @@ says_only d m s =
     rule_kept fault.ArtifactType (optional_text_at (codes "artifactType") d) (λ x. Ok (finished s.body s.contents m.annotations m.subject x)) s.artifact_type.0 (Ok m)
     (optional_text_only (codes "artifactType") d s.artifact_type.0 s.artifact_type.1) (ap (λ (x : ManifestShown). Ok x) (finished_is d m s)))))))))
 
-pub manifest_found : (bytes : Text) (m : ManifestShown) → manifest_in bytes ≡ Ok m → Reads bytes m
+pub manifest_found : (bytes : Text) (m : ManifestShown) → manifest_in bytes ≡ Ok m → ReadsAs bytes m
 unfolding manifest_in
 manifest_found bytes m h =
     let document = rule_found fault.NotJson (document_in bytes) manifest_of m h in
     record { document = document.0; is_json = document_found bytes document.0 document.1; says = says_found document.0 m document.2 }
 
-pub manifest_only : (bytes : Text) (m : ManifestShown) → Reads bytes m → manifest_in bytes ≡ Ok m
+pub manifest_only : (bytes : Text) (m : ManifestShown) → ReadsAs bytes m → manifest_in bytes ≡ Ok m
 unfolding manifest_in
 manifest_only bytes m r = rule_kept fault.NotJson (document_in bytes) manifest_of r.document (Ok m) (document_only bytes r.document r.is_json) (says_only r.document m r.says)

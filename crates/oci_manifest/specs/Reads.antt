@@ -128,7 +128,7 @@ pub record Says (d : Data) (m : ManifestShown) : Type 0 where
 abbrev pub IsJson : Text → Data → Type 0
 IsJson bytes d = IsUtf8 bytes × (read bytes ≡ Some d)
 
-pub record Reads (bytes : Text) (m : ManifestShown) : Type 0 where
+pub record ReadsAs (bytes : Text) (m : ManifestShown) : Type 0 where
   pub document : Data
   pub is_json : IsJson bytes document
   pub says : Says document m

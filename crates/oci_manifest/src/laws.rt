@@ -5,7 +5,7 @@
 ghost use Rattle.std.specs.Prelude.{◌≡◌, ◌↔◌, List, ℕ};
 ghost use Rattle.oci_manifest.specs.declared.fault.ManifestFault.{ManifestFault};
 ghost use Rattle.oci_manifest.specs.Manifest.{ManifestShown, manifest_in};
-ghost use Rattle.oci_manifest.specs.Reads.{Reads};
+ghost use Rattle.oci_manifest.specs.Reads.{ReadsAs};
 ghost use Rattle.oci_manifest.specs.FirstFault.{Refuses};
 ghost use Rattle.oci_manifest.specs.Member.{pairs_of, IsInByteOrder};
 
@@ -13,12 +13,12 @@ use std::collections::BTreeMap;
 
 /// What is read of bytes is what they say.
 pub fn found()
-    ensures { (bytes : List ℕ) (m : ManifestShown) → manifest_in bytes ≡ Ok m → Reads bytes m }
+    ensures { (bytes : List ℕ) (m : ManifestShown) → manifest_in bytes ≡ Ok m → ReadsAs bytes m }
 {}
 
 /// What bytes say is read: no rule refuses more.
 pub fn only()
-    ensures { (bytes : List ℕ) (m : ManifestShown) → Reads bytes m → manifest_in bytes ≡ Ok m }
+    ensures { (bytes : List ℕ) (m : ManifestShown) → ReadsAs bytes m → manifest_in bytes ≡ Ok m }
 {}
 
 /// A fault is named exactly where it is that of the first rule that the bytes break.

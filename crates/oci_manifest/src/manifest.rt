@@ -5,7 +5,7 @@ ghost use Rattle.serde_json.specs.View.{view};
 ghost use Rattle.oci_manifest.specs.Part.{Finds};
 ghost use Rattle.oci_manifest.specs.Rules.{Gives};
 ghost use Rattle.oci_manifest.specs.Manifest.{document_in, version_of, own_type_of, subject_of, artifact_type_of, ManifestShown, shown, manifest_of, manifest_in};
-ghost use Rattle.oci_manifest.specs.Reads.{Reads};
+ghost use Rattle.oci_manifest.specs.Reads.{ReadsAs};
 ghost use Rattle.oci_manifest.specs.FirstFault.{Refuses};
 
 use crate::body::{read_body, read_contents};
@@ -140,8 +140,8 @@ fn read_rules(alloc: Global, value: &Value) -> Result<Manifest, ManifestFault>
 #[tactic(auto, unfolding(crate::specs::Manifest::manifest_in))]
 pub fn read_manifest(alloc: Global, bytes: &[u8]) -> Result<Manifest, ManifestFault>
     ensures exact { Gives shown result (manifest_in bytes.now) }
-    ensures found { IfOk result (λ m. Reads bytes.now (shown m)) }
-    ensures only { (said : ManifestShown) → Reads bytes.now said
+    ensures found { IfOk result (λ m. ReadsAs bytes.now (shown m)) }
+    ensures only { (said : ManifestShown) → ReadsAs bytes.now said
         → MatchResult result (λ m. shown m ≡ said) (λ fault. fault ≡ ManifestFault.Memory) }
     ensures first_fault { IfErr result (λ fault. fault ≢ ManifestFault.Memory → Refuses bytes.now fault) }
 {

@@ -5,13 +5,13 @@ use Rattle.oci_names.specs.declared.fault.NameFault.{NameFault}
 use Rattle.oci_names.specs.declared.fault.NameFault.TheVariants.{Memory}
 
 -- The text itself where the test has it, or want of memory there; and else the fault.
-abbrev pub Reads : Result Text NameFault → Text → Bool → NameFault → Type 0
-Reads result t test fault = MatchResult result
+abbrev pub ReadsWord : Result Text NameFault → Text → Bool → NameFault → Type 0
+ReadsWord result t test fault = MatchResult result
     (λ v. (v ≡ t) × (test ≡ true))
     (λ e. ((e ≡ Memory) × (test ≡ true)) ⊎ ((e ≡ fault) × (test ≡ false)))
 
 -- It gives one where the grammar has the text, and the fault exactly where it has not.
-abbrev pub ReadsBy : {T : Type 0} → Result T NameFault → Type 0 → NameFault → Type 0
-ReadsBy result grammar fault = MatchResult result
+abbrev pub ReadsWordBy : {T : Type 0} → Result T NameFault → Type 0 → NameFault → Type 0
+ReadsWordBy result grammar fault = MatchResult result
     (λ _. grammar)
     (λ e. ((e ≡ Memory) × grammar) ⊎ ((e ≡ fault) × ¬ grammar))

@@ -1,6 +1,6 @@
 //! References to manifests.
 ghost use Rattle.std.specs.Prelude.{◌≡◌};
-ghost use Rattle.oci_names.specs.Reading.{ReadsBy};
+ghost use Rattle.oci_names.specs.Reading.{ReadsWordBy};
 
 use crate::{Digest, NameFault, Tag};
 use std::alloc::Global;
@@ -19,7 +19,7 @@ impl Reference {
     /// The reference that the text is. `NameFault::Reference` where it is neither a tag nor a digest.
     pub fn parse(alloc: Global, text: &str) -> Result<Reference, NameFault>
         ensures read { ReadsReference result text.now }
-        ensures grammar { ReadsBy result (IsReference text.now) NameFault.Reference }
+        ensures grammar { ReadsWordBy result (IsReference text.now) NameFault.Reference }
     {
         match Tag::parse(alloc, text) {
             Ok(tag) => return Ok(Reference::Tag(tag)),

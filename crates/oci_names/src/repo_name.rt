@@ -1,6 +1,6 @@
 //! Repository names.
 ghost use Rattle.std.specs.Prelude.{◌≡◌, ◌↔◌, true, IsTrue};
-ghost use Rattle.oci_names.specs.Reading.{Reads, ReadsBy};
+ghost use Rattle.oci_names.specs.Reading.{ReadsWord, ReadsWordBy};
 ghost use Rattle.oci_names.specs.RepoName.{IsRepoName, is_repo_name, is_path, place_after, is_end};
 
 use crate::{NameFault, byte};
@@ -86,8 +86,8 @@ impl Model for RepoName {
 impl RepoName {
     /// The name that the text is. `NameFault::Name` where it is none.
     pub fn parse(alloc: Global, text: &str) -> Result<RepoName, NameFault>
-        ensures read { Reads result text.now (is_repo_name text.now) NameFault.Name }
-        ensures grammar { ReadsBy result (IsRepoName text.now) NameFault.Name }
+        ensures read { ReadsWord result text.now (is_repo_name text.now) NameFault.Name }
+        ensures grammar { ReadsWordBy result (IsRepoName text.now) NameFault.Name }
     {
         if !is_name(text) {
             return Err(NameFault::Name);

@@ -1,7 +1,7 @@
 //! Tags.
 ghost use Rattle.std.specs.Prelude.{◌≡◌, ◌↔◌, true, IsTrue};
 ghost use Rattle.std.specs.List.{list_all};
-ghost use Rattle.oci_names.specs.Reading.{Reads, ReadsBy};
+ghost use Rattle.oci_names.specs.Reading.{ReadsWord, ReadsWordBy};
 ghost use Rattle.oci_names.specs.Tag.{IsTag, is_tag, are_tag_characters, is_tag_start, is_tag_character};
 
 use crate::{NameFault, byte};
@@ -68,8 +68,8 @@ impl Model for Tag {
 impl Tag {
     /// The tag that the text is. `NameFault::Tag` where it is none.
     pub fn parse(alloc: Global, text: &str) -> Result<Tag, NameFault>
-        ensures read { Reads result text.now (is_tag text.now) NameFault.Tag }
-        ensures grammar { ReadsBy result (IsTag text.now) NameFault.Tag }
+        ensures read { ReadsWord result text.now (is_tag text.now) NameFault.Tag }
+        ensures grammar { ReadsWordBy result (IsTag text.now) NameFault.Tag }
     {
         if !is_tag_text(text) {
             return Err(NameFault::Tag);

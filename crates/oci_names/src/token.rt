@@ -1,6 +1,6 @@
 //! Tokens.
 ghost use Rattle.std.specs.Prelude.{◌≡◌, ◌↔◌, true, IsTrue};
-ghost use Rattle.oci_names.specs.Reading.{Reads, ReadsBy};
+ghost use Rattle.oci_names.specs.Reading.{ReadsWord, ReadsWordBy};
 ghost use Rattle.oci_names.specs.Token.{IsToken, is_token, is_b64token, is_token_character, place_after, is_end};
 
 use crate::{NameFault, byte};
@@ -81,8 +81,8 @@ impl Model for Token {
 impl Token {
     /// The token that the text is. `NameFault::Token` where it is none.
     pub fn parse(alloc: Global, text: &str) -> Result<Token, NameFault>
-        ensures read { Reads result text.now (is_token text.now) NameFault.Token }
-        ensures grammar { ReadsBy result (IsToken text.now) NameFault.Token }
+        ensures read { ReadsWord result text.now (is_token text.now) NameFault.Token }
+        ensures grammar { ReadsWordBy result (IsToken text.now) NameFault.Token }
     {
         if !is_token_text(text) {
             return Err(NameFault::Token);

@@ -13,25 +13,26 @@ mod tests;
 mod word_tests;
 
 use registry_orders::Failure;
+use registry_orders::failure::say;
 use sqlite::Unknown;
 use std::env;
 use std::process::ExitCode;
 
+/// The words behind the program's name; none for want of memory.
+fn words(rt: &HostRuntime) -> Option<Vec<String>> {
+    env::args(rt).ok()?.skip(1).collect(rt.alloc()).ok()
+}
+
 fn main(rt: HostRuntime) -> ExitCode {
-    let alloc = rt.alloc();
-    let words: Vec<String> = match env::args(&rt) {
-        Ok(args) => match args.skip(1).collect(alloc) {
-            Ok(words) => words,
-            Err(_) => return ExitCode::from(Failure::OutOfMemory.status()),
-        },
-        Err(_) => return ExitCode::from(Failure::OutOfMemory.status()),
+    let status = match words(&rt) {
+        Some(words) => files::run::<Unknown, _, _, _, _>(
+            &rt,
+            words.as_slice(),
+            &mut rt.stdin(),
+            &mut rt.stdout(),
+            &mut rt.stderr(),
+        ),
+        None => say(&mut rt.stderr(), Failure::OutOfMemory),
     };
-    let status = files::run::<Unknown, _, _, _, _>(
-        &rt,
-        words.as_slice(),
-        &mut rt.stdin(),
-        &mut rt.stdout(),
-        &mut rt.stderr(),
-    );
     ExitCode::from(status)
 }

@@ -1,5 +1,5 @@
 use anyhow::{Result, bail};
-use oci_names::{RepoName, Token};
+use oci_names::{Fault, RepoName, Token};
 use registry_model::{AdminCommand, AdminFault, Keeper, Level, Quota};
 use registry_service::Service;
 use std::alloc::Global;
@@ -42,12 +42,16 @@ pub fn carry_out<K: Keeper>(
 }
 
 /// How many bytes a repository uses.
-pub fn used<K: Keeper>(alloc: Global, keeper: &mut K, name: &str) -> Result<u64> {
+pub fn used<K: Keeper>(
+    alloc: Global,
+    keeper: &mut K,
+    name: &str,
+) -> Result<Result<u64, Fault>> {
     let name = name_of(alloc, name)?;
-    match keeper.usage(&name) {
+    Ok(match keeper.usage(&name) {
         Ok(usage) => Ok(usage.used),
-        Err(_) => bail!("the usage is not told"),
-    }
+        Err(fault) => Err(fault),
+    })
 }
 
 fn name_of(alloc: Global, text: &str) -> Result<RepoName> {

@@ -2,20 +2,26 @@ use crate::book::{Asked, Book, Section, Step};
 use crate::commands::{carry_out, used};
 use crate::difference::first_difference;
 use crate::documents::{fault_in, reading_of};
+use crate::patience::Patience;
 use crate::requests::Request;
 use crate::texts::reading_by;
-use anyhow::{Context, Result, bail};
+use anyhow::{Context, Result};
 use registry_http::serve_connection;
 use registry_maps::MapKeeper;
 use registry_model::Keeper;
 use registry_service::Service;
-use registry_store::Store;
+use registry_store::{OpenFault, Store};
 use std::alloc::Global;
 use std::str;
 
 /// Where the answers over ordered maps differ from those that the example wants.
-pub fn differs_over_maps(alloc: Global, book: &Book, example: &Section) -> Result<Option<String>> {
-    differs(alloc, MapKeeper::new(alloc), book, example)
+pub fn differs_over_maps(
+    alloc: Global,
+    book: &Book,
+    example: &Section,
+    patience: Patience,
+) -> Result<Option<String>> {
+    differs(alloc, MapKeeper::new(alloc), book, example, patience)
 }
 
 /// Where the answers over the tables of a database in memory differ from them.
@@ -23,10 +29,15 @@ pub fn differs_over_tables(
     alloc: Global,
     book: &Book,
     example: &Section,
+    patience: Patience,
 ) -> Result<Option<String>> {
-    match Store::memory(alloc) {
-        Ok(keeper) => differs(alloc, keeper, book, example),
-        Err(_) => bail!("no store is made"),
+    let made = match Store::memory(alloc) {
+        Err(OpenFault::Memory) => Store::memory(alloc),
+        made => made,
+    };
+    match made {
+        Ok(keeper) => differs(alloc, keeper, book, example, patience),
+        Err(_) => Ok(Some(String::from_str(alloc, "no store is made")?)),
     }
 }
 
@@ -36,18 +47,19 @@ fn differs<K: Keeper + Drop>(
     keeper: K,
     book: &Book,
     example: &Section,
+    patience: Patience,
 ) -> Result<Option<String>> {
     let mut registry = Service::new(keeper);
     for place in example.settings.iter() {
         if let Some(setting) = book.sections.get(*place) {
-            let (played, difference) = play(alloc, registry, setting)?;
+            let (played, difference) = play(alloc, registry, setting, patience)?;
             if difference.is_some() {
                 return Ok(difference);
             }
             registry = played;
         }
     }
-    let (_, difference) = play(alloc, registry, example)?;
+    let (_, difference) = play(alloc, registry, example, patience)?;
     Ok(difference)
 }
 
@@ -56,14 +68,20 @@ fn play<K: Keeper + Drop>(
     alloc: Global,
     mut registry: Service<K>,
     section: &Section,
+    patience: Patience,
 ) -> Result<(Service<K>, Option<String>)> {
     let file = section.file.as_str();
     for step in section.steps.iter() {
         let line = step.line;
-        let (played, answer) = answered(alloc, registry, &step.asked).context(format_args!(
+        let (played, mut answer) = answered(alloc, registry, &step.asked).context(format_args!(
             "{file}:{line}"
         ))?;
         registry = played;
+        if patience.asks_again(&step.asked, &answer) {
+            let (played, again) = answered(alloc, registry, &step.asked)?;
+            registry = played;
+            answer = again;
+        }
         if let Some(difference) = compared(alloc, step, &answer)? {
             let text = format!(in alloc; "{file}:{line}, {difference}")?;
             return Ok((registry, Some(text)));
@@ -74,10 +92,13 @@ fn play<K: Keeper + Drop>(
 
 /// What is answered: the bytes, and how the connection ends.
 #[derive(Drop)]
-struct Answer {
-    bytes: Vec<u8>,
-    end: String,
+pub struct Answer {
+    pub bytes: Vec<u8>,
+    pub end: String,
 }
+
+/// Room for the answers of most connections, so that writing them takes no memory.
+const ROOM: usize = 65_536;
 
 /// Asks, and gives the registry back with the answer.
 fn answered<K: Keeper + Drop>(
@@ -118,7 +139,7 @@ fn served<K: Keeper>(
     for request in requests {
         request.write_to(alloc, &mut input)?;
     }
-    let mut bytes = Vec::new(alloc);
+    let mut bytes = Vec::with_capacity(alloc, ROOM)?;
     let end = serve_connection(alloc, registry, &mut input.as_slice(), &mut bytes);
     let end = format!(in alloc; "{end:?}")?;
     Ok(Answer { bytes, end })
@@ -134,8 +155,10 @@ fn commanded<K: Keeper + Drop>(
     let words: Vec<&str> = command.split(' ').collect(alloc)?;
     if let ["usage", name] = words.as_slice() {
         let mut keeper = registry.into_keeper();
-        let number = used(alloc, &mut keeper, name)?;
-        let text = format!(in alloc; "{number} bytes\r\n")?;
+        let text = match used(alloc, &mut keeper, name)? {
+            Ok(number) => format!(in alloc; "{number} bytes\r\n")?,
+            Err(fault) => format!(in alloc; "{fault:?}\r\n")?,
+        };
         return Ok((Service::new(keeper), text));
     }
     let text = match carry_out(alloc, &mut registry, words.as_slice())? {

@@ -16,7 +16,7 @@ use Rattle.registry_http.specs.Framing.{framing}
 use Rattle.registry_http.specs.Expecting.{continue_if, text_before, IsBefore}
 use Rattle.registry_http.specs.Spelling.{Item, IsRequest, IsRefused, IsCut, HeadIsCut, HeadIsUnreadable, BodyIsCut, BodyIsRefused, closes, print_item, Ends, Then, Spells, Front}
 use Rattle.registry_http.specs.ReplyText.{refusal_text}
-use Rattle.registry_http.specs.Serving.{reply_for, Replies, Run, joined, end_text, Traffic, Leftover, Answers, StopsForMemory, InHand, StopsAtWrite, StopsAtRead, Gave, Serves}
+use Rattle.registry_http.specs.Serving.{reply_for, Replies, Run, joined, end_text, Traffic, Leftover, Answers, StopsForMemory, InHand, replying, refusing, continuing, StopsAtWrite, StopsAtRead, Gave, Serves}
 use Rattle.registry_http.specs.Reading.{Pulls, HeadIsRead, HeadIsReady, HeadStops}
 use Rattle.registry_http.specs.declared.intake.Ready.{Ready}
 use Rattle.registry_http.specs.Taking.{EndsFrom}
@@ -225,7 +225,7 @@ module _ (b before : Text) (t : Traffic) (p : Progress b before t) where
   memory_serves Cut r l w is none s = absurd s
   memory_serves ReadFailed r l w is none s = absurd s
   memory_serves (WriteFailed n) r l w is none s =
-      stops (refusal_text r) n l w t.state' (λ tail. inr (inl (r, refl, inr (none, is tail), p.run))) s.0 s.1
+      stops (refusal_text r) n l w t.state' (λ tail. refusing r refl (inr (none, is tail)) p.run) s.0 s.1
   memory_serves (Refused q) r l w is none s = no_memory q l w is (s.0 ∙ none) (subst (λ k. Appends t.held' w (refusal_text k)) (sym s.0) s.1)
 
   -- a refusal was sent, whole or in part
@@ -235,7 +235,7 @@ module _ (b before : Text) (t : Traffic) (p : Progress b before t) where
   refuse_serves Cut r w h s = absurd s
   refuse_serves ReadFailed r w h s = absurd s
   refuse_serves (WriteFailed n) r w h s =
-      stops (refusal_text r) n t.left' w t.state' (λ tail. inr (inl (r, refl, inl (h tail), p.run))) s.0 s.1
+      stops (refusal_text r) n t.left' w t.state' (λ tail. refusing r refl (inl (h tail)) p.run) s.0 s.1
   refuse_serves (Refused q) r w h s =
       refused q w (subst (λ k. (tail : Text) → IsRefused (b ++ tail) k × IsBefore (b ++ tail) before) (sym s.0) h) (subst (λ k. Appends t.held' w (refusal_text k)) (sym s.0) s.1)
 
@@ -273,20 +273,14 @@ module _ (b before : Text) (t : Traffic) (p : Progress b before t) where
     pub reply_cut : (n : ℕ) → n < length (reply_for i a) → Appends t.held' w (take n (reply_for i a)) → Serves (WriteFailed n) (record t { held' = w; state' = s })
     reply_cut n short sent =
         stops (reply_for i a) n t.left' w s
-        (λ tail. inl (
-          i,
-          behind ++ tail,
-          ap (λ y. y ++ tail) begins ∙ append_assoc (print_item i) behind tail,
-          request,
-          same,
-          Run-more _ p.items p.texts _ i (before ++ reply_for i a) s p.run replies,
-        )) short sent
+        (λ tail. replying i (behind ++ tail) (ap (λ y. y ++ tail) begins ∙ append_assoc (print_item i) behind tail)
+            request same (Run-more _ p.items p.texts _ i (before ++ reply_for i a) s p.run replies)) short sent
 
 -- what stands before the body goes out in part
 pub continue_cut : (b : Text) (t : Traffic) (p : Progress b [] t) (text : Text) (w : Option Text) (n : ℕ) → ((tail : Text) → IsBefore (b ++ tail) text)
     → n < length text → Appends t.held' w (take n text) → Serves (WriteFailed n) (record t { held' = w })
 continue_cut b t p text w n is short sent =
-    stops b [] t p text n t.left' w t.state' (λ tail. inr (inr (refl, is tail, p.run))) short sent
+    stops b [] t p text n t.left' w t.state' (λ tail. continuing refl (is tail) p.run) short sent
 
 -- ---- there is no further request
 

@@ -10,7 +10,7 @@ use Rattle.registry_http.specs.declared.ending.FramingRefusal.{FramingRefusal}
 use Rattle.registry_http.specs.declared.ending.FramingRefusal.TheVariants.{NoBufferMemory}
 use Rattle.registry_http.specs.declared.ending.End.{End}
 use Rattle.registry_http.specs.declared.ending.End.TheVariants.{Closed, Cut, Refused, ReadFailed, WriteFailed}
-use Rattle.registry_http.specs.Serving.{Run, Traffic, Answers, StopsForMemory, InHand, Serves, of_hand, of_refusal, of_broken, served}
+use Rattle.registry_http.specs.Serving.{Run, Traffic, Answers, StopsForMemory, InHand, replying, refusing, continuing, Serves, of_hand, of_refusal, of_broken, served}
 use Rattle.registry_http.specs.Privacy.{step_of, texts_of, IsPrivateRun}
 
 -- answers whose texts these are, and which the steps come to
@@ -48,9 +48,9 @@ runs_join s (i ∷ items) (text ∷ texts) mid more others s' r q = (r.0, r.1, r
 
 hand_runs : (rest before text : Text) (t : Traffic) (items : List Item) (texts : List Text) (h : InHand rest before text t items texts)
     → Run t.state (of_hand rest before text t items texts h).0 (of_hand rest before text t items texts h).1 t.state'
-hand_runs rest before text t items texts (inl h) = h.5
-hand_runs rest before text t items texts (inr (inl h)) = h.3
-hand_runs rest before text t items texts (inr (inr h)) = h.2
+hand_runs rest before text t items texts (replying i rest' e q same run) = run
+hand_runs rest before text t items texts (refusing r e why run) = run
+hand_runs rest before text t items texts (continuing none is run) = run
 
 refusal_runs : (b : Text) (r : FramingRefusal) (t : Traffic) (h : Answers b (Refused r) t ⊎ ((r ≡ NoBufferMemory) × StopsForMemory b t))
     → Run t.state (of_refusal b r t h).0 (of_refusal b r t h).1 t.state'

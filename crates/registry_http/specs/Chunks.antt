@@ -5,6 +5,7 @@ use Rattle.std.specs.List.{flat_map}
 use Rattle.httparse.specs.Grammar.{ChunkLine, print_chunk_line, IsChunkLine, ReadsChunkLine, HasNoChunkLine, NeverHasChunkLine, MayBecomeChunkLine, chunk_size, Field, IsField, LineEnd, print_section, ReadsSection, HasNoSection, NeverHasSection, MayBecomeSection}
 use Rattle.oci_names.specs.Text.{Text}
 use Rattle.registry_model.specs.Limits.{largest_blob}
+use Rattle.registry_http.specs.Limits.{longest_head, most_fields, longest_chunk_line}
 use Rattle.registry_http.specs.declared.ending.FramingRefusal.{FramingRefusal}
 use Rattle.registry_http.specs.declared.ending.FramingRefusal.TheVariants.{UnreadableChunk, ChunksTooLarge}
 
@@ -14,18 +15,20 @@ limit = largest_blob
 
 -- ---- the line of a chunk
 
--- b begins with a chunk line of at most 1,024 bytes
+-- b begins with a chunk line that is not too long
 pub record BeginsWithLine (b : Text) (l : ChunkLine) (rest : Text) : Type 0 where
   pub reads : ReadsChunkLine b l rest
-  pub short : length (print_chunk_line l) ≤ 1024
+  pub short : length (print_chunk_line l) ≤ longest_chunk_line
 
--- the first 1,024 bytes hold no chunk line, or never will
+-- as many bytes as a chunk line may have hold none, or never will
 abbrev pub HoldsNoLine : Text → Type 0
-HoldsNoLine b = ((1024 ≤ length b) × HasNoChunkLine (take 1024 b)) ⊎ NeverHasChunkLine (take 1024 b)
+HoldsNoLine b =
+    ((longest_chunk_line ≤ length b) × HasNoChunkLine (take longest_chunk_line b))
+    ⊎ NeverHasChunkLine (take longest_chunk_line b)
 
 -- no whole line stands there, and more bytes can make it one
 abbrev pub LineIsCut : Text → Type 0
-LineIsCut b = (length b < 1024) × HasNoChunkLine b × MayBecomeChunkLine b
+LineIsCut b = (length b < longest_chunk_line) × HasNoChunkLine b × MayBecomeChunkLine b
 
 abbrev pub LineIsRefused : Text → FramingRefusal → Type 0
 LineIsRefused b r = (r ≡ UnreadableChunk) × HoldsNoLine b
@@ -70,14 +73,14 @@ data_of cs = flat_map (λ c. c.carried) cs
 
 pub record IsChunk (c : Chunk) : Type 0 where
   pub line : IsChunkLine c.line
-  pub short : length (print_chunk_line c.line) ≤ 1024
+  pub short : length (print_chunk_line c.line) ≤ longest_chunk_line
   pub some : 0 < length c.carried
   pub sized : chunk_size c.line ≡ length c.carried
 
 -- the line that ends the chunks
 pub record IsLast (l : ChunkLine) : Type 0 where
   pub line : IsChunkLine l
-  pub short : length (print_chunk_line l) ≤ 1024
+  pub short : length (print_chunk_line l) ≤ longest_chunk_line
   pub zero : chunk_size l ≡ 0
 
 -- ---- where a chunk cannot be read, behind chunks of so many bytes
@@ -120,21 +123,21 @@ SomeChunkIsRefused b r = BehindChunks (λ total rest. ChunkIsRefused total rest 
 
 -- ---- the trailer
 
--- b begins with a trailer of at most 16,384 bytes
+-- b begins with a trailer that is not too long
 pub record BeginsWithTrailer (b : Text) (fields : List Field) (last : LineEnd) (rest : Text) : Type 0 where
   pub reads : ReadsSection b fields last rest
-  pub short : length (print_section fields last) ≤ 16384
+  pub short : length (print_section fields last) ≤ longest_head
 
--- the first 16,384 bytes hold no trailer, or never will, or one of more than 64 fields
+-- as many bytes as a trailer may have hold none, or never will, or one of too many fields
 abbrev pub HoldsNoTrailer : Text → Type 0
 HoldsNoTrailer b =
-    (((16384 ≤ length b) × HasNoSection (take 16384 b)) ⊎ NeverHasSection (take 16384 b))
+    (((longest_head ≤ length b) × HasNoSection (take longest_head b)) ⊎ NeverHasSection (take longest_head b))
     ⊎ ((fields : List Field) × (last : LineEnd) × (rest : Text) × BeginsWithTrailer b fields last rest
-    × (64 < length fields))
+    × (most_fields < length fields))
 
 -- no whole trailer stands there, and more bytes can make it one
 abbrev pub TrailerIsCut : Text → Type 0
-TrailerIsCut b = (length b < 16384) × HasNoSection b × MayBecomeSection b
+TrailerIsCut b = (length b < longest_head) × HasNoSection b × MayBecomeSection b
 
 abbrev pub TrailerIsRefused : Text → FramingRefusal → Type 0
 TrailerIsRefused b r = (r ≡ UnreadableChunk) × HoldsNoTrailer b
@@ -159,8 +162,8 @@ pub record IsChunkedBody (b : ChunkedBody) : Type 0 where
   pub within : length (data_of b.chunks) ≤ limit
   pub zero : IsLast b.zero
   pub fields : All IsField b.fields
-  pub few : length b.fields ≤ 64
-  pub short : length (print_section b.fields b.last) ≤ 16384
+  pub few : length b.fields ≤ most_fields
+  pub short : length (print_section b.fields b.last) ≤ longest_head
 
 -- chunks, within the limit, the line that ends them, and a rest of which P holds
 pub record BehindLast (P : Text → Type 0) (b : Text) : Type 0 where

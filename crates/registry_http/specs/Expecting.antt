@@ -3,6 +3,7 @@ use Rattle.std.specs.Prelude.{◌≡◌, ℕ, ◌≤◌, ◌⊎◌, ◌==◌, Bo
 use Rattle.std.specs.Str.{str_eq_ignore_ascii_case}
 use Rattle.httparse.specs.Grammar.{RequestHead}
 use Rattle.oci_names.specs.Text.{Text}
+use Rattle.registry_http.specs.Limits.{most_fields}
 use Rattle.registry_http.specs.Fields.{NamedValue, fields_of, values, first}
 use Rattle.registry_http.specs.Framing.{framing}
 use Rattle.registry_http.specs.Spelling.{BeginsWithHead}
@@ -38,5 +39,6 @@ text_before h = continue_if (awaits_by h.minor (fields_of h) (framing h))
 abbrev pub IsBefore : Text → Text → Type 0
 IsBefore b text =
     ((h : RequestHead) × (rest : Text) × BeginsWithHead b h rest
-    × (length h.fields ≤ 64) × (text ≡ text_before h))
-    ⊎ (((h : RequestHead) (rest : Text) → BeginsWithHead b h rest → length h.fields ≤ 64 → ⊥) × (text ≡ []))
+    × (length h.fields ≤ most_fields) × (text ≡ text_before h))
+    ⊎ (((h : RequestHead) (rest : Text) → BeginsWithHead b h rest → length h.fields ≤ most_fields → ⊥)
+    × (text ≡ []))

@@ -1,4 +1,5 @@
 pub use Rattle.registry_model.specs.Doing
+pub mod Limits
 pub mod Refusals
 pub mod Fields
 pub mod Framing

@@ -6,6 +6,7 @@ use Rattle.httparse.specs.Spans.{span_bytes, IsWithin, IsHeaderWithin, header_by
 use Rattle.httparse.specs.declared.spans.HeaderSpan.{HeaderSpan}
 use Rattle.httparse.specs.declared.spans.RequestSpans.{RequestSpans}
 use Rattle.oci_names.specs.Text.{Text}
+use Rattle.registry_http.specs.Limits.{longest_head, most_fields}
 use Rattle.registry_http.specs.Fields.{fields_of, closes_by}
 use Rattle.registry_http.specs.Framing.{framing}
 use Rattle.registry_http.specs.Spelling.{Item, IsRequest, closes, HoldsNoHead, HeadIsCut, HeadIsUnreadable}
@@ -39,7 +40,7 @@ pub record HeadIsRead (buffer : Text) (headers : List HeaderSpan) (spans : Reque
   pub head : IsRequestHead h
   pub begins : buffer ≡ print_request h ++ drop spans.len buffer
   pub len : spans.len ≡ length (print_request h)
-  pub short : spans.len ≤ 16384
+  pub short : spans.len ≤ longest_head
   pub within : spans.len ≤ length buffer
   pub count : spans.headers ≡ length h.fields
   pub room : spans.headers ≤ length headers
@@ -50,7 +51,7 @@ pub record HeadIsRead (buffer : Text) (headers : List HeaderSpan) (spans : Reque
 abbrev pub Parses : Parsed → Text → List HeaderSpan → Type 0
 Parses (Whole spans) buffer headers = (h : RequestHead) × HeadIsRead buffer headers spans h
 Parses NotYet buffer headers =
-    (length buffer < 16384) × HasNoRequest buffer × MayBecomeRequest buffer
+    (length buffer < longest_head) × HasNoRequest buffer × MayBecomeRequest buffer
 Parses Never buffer headers = (tail : Text) → HoldsNoHead (buffer ++ tail)
 
 -- ---- reading
@@ -102,7 +103,7 @@ pub record HeadIsReady (old new : Text) (left left' : Option Text) (headers : Li
     (ready : Ready) (h : RequestHead) : Type 0 where
   pub pulls : Pulls old new left left'
   pub read : HeadIsRead new headers ready.spans h
-  pub few : ready.spans.headers ≤ 64
+  pub few : ready.spans.headers ≤ most_fields
   pub framed : ready.framing ≡ framing h
   pub closes : ready.closes ≡ closes_by h.minor (fields_of h)
   pub awaits : ready.awaits ≡ awaits_by h.minor (fields_of h) (framing h)

@@ -85,17 +85,24 @@ pub record StopsForMemory (b : Text) (t : Traffic) : Type 0 where
   pub run : Run t.state items texts t.state'
   pub written : Appends t.held t.held' (joined texts ++ (before ++ refusal_text NoBufferMemory))
 
--- the text in hand, with what was written before it of the same request: of a request that was answered by
--- it; of a refusal; or that before a body, which was not read then
-abbrev pub InHand : Text → Text → Text → Traffic → List Item → List Text → Type 0
-InHand rest before text t items texts =
-    ((i : Item) × (rest' : Text) × (rest ≡ print_item i ++ rest') × IsRequest i
-    × (before ≡ text_before i.head) × Run t.state (items ++ i ∷ []) (texts ++ (before ++ text) ∷ []) t.state')
-    ⊎ (((r : FramingRefusal) × (text ≡ refusal_text r)
-    × ((IsRefused rest r × IsBefore rest before)
-    ⊎ ((r ≡ NoBufferMemory) × ((before ≡ []) ⊎ IsBefore rest before)))
-    × Run t.state items texts t.state')
-    ⊎ ((before ≡ []) × IsBefore rest text × Run t.state items texts t.state'))
+-- behind so much of a request's text a refusal is written: the request is refused, or memory is wanting
+abbrev pub IsRefusedBehind : Text → Text → FramingRefusal → Type 0
+IsRefusedBehind rest before r =
+    (IsRefused rest r × IsBefore rest before)
+    ⊎ ((r ≡ NoBufferMemory) × ((before ≡ []) ⊎ IsBefore rest before))
+
+-- the text in hand, with what was written before it of the same request
+pub data InHand (rest before text : Text) (t : Traffic) (items : List Item) (texts : List Text) : Type 0 where
+  -- the reply of a request that was answered by it
+  replying : (i : Item) → (rest' : Text) → rest ≡ print_item i ++ rest' → IsRequest i
+      → before ≡ text_before i.head → Run t.state (items ++ i ∷ []) (texts ++ (before ++ text) ∷ []) t.state'
+      → InHand rest before text t items texts
+  -- a refusal's
+  refusing : (r : FramingRefusal) → text ≡ refusal_text r → IsRefusedBehind rest before r
+      → Run t.state items texts t.state' → InHand rest before text t items texts
+  -- what stands before a body, which was not read then
+  continuing : before ≡ [] → IsBefore rest text → Run t.state items texts t.state'
+      → InHand rest before text t items texts
 
 -- a write failed: the texts before went out whole, and of the text in hand the first n bytes
 pub record StopsAtWrite (b : Text) (n : ℕ) (t : Traffic) : Type 0 where
@@ -132,8 +139,10 @@ Serves (WriteFailed n) t = Gave t.left (λ b. StopsAtWrite b n t)
 
 abbrev pub of_hand : (rest before text : Text) (t : Traffic) (items : List Item) (texts : List Text)
     → InHand rest before text t items texts → List Item × List Text
-of_hand rest before text t items texts (inl h) = (items ++ h.0 ∷ [], texts ++ (before ++ text) ∷ [])
-of_hand rest before text t items texts (inr h) = (items, texts)
+of_hand rest before text t items texts (replying i _ _ _ _ _) =
+    (items ++ i ∷ [], texts ++ (before ++ text) ∷ [])
+of_hand rest before text t items texts (refusing _ _ _ _) = (items, texts)
+of_hand rest before text t items texts (continuing _ _ _) = (items, texts)
 
 abbrev pub of_refusal : (b : Text) (r : FramingRefusal) (t : Traffic)
     → Answers b (Refused r) t ⊎ ((r ≡ NoBufferMemory) × StopsForMemory b t) → List Item × List Text

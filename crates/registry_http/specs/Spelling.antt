@@ -3,6 +3,7 @@
 use Rattle.std.specs.Prelude.{◌≡◌, ◌<◌, ◌≤◌, ◌⊎◌, Bool, true, false, List, [], ◌∷◌, ◌++◌, length, take}
 use Rattle.httparse.specs.Grammar.{RequestHead, print_request, IsRequestHead, ReadsRequest, HasNoRequest, NeverHasRequest, EndsInTarget, MayBecomeRequest}
 use Rattle.oci_names.specs.Text.{Text}
+use Rattle.registry_http.specs.Limits.{longest_head, most_fields}
 use Rattle.registry_http.specs.Fields.{fields_of, closes_by}
 use Rattle.registry_http.specs.Framing.{framing}
 use Rattle.registry_http.specs.Chunks.{ChunkedBody, IsChunkedBody, print_body, data_of, ChunksAreCut, ChunksAreRefused}
@@ -31,8 +32,8 @@ IsBody (framed.Refused r) coded body = ⊥
 -- the head is in the grammar and within the limits, and the body is framed as the head says
 pub record IsRequest (i : Item) : Type 0 where
   pub head : IsRequestHead i.head
-  pub short : length (print_request i.head) ≤ 16384
-  pub few : length i.head.fields ≤ 64
+  pub short : length (print_request i.head) ≤ longest_head
+  pub few : length i.head.fields ≤ most_fields
   pub body : IsBody (framing i.head) i.coded i.body
 
 -- the bytes of a request
@@ -45,10 +46,10 @@ closes i = closes_by i.head.minor (fields_of i.head)
 
 -- ---- the end
 
--- b begins with a head of at most 16,384 bytes
+-- b begins with a head that is not too long
 pub record BeginsWithHead (b : Text) (h : RequestHead) (rest : Text) : Type 0 where
   pub reads : ReadsRequest b h rest
-  pub short : length (print_request h) ≤ 16384
+  pub short : length (print_request h) ≤ longest_head
 
 abbrev pub BodyIsCut : Framing → Text → Type 0
 BodyIsCut (framed.Length n) b = length b < n
@@ -60,33 +61,35 @@ BodyIsRefused (framed.Length n) b r = ⊥
 BodyIsRefused framed.Chunked b r = ChunksAreRefused b r
 BodyIsRefused (framed.Refused s) b r = r ≡ s
 
--- the first 16,384 bytes hold no whole head, or never will
+-- as many bytes as a head may have hold no whole one, or never will
 abbrev pub HoldsNoHead : Text → Type 0
-HoldsNoHead b = ((16384 ≤ length b) × HasNoRequest (take 16384 b)) ⊎ NeverHasRequest (take 16384 b)
+HoldsNoHead b =
+    ((longest_head ≤ length b) × HasNoRequest (take longest_head b)) ⊎ NeverHasRequest (take longest_head b)
 
--- no head, or one of more than 64 fields
+-- no head, or one of too many fields
 abbrev pub HeadIsUnreadable : Text → Type 0
 HeadIsUnreadable b =
-    HoldsNoHead b ⊎ ((h : RequestHead) × (rest : Text) × BeginsWithHead b h rest × (64 < length h.fields))
+    HoldsNoHead b
+    ⊎ ((h : RequestHead) × (rest : Text) × BeginsWithHead b h rest × (most_fields < length h.fields))
 
 -- no whole head stands there, and more bytes can make it one; or it ends in a target, of which only its end
 -- tells whether it is text
 abbrev pub HeadIsCut : Text → Type 0
-HeadIsCut b = (0 < length b) × (length b < 16384) × HasNoRequest b × MayBecomeRequest b
+HeadIsCut b = (0 < length b) × (length b < longest_head) × HasNoRequest b × MayBecomeRequest b
 
 -- the input ends inside a request that is not refused
 abbrev pub IsCut : Text → Type 0
 IsCut b =
     HeadIsCut b
     ⊎ ((h : RequestHead) × (rest : Text) × BeginsWithHead b h rest
-    × (length h.fields ≤ 64) × BodyIsCut (framing h) rest)
+    × (length h.fields ≤ most_fields) × BodyIsCut (framing h) rest)
 
 -- a request stands there that is refused, whatever bytes follow
 abbrev pub IsRefused : Text → FramingRefusal → Type 0
 IsRefused b r =
     ((r ≡ UnreadableHead) × HeadIsUnreadable b)
     ⊎ ((h : RequestHead) × (rest : Text) × BeginsWithHead b h rest
-    × (length h.fields ≤ 64) × BodyIsRefused (framing h) rest r)
+    × (length h.fields ≤ most_fields) × BodyIsRefused (framing h) rest r)
 
 -- no further request is read, and why
 abbrev pub Ends : Text → End → Type 0

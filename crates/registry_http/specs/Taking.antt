@@ -3,6 +3,7 @@ use Rattle.std.specs.Prelude.{◌≡◌, ℕ, ◌+◌, ◌≤◌, ◌⊎◌, Lis
 use Rattle.std.specs.Io.KnownBytes.{Consumes, IsAtEnd}
 use Rattle.httparse.specs.Grammar.{ChunkLine, print_chunk_line, chunk_size, Field, LineEnd, print_section}
 use Rattle.oci_names.specs.Text.{Text}
+use Rattle.registry_http.specs.Limits.{most_fields}
 use Rattle.registry_http.specs.Chunks.{limit, BeginsWithLine, LineIsCut, HoldsNoLine, Chunk, IsChunk, IsLast, print_chunk, print_chunks, data_of, BeginsWithTrailer, TrailerIsCut, HoldsNoTrailer}
 use Rattle.registry_http.specs.declared.ending.FramingRefusal.{FramingRefusal}
 use Rattle.registry_http.specs.declared.ending.FramingRefusal.TheVariants.{NoBufferMemory}
@@ -113,7 +114,7 @@ pub record TrailerIsRead (b : Text) (len : ℕ) : Type 0 where
   pub fields : List Field
   pub last : LineEnd
   pub begins : BeginsWithTrailer b fields last (drop len b)
-  pub few : length fields ≤ 64
+  pub few : length fields ≤ most_fields
   pub len_is : len ≡ length (print_section fields last)
 
 abbrev pub FindsTrailer : FoundTrailer → Text → Type 0

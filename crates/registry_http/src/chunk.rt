@@ -1,6 +1,8 @@
 ghost use Rattle.std.specs.Prelude.{◌≡◌, take};
+ghost use Rattle.registry_http.specs.Limits.{longest_chunk_line};
 ghost use Rattle.registry_http.specs.Taking.{FindsLine};
 
+use crate::limits::LONGEST_CHUNK_LINE;
 use httparse::{Status, parse_chunk_size};
 
 /// The line of a chunk: how long it is, and how long its chunk is.
@@ -20,14 +22,14 @@ pub enum FoundLine {
     Never,
 }
 
-/// The bytes in which the line of a chunk must stand: the first 1,024 (profile).
+/// The bytes in which the line of a chunk must stand.
 fn line_bytes(unread: &[u8]) -> &[u8]
-    ensures { result.now ≡ take 1024 unread.now }
+    ensures { result.now ≡ take longest_chunk_line unread.now }
 {
-    if unread.len() < 1024 {
+    if unread.len() < LONGEST_CHUNK_LINE {
         unread
     } else {
-        &unread[..1024]
+        &unread[..LONGEST_CHUNK_LINE]
     }
 }
 
@@ -39,7 +41,7 @@ pub fn find_line(unread: &[u8]) -> FoundLine
     match parse_chunk_size(seen) {
         Ok(Status::Complete((len, size))) => FoundLine::Whole(Line { len, size }),
         Ok(Status::Partial) => {
-            if seen.len() == 1024 {
+            if seen.len() == LONGEST_CHUNK_LINE {
                 FoundLine::Never
             } else {
                 FoundLine::NotYet

@@ -1,6 +1,8 @@
 ghost use Rattle.std.specs.Prelude.{◌≡◌, length, take};
+ghost use Rattle.registry_http.specs.Limits.{longest_head};
 ghost use Rattle.registry_http.specs.Reading.{Parses};
 
+use crate::limits::LONGEST_HEAD;
 use httparse::Status;
 use httparse::spans::{HeaderSpan, RequestSpans, parse_request};
 
@@ -14,14 +16,14 @@ pub enum Parsed {
     Never,
 }
 
-/// The bytes in which a head must stand: the first 16,384 (profile).
+/// The bytes in which a head must stand.
 pub fn head_bytes(buffer: &[u8]) -> &[u8]
-    ensures { result.now ≡ take 16384 buffer.now }
+    ensures { result.now ≡ take longest_head buffer.now }
 {
-    if buffer.len() < 16384 {
+    if buffer.len() < LONGEST_HEAD {
         buffer
     } else {
-        &buffer[..16384]
+        &buffer[..LONGEST_HEAD]
     }
 }
 
@@ -34,7 +36,7 @@ pub fn parse_head(buffer: &[u8], headers: &mut [HeaderSpan]) -> Parsed
     match parse_request(seen, headers) {
         Ok(Status::Complete(spans)) => Parsed::Whole(spans),
         Ok(Status::Partial) => {
-            if seen.len() == 16384 {
+            if seen.len() == LONGEST_HEAD {
                 Parsed::Never
             } else {
                 Parsed::NotYet

@@ -5,13 +5,11 @@ use crate::ending::{FramingRefusal, Stop};
 use crate::expecting::awaits;
 use crate::framing::{Framing, framing_of};
 use crate::head::{Parsed, parse_head};
+use crate::limits::MOST_FIELDS;
 use crate::persistence::closes;
 use httparse::spans::{EMPTY_HEADER_SPAN, HeaderSpan, RequestSpans};
 use std::alloc::{AllocError, Global};
 use std::io::Read;
-
-/// The most fields of a head (profile).
-const MOST_FIELDS: usize = 64;
 
 /// How many bytes are missing, for all that is known, of a head, a line or a trailer.
 pub const LINES: usize = 65536;

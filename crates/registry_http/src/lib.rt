@@ -15,6 +15,7 @@ pub mod fields;
 pub mod framing;
 pub mod head;
 pub mod intake;
+pub mod limits;
 pub mod outgoing;
 pub mod persistence;
 pub mod privacy;

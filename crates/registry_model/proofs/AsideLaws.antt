@@ -13,14 +13,14 @@ use Rattle.registry_model.specs.declared.admin.AdminFault.{AdminFault}
 use Rattle.registry_model.specs.declared.refusal.Refusal.TheVariants.{TokenRequired}
 use Rattle.registry_model.specs.World.{text_cmp, Repo, Grants, World, repo_at, level_at, update_repo}
 use Rattle.registry_model.specs.Ask.{Ask}
-use Rattle.registry_model.specs.Outcome.{refuses}
+use Rattle.registry_model.specs.Decision.{refuses}
 use Rattle.registry_model.specs.Operation.{addressed, rank, rank_of}
 use Rattle.registry_model.specs.Command.{with_quota, grant, revoke, drop_repo, without_sessions, refusal_of, carried_out, after_command}
-use Rattle.registry_model.specs.Verdict.{verdict, judged, changed, after_request}
+use Rattle.registry_model.specs.Judging.{decision, judged, changed, after_request}
 use Rattle.registry_model.specs.Team.{Team, IsTeamOf, view, Step, asks, orders, is_reading, GivesNoPush, NeverPushes, MayNotPush, IsElsewhere, OwnOrAside}
 use Rattle.registry_model.specs.Runs.{after}
 use Rattle.registry_model.proofs.TextOrder.{text_total, bytes_same, same_key, remove_absent}
-use Rattle.registry_model.proofs.VerdictLaws.{reading_changes, verdict_changes}
+use Rattle.registry_model.proofs.JudgingLaws.{reading_changes, decision_changes}
 use Rattle.registry_model.proofs.ViewLaws.{changed_outside, updated_outside, with_repo_outside, with_grants_outside, no_level, dropped_outside}
 
 -- what stays since the first world of a list
@@ -127,7 +127,7 @@ module _ (first : World) (all : List Step) (team : Team) (mine : IsTeamOf first 
   none_of_reading None q r = refl
   none_of_reading (Some token) q r = by (is_token token)
     where
-      by : (b : Bool) → (cond b (verdict (w.grants token) (repo_at w) q) (refuses TokenRequired)).change ≡ None
+      by : (b : Bool) → (cond b (decision (w.grants token) (repo_at w) q) (refuses TokenRequired)).change ≡ None
       by true = reading_changes (w.grants token) (repo_at w) q r
       by false = refl
 
@@ -138,8 +138,8 @@ module _ (first : World) (all : List Step) (team : Team) (mine : IsTeamOf first 
   none_pushed : (u : Text) (q : Ask) (name : Text) → addressed q.form ≡ Some name → NeverPushes first all u name → (judged w (Some u) q).change ≡ None
   none_pushed u q name e never = by (is_token u)
     where
-      by : (b : Bool) → (cond b (verdict (w.grants u) (repo_at w) q) (refuses TokenRequired)).change ≡ None
-      by true = no_change (verdict (w.grants u) (repo_at w) q).change (rank_of (level_at w u name)) (verdict_changes (w.grants u) (repo_at w) q name e) (s.low u name never)
+      by : (b : Bool) → (cond b (decision (w.grants u) (repo_at w) q) (refuses TokenRequired)).change ≡ None
+      by true = no_change (decision (w.grants u) (repo_at w) q).change (rank_of (level_at w u name)) (decision_changes (w.grants u) (repo_at w) q name e) (s.low u name never)
       by false = refl
 
   elsewhere : (q : Ask) → IsElsewhere team q.form → (name : Text) → addressed q.form ≡ Some name → team.names name ≡ false

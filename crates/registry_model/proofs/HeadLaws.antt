@@ -10,25 +10,25 @@ use Rattle.registry_model.specs.World.{World, Grants, Repo, repo_at, is_known}
 use Rattle.registry_model.specs.Ask.{Ask, Keys}
 use Rattle.registry_model.specs.Form.{Form, no_form, base, blob, uploads, session, manifest, tags, referrers}
 use Rattle.registry_model.specs.Heads.{as_head, as_get, without_content}
-use Rattle.registry_model.specs.Outcome.{Outcome, refuses, in_repo}
+use Rattle.registry_model.specs.Decision.{Decision, refuses, in_repo}
 use Rattle.registry_model.specs.Blobs.{found_blob, found_size, read_blob, size_blob, blob_named}
 use Rattle.registry_model.specs.Manifests.{Found, found_manifest, found_manifest_size, read_manifest, size_manifest, manifest_named}
 use Rattle.registry_model.specs.Operation.{reads_blob, reads_manifest, operation_of, addressed}
-use Rattle.registry_model.specs.Verdict.{allows, granted, decide, served, judged, changed, reply_to, after_request}
+use Rattle.registry_model.specs.Judging.{allows, granted, decide, served, judged, changed, reply_to, after_request}
 use Rattle.registry_model.specs.declared.refusal.Refusal.TheVariants.{AccessDenied, InvalidName, TokenRequired}
 
-record Alike (a b : Outcome) : Type 0 where
+record Alike (a b : Decision) : Type 0 where
   reply : without_content a.reply ≡ without_content b.reply
   change : a.change ≡ b.change
 
-same : (a : Outcome) → Alike a a
+same : (a : Decision) → Alike a a
 same a = record { reply = refl; change = refl }
 
-if_alike : (b : Bool) (x y z : Outcome) → Alike x y → Alike (if b then x else z) (if b then y else z)
+if_alike : (b : Bool) (x y z : Decision) → Alike x y → Alike (if b then x else z) (if b then y else z)
 if_alike true x y z h = h
 if_alike false x y z h = same z
 
-in_repo_alike : (o : Option Repo) (f g : Repo → Outcome) → ((r : Repo) → Alike (f r) (g r)) → Alike (in_repo o f) (in_repo o g)
+in_repo_alike : (o : Option Repo) (f g : Repo → Decision) → ((r : Repo) → Alike (f r) (g r)) → Alike (in_repo o f) (in_repo o g)
 in_repo_alike None f g h = same (in_repo None f)
 in_repo_alike (Some r) f g h = h r
 

@@ -1,6 +1,6 @@
 pub mod LastSlash
 pub mod TextOrder
-pub mod VerdictLaws
+pub mod JudgingLaws
 pub mod HeadLaws
 pub mod ViewLaws
 pub mod OwnLaws

@@ -7,11 +7,11 @@ use Rattle.registry_model.specs.declared.level.Level.{Level}
 use Rattle.registry_model.specs.declared.refusal.Refusal.TheVariants.{TokenRequired}
 use Rattle.registry_model.specs.World.{Repo, World, repo_at, level_at}
 use Rattle.registry_model.specs.Ask.{Ask}
-use Rattle.registry_model.specs.Outcome.{refuses}
+use Rattle.registry_model.specs.Decision.{refuses}
 use Rattle.registry_model.specs.Operation.{addressed, rank_of}
-use Rattle.registry_model.specs.Verdict.{verdict, judged, changed, reply_to, after_request}
+use Rattle.registry_model.specs.Judging.{decision, judged, changed, reply_to, after_request}
 use Rattle.registry_model.specs.Team.{Team, IsTeamOf, view, is_own}
-use Rattle.registry_model.proofs.VerdictLaws.{verdict_same, verdict_changes, MayPush}
+use Rattle.registry_model.proofs.JudgingLaws.{decision_same, decision_changes, MayPush}
 use Rattle.registry_model.proofs.ViewLaws.{changed_inside, seen_repo, own_grants}
 
 push_some : (o : Option Level) → nat_le 2 (rank_of o) ≡ true → is_some o ≡ true
@@ -22,8 +22,8 @@ module _ (w : World) (team : Team) (mine : IsTeamOf w team) where
   judged_as : (token : Text) → team.tokens token ≡ true → (q : Ask) → judged w (Some token) q ≡ judged (view w team) (Some token) q
   judged_as token h q =
       ap (λ x. cond (is_token token) x (refuses TokenRequired)) (
-      verdict_same (w.grants token) (repo_at w) (repo_at (view w team)) (λ name some. seen_repo w team name (mine token name h some)) q
-      ∙ ap (λ g. verdict g (repo_at (view w team)) q) (sym (own_grants w team token h)))
+      decision_same (w.grants token) (repo_at w) (repo_at (view w team)) (λ name some. seen_repo w team name (mine token name h some)) q
+      ∙ ap (λ g. decision g (repo_at (view w team)) q) (sym (own_grants w team token h)))
 
   same_judged : (o : Option Text) → is_own team o ≡ true → (q : Ask) → judged w o q ≡ judged (view w team) o q
   same_judged None h q = absurd (cc)
@@ -41,8 +41,8 @@ module _ (w : World) (team : Team) (mine : IsTeamOf w team) where
       named None k = tt
       named (Some r) k = mine token name h (push_some (level_at w token name) k)
 
-      by : (b : Bool) → OnSome (cond b (verdict (w.grants token) (repo_at w) q) (refuses TokenRequired)).change (team.names name ≡ true)
-      by true = named _ (verdict_changes (w.grants token) (repo_at w) q name e)
+      by : (b : Bool) → OnSome (cond b (decision (w.grants token) (repo_at w) q) (refuses TokenRequired)).change (team.names name ≡ true)
+      by true = named _ (decision_changes (w.grants token) (repo_at w) q name e)
       by false = tt
 
   pub own_after : (q : Ask) → is_own team q.token ≡ true → view (after_request w q) team ≡ after_request (view w team) q

@@ -11,7 +11,7 @@ use Rattle.std.proofs.lemmas.Grind.{common_steps}
 use Rattle.oci_names.specs.Text.{Text}
 use Rattle.registry_model.specs.declared.range.RangeVerdict.TheVariants.{Malformed}
 use Rattle.registry_model.specs.Numbers.{number_in}
-use Rattle.registry_model.specs.Range.{Ends, is_solidus, without_unit, is_whole_length, has_good_end, ends_of, range_in, ends_fit}
+use Rattle.registry_model.specs.Range.{Positions, is_solidus, without_unit, is_whole_length, has_good_end, positions_of, range_in, positions_fit}
 
 take_whole : (n : ℕ) (t : Text) → length t ≤ n → take n t ≡ t
 take_whole n t h = grind (arith, common_steps)
@@ -80,24 +80,24 @@ no_number t i h e = none_if (nat_lt 0 (length t)) (nat_le (length t) 19) (all_as
 
 -- ---- a range behind its unit
 
-abbrev range_of : Text → Option Ends
-range_of t = cond (has_good_end t) (ends_of (before_first is_solidus t)) None
+abbrev range_of : Text → Option Positions
+range_of t = cond (has_good_end t) (positions_of (before_first is_solidus t)) None
 
 module _ (v t : Text) (n b : ℕ) (same : t ≡ without_unit v) where
-  pub whole_range : list_any is_solidus t ≡ false → before_first is_solidus t ≡ t → ends_fit (ends_of t) n b ≡ ends_fit (range_in v) n b
+  pub whole_range : list_any is_solidus t ≡ false → before_first is_solidus t ≡ t → positions_fit (positions_of t) n b ≡ positions_fit (range_in v) n b
   whole_range none before =
-      ap (λ u. ends_fit (ends_of u) n b) (sym before)
-      ∙ ap (λ x. ends_fit (cond (not x || is_whole_length (after_first is_solidus t)) (ends_of (before_first is_solidus t)) None) n b) (sym none)
-      ∙ ap (λ u. ends_fit (range_of u) n b) same
+      ap (λ u. positions_fit (positions_of u) n b) (sym before)
+      ∙ ap (λ x. positions_fit (cond (not x || is_whole_length (after_first is_solidus t)) (positions_of (before_first is_solidus t)) None) n b) (sym none)
+      ∙ ap (λ u. positions_fit (range_of u) n b) same
 
-  pub cut_range : list_any is_solidus t ≡ true → is_whole_length (after_first is_solidus t) ≡ true → ends_fit (ends_of (before_first is_solidus t)) n b ≡ ends_fit (range_in v) n b
+  pub cut_range : list_any is_solidus t ≡ true → is_whole_length (after_first is_solidus t) ≡ true → positions_fit (positions_of (before_first is_solidus t)) n b ≡ positions_fit (range_in v) n b
   cut_range some good =
-      ap (λ x. ends_fit (cond x (ends_of (before_first is_solidus t)) None) n b) (sym good)
-      ∙ ap (λ x. ends_fit (cond (not x || is_whole_length (after_first is_solidus t)) (ends_of (before_first is_solidus t)) None) n b) (sym some)
-      ∙ ap (λ u. ends_fit (range_of u) n b) same
+      ap (λ x. positions_fit (cond x (positions_of (before_first is_solidus t)) None) n b) (sym good)
+      ∙ ap (λ x. positions_fit (cond (not x || is_whole_length (after_first is_solidus t)) (positions_of (before_first is_solidus t)) None) n b) (sym some)
+      ∙ ap (λ u. positions_fit (range_of u) n b) same
 
-  pub bad_range : list_any is_solidus t ≡ true → is_whole_length (after_first is_solidus t) ≡ false → Malformed ≡ ends_fit (range_in v) n b
+  pub bad_range : list_any is_solidus t ≡ true → is_whole_length (after_first is_solidus t) ≡ false → Malformed ≡ positions_fit (range_in v) n b
   bad_range some bad =
-      ap (λ x. ends_fit (cond x (ends_of (before_first is_solidus t)) None) n b) (sym bad)
-      ∙ ap (λ x. ends_fit (cond (not x || is_whole_length (after_first is_solidus t)) (ends_of (before_first is_solidus t)) None) n b) (sym some)
-      ∙ ap (λ u. ends_fit (range_of u) n b) same
+      ap (λ x. positions_fit (cond x (positions_of (before_first is_solidus t)) None) n b) (sym bad)
+      ∙ ap (λ x. positions_fit (cond (not x || is_whole_length (after_first is_solidus t)) (positions_of (before_first is_solidus t)) None) n b) (sym some)
+      ∙ ap (λ u. positions_fit (range_of u) n b) same

@@ -22,7 +22,7 @@ use Rattle.registry_model.specs.Usage.{goes_over}
 use Rattle.registry_model.specs.Answer.{Answer, code_of}
 use Rattle.registry_model.specs.Form.{Form, no_form, base, blob, uploads, session, manifest, tags, referrers}
 use Rattle.registry_model.specs.Ask.{Ask}
-use Rattle.registry_model.specs.Outcome.{Outcome, makes, in_repo, within_quota}
+use Rattle.registry_model.specs.Decision.{Decision, makes, in_repo, within_quota}
 use Rattle.registry_model.specs.Range.{range_verdict}
 use Rattle.registry_model.specs.Blobs as blobs
 use Rattle.registry_model.specs.Sessions as sessions
@@ -31,14 +31,14 @@ use Rattle.registry_model.specs.Mount.{source, mounted}
 use Rattle.registry_model.specs.Manifests as manifests
 use Rattle.registry_model.specs.TagPage as page
 use Rattle.registry_model.specs.Operation.{Operation, reads_blob, sizes_blob, deletes_blob, pushes_blob, opens_session, mounts_blob, reads_session, appends_chunk, closes_session, reads_manifest, sizes_manifest, deletes_manifest, pushes_manifest, lists_tags, lists_referrers, operation_of, addressed}
-use Rattle.registry_model.specs.Verdict.{operate, allows, granted, decide, at_base, served_on, judged, changed, reply_to, after_request}
+use Rattle.registry_model.specs.Judging.{operate, allows, granted, decide, at_base, served_on, judged, changed, reply_to, after_request}
 use Rattle.registry_model.specs.Command.{refusal_of, carried_out, after_command}
 
 -- an outcome with a refusal's status changes nothing
-abbrev IsIdle : Outcome → Type 0
+abbrev IsIdle : Decision → Type 0
 IsIdle o = 400 ≤ code_of o.reply.status → o.change ≡ None
 
-either : (b : Bool) (x y : Outcome) → IsIdle x → IsIdle y → IsIdle (cond b x y)
+either : (b : Bool) (x y : Decision) → IsIdle x → IsIdle y → IsIdle (cond b x y)
 either true x y f g = f
 either false x y f g = g
 
@@ -60,7 +60,7 @@ idle_show : (name : Text) (o : Option Session) → IsIdle (sessions.show_session
 idle_show name None = λ _. refl
 idle_show name (Some x) = λ _. refl
 
-idle_ranged : (v : RangeVerdict) (name : Text) (number size : ℕ) (next : Outcome) → IsIdle next → IsIdle (range_checked v name number size next)
+idle_ranged : (v : RangeVerdict) (name : Text) (number size : ℕ) (next : Decision) → IsIdle next → IsIdle (range_checked v name number size next)
 idle_ranged Fits name number size next h = h
 idle_ranged Malformed name number size next h = λ _. refl
 idle_ranged OutOfOrder name number size next h = λ _. refl

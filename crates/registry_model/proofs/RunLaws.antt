@@ -6,14 +6,14 @@ use Rattle.std.proofs.lemmas.Slice.Eq.{bytes_eq-Decides}
 use Rattle.oci_names.specs.Text.{Text}
 use Rattle.registry_model.specs.World.{World, level_at}
 use Rattle.registry_model.specs.Operation.{addressed}
-use Rattle.registry_model.specs.Verdict.{reply_to, after_request}
+use Rattle.registry_model.specs.Judging.{reply_to, after_request}
 use Rattle.registry_model.specs.Command.{after_command}
 use Rattle.registry_model.specs.declared.admin.AdminCommand.{AdminCommand}
 use Rattle.registry_model.specs.Keeping.{State}
-use Rattle.registry_model.specs.Doing.{Kind, answered, missed, lost, kind_of, outcome_kind, DoesAs, CarriesOutAs}
+use Rattle.registry_model.specs.Doing.{Course, answered, missed, lost, course_of_answer, course_of_result, DoesAs, CarriesOutAs}
 use Rattle.registry_model.specs.Team.{Team, IsTeamOf, team_of_token, view, Step, asks, orders, is_own, is_reading, GivesNoPush, MayNotPush, IsElsewhere, OwnOrAside}
 use Rattle.registry_model.specs.Ask.{Ask}
-use Rattle.registry_model.specs.Runs.{Outcome, told, did, comes_to, after, kind, Takes, OneByOne, TakesAll, kept_as, kept, Follow, after_all, AllLost, LostToTheEnd, own, requests_of, asked, answers_to, NoneMissed, replies, IsToldAlone, RunSays}
+use Rattle.registry_model.specs.Runs.{Outcome, told, did, comes_to, after, course, Takes, OneByOne, TakesAll, kept_as, kept, Follow, after_all, AllLost, LostToTheEnd, own, requests_of, asked, answers_to, NoneMissed, replies, IsToldAlone, RunSays}
 use Rattle.registry_model.proofs.OwnLaws.{own_reply, own_after}
 use Rattle.registry_model.proofs.AsideLaws.{Since, still_team, since, aside_request, aside_order}
 
@@ -49,13 +49,13 @@ module _ (first : World) (all : List Step) (team : Team) (mine : IsTeamOf first 
       let now = All-head (OwnOrAside first all team) st steps h in
       let others = All-tail (OwnOrAside first all team) st steps h in
       let later = λ (u n : Text) (x : All (GivesNoPush u n) all). All-tail (GivesNoPush u n) st steps (gives u n x) in
-      by_kind (kind o) f
+      by_kind (course o) f
       (λ d k. one_alone w s st o (kept steps outcomes) now d
       (alone_from (after w st) (since first all team mine w s st now (λ u n x. All-head (GivesNoPush u n) st steps (gives u n x)))
       steps outcomes others later k))
       (λ k. alone_from w s steps outcomes others later k)
     where
-      by_kind : (k : Kind) → Follow w (kept_as k st o (kept steps outcomes))
+      by_kind : (k : Course) → Follow w (kept_as k st o (kept steps outcomes))
           → (o ≡ comes_to w st → Follow (after w st) (kept steps outcomes) → IsToldAlone w team ((st, o) ∷ kept steps outcomes))
           → (Follow w (kept steps outcomes) → IsToldAlone w team (kept steps outcomes))
           → IsToldAlone w team (kept_as k st o (kept steps outcomes))
@@ -69,21 +69,21 @@ abbrev pub Facts : World → List (Step × Outcome) → State → Type 0
 Facts w pairs s' = Follow w pairs × (s'.spent ≡ false → s'.world ≡ after_all w pairs)
 
 -- a step by its kind: the definitions' outcome and world, nothing changed, or spent
-abbrev pub TakesAs : Kind → State → Step → Outcome → State → Type 0
+abbrev pub TakesAs : Course → State → Step → Outcome → State → Type 0
 TakesAs answered s st o s' = (s.spent ≡ false) × (o ≡ comes_to s.world st) × (s'.world ≡ after s.world st)
 TakesAs missed s st o s' = (s.spent ≡ false) × (s'.world ≡ s.world)
 TakesAs lost s st o s' = s'.spent ≡ true
 
-takes_as : (s : State) (st : Step) (o : Outcome) (s' : State) → Takes s st o s' → TakesAs (kind o) s st o s'
-takes_as s (asks q) (told a) s' d = by (kind_of a) d
+takes_as : (s : State) (st : Step) (o : Outcome) (s' : State) → Takes s st o s' → TakesAs (course o) s st o s'
+takes_as s (asks q) (told a) s' d = by (course_of_answer a) d
   where
-    by : (k : Kind) → DoesAs k s q a s' → TakesAs k s (asks q) (told a) s'
+    by : (k : Course) → DoesAs k s q a s' → TakesAs k s (asks q) (told a) s'
     by answered d = (d.0, ap told d.1, ap (λ x. x.world) d.2)
     by missed d = (d.0, ap (λ x. x.world) d.2)
     by lost d = d.1
-takes_as s (orders a) (did r) s' d = by (outcome_kind r) d
+takes_as s (orders a) (did r) s' d = by (course_of_result r) d
   where
-    by : (k : Kind) → CarriesOutAs k s a r s' → TakesAs k s (orders a) (did r) s'
+    by : (k : Course) → CarriesOutAs k s a r s' → TakesAs k s (orders a) (did r) s'
     by answered d = (d.0, ap did d.1, ap (λ x. x.world) d.2)
     by missed d = (d.0, ap (λ x. x.world) d.1)
     by lost d = d
@@ -91,20 +91,20 @@ takes_as s (asks q) (did r) s' d = absurd d
 takes_as s (orders a) (told r) s' d = absurd d
 
 -- from a spent state each step is lost
-spent_as : (k : Kind) (s : State) (st : Step) (o : Outcome) (mid : State) → s.spent ≡ true → TakesAs k s st o mid → (k ≡ lost) × (mid.spent ≡ true)
+spent_as : (k : Course) (s : State) (st : Step) (o : Outcome) (mid : State) → s.spent ≡ true → TakesAs k s st o mid → (k ≡ lost) × (mid.spent ≡ true)
 spent_as answered s st o mid e d = absurd (let bad = sym e ∙ d.0 in cc)
 spent_as missed s st o mid e d = absurd (let bad = sym e ∙ d.0 in cc)
 spent_as lost s st o mid e d = (refl, d)
 
 spent_runs : (s : State) (steps : List Step) (outcomes : List Outcome) (s' : State) → s.spent ≡ true → TakesAll s steps outcomes s'
     → AllLost outcomes × (s'.spent ≡ true)
-spent_runs s [] [] s' e r = (All-nil (λ o. kind o ≡ lost), subst (λ x. x.spent ≡ true) (sym r) e)
+spent_runs s [] [] s' e r = (All-nil (λ o. course o ≡ lost), subst (λ x. x.spent ≡ true) (sym r) e)
 spent_runs s [] (o ∷ outcomes) s' e r = absurd r
 spent_runs s (st ∷ steps) [] s' e r = absurd r
 spent_runs s (st ∷ steps) (o ∷ outcomes) s' e r =
-    let now = spent_as (kind o) s st o r.0 e (takes_as s st o r.0 r.1) in
+    let now = spent_as (course o) s st o r.0 e (takes_as s st o r.0 r.1) in
     let later = spent_runs r.0 steps outcomes s' now.1 r.2 in
-    (All-cons (λ x. kind x ≡ lost) o outcomes now.0 later.0, later.1)
+    (All-cons (λ x. course x ≡ lost) o outcomes now.0 later.0, later.1)
 
 pub run_facts : (s : State) (steps : List Step) (outcomes : List Outcome) (s' : State) → TakesAll s steps outcomes s'
     → Facts s.world (kept steps outcomes) s' × LostToTheEnd outcomes × (length outcomes ≡ length steps)
@@ -114,14 +114,14 @@ run_facts s (st ∷ steps) [] s' r = absurd r
 run_facts s (st ∷ steps) (o ∷ outcomes) s' r =
     let later = run_facts r.0 steps outcomes s' r.2 in
     let now = takes_as s st o r.0 r.1 in
-    (by_kind (kind o) now later.0, (λ e. (lost_now (kind o) e now).0, later.1), ap suc later.2)
+    (by_kind (course o) now later.0, (λ e. (lost_now (course o) e now).0, later.1), ap suc later.2)
   where
-    lost_now : (k : Kind) → k ≡ lost → TakesAs k s st o r.0 → AllLost outcomes × (s'.spent ≡ true)
+    lost_now : (k : Course) → k ≡ lost → TakesAs k s st o r.0 → AllLost outcomes × (s'.spent ≡ true)
     lost_now answered e d = absurd (cc)
     lost_now missed e d = absurd (cc)
     lost_now lost e d = spent_runs r.0 steps outcomes s' d r.2
 
-    by_kind : (k : Kind) → TakesAs k s st o r.0 → Facts r.0.world (kept steps outcomes) s' → Facts s.world (kept_as k st o (kept steps outcomes)) s'
+    by_kind : (k : Course) → TakesAs k s st o r.0 → Facts r.0.world (kept steps outcomes) s' → Facts s.world (kept_as k st o (kept steps outcomes)) s'
     by_kind answered d later = (
       (d.1, subst (λ w. Follow w (kept steps outcomes)) d.2 later.0),
       λ e. later.1 e ∙ ap (λ w. after_all w (kept steps outcomes)) d.2,
@@ -157,8 +157,8 @@ answered_first s [] [] s' r team none = refl
 answered_first s [] (o ∷ outcomes) s' r team none = absurd r
 answered_first s (st ∷ steps) [] s' r team none = absurd r
 answered_first s (asks q ∷ steps) (told a ∷ outcomes) s' r team none =
-    by_kind (kind_of a) (All-head (λ o. kind o ≢ missed) (told a) outcomes none)
-    (answered_first r.0 steps outcomes s' r.2 team (All-tail (λ o. kind o ≢ missed) (told a) outcomes none))
+    by_kind (course_of_answer a) (All-head (λ o. course o ≢ missed) (told a) outcomes none)
+    (answered_first r.0 steps outcomes s' r.2 team (All-tail (λ o. course o ≢ missed) (told a) outcomes none))
   where
     request : asked team steps outcomes ≡ take (length (asked team steps outcomes)) (requests_of team steps) → (b : Bool) → is_own team q.token ≡ b
         → map (λ p. p.0) (own team ((asks q, told a) ∷ kept steps outcomes))
@@ -166,17 +166,17 @@ answered_first s (asks q ∷ steps) (told a ∷ outcomes) s' r team none =
     request later true e = rw e (λ i. q ∷ later i)
     request later false e = rw e later
 
-    by_kind : (k : Kind) → k ≢ missed → asked team steps outcomes ≡ take (length (asked team steps outcomes)) (requests_of team steps)
+    by_kind : (k : Course) → k ≢ missed → asked team steps outcomes ≡ take (length (asked team steps outcomes)) (requests_of team steps)
         → map (λ p. p.0) (own team (kept_as k (asks q) (told a) (kept steps outcomes)))
         ≡ take (length (map (λ p. p.0) (own team (kept_as k (asks q) (told a) (kept steps outcomes))))) (requests_of team (asks q ∷ steps))
     by_kind answered d later = request later (is_own team q.token) refl
     by_kind missed d later = absurd (d refl)
     by_kind lost d later = refl
 answered_first s (orders a ∷ steps) (did x ∷ outcomes) s' r team none =
-    by_kind (outcome_kind x) (All-head (λ o. kind o ≢ missed) (did x) outcomes none)
-    (answered_first r.0 steps outcomes s' r.2 team (All-tail (λ o. kind o ≢ missed) (did x) outcomes none))
+    by_kind (course_of_result x) (All-head (λ o. course o ≢ missed) (did x) outcomes none)
+    (answered_first r.0 steps outcomes s' r.2 team (All-tail (λ o. course o ≢ missed) (did x) outcomes none))
   where
-    by_kind : (k : Kind) → k ≢ missed → asked team steps outcomes ≡ take (length (asked team steps outcomes)) (requests_of team steps)
+    by_kind : (k : Course) → k ≢ missed → asked team steps outcomes ≡ take (length (asked team steps outcomes)) (requests_of team steps)
         → map (λ p. p.0) (own team (kept_as k (orders a) (did x) (kept steps outcomes)))
         ≡ take (length (map (λ p. p.0) (own team (kept_as k (orders a) (did x) (kept steps outcomes))))) (requests_of team steps)
     by_kind answered d later = later

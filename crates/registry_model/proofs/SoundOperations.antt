@@ -19,7 +19,7 @@ use Rattle.registry_model.specs.Limits.{largest, largest_blob, largest_manifest}
 use Rattle.registry_model.specs.Usage.{used, goes_over}
 use Rattle.registry_model.specs.Answer.{Answer}
 use Rattle.registry_model.specs.Soundness.{IsSoundRepo}
-use Rattle.registry_model.specs.Outcome.{Outcome, refuses, makes, within_quota}
+use Rattle.registry_model.specs.Decision.{Decision, refuses, makes, within_quota}
 use Rattle.registry_model.specs.Range.{range_verdict}
 use Rattle.registry_model.specs.Blobs as blobs
 use Rattle.registry_model.specs.Blobs.{with_blob, created_blob}
@@ -31,24 +31,24 @@ use Rattle.registry_model.specs.Manifests.{pushed_digest, pushed_tag, with_bytes
 use Rattle.registry_model.specs.TagPage as page
 use Rattle.registry_model.specs.Referrers as subjects
 use Rattle.registry_model.specs.Operation.{Operation, reads_blob, sizes_blob, deletes_blob, pushes_blob, opens_session, mounts_blob, reads_session, appends_chunk, closes_session, reads_manifest, sizes_manifest, deletes_manifest, pushes_manifest, lists_tags, lists_referrers}
-use Rattle.registry_model.specs.Verdict.{operate}
+use Rattle.registry_model.specs.Judging.{operate}
 use Rattle.registry_model.proofs.ChangedMaps.{bytes_eq-itself}
 use Rattle.registry_model.proofs.SoundRepositories.{fits, sound_with_blob, sound_without_blob, sound_opened, sound_appended, sound_without_session, sound_with_bytes, sound_with_tag, sound_without_tag, sound_without_manifest, with_bytes_there, used_with_tag}
 
 -- what an outcome makes is sound
-abbrev pub IsSoundOutcome : Outcome → Type 0
-IsSoundOutcome o = IfSome o.change IsSoundRepo
+abbrev pub IsSoundDecision : Decision → Type 0
+IsSoundDecision o = IfSome o.change IsSoundRepo
 
 -- by a test
-pub by_test : (b : Bool) (x y : Outcome) → (b ≡ true → IsSoundOutcome x) → (b ≡ false → IsSoundOutcome y) → IsSoundOutcome (cond b x y)
+pub by_test : (b : Bool) (x y : Decision) → (b ≡ true → IsSoundDecision x) → (b ≡ false → IsSoundDecision y) → IsSoundDecision (cond b x y)
 by_test true x y f g = f refl
 by_test false x y f g = g refl
 
 -- past a refusal
-past : (b : Bool) (x y : Outcome) → IsSoundOutcome x → (b ≡ false → IsSoundOutcome y) → IsSoundOutcome (cond b x y)
+past : (b : Bool) (x y : Decision) → IsSoundDecision x → (b ≡ false → IsSoundDecision y) → IsSoundDecision (cond b x y)
 past b x y f g = by_test b x y (λ _. f) g
 
-sound_within : (old new : Repo) (a : Answer) → IsSoundRepo old → (used new ≤ largest → IsSoundRepo new) → IsSoundOutcome (within_quota old new a)
+sound_within : (old new : Repo) (a : Answer) → IsSoundRepo old → (used new ≤ largest → IsSoundRepo new) → IsSoundDecision (within_quota old new a)
 sound_within old new a s f = past (goes_over old new) (refuses QuotaExceeded) (makes a new) tt (λ e. f (fits largest (used old) (used new) old.quota e s.used_fits s.quota_fits))
 
 is_not : (b : Bool) → not b ≡ false → b ≡ true
@@ -61,18 +61,18 @@ not_more m n e = grind (arith, nat_tests)
 module _ (r : Repo) (s : IsSoundRepo r) where
   -- ---- blobs
 
-  sound_found_blob : (digest : Text) (o : Option Text) → IsSoundOutcome (blobs.found_blob digest o)
+  sound_found_blob : (digest : Text) (o : Option Text) → IsSoundDecision (blobs.found_blob digest o)
   sound_found_blob digest None = tt
   sound_found_blob digest (Some bytes) = tt
 
-  sound_found_size : (digest : Text) (o : Option ℕ) → IsSoundOutcome (blobs.found_size digest o)
+  sound_found_size : (digest : Text) (o : Option ℕ) → IsSoundDecision (blobs.found_size digest o)
   sound_found_size digest None = tt
   sound_found_size digest (Some size) = tt
 
-  sound_delete_blob : (digest : Text) → IsSoundOutcome (blobs.delete_blob r digest)
+  sound_delete_blob : (digest : Text) → IsSoundDecision (blobs.delete_blob r digest)
   sound_delete_blob digest = by_test (is_some (blobs.blob_named r digest)) _ _ (λ _. sound_without_blob r s digest) (λ _. tt)
 
-  sound_push_blob : (name digest body : Text) → IsSoundOutcome (blobs.push_blob r name digest body)
+  sound_push_blob : (name digest body : Text) → IsSoundDecision (blobs.push_blob r name digest body)
   sound_push_blob name digest body =
       past (not (blobs.can_verify digest)) _ _ tt (λ _.
       past (nat_lt largest_blob (length body)) _ _ tt (λ _.
@@ -81,10 +81,10 @@ module _ (r : Repo) (s : IsSoundRepo r) where
 
   -- ---- sessions
 
-  sound_open : (name : Text) → IsSoundOutcome (sessions.open_session r name)
+  sound_open : (name : Text) → IsSoundDecision (sessions.open_session r name)
   sound_open name = past (is_full r) _ _ tt (sound_opened r s)
 
-  sound_show : (name : Text) (o : Option Session) → IsSoundOutcome (sessions.show_session name o)
+  sound_show : (name : Text) (o : Option Session) → IsSoundDecision (sessions.show_session name o)
   sound_show name None = tt
   sound_show name (Some session) = tt
 
@@ -100,14 +100,14 @@ module _ (r : Repo) (s : IsSoundRepo r) where
       by None = tt
       by (Some n) = from n (get r.sessions n) refl
 
-  sound_ranged : (v : RangeVerdict) (name : Text) (number size : ℕ) (next : Outcome) → IsSoundOutcome next → IsSoundOutcome (range_checked v name number size next)
+  sound_ranged : (v : RangeVerdict) (name : Text) (number size : ℕ) (next : Decision) → IsSoundDecision next → IsSoundDecision (range_checked v name number size next)
   sound_ranged Fits name number size next h = h
   sound_ranged Malformed name number size next h = tt
   sound_ranged OutOfOrder name number size next h = tt
   sound_ranged Unequal name number size next h = tt
 
   sound_append : (name : Text) (range : Option Text) (body : Text) (o : Option Session) → IfSome o (λ x. get r.sessions x.number ≡ Some x.bytes)
-      → IsSoundOutcome (sessions.append_to r name range body o)
+      → IsSoundDecision (sessions.append_to r name range body o)
   sound_append name range body None h = tt
   sound_append name range body (Some x) h =
       sound_ranged (range_verdict range (length x.bytes) (length body)) name x.number (length x.bytes) _ (
@@ -115,7 +115,7 @@ module _ (r : Repo) (s : IsSoundRepo r) where
       sound_within r (appended r x.number (x.bytes ++ body)) (session_reply _ name x.number (length x.bytes + length body)) s
       (sound_appended r s x.number x.bytes (x.bytes ++ body) h (omega (arith, not_more largest_blob (length x.bytes + length body) e, length-append x.bytes body)))))
 
-  sound_close_with : (name digest : Text) (range : Option Text) (body : Text) (x : Session) → IsSoundOutcome (sessions.close_with r name digest range body x)
+  sound_close_with : (name digest : Text) (range : Option Text) (body : Text) (x : Session) → IsSoundDecision (sessions.close_with r name digest range body x)
   sound_close_with name digest range body x =
       past (not (blobs.can_verify digest)) _ _ tt (λ _.
       sound_ranged (last_range_verdict range (length x.bytes) body) name x.number (length x.bytes) _ (
@@ -124,7 +124,7 @@ module _ (r : Repo) (s : IsSoundRepo r) where
       sound_within r (finished r x.number digest (x.bytes ++ body)) (created_blob name digest) s
       (sound_with_blob _ (sound_without_session r s x.number) digest (x.bytes ++ body) (is_not (matches digest (x.bytes ++ body)) e))))))
 
-  sound_close : (name : Text) (digest range : Option Text) (body : Text) (o : Option Session) → IsSoundOutcome (sessions.close_to r name digest range body o)
+  sound_close : (name : Text) (digest range : Option Text) (body : Text) (o : Option Session) → IsSoundDecision (sessions.close_to r name digest range body o)
   sound_close name digest range body None = tt
   sound_close name None range body (Some x) = tt
   sound_close name (Some digest) range body (Some x) = sound_close_with name digest range body x
@@ -145,25 +145,25 @@ module _ (r : Repo) (s : IsSoundRepo r) where
         by true (Some other) e = held other e (get other.blobs digest) refl
         by false o e = tt
 
-    sound_mounted : (name digest : Text) (o : Option Text) → IfSome o (λ bytes. matches digest bytes ≡ true) → IsSoundOutcome (mounted r name digest o)
+    sound_mounted : (name digest : Text) (o : Option Text) → IfSome o (λ bytes. matches digest bytes ≡ true) → IsSoundDecision (mounted r name digest o)
     sound_mounted name digest None h = sound_open name
     sound_mounted name digest (Some bytes) h = sound_within r (with_blob r digest bytes) (created_blob name digest) s (sound_with_blob r s digest bytes h)
 
-    sound_mount : (name digest : Text) (from_name : Option Text) → IsSoundOutcome (mount_blob grants repos r name digest from_name)
+    sound_mount : (name digest : Text) (from_name : Option Text) → IsSoundDecision (mount_blob grants repos r name digest from_name)
     sound_mount name digest from_name =
         past (not (is_digest digest)) _ _ tt (λ _. sound_mounted name digest (source grants repos from_name digest) (source_matches from_name digest))
 
   -- ---- manifests
 
-  sound_found_manifest : (o : Option manifests.Found) → IsSoundOutcome (manifests.found_manifest o)
+  sound_found_manifest : (o : Option manifests.Found) → IsSoundDecision (manifests.found_manifest o)
   sound_found_manifest None = tt
   sound_found_manifest (Some m) = tt
 
-  sound_found_manifest_size : (o : Option manifests.Found) → IsSoundOutcome (manifests.found_manifest_size o)
+  sound_found_manifest_size : (o : Option manifests.Found) → IsSoundDecision (manifests.found_manifest_size o)
   sound_found_manifest_size None = tt
   sound_found_manifest_size (Some m) = tt
 
-  sound_delete_manifest : (reference : Text) → IsSoundOutcome (manifests.delete_manifest r reference)
+  sound_delete_manifest : (reference : Text) → IsSoundDecision (manifests.delete_manifest r reference)
   sound_delete_manifest reference =
       by_test (is_tag reference) _ _
       (λ _. by_test (is_some (get r.tags reference)) _ _ (λ _. sound_without_tag r s reference) (λ _. tt))
@@ -194,7 +194,7 @@ module _ (r : Repo) (s : IsSoundRepo r) where
   is_read body o m e k = subst (λ x. IsOk x) (sym (e ∙ k)) refl
 
   sound_push_read : (name reference : Text) (content_type : Option Text) (body : Text) (o : Result ManifestShown ManifestFault)
-      → manifest_in body ≡ o → matches (pushed_digest reference body) body ≡ true → IsSoundOutcome (manifests.push_read r name reference content_type body o)
+      → manifest_in body ≡ o → matches (pushed_digest reference body) body ≡ true → IsSoundDecision (manifests.push_read r name reference content_type body o)
   sound_push_read name reference content_type body (Err e) is ok = tt
   sound_push_read name reference content_type body (Ok m) is ok =
       past (not (content_type_fits content_type m.kind)) _ _ tt (λ _.
@@ -202,7 +202,7 @@ module _ (r : Repo) (s : IsSoundRepo r) where
       sound_within r (with_manifest r (pushed_digest reference body) body (pushed_tag reference)) _ s
       (sound_with_manifest (pushed_digest reference body) body (pushed_tag reference) ok (is_read body (Ok m) m is refl))))
 
-  sound_push_manifest : (name reference : Text) (content_type : Option Text) (body : Text) → IsSoundOutcome (manifests.push_manifest r name reference content_type body)
+  sound_push_manifest : (name reference : Text) (content_type : Option Text) (body : Text) → IsSoundDecision (manifests.push_manifest r name reference content_type body)
   sound_push_manifest name reference content_type body =
       past (not (is_reference reference)) _ _ tt (λ _.
       past (nat_lt largest_manifest (length body)) _ _ tt (λ _.
@@ -212,17 +212,17 @@ module _ (r : Repo) (s : IsSoundRepo r) where
 
   -- ---- lists
 
-  sound_page : (name : Text) (last : Option Text) (n : Option (Option ℕ)) → IsSoundOutcome (page.list_page r name last n)
+  sound_page : (name : Text) (last : Option Text) (n : Option (Option ℕ)) → IsSoundDecision (page.list_page r name last n)
   sound_page name last None = tt
   sound_page name last (Some n) = tt
 
-  sound_referrers : (digest : Text) (artifact_type : Option Text) → IsSoundOutcome (subjects.list_referrers r digest artifact_type)
+  sound_referrers : (digest : Text) (artifact_type : Option Text) → IsSoundDecision (subjects.list_referrers r digest artifact_type)
   sound_referrers digest artifact_type = past (not (is_digest digest)) _ _ tt (λ _. tt)
 
   -- ---- all
 
   pub sound_operation : (grants : Grants) (repos : Text → Option Repo) → ((name : Text) (other : Repo) → repos name ≡ Some other → IsSoundRepo other)
-      → (name : Text) (op : Operation) (body : Text) → IsSoundOutcome (operate grants repos r name op body)
+      → (name : Text) (op : Operation) (body : Text) → IsSoundDecision (operate grants repos r name op body)
   sound_operation grants repos all name (reads_blob digest) body = sound_found_blob digest (blobs.blob_named r digest)
   sound_operation grants repos all name (sizes_blob digest) body = sound_found_size digest (option_map length (blobs.blob_named r digest))
   sound_operation grants repos all name (deletes_blob digest) body = sound_delete_blob digest

@@ -19,31 +19,31 @@ use Rattle.registry_model.specs.Soundness.{IsSoundRepo, IsSound}
 use Rattle.registry_model.specs.Form.{Form, no_form, base, blob, uploads, session, manifest, tags, referrers}
 use Rattle.registry_model.specs.Ask.{Ask}
 use Rattle.registry_model.specs.Operation.{Operation, operation_of, addressed}
-use Rattle.registry_model.specs.Outcome.{in_repo}
-use Rattle.registry_model.specs.Verdict.{operate, allows, granted, decide, at_base, served_on, verdict, judged, changed, after_request}
+use Rattle.registry_model.specs.Decision.{in_repo}
+use Rattle.registry_model.specs.Judging.{operate, allows, granted, decide, at_base, served_on, decision, judged, changed, after_request}
 use Rattle.registry_model.specs.Command.{with_quota, set_repo, grant, revoke, drop_repo, without_sessions, refusal_of, after_command}
 use Rattle.registry_model.specs.Team.{Step, asks, orders}
 use Rattle.registry_model.specs.Runs.{Outcome, after, after_all}
 use Rattle.registry_model.proofs.TextOrder.{text_total, exact_texts}
 use Rattle.registry_model.proofs.ChangedMaps.{not_Some, got_insert, stays_there, got_remove, left_there}
 use Rattle.registry_model.proofs.SoundRepositories.{sound_new, sound_quota, sound_without_sessions}
-use Rattle.registry_model.proofs.SoundOperations.{IsSoundOutcome, by_test, sound_operation}
+use Rattle.registry_model.proofs.SoundOperations.{IsSoundDecision, by_test, sound_operation}
 
 -- ---- requests
 
 module _ (grants : Grants) (repos : Text → Option Repo) (all : (name : Text) (r : Repo) → repos name ≡ Some r → IsSoundRepo r) where
-  sound_in : (name : Text) (op : Operation) (body : Text) (o : Option Repo) → repos name ≡ o → IsSoundOutcome (in_repo o (λ r. operate grants repos r name op body))
+  sound_in : (name : Text) (op : Operation) (body : Text) (o : Option Repo) → repos name ≡ o → IsSoundDecision (in_repo o (λ r. operate grants repos r name op body))
   sound_in name op body None e = tt
   sound_in name op body (Some r) e = sound_operation r (all name r e) grants repos all name op body
 
-  sound_granted : (name : Text) (form : Form) (op : Option Operation) (body : Text) → IsSoundOutcome (granted grants repos name form op body)
+  sound_granted : (name : Text) (form : Form) (op : Option Operation) (body : Text) → IsSoundDecision (granted grants repos name form op body)
   sound_granted name form None body = tt
   sound_granted name form (Some op) body = by_test (allows grants name op) _ _ (λ _. sound_in name op body (repos name) refl) (λ _. tt)
 
-  sound_decided : (name : Text) (q : Ask) → IsSoundOutcome (decide grants repos name q)
+  sound_decided : (name : Text) (q : Ask) → IsSoundDecision (decide grants repos name q)
   sound_decided name q = by_test (is_repo_name name) _ _ (λ _. sound_granted name q.form (operation_of q) q.body) (λ _. tt)
 
-  sound_base : (v : Verb) → IsSoundOutcome (at_base v)
+  sound_base : (v : Verb) → IsSoundDecision (at_base v)
   sound_base verb.Get = tt
   sound_base verb.Head = tt
   sound_base verb.Post = tt
@@ -52,7 +52,7 @@ module _ (grants : Grants) (repos : Text → Option Repo) (all : (name : Text) (
   sound_base verb.Delete = tt
   sound_base verb.Other = tt
 
-  sound_served : (form : Form) (q : Ask) → IsSoundOutcome (served_on grants repos form q)
+  sound_served : (form : Form) (q : Ask) → IsSoundDecision (served_on grants repos form q)
   sound_served no_form q = tt
   sound_served base q = sound_base q.verb
   sound_served (blob name digest) q = sound_decided name q
@@ -62,13 +62,13 @@ module _ (grants : Grants) (repos : Text → Option Repo) (all : (name : Text) (
   sound_served (tags name) q = sound_decided name q
   sound_served (referrers name digest) q = sound_decided name q
 
-  sound_verdict : (q : Ask) → IsSoundOutcome (verdict grants repos q)
-  sound_verdict q = by_test (is_known grants) _ _ (λ _. sound_served q.form q) (λ _. tt)
+  sound_decision : (q : Ask) → IsSoundDecision (decision grants repos q)
+  sound_decision q = by_test (is_known grants) _ _ (λ _. sound_served q.form q) (λ _. tt)
 
 module _ (w : World) (s : IsSound w) where
-  sound_judged : (token : Option Text) (q : Ask) → IsSoundOutcome (judged w token q)
+  sound_judged : (token : Option Text) (q : Ask) → IsSoundDecision (judged w token q)
   sound_judged None q = tt
-  sound_judged (Some token) q = by_test (is_token token) _ _ (λ _. sound_verdict (w.grants token) (repo_at w) s.repos q) (λ _. tt)
+  sound_judged (Some token) q = by_test (is_token token) _ _ (λ _. sound_decision (w.grants token) (repo_at w) s.repos q) (λ _. tt)
 
   -- a repository that is sound, under its name
   sound_with_repo : (name : Text) (r : Repo) → IsSoundRepo r → IsSound (with_repo w name r)

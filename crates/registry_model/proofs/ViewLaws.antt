@@ -5,7 +5,7 @@ use Rattle.std.specs.FinMap.{get, remove, retain_keys, empty, get-retain_keys}
 use Rattle.oci_names.specs.Text.{Text}
 use Rattle.registry_model.specs.declared.level.Level.{Level}
 use Rattle.registry_model.specs.World.{Repo, Grants, World, repo_at, update_repo, level_at, with_repo, with_grants}
-use Rattle.registry_model.specs.Verdict.{changed}
+use Rattle.registry_model.specs.Judging.{changed}
 use Rattle.registry_model.specs.Command.{drop_repo}
 use Rattle.registry_model.specs.Team.{Team, IsTeamOf, view}
 use Rattle.registry_model.proofs.TextOrder.{bytes_same, tie, retain_inside, retain_outside, removed_outside, remove_absent}

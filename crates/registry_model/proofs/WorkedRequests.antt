@@ -15,13 +15,13 @@ use Rattle.registry_model.specs.declared.reply.Status.TheVariants.{Accepted}
 use Rattle.registry_model.specs.World.{text_cmp, Repo, Grants, World, repo_at, level_at, is_known, new_repo}
 use Rattle.registry_model.specs.Usage.{used, is_over}
 use Rattle.registry_model.specs.Answer.{Answer}
-use Rattle.registry_model.specs.Outcome.{Outcome, refuses, makes, within_quota, in_repo}
+use Rattle.registry_model.specs.Decision.{Decision, refuses, makes, within_quota, in_repo}
 use Rattle.registry_model.specs.Blobs.{with_blob, created_blob}
 use Rattle.registry_model.specs.Sessions.{Session, is_full, open_session, opened, appended, append_to, close_to, finished, session_reply}
 use Rattle.registry_model.specs.Manifests.{is_text, without_manifest}
 use Rattle.registry_model.specs.TagPage.{Page, first_of, more_than, page_behind}
-use Rattle.registry_model.specs.Operation.{Operation, rank, rank_of, needed}
-use Rattle.registry_model.specs.Verdict.{operate}
+use Rattle.registry_model.specs.Operation.{Operation, rank, rank_of, needed_level}
+use Rattle.registry_model.specs.Judging.{operate}
 use Rattle.registry_model.specs.Worked.{app, t1, Setting, abc_digest, hello_digest, holding_abc, in_session, four_tags, two_tags}
 use Rattle.registry_model.proofs.TextOrder.{text_total, exact_texts}
 
@@ -119,18 +119,18 @@ module _ (w : World) (r : Repo) (s : Setting w r) where
   known = some_len (w.grants t1) app Delete s.level
 
   -- a request that is answered without a look at the repository
-  pub apart : (x : Outcome) → cond (is_known (w.grants t1)) x (refuses TokenRequired) ≡ x
+  pub apart : (x : Decision) → cond (is_known (w.grants t1)) x (refuses TokenRequired) ≡ x
   apart x = ap (λ b. cond b x (refuses TokenRequired)) known
 
   -- an operation on team/app
-  abbrev pub at_app : Operation → Text → Outcome
+  abbrev pub at_app : Operation → Text → Decision
   at_app op body = cond (is_known (w.grants t1)) (
-      cond (nat_le (rank (needed op)) (rank_of (level_at w t1 app))) (in_repo (repo_at w app) (λ x. operate (w.grants t1) (repo_at w) x app op body)) (refuses AccessDenied))
+      cond (nat_le (rank (needed_level op)) (rank_of (level_at w t1 app))) (in_repo (repo_at w app) (λ x. operate (w.grants t1) (repo_at w) x app op body)) (refuses AccessDenied))
       (refuses TokenRequired)
 
-  pub in_app : (op : Operation) (body : Text) → at_app op body ≡ cond (nat_le (rank (needed op)) 3) (operate (w.grants t1) (repo_at w) r app op body) (refuses AccessDenied)
+  pub in_app : (op : Operation) (body : Text) → at_app op body ≡ cond (nat_le (rank (needed_level op)) 3) (operate (w.grants t1) (repo_at w) r app op body) (refuses AccessDenied)
   in_app op body = λ i. cond (known i) (
-      cond (nat_le (rank (needed op)) (rank_of (s.level i))) (in_repo (s.repo i) (λ x. operate (w.grants t1) (repo_at w) x app op body)) (refuses AccessDenied))
+      cond (nat_le (rank (needed_level op)) (rank_of (s.level i))) (in_repo (s.repo i) (λ x. operate (w.grants t1) (repo_at w) x app op body)) (refuses AccessDenied))
       (refuses TokenRequired)
 
 -- ---- the blob `abc`
@@ -162,7 +162,7 @@ module _ (quota : ℕ) where
       (used_of ((abc_digest, abc) ∷ []) [] empty [] 0 quota) (used_of ((abc_digest, abc) ∷ []) [] empty [] 0 quota) h
 
 -- a manifest's digest is compared as a blob's is
-pub unequal : (digest body : Text) (x : Outcome) → matches digest body ≡ false → cond (not (matches digest body)) (refuses DigestMismatch) x ≡ refuses DigestMismatch
+pub unequal : (digest body : Text) (x : Decision) → matches digest body ≡ false → cond (not (matches digest body)) (refuses DigestMismatch) x ≡ refuses DigestMismatch
 unequal digest body x differs = ap (λ b. cond (not b) (refuses DigestMismatch) x) differs
 
 -- ---- session 1

@@ -9,7 +9,7 @@ use Rattle.registry_model.specs.declared.reply.Status.TheVariants.{OK, Created, 
 use Rattle.registry_model.specs.World.{Repo}
 use Rattle.registry_model.specs.Limits.{largest_blob}
 use Rattle.registry_model.specs.Answer.{Answer, Content, bare_answer, sent, unsent}
-use Rattle.registry_model.specs.Outcome.{Outcome, refuses, tells, makes, within_quota}
+use Rattle.registry_model.specs.Decision.{Decision, refuses, tells, makes, within_quota}
 
 -- the blob of a digest; any other text names none
 abbrev pub blob_named : Repo → Text → Option Text
@@ -23,26 +23,26 @@ blob_reply digest body = record (bare_answer OK) {
   body = body;
 }
 
-abbrev pub found_blob : Text → Option Text → Outcome
+abbrev pub found_blob : Text → Option Text → Decision
 found_blob digest None = refuses BlobUnknown
 found_blob digest (Some bytes) = tells (blob_reply digest (sent bytes))
 
-abbrev pub read_blob : Repo → Text → Outcome
+abbrev pub read_blob : Repo → Text → Decision
 read_blob r digest = found_blob digest (blob_named r digest)
 
 -- the same for HEAD, which asks for the length alone
-abbrev pub found_size : Text → Option ℕ → Outcome
+abbrev pub found_size : Text → Option ℕ → Decision
 found_size digest None = refuses BlobUnknown
 found_size digest (Some size) = tells (blob_reply digest (unsent size))
 
-abbrev pub size_blob : Repo → Text → Outcome
+abbrev pub size_blob : Repo → Text → Decision
 size_blob r digest = found_size digest (option_map length (blob_named r digest))
 
 -- the blob alone goes; a manifest that names it stays
 abbrev pub without_blob : Repo → Text → Repo
 without_blob r digest = record r { blobs = remove r.blobs digest }
 
-abbrev pub delete_blob : Repo → Text → Outcome
+abbrev pub delete_blob : Repo → Text → Decision
 delete_blob r digest =
     if is_some (blob_named r digest) then makes (bare_answer Accepted) (without_blob r digest)
     else refuses BlobUnknown
@@ -67,7 +67,7 @@ abbrev pub can_verify : Text → Bool
 can_verify digest = is_digest digest && is_verified digest
 
 -- a push of a whole blob to the repository of the name
-abbrev pub push_blob : Repo → Text → Text → Text → Outcome
+abbrev pub push_blob : Repo → Text → Text → Text → Decision
 push_blob r name digest body =
     if not (can_verify digest) then refuses InvalidDigest
     else (if nat_lt largest_blob (length body) then refuses ContentTooLarge

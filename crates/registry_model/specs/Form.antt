@@ -42,24 +42,42 @@ path_before path = before_last is_slash path
 abbrev pub name_in : Text → Text
 name_in path = if starts_with nat_eq path (codes "/") then drop 1 path else path
 
+-- the last three segments of a path, counted from its end, and what stands before the second and the third
+pub record Segments : Type 0 where
+  pub third : Text
+  pub second : Text
+  pub last : Text
+  pub before_third : Text
+  pub before_second : Text
+
 -- by the last three segments of what follows "/v2"; the first line that fits decides
-abbrev pub form_by : Text → Text → Text → Text → Text → Form
-form_by third second last before_third before_second =
-    if bytes_eq second (codes "tags") && bytes_eq last (codes "list") then tags (name_in before_second)
-    else (if bytes_eq second (codes "manifests") then manifest (name_in before_second) last
-    else (if bytes_eq second (codes "referrers") then referrers (name_in before_second) last
-    else (if bytes_eq third (codes "blobs") && bytes_eq second (codes "uploads")
-    then (if bytes_eq last [] then uploads (name_in before_third) else session (name_in before_third) last)
-    else (if bytes_eq second (codes "blobs") && bytes_eq last (codes "uploads")
-    then uploads (name_in before_second)
-    else (if bytes_eq second (codes "blobs") then blob (name_in before_second) last
+abbrev pub form_by : Segments → Form
+form_by s =
+    if bytes_eq s.second (codes "tags") && bytes_eq s.last (codes "list") then tags (name_in s.before_second)
+    else (if bytes_eq s.second (codes "manifests") then manifest (name_in s.before_second) s.last
+    else (if bytes_eq s.second (codes "referrers") then referrers (name_in s.before_second) s.last
+    else (if bytes_eq s.third (codes "blobs") && bytes_eq s.second (codes "uploads")
+    then (if bytes_eq s.last [] then uploads (name_in s.before_third)
+    else session (name_in s.before_third) s.last)
+    else (if bytes_eq s.second (codes "blobs") && bytes_eq s.last (codes "uploads")
+    then uploads (name_in s.before_second)
+    else (if bytes_eq s.second (codes "blobs") then blob (name_in s.before_second) s.last
     else no_form)))))
 
-abbrev pub form_behind : Text → Form
-form_behind path =
+abbrev pub segments_of : Text → Segments
+segments_of path =
     let front = path_before path in
     let front' = path_before front in
-    form_by (last_segment front') (last_segment front) (last_segment path) (path_before front') front'
+    record {
+      third = last_segment front';
+      second = last_segment front;
+      last = last_segment path;
+      before_third = path_before front';
+      before_second = front';
+    }
+
+abbrev pub form_behind : Text → Form
+form_behind path = form_by (segments_of path)
 
 -- "/v2" and "/v2/" are the base
 abbrev pub form_in_version : Text → Form

@@ -7,7 +7,7 @@ pub mod Refusals
 pub mod Answer
 pub mod Form
 pub mod Ask
-pub mod Outcome
+pub mod Decision
 pub mod Numbers
 pub mod Range
 pub mod Blobs
@@ -18,7 +18,7 @@ pub mod TagPage
 pub mod Referrers
 pub mod Lookups
 pub mod Operation
-pub mod Verdict
+pub mod Judging
 pub mod Heads
 pub mod Command
 pub mod Keeping

@@ -20,7 +20,7 @@ use Rattle.registry_model.specs.declared.reply.Status.TheVariants.{OK, Created, 
 use Rattle.registry_model.specs.World.{Repo}
 use Rattle.registry_model.specs.Limits.{largest_manifest}
 use Rattle.registry_model.specs.Answer.{Answer, Content, bare_answer, sent, unsent}
-use Rattle.registry_model.specs.Outcome.{Outcome, refuses, tells, makes, within_quota}
+use Rattle.registry_model.specs.Decision.{Decision, refuses, tells, makes, within_quota}
 
 -- ---- look-up
 
@@ -56,19 +56,19 @@ manifest_reply digest kind body = record (bare_answer OK) {
   body = body;
 }
 
-abbrev pub found_manifest : Option Found → Outcome
+abbrev pub found_manifest : Option Found → Decision
 found_manifest None = refuses ManifestUnknown
 found_manifest (Some m) = tells (manifest_reply m.digest (kind_in m.bytes) (sent m.bytes))
 
-abbrev pub read_manifest : Repo → Text → Outcome
+abbrev pub read_manifest : Repo → Text → Decision
 read_manifest r reference = found_manifest (manifest_named r reference)
 
-abbrev pub found_manifest_size : Option Found → Outcome
+abbrev pub found_manifest_size : Option Found → Decision
 found_manifest_size None = refuses ManifestUnknown
 found_manifest_size (Some m) = tells (manifest_reply m.digest (kind_in m.bytes) (unsent (length m.bytes)))
 
 -- HEAD
-abbrev pub size_manifest : Repo → Text → Outcome
+abbrev pub size_manifest : Repo → Text → Decision
 size_manifest r reference = found_manifest_size (manifest_named r reference)
 
 -- ---- deletion
@@ -88,17 +88,17 @@ without_manifest r digest = record r {
   tags = retain_keys r.tags (λ tag. not (is_text digest (get r.tags tag)));
 }
 
-abbrev pub delete_tag : Repo → Text → Outcome
+abbrev pub delete_tag : Repo → Text → Decision
 delete_tag r tag =
     if is_some (get r.tags tag) then makes (bare_answer Accepted) (without_tag r tag)
     else refuses ManifestUnknown
 
-abbrev pub delete_digest : Repo → Text → Outcome
+abbrev pub delete_digest : Repo → Text → Decision
 delete_digest r digest =
     if is_some (get r.manifests digest) then makes (bare_answer Accepted) (without_manifest r digest)
     else refuses ManifestUnknown
 
-abbrev pub delete_manifest : Repo → Text → Outcome
+abbrev pub delete_manifest : Repo → Text → Decision
 delete_manifest r reference =
     if is_tag reference then delete_tag r reference
     else (if is_digest reference then delete_digest r reference else refuses ManifestUnknown)
@@ -156,7 +156,7 @@ created_manifest name digest subject = record (bare_answer Created) {
 abbrev pub has_needs : Repo → List Text → Bool
 has_needs r needs = list_all (λ digest. is_some (get r.blobs digest)) needs
 
-abbrev pub push_read : Repo → Text → Text → Option Text → Text → Result ManifestShown ManifestFault → Outcome
+abbrev pub push_read : Repo → Text → Text → Option Text → Text → Result ManifestShown ManifestFault → Decision
 push_read r name reference content_type body (Err e) = refuses InvalidManifest
 push_read r name reference content_type body (Ok m) =
     if not (content_type_fits content_type m.kind) then refuses InvalidManifest
@@ -164,7 +164,7 @@ push_read r name reference content_type body (Ok m) =
     else within_quota r (with_manifest r (pushed_digest reference body) body (pushed_tag reference))
     (created_manifest name (pushed_digest reference body) m.subject))
 
-abbrev pub push_manifest : Repo → Text → Text → Option Text → Text → Outcome
+abbrev pub push_manifest : Repo → Text → Text → Option Text → Text → Decision
 push_manifest r name reference content_type body =
     if not (is_reference reference) then refuses InvalidReference
     else (if nat_lt largest_manifest (length body) then refuses ContentTooLarge

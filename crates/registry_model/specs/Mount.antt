@@ -8,7 +8,7 @@ use Rattle.oci_names.specs.Digest.{is_digest}
 use Rattle.oci_names.specs.RepoName.{is_repo_name}
 use Rattle.registry_model.specs.declared.refusal.Refusal.TheVariants.{InvalidDigest}
 use Rattle.registry_model.specs.World.{Repo, Grants}
-use Rattle.registry_model.specs.Outcome.{Outcome, refuses, within_quota}
+use Rattle.registry_model.specs.Decision.{Decision, refuses, within_quota}
 use Rattle.registry_model.specs.Blobs.{with_blob, created_blob}
 use Rattle.registry_model.specs.Sessions.{open_session}
 
@@ -23,11 +23,11 @@ source grants repos (Some name) digest =
     if may_read grants name then option_and_then (λ r. get r.blobs digest) (repos name) else None
 
 -- the source's blob becomes the repository's; without one an upload is opened
-abbrev pub mounted : Repo → Text → Text → Option Text → Outcome
+abbrev pub mounted : Repo → Text → Text → Option Text → Decision
 mounted r name digest None = open_session r name
 mounted r name digest (Some bytes) = within_quota r (with_blob r digest bytes) (created_blob name digest)
 
-abbrev pub mount_blob : Grants → (Text → Option Repo) → Repo → Text → Text → Option Text → Outcome
+abbrev pub mount_blob : Grants → (Text → Option Repo) → Repo → Text → Text → Option Text → Decision
 mount_blob grants repos r name digest from_name =
     if not (is_digest digest) then refuses InvalidDigest
     else mounted r name digest (source grants repos from_name digest)

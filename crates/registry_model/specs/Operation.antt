@@ -1,7 +1,8 @@
 -- What a request asks of the repository of its path (OCI Distribution Specification 1.1, Endpoints; the
 -- levels are the profile's).
-use Rattle.std.specs.Prelude.{ℕ, Option, Some, None, codes}
+use Rattle.std.specs.Prelude.{ℕ, Option, Some, None, codes, if◌then◌else◌}
 use Rattle.oci_names.specs.Text.{Text}
+use Rattle.oci_names.specs.RepoName.{is_repo_name}
 use Rattle.registry_model.specs.declared.level.Level.{Level}
 use Rattle.registry_model.specs.declared.level.Level.TheVariants.{Pull, Push, Delete}
 use Rattle.registry_model.specs.declared.request.Verb.{Verb}
@@ -98,16 +99,20 @@ allow_of (manifest name reference) = codes "DELETE, GET, HEAD, PUT"
 allow_of (tags name) = codes "GET, HEAD"
 allow_of (referrers name digest) = codes "GET, HEAD"
 
+-- the text, where it is a repository's name
+abbrev pub valid_name : Text → Option Text
+valid_name t = if is_repo_name t then Some t else None
+
 -- the name that a path addresses
 abbrev pub addressed : Form → Option Text
 addressed no_form = None
 addressed base = None
-addressed (blob name digest) = Some name
-addressed (uploads name) = Some name
-addressed (session name reference) = Some name
-addressed (manifest name reference) = Some name
-addressed (tags name) = Some name
-addressed (referrers name digest) = Some name
+addressed (blob name digest) = valid_name name
+addressed (uploads name) = valid_name name
+addressed (session name reference) = valid_name name
+addressed (manifest name reference) = valid_name name
+addressed (tags name) = valid_name name
+addressed (referrers name digest) = valid_name name
 
 -- ---- levels
 
@@ -121,19 +126,19 @@ abbrev pub rank_of : Option Level → ℕ
 rank_of None = 0
 rank_of (Some level) = rank level
 
-abbrev pub needed : Operation → Level
-needed (reads_blob digest) = Pull
-needed (sizes_blob digest) = Pull
-needed (deletes_blob digest) = Delete
-needed (pushes_blob digest) = Push
-needed opens_session = Push
-needed (mounts_blob digest source) = Push
-needed (reads_session reference) = Push
-needed (appends_chunk reference range) = Push
-needed (closes_session reference digest range) = Push
-needed (reads_manifest reference) = Pull
-needed (sizes_manifest reference) = Pull
-needed (deletes_manifest reference) = Delete
-needed (pushes_manifest reference content_type) = Push
-needed (lists_tags n last) = Pull
-needed (lists_referrers digest artifact_type) = Pull
+abbrev pub needed_level : Operation → Level
+needed_level (reads_blob digest) = Pull
+needed_level (sizes_blob digest) = Pull
+needed_level (deletes_blob digest) = Delete
+needed_level (pushes_blob digest) = Push
+needed_level opens_session = Push
+needed_level (mounts_blob digest source) = Push
+needed_level (reads_session reference) = Push
+needed_level (appends_chunk reference range) = Push
+needed_level (closes_session reference digest range) = Push
+needed_level (reads_manifest reference) = Pull
+needed_level (sizes_manifest reference) = Pull
+needed_level (deletes_manifest reference) = Delete
+needed_level (pushes_manifest reference content_type) = Push
+needed_level (lists_tags n last) = Pull
+needed_level (lists_referrers digest artifact_type) = Pull

@@ -25,33 +25,33 @@ abbrev pub has_good_end : Text → Bool
 has_good_end t = not (list_any is_solidus t) || is_whole_length (after_first is_solidus t)
 
 -- the first and the last position, where the dash parts them
-pub record Ends : Type 0 where
+pub record Positions : Type 0 where
   pub first : ℕ
   pub last : ℕ
 
-abbrev pub ends_from : Option ℕ → Option ℕ → Option Ends
-ends_from (Some first) (Some last) =
+abbrev pub positions_from : Option ℕ → Option ℕ → Option Positions
+positions_from (Some first) (Some last) =
     if nat_lt last first then None else Some (record { first = first; last = last })
-ends_from _ _ = None
+positions_from _ _ = None
 
-abbrev pub ends_of : Text → Option Ends
-ends_of t =
+abbrev pub positions_of : Text → Option Positions
+positions_of t =
     if list_any is_dash t
-    then ends_from (number_in (before_first is_dash t)) (number_in (after_first is_dash t)) else None
+    then positions_from (number_in (before_first is_dash t)) (number_in (after_first is_dash t)) else None
 
 -- a range, `[0-9]+-[0-9]+`, whose last position is not before its first
-abbrev pub range_in : Text → Option Ends
+abbrev pub range_in : Text → Option Positions
 range_in value =
-    let t = without_unit value in if has_good_end t then ends_of (before_first is_solidus t) else None
+    let t = without_unit value in if has_good_end t then positions_of (before_first is_solidus t) else None
 
 -- it begins where the upload ends, and has the body's length
-abbrev pub ends_fit : Option Ends → ℕ → ℕ → RangeVerdict
-ends_fit None size length = Malformed
-ends_fit (Some e) size length =
+abbrev pub positions_fit : Option Positions → ℕ → ℕ → RangeVerdict
+positions_fit None size length = Malformed
+positions_fit (Some e) size length =
     if not (e.first == size) then OutOfOrder
     else (if not (e.last - e.first + 1 == length) then Unequal else Fits)
 
 -- with no range the body follows what is there (profile)
 abbrev pub range_verdict : Option Text → ℕ → ℕ → RangeVerdict
 range_verdict None size length = Fits
-range_verdict (Some value) size length = ends_fit (range_in value) size length
+range_verdict (Some value) size length = positions_fit (range_in value) size length

@@ -13,7 +13,7 @@ use Rattle.registry_model.specs.declared.refusal.Refusal.TheVariants.{InvalidDig
 use Rattle.registry_model.specs.declared.reply.Status.TheVariants.{OK}
 use Rattle.registry_model.specs.World.{Repo}
 use Rattle.registry_model.specs.Answer.{Answer, bare_answer, sent}
-use Rattle.registry_model.specs.Outcome.{Outcome, refuses, tells}
+use Rattle.registry_model.specs.Decision.{Decision, refuses, tells}
 use Rattle.registry_model.specs.Manifests.{is_text}
 
 -- the subject of a manifest, by what its bytes read as
@@ -66,7 +66,7 @@ referrers_reply wanted referrers = record (bare_answer OK) {
   body = sent (referrers_line referrers);
 }
 
-abbrev pub list_referrers : Repo → Text → Option Text → Outcome
+abbrev pub list_referrers : Repo → Text → Option Text → Decision
 list_referrers r digest artifact_type =
     if not (is_digest digest) then refuses InvalidDigest
     else (let wanted = filter_in artifact_type in

@@ -4,10 +4,10 @@ use Rattle.registry_model.specs.declared.admin.AdminFault.{AdminFault}
 use Rattle.registry_model.specs.World.{World}
 use Rattle.registry_model.specs.Answer.{Answer}
 use Rattle.registry_model.specs.Ask.{Ask}
-use Rattle.registry_model.specs.Verdict.{reply_to, after_request}
+use Rattle.registry_model.specs.Judging.{reply_to, after_request}
 use Rattle.registry_model.specs.Command.{refusal_of, after_command}
 use Rattle.registry_model.specs.Keeping.{State}
-use Rattle.registry_model.specs.Doing.{Kind, answered, missed, lost, kind_of, outcome_kind, outcome_of, Does, CarriesOut, SpendsAs}
+use Rattle.registry_model.specs.Doing.{Course, answered, missed, lost, course_of_answer, course_of_result, outcome_of, Does, CarriesOut, SpendsAs}
 use Rattle.registry_model.specs.Team.{Team, IsTeamOf, view, Step, asks, orders, is_own, OwnOrAside}
 
 -- what came of a step
@@ -25,9 +25,9 @@ after w (asks q) = after_request w q
 after w (orders a) = after_command w a
 
 -- an answer, want of memory, or the end at a storage failure
-abbrev pub kind : Outcome → Kind
-kind (told a) = kind_of a
-kind (did r) = outcome_kind r
+abbrev pub course : Outcome → Course
+course (told a) = course_of_answer a
+course (did r) = course_of_result r
 
 -- one step of a keeper's state
 abbrev pub Takes : State → Step → Outcome → State → Type 0
@@ -38,8 +38,8 @@ Takes s (orders a) (told r) s' = ⊥
 
 -- a reply comes of a request and a result of a command, and each says by its kind whether the storage is lost
 abbrev pub Shows : State → Step → Outcome → State → Type 0
-Shows s (asks q) (told a) s' = SpendsAs (kind_of a) s s'
-Shows s (orders a) (did r) s' = SpendsAs (outcome_kind r) s s'
+Shows s (asks q) (told a) s' = SpendsAs (course_of_answer a) s s'
+Shows s (orders a) (did r) s' = SpendsAs (course_of_result r) s s'
 Shows s (asks q) (did r) s' = ⊥
 Shows s (orders a) (told r) s' = ⊥
 
@@ -62,7 +62,7 @@ ShowsAll s steps outcomes s' = OneByOne Shows s steps outcomes s'
 
 -- the steps that were answered before the first storage failure, with their outcomes; those for which memory
 -- was wanting are left out
-abbrev pub kept_as : Kind → Step → Outcome → List (Step × Outcome) → List (Step × Outcome)
+abbrev pub kept_as : Course → Step → Outcome → List (Step × Outcome) → List (Step × Outcome)
 kept_as answered st o others = (st, o) ∷ others
 kept_as missed st o others = others
 kept_as lost st o others = []
@@ -70,7 +70,7 @@ kept_as lost st o others = []
 abbrev pub kept : List Step → List Outcome → List (Step × Outcome)
 kept [] outcomes = []
 kept (st ∷ steps) [] = []
-kept (st ∷ steps) (o ∷ outcomes) = kept_as (kind o) st o (kept steps outcomes)
+kept (st ∷ steps) (o ∷ outcomes) = kept_as (course o) st o (kept steps outcomes)
 
 -- each outcome is that of its step, one after the other
 abbrev pub Follow : World → List (Step × Outcome) → Type 0
@@ -83,11 +83,11 @@ after_all w (p ∷ others) = after_all (after w p.0) others
 
 -- once a step is lost, so is each after it
 abbrev pub AllLost : List Outcome → Type 0
-AllLost outcomes = All (λ o. kind o ≡ lost) outcomes
+AllLost outcomes = All (λ o. course o ≡ lost) outcomes
 
 abbrev pub LostToTheEnd : List Outcome → Type 0
 LostToTheEnd [] = ⊤
-LostToTheEnd (o ∷ outcomes) = (kind o ≡ lost → AllLost outcomes) × LostToTheEnd outcomes
+LostToTheEnd (o ∷ outcomes) = (course o ≡ lost → AllLost outcomes) × LostToTheEnd outcomes
 
 -- ---- what a team is told
 
@@ -117,7 +117,7 @@ answers_to team steps outcomes = map (λ p. p.1) (own team (kept steps outcomes)
 
 -- no step failed for want of memory
 abbrev pub NoneMissed : List Outcome → Type 0
-NoneMissed outcomes = All (λ o. kind o ≢ missed) outcomes
+NoneMissed outcomes = All (λ o. course o ≢ missed) outcomes
 
 -- the replies to requests, one after the other
 abbrev pub replies : World → List Ask → List Answer

@@ -15,7 +15,7 @@ use Rattle.registry_model.specs.World.{Repo}
 use Rattle.registry_model.specs.Limits.{largest, largest_blob, most_sessions}
 use Rattle.registry_model.specs.Range.{range_verdict}
 use Rattle.registry_model.specs.Answer.{Answer, bare_answer, refused}
-use Rattle.registry_model.specs.Outcome.{Outcome, refuses, tells, makes, within_quota}
+use Rattle.registry_model.specs.Decision.{Decision, refuses, tells, makes, within_quota}
 use Rattle.registry_model.specs.Blobs.{can_verify, with_blob, created_blob}
 
 -- an open session: its number, and its bytes so far
@@ -47,7 +47,7 @@ session_reply status name number size = record (bare_answer status) {
 }
 
 -- the refusal that says where the session stands
-abbrev pub refuses_order : Text → ℕ → ℕ → Outcome
+abbrev pub refuses_order : Text → ℕ → ℕ → Decision
 refuses_order name number size =
     tells (record (refused RangeOutOfOrder)
     { location = Some (session_location name number); range = Some (session_range size) })
@@ -61,24 +61,24 @@ is_full r = nat_le most_sessions (len r.sessions) || nat_le largest r.last
 abbrev pub opened : Repo → Repo
 opened r = record r { last = r.last + 1; sessions = insert r.sessions (r.last + 1) [] }
 
-abbrev pub open_session : Repo → Text → Outcome
+abbrev pub open_session : Repo → Text → Decision
 open_session r name =
     if is_full r then refuses TooManyUploads
     else makes (session_reply Accepted name (r.last + 1) 0) (opened r)
 
 -- ---- status
 
-abbrev pub show_session : Text → Option Session → Outcome
+abbrev pub show_session : Text → Option Session → Decision
 show_session name None = refuses UploadUnknown
 show_session name (Some s) = tells (session_reply NoContent name s.number (length s.bytes))
 
-abbrev pub read_session : Repo → Text → Text → Outcome
+abbrev pub read_session : Repo → Text → Text → Decision
 read_session r name reference = show_session name (session_named r reference)
 
 -- ---- chunks
 
 -- the verdict on the range, and what follows where it fits
-abbrev pub range_checked : RangeVerdict → Text → ℕ → ℕ → Outcome → Outcome
+abbrev pub range_checked : RangeVerdict → Text → ℕ → ℕ → Decision → Decision
 range_checked Fits name number size next = next
 range_checked Malformed name number size next = refuses InvalidRange
 range_checked OutOfOrder name number size next = refuses_order name number size
@@ -87,7 +87,7 @@ range_checked Unequal name number size next = refuses RangeLength
 abbrev pub appended : Repo → ℕ → Text → Repo
 appended r number bytes = record r { sessions = insert r.sessions number bytes }
 
-abbrev pub append_to : Repo → Text → Option Text → Text → Option Session → Outcome
+abbrev pub append_to : Repo → Text → Option Text → Text → Option Session → Decision
 append_to r name range body None = refuses UploadUnknown
 append_to r name range body (Some s) =
     range_checked (range_verdict range (length s.bytes) (length body)) name s.number (length s.bytes)
@@ -96,7 +96,7 @@ append_to r name range body (Some s) =
     (session_reply Accepted name s.number (length s.bytes + length body)))
 
 -- PATCH
-abbrev pub append_chunk : Repo → Text → Text → Option Text → Text → Outcome
+abbrev pub append_chunk : Repo → Text → Text → Option Text → Text → Decision
 append_chunk r name reference range body = append_to r name range body (session_named r reference)
 
 -- ---- closing
@@ -109,7 +109,7 @@ finished r number digest bytes = with_blob (record r { sessions = remove r.sessi
 abbrev pub last_range_verdict : Option Text → ℕ → Text → RangeVerdict
 last_range_verdict range size body = if length body == 0 then Fits else range_verdict range size (length body)
 
-abbrev pub close_with : Repo → Text → Text → Option Text → Text → Session → Outcome
+abbrev pub close_with : Repo → Text → Text → Option Text → Text → Session → Decision
 close_with r name digest range body s =
     if not (can_verify digest) then refuses InvalidDigest
     else range_checked (last_range_verdict range (length s.bytes) body) name s.number (length s.bytes)
@@ -117,12 +117,12 @@ close_with r name digest range body s =
     else (if not (matches digest (s.bytes ++ body)) then refuses DigestMismatch
     else within_quota r (finished r s.number digest (s.bytes ++ body)) (created_blob name digest)))
 
-abbrev pub close_to : Repo → Text → Option Text → Option Text → Text → Option Session → Outcome
+abbrev pub close_to : Repo → Text → Option Text → Option Text → Text → Option Session → Decision
 close_to r name digest range body None = refuses UploadUnknown
 close_to r name None range body (Some s) = refuses InvalidDigest
 close_to r name (Some digest) range body (Some s) = close_with r name digest range body s
 
 -- PUT
-abbrev pub close_session : Repo → Text → Text → Option Text → Option Text → Text → Outcome
+abbrev pub close_session : Repo → Text → Text → Option Text → Option Text → Text → Decision
 close_session r name reference digest range body =
     close_to r name digest range body (session_named r reference)

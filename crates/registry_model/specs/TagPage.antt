@@ -11,7 +11,7 @@ use Rattle.registry_model.specs.declared.reply.Status.TheVariants.{OK}
 use Rattle.registry_model.specs.World.{text_cmp, Repo}
 use Rattle.registry_model.specs.Numbers.{number_in}
 use Rattle.registry_model.specs.Answer.{Answer, bare_answer, sent}
-use Rattle.registry_model.specs.Outcome.{Outcome, refuses, tells}
+use Rattle.registry_model.specs.Decision.{Decision, refuses, tells}
 
 -- the repository's tags behind a text, in their order; it need not be a tag
 abbrev pub tags_behind : Repo → Text → List Text
@@ -68,9 +68,9 @@ abbrev pub text_or_empty : Option Text → Text
 text_or_empty None = []
 text_or_empty (Some t) = t
 
-abbrev pub list_page : Repo → Text → Option Text → Option (Option ℕ) → Outcome
+abbrev pub list_page : Repo → Text → Option Text → Option (Option ℕ) → Decision
 list_page r name last None = refuses InvalidPageSize
 list_page r name last (Some n) = tells (tags_reply name n (page_behind r (text_or_empty last) n))
 
-abbrev pub list_tags : Repo → Text → Option Text → Option Text → Outcome
+abbrev pub list_tags : Repo → Text → Option Text → Option Text → Decision
 list_tags r name n last = list_page r name last (size_in n)

@@ -6,7 +6,7 @@ ghost use Rattle.oci_names.specs.Text.{Text};
 ghost use Rattle.registry_model.specs.World.{World, Grants, Repo};
 ghost use Rattle.registry_model.specs.Ask.{Ask};
 ghost use Rattle.registry_model.specs.Heads.{as_head, as_get, without_content};
-ghost use Rattle.registry_model.specs.Verdict.{verdict, reply_to, after_request};
+ghost use Rattle.registry_model.specs.Judging.{decision, reply_to, after_request};
 ghost use Rattle.registry_model.specs.Command.{after_command};
 ghost use Rattle.registry_model.specs.declared.admin.AdminCommand.{AdminCommand};
 ghost use Rattle.registry_model.specs.Keeping.{State};
@@ -16,11 +16,11 @@ ghost use Rattle.std.specs.Prelude.{Option};
 ghost use Rattle.std.specs.FinMap.{get};
 
 /// A reply, and what it changes, are told by the token's grants and the repositories of granted
-/// names alone: look-ups that agree on these give one verdict.
-pub fn a_verdict_sees_granted_names_alone()
+/// names alone: look-ups that agree on these give one decision.
+pub fn a_decision_sees_granted_names_alone()
     ensures { (g : Grants) (repos others : Text → Option Repo)
         → ((name : Text) → is_some (get g name) ≡ true → repos name ≡ others name)
-        → (q : Ask) → verdict g repos q ≡ verdict g others q }
+        → (q : Ask) → decision g repos q ≡ decision g others q }
 {}
 
 /// A request by HEAD is answered as it is by GET, without the content but for its length (RFC 9110,

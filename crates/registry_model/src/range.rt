@@ -5,7 +5,7 @@ ghost use Rattle.std.specs.Char.{is_ascii_digit};
 ghost use Rattle.std.specs.List.{before_first, after_first, list_any, list_all};
 ghost use Rattle.std.specs.Str.{all_ascii_digits};
 ghost use Rattle.registry_model.specs.Ask.{text_in};
-ghost use Rattle.registry_model.specs.Range.{without_unit, is_whole_length, ends_from, ends_of, range_in, ends_fit, range_verdict};
+ghost use Rattle.registry_model.specs.Range.{without_unit, is_whole_length, positions_from, positions_of, range_in, positions_fit, range_verdict};
 
 use crate::numbers::number;
 
@@ -87,7 +87,7 @@ fn is_whole_length(text: &[u8]) -> bool
 
 /// The verdict on the first and the last position of a range.
 fn verdict_on_ends(first: u64, last: u64, length: u64, body_length: u64) -> RangeVerdict
-    ensures { result ≡ ends_fit (ends_from (Some first) (Some last)) length body_length }
+    ensures { result ≡ positions_fit (positions_from (Some first) (Some last)) length body_length }
 {
     if last < first {
         RangeVerdict::Malformed
@@ -102,7 +102,7 @@ fn verdict_on_ends(first: u64, last: u64, length: u64, body_length: u64) -> Rang
 
 /// The verdict on the positions of a range.
 fn verdict_on_positions(text: &[u8], length: u64, body_length: u64) -> RangeVerdict
-    ensures { result ≡ ends_fit (ends_of text.now) length body_length }
+    ensures { result ≡ positions_fit (positions_of text.now) length body_length }
 {
     let Some(parts) = split_at_byte(text, b'-') else {
         return RangeVerdict::Malformed;
@@ -118,7 +118,7 @@ fn verdict_on_positions(text: &[u8], length: u64, body_length: u64) -> RangeVerd
 
 /// The verdict on a range.
 fn verdict_on(value: &[u8], length: u64, body_length: u64) -> RangeVerdict
-    ensures { result ≡ ends_fit (range_in value.now) length body_length }
+    ensures { result ≡ positions_fit (range_in value.now) length body_length }
 {
     let text = without_unit(value);
     match split_at_byte(text, b'/') {

@@ -5,7 +5,7 @@ ghost use Rattle.std.specs.Prelude.{◌≡◌, ◌≤◌, List, Some};
 ghost use Rattle.registry_model.specs.World.{World, no_world};
 ghost use Rattle.registry_model.specs.Answer.{code_of};
 ghost use Rattle.registry_model.specs.Ask.{Ask};
-ghost use Rattle.registry_model.specs.Verdict.{reply_to, after_request};
+ghost use Rattle.registry_model.specs.Judging.{reply_to, after_request};
 ghost use Rattle.registry_model.specs.Command.{refusal_of, after_command};
 ghost use Rattle.registry_model.specs.Soundness.{IsSound};
 ghost use Rattle.registry_model.specs.Team.{Step};

@@ -14,7 +14,7 @@ ghost use Rattle.registry_model.specs.Ask.{Ask};
 ghost use Rattle.registry_model.specs.Blobs.{without_blob};
 ghost use Rattle.registry_model.specs.Manifests.{without_manifest};
 ghost use Rattle.registry_model.specs.Command.{grant};
-ghost use Rattle.registry_model.specs.Verdict.{reply_to, after_request};
+ghost use Rattle.registry_model.specs.Judging.{reply_to, after_request};
 ghost use Rattle.registry_model.specs.Worked.{app, t1, Setting, abc_digest, hello_digest, md5_digest, holding_abc, in_session, four_tags, two_tags, no_keys, asks, pushes, mounts, patches, closes, lists_tags, json, created_at, session_1, token_required, blob_unknown, quota_exceeded, digest_does_not_match, invalid_digest, range_out_of_order, invalid_content_range, range_does_not_match_body, too_many_uploads, upload_unknown, invalid_page_size, access_denied, invalid_repository_name, no_such_endpoint, method_not_allowed, invalid_reference, manifest_unknown, abc_location, hello_location, next_page, index_type, no_referrers};
 
 use crate::{Level, Status, Verb};

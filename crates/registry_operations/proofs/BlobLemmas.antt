@@ -15,7 +15,7 @@ use Rattle.registry_operations.specs.Operating.{Operates}
 use Rattle.registry_model.specs.World.{Repo, World, repo_at, has_repo, update_repo}
 use Rattle.std.specs.Option.{option_map_or}
 use Rattle.registry_model.specs.Answer.{Answer, refused, bare_answer}
-use Rattle.registry_model.specs.Outcome.{Outcome, refuses, tells, makes, within_quota}
+use Rattle.registry_model.specs.Decision.{Decision, refuses, tells, makes, within_quota}
 use Rattle.registry_model.specs.Blobs.{blob_named, found_blob, found_size, read_blob, size_blob, delete_blob, without_blob, can_verify, with_blob, created_blob, push_blob}
 use Rattle.registry_model.specs.Lookups.{blob_at, blob_size_at}
 use Rattle.registry_model.specs.Lookups as lookups
@@ -35,7 +35,7 @@ size_told : (digest : Text) (o : Option ℕ) → found_size digest o ≡ tells (
 size_told digest None = refl
 size_told digest (Some size) = refl
 
-module _ (s s' : State) (name : Text) (unspent : s.spent ≡ false) (there : has_repo s.world name ≡ true) (act : Repo → Outcome) (a b : Answer) where
+module _ (s s' : State) (name : Text) (unspent : s.spent ≡ false) (there : has_repo s.world name ≡ true) (act : Repo → Decision) (a b : Answer) where
   tells_it : ((r : Repo) → repo_at s.world name ≡ Some r → act r ≡ tells b) → s' ≡ s → a ≡ b → Done a name act s s'
   tells_it here stays e =
       let r = there_is (repo_at s.world name) there in told s s' name act r.0 r.1 a b e unspent stays (here r.0 r.1)

@@ -10,7 +10,7 @@ use Rattle.oci_manifest.specs.Referrers.{ReferrerShown}
 use Rattle.registry_model.specs.declared.refusal.Refusal.TheVariants.{InvalidDigest}
 use Rattle.registry_model.specs.World.{repo_at, has_repo}
 use Rattle.registry_model.specs.Answer.{Answer, refused}
-use Rattle.registry_model.specs.Outcome.{refuses, tells}
+use Rattle.registry_model.specs.Decision.{refuses, tells}
 use Rattle.registry_model.specs.Lookups.{manifests_on_at}
 use Rattle.registry_model.specs.TagPage.{next_link, link_by, link_behind}
 use Rattle.registry_model.specs.Referrers.{referrer_in, is_wanted, filter_in, manifests_on, referrers_of, referrers_reply, list_referrers}

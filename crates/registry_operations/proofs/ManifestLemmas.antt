@@ -19,7 +19,7 @@ use Rattle.registry_model.specs.declared.reply.Status.TheVariants.{OK}
 use Rattle.oci_manifest.specs.Kind.{media_type_of}
 use Rattle.registry_model.specs.World.{Repo, repo_at, has_repo}
 use Rattle.registry_model.specs.Answer.{Answer, Content, bare_answer, refused, sent, unsent}
-use Rattle.registry_model.specs.Outcome.{Outcome, refuses, tells}
+use Rattle.registry_model.specs.Decision.{Decision, refuses, tells}
 use Rattle.registry_model.specs.Manifests.{reference_digest, kind_in, manifest_reply, manifest_of_digest, found_manifest, read_manifest, found_manifest_size, size_manifest, delete_tag, delete_digest, delete_manifest}
 use Rattle.registry_model.specs.Lookups.{manifest_at, manifest_size_at}
 use Rattle.registry_model.specs.Keeping.{State}
@@ -78,7 +78,7 @@ by_digest reference digest same d r =
 pub deletes_digest : (result : Result Reply Fault) (name reference digest : Text) (s s' : State) → digest ≡ reference → is_digest reference ≡ true
     → Operates result name (λ r. delete_digest r digest) s s' → Operates result name (λ r. delete_manifest r reference) s s'
 deletes_digest result name reference digest s s' same d h =
-    subst (λ (act : Repo → Outcome). Operates result name act s s') (λ i r. by_digest reference digest same d r i) h
+    subst (λ (act : Repo → Decision). Operates result name act s s') (λ i r. by_digest reference digest same d r i) h
 
 -- what is neither a tag nor a digest is unknown
 pub deletes_nothing : (s : State) (name reference : Text) → has_repo s.world name ≡ true → s.spent ≡ false → is_reference reference ≡ false

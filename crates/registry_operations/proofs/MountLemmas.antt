@@ -9,7 +9,7 @@ use Rattle.oci_names.specs.Digest.{is_digest}
 use Rattle.oci_names.specs.RepoName.{is_repo_name}
 use Rattle.registry_model.specs.declared.refusal.Refusal.TheVariants.{InvalidDigest, QuotaExceeded}
 use Rattle.registry_model.specs.World.{Repo, World, repo_at}
-use Rattle.registry_model.specs.Outcome.{refuses, makes}
+use Rattle.registry_model.specs.Decision.{refuses, makes}
 use Rattle.registry_model.specs.Blobs.{created_blob, with_blob}
 use Rattle.registry_model.specs.Sessions.{open_session}
 use Rattle.registry_model.specs.Mount.{source, mounted, mount_blob}

@@ -20,7 +20,7 @@ use Rattle.registry_model.specs.declared.reply.Reply.{Reply}
 use Rattle.registry_model.specs.World.{Repo, repo_at, has_repo}
 use Rattle.registry_model.specs.Limits.{largest_manifest}
 use Rattle.registry_model.specs.Answer.{Answer, refused}
-use Rattle.registry_model.specs.Outcome.{Outcome, refuses, makes, within_quota}
+use Rattle.registry_model.specs.Decision.{Decision, refuses, makes, within_quota}
 use Rattle.registry_model.specs.Manifests.{content_type_fits, has_needs, with_manifest, created_manifest, push_read, push_manifest, pushed_digest, pushed_tag}
 use Rattle.registry_model.specs.Lookups.{put_manifest}
 use Rattle.registry_model.specs.Keeping.{State}
@@ -113,7 +113,7 @@ read_is r name reference content_type body (Err e) = refl
 read_is r name reference content_type body (Ok m) = refl
 
 module _ (r : Repo) (name reference : Text) (content_type : Option Text) (body : Text) where
-  by_tests : Bool → Bool → Bool → Bool → Bool → Outcome
+  by_tests : Bool → Bool → Bool → Bool → Bool → Decision
   by_tests t d large v m =
       cond (not (t || d)) (refuses InvalidReference)
       (cond large (refuses ContentTooLarge)
@@ -188,12 +188,12 @@ module _ (name reference : Text) (content_type : Option Text) (body : Text) wher
         → Operates result name (λ r. push_under r name (sha256_digest body) (Some tag) content_type body (manifest_in body)) s s'
         → Operates result name (λ r. push_manifest r name reference content_type body) s s'
     pushes_tag tag same t h =
-        subst (λ (act : Repo → Outcome). Operates result name act s s')
+        subst (λ (act : Repo → Decision). Operates result name act s s')
         (λ i r. (ap (λ tag. push_under r name (sha256_digest body) (Some tag) content_type body (manifest_in body)) same ∙ sym (by_tag r name reference content_type body t fits)) i) h
 
     pub pushes_digest : (digest : Text) → digest ≡ reference → is_digest reference ≡ true
         → Operates result name (λ r. push_checked r name digest content_type body (verdict_of digest body)) s s'
         → Operates result name (λ r. push_manifest r name reference content_type body) s s'
     pushes_digest digest same d h =
-        subst (λ (act : Repo → Outcome). Operates result name act s s')
+        subst (λ (act : Repo → Decision). Operates result name act s s')
         (λ i r. (ap (λ digest. push_checked r name digest content_type body (verdict_of digest body)) same ∙ sym (by_digest r name reference content_type body d fits)) i) h

@@ -6,8 +6,8 @@ use Rattle.oci_names.specs.declared.fault.Fault.{Fault}
 use Rattle.registry_model.specs.declared.reply.Reply.{Reply}
 use Rattle.registry_model.specs.World.{Repo, repo_at, update_repo}
 use Rattle.registry_model.specs.Answer.{Answer}
-use Rattle.registry_model.specs.Outcome.{Outcome, tells, makes, in_repo}
-use Rattle.registry_model.specs.Verdict.{changed}
+use Rattle.registry_model.specs.Decision.{Decision, tells, makes, in_repo}
+use Rattle.registry_model.specs.Judging.{changed}
 use Rattle.registry_model.specs.Keeping.{State}
 use Rattle.registry_operations.specs.Operating.{Comes, Operates}
 
@@ -16,17 +16,17 @@ there_is None h = absurd (cc)
 there_is (Some r) h = (r, refl)
 
 -- the outcome's reply, and its change to the repository
-abbrev pub Done : Answer → Text → (Repo → Outcome) → State → State → Type 0
+abbrev pub Done : Answer → Text → (Repo → Decision) → State → State → Type 0
 Done a name act s s' =
     (a ≡ (in_repo (repo_at s.world name) act).reply) × (s' ≡ record { world = changed s.world (Some name) (in_repo (repo_at s.world name) act).change; spent = false })
 
-module _ (s s' : State) (name : Text) (act : Repo → Outcome) (r : Repo) (at : repo_at s.world name ≡ Some r) (a b : Answer) (e : a ≡ b) where
+module _ (s s' : State) (name : Text) (act : Repo → Decision) (r : Repo) (at : repo_at s.world name ≡ Some r) (a b : Answer) (e : a ≡ b) where
   -- an answer that changes nothing
   pub told : s.spent ≡ false → s' ≡ s → act r ≡ tells b → Done a name act s s'
   told unspent stays out =
       let o : in_repo (repo_at s.world name) act ≡ tells b = ap (λ x. in_repo x act) at ∙ out in (
         e ∙ sym (ap (λ x. x.reply) o),
-        stays ∙ (λ i. record { world = s.world; spent = unspent i }) ∙ ap (λ (x : Outcome). record { world = changed s.world (Some name) x.change; spent = false }) (sym o),
+        stays ∙ (λ i. record { world = s.world; spent = unspent i }) ∙ ap (λ (x : Decision). record { world = changed s.world (Some name) x.change; spent = false }) (sym o),
       )
 
   -- an answer to a change of the repository
@@ -35,11 +35,11 @@ module _ (s s' : State) (name : Text) (act : Repo → Outcome) (r : Repo) (at : 
       let o : in_repo (repo_at s.world name) act ≡ makes b (change r) = ap (λ x. in_repo x act) at ∙ out in (
         e ∙ sym (ap (λ x. x.reply) o),
         after ∙ ap (λ x. record { world = update_repo s.world name change x; spent = false }) at
-            ∙ ap (λ (x : Outcome). record { world = changed s.world (Some name) x.change; spent = false }) (sym o),
+            ∙ ap (λ (x : Decision). record { world = changed s.world (Some name) x.change; spent = false }) (sym o),
       )
 
 -- what comes of one operation comes of another that is the same there
-pub same_act : (result : Result Reply Fault) (name : Text) (act other : Repo → Outcome) (s s1 s' : State) (r : Repo) → s1 ≡ s → repo_at s.world name ≡ Some r → other r ≡ act r
+pub same_act : (result : Result Reply Fault) (name : Text) (act other : Repo → Decision) (s s1 s' : State) (r : Repo) → s1 ≡ s → repo_at s.world name ≡ Some r → other r ≡ act r
     → Operates result name act s1 s' → Operates result name other s s'
 same_act result name act other s s1 s' r stays at same comes =
     subst (λ x. Comes result name x s s') (ap (λ x. in_repo x act) at ∙ sym same ∙ ap (λ x. in_repo x other) (sym at)) (subst (λ x. Operates result name act x s') stays comes)

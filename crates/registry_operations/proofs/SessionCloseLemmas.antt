@@ -10,7 +10,7 @@ use Rattle.registry_model.specs.declared.refusal.Refusal.TheVariants.{InvalidDig
 use Rattle.registry_model.specs.World.{World}
 use Rattle.registry_model.specs.Limits.{largest_blob}
 use Rattle.registry_model.specs.Answer.{Answer}
-use Rattle.registry_model.specs.Outcome.{refuses, tells, makes, within_quota}
+use Rattle.registry_model.specs.Decision.{refuses, tells, makes, within_quota}
 use Rattle.registry_model.specs.Blobs.{can_verify, created_blob}
 use Rattle.registry_model.specs.Sessions.{finished, range_checked, last_range_verdict, close_to, close_session}
 use Rattle.registry_model.specs.Lookups.{bytes_or_none}

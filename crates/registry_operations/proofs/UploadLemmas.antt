@@ -14,7 +14,7 @@ use Rattle.registry_model.specs.World.{Repo, World, repo_at}
 use Rattle.registry_model.specs.Limits.{largest_blob}
 use Rattle.registry_model.specs.Answer.{Answer, refused}
 use Rattle.registry_model.specs.Range.{range_verdict}
-use Rattle.registry_model.specs.Outcome.{Outcome, refuses, tells, makes, within_quota}
+use Rattle.registry_model.specs.Decision.{Decision, refuses, tells, makes, within_quota}
 use Rattle.registry_model.specs.Sessions.{session_numbered, session_named, session_reply, range_checked, appended, append_to, append_chunk}
 use Rattle.registry_model.specs.Lookups.{session_size_at, bytes_or_none}
 use Rattle.registry_operations.specs.Quota.{grows_over, grows_over_at}
@@ -70,7 +70,7 @@ named w name reference u f e =
 -- ---- chunks
 
 -- a chunk that is refused
-pub chunk_refused : (v : RangeVerdict) (name : Text) (u : Upload) (more : ℕ) (next : Outcome) (a : Answer) → Some a ≡ chunk_refusal v name u more
+pub chunk_refused : (v : RangeVerdict) (name : Text) (u : Upload) (more : ℕ) (next : Decision) (a : Answer) → Some a ≡ chunk_refusal v name u more
     → range_checked v name u.number u.size (cond (nat_lt largest_blob (u.size + more)) (refuses ContentTooLarge) next) ≡ tells a
 chunk_refused Fits name u more next a e = by_size (nat_lt largest_blob (u.size + more)) e
   where
@@ -82,7 +82,7 @@ chunk_refused OutOfOrder name u more next a e = ap tells (sym (same_Some a _ e))
 chunk_refused Unequal name u more next a e = ap tells (sym (same_Some a _ e))
 
 -- a chunk that is not
-pub chunk_taken : (v : RangeVerdict) (name : Text) (u : Upload) (more : ℕ) (next : Outcome) → None ≡ chunk_refusal v name u more
+pub chunk_taken : (v : RangeVerdict) (name : Text) (u : Upload) (more : ℕ) (next : Decision) → None ≡ chunk_refusal v name u more
     → range_checked v name u.number u.size (cond (nat_lt largest_blob (u.size + more)) (refuses ContentTooLarge) next) ≡ next
 chunk_taken Fits name u more next e = by_size (nat_lt largest_blob (u.size + more)) e
   where

@@ -10,28 +10,28 @@ use Rattle.registry_model.specs.declared.refusal.Refusal.TheVariants.{InvalidDig
 use Rattle.registry_model.specs.World.{Repo, World}
 use Rattle.registry_model.specs.Lookups.{blob_size_at}
 use Rattle.registry_model.specs.Manifests.{has_needs, with_manifest, created_manifest, content_type_fits}
-use Rattle.registry_model.specs.Outcome.{Outcome, refuses, within_quota}
+use Rattle.registry_model.specs.Decision.{Decision, refuses, within_quota}
 
 -- every needed blob is in the repository of the name
 abbrev pub has_needs_at : World → Text → List Text → Bool
 has_needs_at w name needs = list_all (λ digest. is_some (blob_size_at w name digest)) needs
 
 -- a manifest that was read and whose content type fits, under its digest and a tag, if one is given
-abbrev pub keep_manifest : Repo → Text → Text → Option Text → Text → ManifestShown → Outcome
+abbrev pub keep_manifest : Repo → Text → Text → Option Text → Text → ManifestShown → Decision
 keep_manifest r name digest tag body m =
     if not (has_needs r m.needs) then refuses ManifestBlobUnknown
     else within_quota r (with_manifest r digest body tag) (created_manifest name digest m.subject)
 
 -- bytes that match the digest
 abbrev pub push_under : Repo → Text → Text → Option Text → Option Text → Text
-    → Result ManifestShown ManifestFault → Outcome
+    → Result ManifestShown ManifestFault → Decision
 push_under r name digest tag content_type body (Err e) = refuses InvalidManifest
 push_under r name digest tag content_type body (Ok m) =
     if not (content_type_fits content_type m.kind) then refuses InvalidManifest
     else keep_manifest r name digest tag body m
 
 -- bytes under a digest that was given, by what comparing them with it found
-abbrev pub push_checked : Repo → Text → Text → Option Text → Text → Verdict → Outcome
+abbrev pub push_checked : Repo → Text → Text → Option Text → Text → Verdict → Decision
 push_checked r name digest content_type body Unsupported = refuses InvalidDigest
 push_checked r name digest content_type body Differs = refuses DigestMismatch
 push_checked r name digest content_type body Matches =

@@ -12,7 +12,7 @@ use Rattle.registry_model.specs.declared.reply.Status.TheVariants.{Accepted}
 use Rattle.registry_model.specs.World.{Repo, World}
 use Rattle.registry_model.specs.Limits.{largest, largest_blob, most_sessions}
 use Rattle.registry_model.specs.Answer.{Answer, refused}
-use Rattle.registry_model.specs.Outcome.{Outcome, refuses, within_quota}
+use Rattle.registry_model.specs.Decision.{Decision, refuses, within_quota}
 use Rattle.registry_model.specs.Blobs.{created_blob}
 use Rattle.registry_model.specs.Keeping.{State}
 use Rattle.registry_model.specs.Sessions.{appended, finished, session_reply, refuses_order}
@@ -50,13 +50,13 @@ abbrev pub bytes_so_far : Repo → ℕ → Text
 bytes_so_far r number = bytes_or_none (get r.sessions number)
 
 -- a chunk behind them
-abbrev pub append_more : Repo → Text → ℕ → Text → Outcome
+abbrev pub append_more : Repo → Text → ℕ → Text → Decision
 append_more r name number body =
     within_quota r (appended r number (bytes_so_far r number ++ body))
     (session_reply Accepted name number (length (bytes_so_far r number) + length body))
 
 -- the session ends, and these are its whole bytes
-abbrev pub finish_with : Repo → Text → ℕ → Text → Text → Outcome
+abbrev pub finish_with : Repo → Text → ℕ → Text → Text → Decision
 finish_with r name number digest bytes =
     if not (matches digest bytes) then refuses DigestMismatch
     else within_quota r (finished r number digest bytes) (created_blob name digest)

@@ -1,7 +1,7 @@
 ghost use Rattle.std.specs.Prelude.{◌≡◌, ◌≤◌, true, length};
 ghost use Rattle.oci_names.specs.Digest.{matches};
 ghost use Rattle.registry_model.specs.Limits.{largest_blob};
-ghost use Rattle.registry_model.specs.Outcome.{within_quota};
+ghost use Rattle.registry_model.specs.Decision.{within_quota};
 ghost use Rattle.registry_model.specs.Blobs.{created_blob, with_blob, read_blob, size_blob, delete_blob, push_blob};
 ghost use Rattle.registry_model.specs.Keeping.{Spends};
 ghost use Rattle.registry_operations.specs.Operating.{Operates, IsUnspent, HasRepo, Answers, Carries};

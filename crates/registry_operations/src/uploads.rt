@@ -4,7 +4,7 @@ ghost use Rattle.std.specs.Prelude.{◌≡◌, ◌≤◌, ◌+◌, nat_lt, lengt
 ghost use Rattle.registry_model.specs.Limits.{largest_blob};
 ghost use Rattle.registry_model.specs.Answer.{answer_of};
 ghost use Rattle.registry_model.specs.Ask.{text_in};
-ghost use Rattle.registry_model.specs.Doing.{kind_of, answered};
+ghost use Rattle.registry_model.specs.Doing.{course_of_answer, answered};
 ghost use Rattle.registry_model.specs.Keeping.{Spends};
 ghost use Rattle.registry_model.specs.Sessions as sessions;
 ghost use Rattle.registry_operations.specs.Operating.{Operates, IsUnspent, HasRepo, Answers, Carries};
@@ -135,7 +135,7 @@ pub fn chunk_refusal(
     ensures refusal { IfOk result
         (λ refusal. option_map answer_of refusal ≡ chunk_refusal verdict name.now upload length) }
     ensures answers { IfOk result (λ refusal.
-        IfSome refusal (λ reply. kind_of (answer_of reply) ≡ answered)) }
+        IfSome refusal (λ reply. course_of_answer (answer_of reply) ≡ answered)) }
 {
     match verdict {
         RangeVerdict::Malformed => Ok(Some(Reply::refusal(Refusal::InvalidRange))),

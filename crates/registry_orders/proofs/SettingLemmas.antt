@@ -7,7 +7,7 @@ use Rattle.registry_model.specs.declared.admin.AdminFault.TheVariants as fault
 use Rattle.registry_model.specs.World.{World, has_repo}
 use Rattle.registry_model.specs.Command.{set_repo, grant, refusal_of}
 use Rattle.registry_model.specs.Keeping.{State}
-use Rattle.registry_model.specs.Doing.{Kind, answered, missed, lost, keeps, outcome_kind, outcome_of, CarriesOut}
+use Rattle.registry_model.specs.Doing.{Course, answered, missed, lost, keeps, course_of_result, outcome_of, CarriesOut}
 use Rattle.registry_orders.specs.declared.failure.Failure.{Failure}
 use Rattle.registry_orders.specs.declared.failure.Failure.TheVariants.{NoRepo, RepoThere}
 use Rattle.registry_orders.specs.declared.options.RepoOption.{RepoOption}
@@ -25,16 +25,16 @@ abbrev chosen : World → World → Option AdminFault → World
 chosen w next o = elim o as (λ _. World) [ None ↦ next | Some e ↦ w ]
 
 -- what carrying a command out says, by its refusal and the world that it makes where it has none
-abbrev DoneAs : Kind → State → Option AdminFault → World → Result (Unit {0}) AdminFault → State → Type 0
+abbrev DoneAs : Course → State → Option AdminFault → World → Result (Unit {0}) AdminFault → State → Type 0
 DoneAs answered s refusal next r s' = (s.spent ≡ false) × (r ≡ outcome_of refusal) × (s' ≡ keeps (chosen s.world next refusal))
 DoneAs missed s refusal next r s' = (s.spent ≡ false) × (s' ≡ s)
 DoneAs lost s refusal next r s' = s'.spent ≡ true
 
 abbrev pub MakesRepo : State → RepoOption → Result (Unit {0}) AdminFault → State → Type 0
-MakesRepo s o r s' = DoneAs (outcome_kind r) s (if_there (has_repo s.world o.name)) (set_repo s.world o.name o.quota.bytes) r s'
+MakesRepo s o r s' = DoneAs (course_of_result r) s (if_there (has_repo s.world o.name)) (set_repo s.world o.name o.quota.bytes) r s'
 
 abbrev pub GivesLevel : State → GrantOption → Result (Unit {0}) AdminFault → State → Type 0
-GivesLevel s o r s' = DoneAs (outcome_kind r) s (unless_there (has_repo s.world o.name)) (grant s.world o.token o.name o.level) r s'
+GivesLevel s o r s' = DoneAs (course_of_result r) s (unless_there (has_repo s.world o.name)) (grant s.world o.token o.name o.level) r s'
 
 -- ---- a repository
 

@@ -16,15 +16,15 @@ use Rattle.registry_orders.specs.declared.options.GrantOption.{GrantOption}
 use Rattle.registry_orders.specs.Failures.{status_of, IsOfConnection, IsOfOpening, IsOfServing}
 use Rattle.registry_orders.specs.Setting.{with_repos, with_levels, levels_if, world_by, SetsUp}
 use Rattle.registry_program.specs.Failures.{status_after}
-use Rattle.registry_program.specs.Program.{Ends, GivesUp, IsUntouched, ServesFrom, ServesMemory, Tells}
+use Rattle.registry_program.specs.Program.{Streams, GivesUp, IsUntouched, ServesFrom, ServesMemory, Tells}
 
-pub served : (setup : Setup) (w : World) (status : ℕ) (e : Ends) → world_by setup ≡ Ok w → ServesFrom w status e → ServesMemory setup status e
+pub served : (setup : Setup) (w : World) (status : ℕ) (e : Streams) → world_by setup ≡ Ok w → ServesFrom w status e → ServesMemory setup status e
 served setup w status e m s = inr (subst (λ r. MatchResult r (λ w. ServesFrom w status e) (λ f. GivesUp f status e)) (sym m) s)
 
-refused : (setup : Setup) (f : Failure) (status : ℕ) (e : Ends) → world_by setup ≡ Err f → GivesUp f status e → ServesMemory setup status e
+refused : (setup : Setup) (f : Failure) (status : ℕ) (e : Streams) → world_by setup ≡ Err f → GivesUp f status e → ServesMemory setup status e
 refused setup f status e m g = inr (subst (λ r. MatchResult r (λ w. ServesFrom w status e) (λ f. GivesUp f status e)) (sym m) g)
 
-pub stopped : (setup : Setup) (f : Failure) (s : State) (status : ℕ) (e : Ends) → SetsUp (world_by setup) (Err f) s → s.spent ≡ false → GivesUp f status e → ServesMemory setup status e
+pub stopped : (setup : Setup) (f : Failure) (s : State) (status : ℕ) (e : Streams) → SetsUp (world_by setup) (Err f) s → s.spent ≡ false → GivesUp f status e → ServesMemory setup status e
 stopped setup failure.OutOfMemory s status e m spent g = inl g
 stopped setup failure.StorageFailure s status e m spent g = absurd (let x : true ≡ false = sym m ∙ spent in cc)
 stopped setup failure.NoRepo s status e m spent g = refused setup failure.NoRepo status e m g
@@ -78,7 +78,7 @@ serving_of_opening failure.InvalidName is = is
 serving_of_opening failure.InvalidToken is = is
 serving_of_opening failure.InvalidOptions is = is
 
-after_serving : (w : World) (status : ℕ) (e : Ends) → ServesFrom w status e → 0 < status → status < 4 → ⊥
+after_serving : (w : World) (status : ℕ) (e : Streams) → ServesFrom w status e → 0 < status → status < 4 → ⊥
 after_serving w status e s more less = go s.end s.ends
   where
     go : (end : End) → status ≡ status_after end false → ⊥
@@ -89,7 +89,7 @@ after_serving w status e s more less = go s.end s.ends
     go (ending.WriteFailed n) i = omega arith
 
 -- over memory, status 1, 2 and 3 say that nothing was done
-pub untouched_memory : (setup : Setup) (status : ℕ) (e : Ends) → ServesMemory setup status e → 0 < status → status < 4 → IsUntouched e
+pub untouched_memory : (setup : Setup) (status : ℕ) (e : Streams) → ServesMemory setup status e → 0 < status → status < 4 → IsUntouched e
 untouched_memory setup status e p more less = go p
   where
     by : (r : Result World Failure) → MatchResult r (λ w. ServesFrom w status e) (λ f. GivesUp f status e) → IsUntouched e
@@ -101,7 +101,7 @@ untouched_memory setup status e p more less = go p
     go (inr m) = by (world_by setup) m
 
 -- and so they do where something is told of the words
-pub untouched_telling : (status : ℕ) (e : Ends) → Tells status e → 0 < status → status < 4 → IsUntouched e
+pub untouched_telling : (status : ℕ) (e : Streams) → Tells status e → 0 < status → status < 4 → IsUntouched e
 untouched_telling status e t more less = go t.1
   where
     go : (((status ≡ 2) ⊎ (status ≡ 3)) × (e.held' ≡ e.held)) ⊎ (((status ≡ 0) × (text : Text) × Appends e.held e.held' text) ⊎ (status ≡ 4)) → IsUntouched e
@@ -136,7 +136,7 @@ setup_fault setup f e = go (with_repos no_world setup.repos.items) (repos_fault 
     go (Ok w) first e = levels_fault setup.grants.items w f e
     go (Err x) first e = first e
 
-serving_read : (w : World) (status : ℕ) (e : Ends) → ServesFrom w status e → status ≢ 2
+serving_read : (w : World) (status : ℕ) (e : Streams) → ServesFrom w status e → status ≢ 2
 serving_read w status e s two = go s.end s.ends
   where
     go : (end : End) → status ≡ status_after end false → ⊥
@@ -146,7 +146,7 @@ serving_read w status e s two = go s.end s.ends
     go ending.ReadFailed i = omega arith
     go (ending.WriteFailed n) i = omega arith
 
-pub memory_read : (setup : Setup) (status : ℕ) (e : Ends) → ServesMemory setup status e → status ≢ 2
+pub memory_read : (setup : Setup) (status : ℕ) (e : Streams) → ServesMemory setup status e → status ≢ 2
 memory_read setup status e (inl g) two = let three : status ≡ 3 = g.0 in omega arith
 memory_read setup status e (inr m) two = go (world_by setup) (setup_fault setup) m
   where

@@ -9,15 +9,15 @@ use Rattle.registry_orders.specs.declared.line.Task.TheVariants as task
 use Rattle.registry_orders.specs.declared.orders.Order.{Order}
 use Rattle.registry_orders.specs.Failures.{status_of, status_if, IsOfWords, IsOfOpening}
 use Rattle.registry_orders.specs.Tasks.{IsTask}
-use Rattle.registry_program.specs.Program.{Ends, GivesUp, ServesMemory, ServesStored, Tells}
+use Rattle.registry_program.specs.Program.{Streams, GivesUp, ServesMemory, ServesStored, Tells}
 use Rattle.registry_orders.specs.Carrying.{Output, output, IsSilent, IsCarriedOut}
 use Rattle.registry_program.specs.Sockets.{ServesAddress}
 
 -- what is said of a registry that was opened, from its first state to its last
-abbrev pub Told : Type 1
-Told = (State → State → Type 0) → Type 0
+abbrev pub Opened : Type 1
+Opened = (State → State → Type 0) → Type 0
 
-abbrev pub output_of : Ends → Output
+abbrev pub output_of : Streams → Output
 output_of e = output e.held e.held'
 
 -- the registry is not opened, and nothing is done
@@ -25,22 +25,22 @@ abbrev pub IsNotOpened : ℕ → Output → Type 0
 IsNotOpened status o = (f : Failure) × IsOfOpening f × (status ≡ status_of f) × IsSilent o
 
 -- the order over a registry that is opened
-abbrev pub RunsOrder : Told → Order → ℕ → Output → Type 0
+abbrev pub RunsOrder : Opened → Order → ℕ → Output → Type 0
 RunsOrder over order status o = IsNotOpened status o ⊎ over (λ s s'. IsCarriedOut s order status o s')
 
 -- one connection over a registry that is opened
-abbrev pub RunsStored : Told → ℕ → Ends → Type 0
+abbrev pub RunsStored : Opened → ℕ → Streams → Type 0
 RunsStored over status e =
     (IsNotOpened status (output_of e) × (e.left' ≡ e.left)) ⊎ over (ServesStored status e)
 
 -- connections over sockets, over a registry that is opened
-abbrev pub RunsServer : Told → ℕ → Output → Type 0
+abbrev pub RunsServer : Opened → ℕ → Output → Type 0
 RunsServer over status o =
     (result : Result (Unit {0}) Failure) × (status ≡ status_if result) × ServesAddress over result o
 
 -- what a task comes to: a registry over memory that is set up so is served; or the one at the path is, by one
 -- connection or over sockets, or is given the order
-abbrev pub RunsTask : (Text → Told) → Task → ℕ → Ends → Type 0
+abbrev pub RunsTask : (Text → Opened) → Task → ℕ → Streams → Type 0
 RunsTask at (task.Memory setup) status e = ServesMemory setup status e
 RunsTask at (task.Stored path) status e = RunsStored (at path.now) status e
 RunsTask at (task.Server path address connections) status e =
@@ -49,10 +49,10 @@ RunsTask at (task.Order path order) status e =
     (e.left' ≡ e.left) × RunsOrder (at path.now) order status (output_of e)
 
 -- words are not read, and nothing is done; or something is told of them
-abbrev pub IsNotRead : ℕ → Ends → Type 0
+abbrev pub IsNotRead : ℕ → Streams → Type 0
 IsNotRead status e = ((f : Failure) × IsOfWords f × GivesUp f status e) ⊎ Tells status e
 
 -- what words come to: the task that they spell is done, and then the status is not 2; or they are not read
-abbrev pub RunsWords : (Text → Told) → List Text → ℕ → Ends → Type 0
+abbrev pub RunsWords : (Text → Opened) → List Text → ℕ → Streams → Type 0
 RunsWords at words status e =
     ((task : Task) × IsTask words task × (status ≢ 2) × RunsTask at task status e) ⊎ IsNotRead status e

@@ -9,13 +9,13 @@ use Rattle.registry_http.specs.Privacy.{IsPrivateRun}
 use Rattle.registry_http.specs.declared.ending.End.{End}
 use Rattle.registry_orders.specs.declared.failure.Failure.{Failure}
 use Rattle.registry_orders.specs.Failures.{IsOfServing}
-use Rattle.registry_program.specs.Program.{Ends, traffic_of}
+use Rattle.registry_program.specs.Program.{Streams, traffic_of}
 use Rattle.registry_orders.specs.Carrying.{Output}
 use Rattle.registry_orders.specs.Table.{newline}
 
 -- some connection was served to this end, from one state to another
 abbrev pub Connects : End → State → State → Type 0
-Connects end s s' = (e : Ends) × Serves end (traffic_of e s s')
+Connects end s s' = (e : Streams) × Serves end (traffic_of e s s')
 
 -- one connection was taken and served; or none was taken, and nothing is done
 abbrev pub ServesNext : {E : Type 0} → Result End E → State → State → Type 0

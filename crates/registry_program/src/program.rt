@@ -1,6 +1,6 @@
 ghost use Rattle.std.specs.Prelude.{◌≡◌, ◌≢◌, ◌<◌, ◌≤◌, None, map};
 ghost use Rattle.registry_program.specs.Stored.{OverAt};
-ghost use Rattle.registry_program.specs.Program.{ends, IsUntouched, Tells};
+ghost use Rattle.registry_program.specs.Program.{streams, IsUntouched, Tells};
 ghost use Rattle.registry_program.specs.Running.{RunsOrder, RunsStored, RunsServer, RunsWords};
 ghost use Rattle.registry_orders.specs.Carrying.{output, IsSilent};
 
@@ -20,7 +20,7 @@ use std::net::{Net, TcpListener, TcpStream};
 
 /// Answers a command line that is a mistake, or that asks for help or the version.
 fn tell<W: Write, E: Write>(alloc: Global, error: &Error, out: &mut W, err: &mut E) -> u8
-    ensures tells { Tells result (ends None None (W.contents out.old) (W.contents out.new)) }
+    ensures tells { Tells result (streams None None (W.contents out.old) (W.contents out.new)) }
 {
     if error.kind() == ErrorKind::OutOfMemory {
         return say(err, Failure::OutOfMemory);
@@ -75,7 +75,8 @@ fn run_stored<K: Keeper + Drop, O: Opener<K>, R: Read, W: Write, E: Write>(
     err: &mut E,
 ) -> u8
     ensures runs { RunsStored (OverAt K.is_honest K.state (O.opens opener.now) path.now) result
-        (ends (R.remaining reader.old) (R.remaining reader.new) (W.contents out.old) (W.contents out.new)) }
+        (streams (R.remaining reader.old) (R.remaining reader.new)
+        (W.contents out.old) (W.contents out.new)) }
     ensures failed { 0 < result → 3 ≤ result }
     ensures status { result ≤ 4 }
 {
@@ -137,10 +138,12 @@ pub fn run_words<
 >(rt: &T, opener: &O, words: &[S], reader: &mut R, out: &mut W, err: &mut E) -> u8
     ensures runs { RunsWords (OverAt K.is_honest K.state (O.opens opener.now))
         (map S.text words.now) result
-        (ends (R.remaining reader.old) (R.remaining reader.new) (W.contents out.old) (W.contents out.new)) }
+        (streams (R.remaining reader.old) (R.remaining reader.new)
+        (W.contents out.old) (W.contents out.new)) }
     ensures refused { 0 < result → result < 3
         → IsUntouched
-        (ends (R.remaining reader.old) (R.remaining reader.new) (W.contents out.old) (W.contents out.new)) }
+        (streams (R.remaining reader.old) (R.remaining reader.new)
+        (W.contents out.old) (W.contents out.new)) }
     ensures status { result ≤ 4 }
 {
     let alloc = rt.alloc();

@@ -2,7 +2,7 @@ ghost use Rattle.std.specs.Prelude.{◌≡◌, ◌<◌, ◌≤◌, IfErr};
 ghost use Rattle.registry_orders.specs.Failures.{IsOfConnection};
 ghost use Rattle.registry_orders.specs.Setting.{with_repos, with_levels, world_from, SetsUp};
 ghost use Rattle.registry_program.specs.Failures.{ended_as};
-ghost use Rattle.registry_program.specs.Program.{ends, ServesMemory, ServesStored};
+ghost use Rattle.registry_program.specs.Program.{streams, ServesMemory, ServesStored};
 
 use registry_http::{End, serve_connection};
 use registry_maps::MapKeeper;
@@ -120,7 +120,8 @@ pub fn serve_memory<R: Read, W: Write, E: Write>(
     err: &mut E,
 ) -> u8
     ensures serves { ServesMemory setup.now result
-        (ends (R.remaining reader.old) (R.remaining reader.new) (W.contents out.old) (W.contents out.new)) }
+        (streams (R.remaining reader.old) (R.remaining reader.new)
+        (W.contents out.old) (W.contents out.new)) }
 {
     let mut service = Service::new(MapKeeper::new(alloc));
     match set_up(&mut service, setup) {

@@ -1,6 +1,6 @@
 ghost use Rattle.std.specs.Prelude.{◌≡◌};
 ghost use Rattle.registry_service.specs.AdminCommands.{fault_of};
-ghost use Rattle.registry_model.specs.Doing.{CarriesOut, SpendsAs, outcome_kind};
+ghost use Rattle.registry_model.specs.Doing.{CarriesOut, SpendsAs, course_of_result};
 
 use oci_names::Fault;
 use registry_model::{AdminCommand, AdminFault, Keeper};
@@ -19,7 +19,7 @@ fn given_up(fault: Fault) -> AdminFault
 pub fn apply_command<K: Keeper>(keeper: &mut K, command: &AdminCommand) -> Result<(), AdminFault>
     ensures does { K.is_honest keeper.new →
         CarriesOut (K.state keeper.old) command.now result (K.state keeper.new) }
-    ensures spends { SpendsAs (outcome_kind result) (K.state keeper.old) (K.state keeper.new) }
+    ensures spends { SpendsAs (course_of_result result) (K.state keeper.old) (K.state keeper.new) }
     ensures honest { K.is_honest keeper.new → K.is_honest keeper.old }
 {
     match command {

@@ -5,9 +5,10 @@ ghost use Rattle.registry_model.specs.World.{repo_at};
 ghost use Rattle.registry_model.specs.Form.{form_of};
 ghost use Rattle.registry_model.specs.Answer.{answer_of, refused};
 ghost use Rattle.registry_model.specs.Ask.{ask_of};
-ghost use Rattle.registry_model.specs.Verdict.{operate, not_allowed, at_base, decide, reply_to, after_request};
+ghost use Rattle.registry_model.specs.Operation.{valid_name};
+ghost use Rattle.registry_model.specs.Judging.{operate, not_allowed, at_base, decide, reply_to, after_request};
 ghost use Rattle.registry_model.specs.Keeping.{Spends, WritesBy};
-ghost use Rattle.registry_operations.specs.Operating.{Comes, IsUnspent, Answers, Carries, OperatesWith};
+ghost use Rattle.registry_operations.specs.Operating.{ComesOn, IsUnspent, Answers, Carries, OperatesWith};
 ghost use Rattle.registry_service.specs.Operations.{shown_operation};
 
 use crate::operation::{Operation, allowed_methods, allows, find_operation};
@@ -95,7 +96,7 @@ fn decide<K: Keeper>(
     request: &Request,
 ) -> Result<Reply, Fault>
     requires { IsUnspent (K.state keeper.old) }
-    ensures comes { K.is_honest keeper.new → Comes result name.now
+    ensures comes { K.is_honest keeper.new → ComesOn result (valid_name name.now)
         (decide ((K.state keeper.old).world.grants token.now) (repo_at (K.state keeper.old).world) name.now
         (ask_of request.now)) (K.state keeper.old) (K.state keeper.new) }
     ensures answers { Answers result }

@@ -1,7 +1,7 @@
 ghost use Rattle.std.specs.Prelude.{◌≡◌, nat_le, option_map};
 ghost use Rattle.registry_model.specs.Form.{form_of};
 ghost use Rattle.registry_model.specs.Ask.{ask_of, keys_of, text_in};
-ghost use Rattle.registry_model.specs.Operation.{on_blob, post_by, on_uploads, on_session, on_manifest, on_tags, on_referrers, operation_of, allow_of, needed, rank, rank_of};
+ghost use Rattle.registry_model.specs.Operation.{on_blob, post_by, on_uploads, on_session, on_manifest, on_tags, on_referrers, operation_of, allow_of, needed_level, rank, rank_of};
 ghost use Rattle.registry_service.specs.Operations.{shown_operation};
 
 use registry_model::{Level, Query, Request, Route, Verb};
@@ -197,7 +197,7 @@ pub fn allowed_methods(route: &Route) -> &'static str
 
 /// The level that an operation needs (profile).
 fn needed_level(operation: &Operation) -> Level
-    ensures { result ≡ needed (shown_operation operation.now) }
+    ensures { result ≡ needed_level (shown_operation operation.now) }
 {
     match operation {
         Operation::ReadBlob(_) => Level::Pull,
@@ -231,7 +231,7 @@ fn rank(level: Level) -> u8
 
 /// Whether a token with this level on the repository may do it.
 pub fn allows(level: Option<Level>, operation: &Operation) -> bool
-    ensures { result ≡ nat_le (rank (needed (shown_operation operation.now))) (rank_of level) }
+    ensures { result ≡ nat_le (rank (needed_level (shown_operation operation.now))) (rank_of level) }
 {
     match level {
         Some(level) => rank(needed_level(operation)) <= rank(level),

@@ -3,7 +3,7 @@ ghost use Rattle.registry_model.specs.Heads.{is_head, is_sent};
 ghost use Rattle.registry_model.specs.declared.refusal.Refusal.TheVariants.{TokenRequired};
 ghost use Rattle.registry_model.specs.Answer.{answer_of, refused};
 ghost use Rattle.registry_model.specs.Ask.{ask_of};
-ghost use Rattle.registry_model.specs.Doing.{Does, SpendsAs, CarriesOut, kind_of, outcome_kind};
+ghost use Rattle.registry_model.specs.Doing.{Does, SpendsAs, CarriesOut, course_of_answer, course_of_result};
 
 use crate::admin_commands::apply_command;
 use crate::judging::judge;
@@ -57,7 +57,8 @@ impl<K: Keeper> Service<K> {
         ensures does { K.is_honest self.new →
             Does (K.state self.old) (ask_of request.now) (answer_of result) (K.state self.new) }
         ensures carries { is_head request.now.method ≡ false → is_sent (answer_of result).body ≡ true }
-        ensures spends { SpendsAs (kind_of (answer_of result)) (K.state self.old) (K.state self.new) }
+        ensures spends { SpendsAs (course_of_answer (answer_of result))
+            (K.state self.old) (K.state self.new) }
         ensures no_token { request.now.token ≡ None → (K.state self.old).spent ≡ false →
             answer_of result ≡ refused TokenRequired }
         ensures honest { K.is_honest self.new → K.is_honest self.old }
@@ -75,7 +76,7 @@ impl<K: Keeper> Service<K> {
     pub fn admin(&mut self, command: &AdminCommand) -> Result<(), AdminFault>
         ensures does { K.is_honest self.new →
             CarriesOut (K.state self.old) command.now result (K.state self.new) }
-        ensures spends { SpendsAs (outcome_kind result) (K.state self.old) (K.state self.new) }
+        ensures spends { SpendsAs (course_of_result result) (K.state self.old) (K.state self.new) }
         ensures honest { K.is_honest self.new → K.is_honest self.old }
     {
         apply_command(&mut self.keeper, command)

@@ -10,7 +10,7 @@ use Rattle.registry_model.specs.World.{World}
 use Rattle.registry_model.specs.Keeping.{State, ReadsBy, Writes, WritesBy}
 use Rattle.registry_store.specs.Kept.{Kept}
 use Rattle.store_world.specs.Tables.{Tables}
-use Rattle.store_statements.specs.Held.{IsSettled, StaysSettled, Makes, is_storage, world_in, held}
+use Rattle.store_statements.specs.Held.{IsSettled, StaysSettled, SettlesOn, is_storage, world_in, held}
 use Rattle.registry_store.proofs.KeeperStates.{found, wrote, stood}
 
 abbrev tables : {S : Type 0} → Ghosts S → Held S → Tables
@@ -22,7 +22,7 @@ unfailed false spent later is sound = refl
 unfailed true spent later is sound = absurd (true≢false (sym is ∙ sound))
 
 -- so the store is settled, after a write too
-pub written : {A : Type 0} (answer : Result A Fault) (old new : sqlite.State) (w : World) → is_storage answer ≡ false → OnOk answer (Makes new w) → (answer ≡ Err Memory → StaysSettled old new) → IsSettled new
+pub written : {A : Type 0} (answer : Result A Fault) (old new : sqlite.State) (w : World) → is_storage answer ≡ false → OnOk answer (SettlesOn new w) → (answer ≡ Err Memory → StaysSettled old new) → IsSettled new
 written (Ok v) old new w sound made stays = made.0
 written (Err Memory) old new w sound made stays = (stays refl).0
 written (Err Storage) old new w sound made stays = absurd (true≢false sound)
@@ -50,7 +50,7 @@ module _ {S : Type 0} (g : Ghosts S) (conn : Held S) (old : Kept S) (spent : Boo
       subst (λ x. ReadsBy show x (look (world_in (state g old.conn))) before (after later)) (sym same) (read show look answer later notes finds stays)
 
   write : {A : Type 0} (change : World → World) (answer : Result A Fault) (later : Bool) → spent ≡ false → later ≡ (is_storage answer || spent)
-      → OnOk answer (Makes (state g new) (change (world_in (state g conn)))) → (answer ≡ Err Memory → StaysSettled (state g conn) (state g new))
+      → OnOk answer (SettlesOn (state g new) (change (world_in (state g conn)))) → (answer ≡ Err Memory → StaysSettled (state g conn) (state g new))
       → Writes answer (change (world_in (state g old.conn))) before (after later)
   write change (Ok v) later unspent notes made stays =
       subst (λ b. ◌≡◌ {A = State} (after b) (record { world = change (world_in (state g old.conn)); spent = false })) (sym notes) (wrote g conn old spent is new change unspent made.1)
@@ -65,13 +65,13 @@ module _ {S : Type 0} (g : Ghosts S) (conn : Held S) (old : Kept S) (spent : Boo
 
   -- a write made its change, or none
   pub write_told : {A : Type 0} (change : World → World) (r answer : Result A Fault) (later : Bool) → spent ≡ false → r ≡ answer → later ≡ (is_storage answer || spent)
-      → OnOk answer (Makes (state g new) (change (world_in (state g conn)))) → (answer ≡ Err Memory → StaysSettled (state g conn) (state g new))
+      → OnOk answer (SettlesOn (state g new) (change (world_in (state g conn)))) → (answer ≡ Err Memory → StaysSettled (state g conn) (state g new))
       → Writes r (change (world_in (state g old.conn))) before (after later)
   write_told change r answer later unspent same notes made stays =
       subst (λ x. Writes x (change (world_in (state g old.conn))) before (after later)) (sym same) (write change answer later unspent notes made stays)
 
   numbered : {A : Type 0} (look : World → A) (change : World → World) (answer : Result A Fault) (later : Bool) → spent ≡ false → later ≡ (is_storage answer || spent)
-      → IfOk answer (λ v. (v ≡ look (world_in (state g conn))) × Makes (state g new) (change (world_in (state g conn)))) → (answer ≡ Err Memory → StaysSettled (state g conn) (state g new))
+      → IfOk answer (λ v. (v ≡ look (world_in (state g conn))) × SettlesOn (state g new) (change (world_in (state g conn)))) → (answer ≡ Err Memory → StaysSettled (state g conn) (state g new))
       → WritesBy (λ v. v) answer (look (world_in (state g old.conn))) (change (world_in (state g old.conn))) before (after later)
   numbered look change (Ok v) later unspent notes made stays = (
     found g conn old spent is look v made.0,
@@ -82,7 +82,7 @@ module _ {S : Type 0} (g : Ghosts S) (conn : Held S) (old : Kept S) (spent : Boo
 
   -- a write made its change and tells a value, or made none
   pub numbered_told : {A : Type 0} (look : World → A) (change : World → World) (r answer : Result A Fault) (later : Bool) → spent ≡ false → r ≡ answer → later ≡ (is_storage answer || spent)
-      → IfOk answer (λ v. (v ≡ look (world_in (state g conn))) × Makes (state g new) (change (world_in (state g conn)))) → (answer ≡ Err Memory → StaysSettled (state g conn) (state g new))
+      → IfOk answer (λ v. (v ≡ look (world_in (state g conn))) × SettlesOn (state g new) (change (world_in (state g conn)))) → (answer ≡ Err Memory → StaysSettled (state g conn) (state g new))
       → WritesBy (λ v. v) r (look (world_in (state g old.conn))) (change (world_in (state g old.conn))) before (after later)
   numbered_told look change r answer later unspent same notes made stays =
       subst (λ x. WritesBy (λ v. v) x (look (world_in (state g old.conn))) (change (world_in (state g old.conn))) before (after later)) (sym same) (numbered look change answer later unspent notes made stays)

@@ -31,8 +31,8 @@ const OWN: &str = r#"201 t1 POST /v2/team/app/blobs/uploads/?digest={abc} | abc
 201 t1 POST /v2/team/app/blobs/uploads/?digest={config} | {}
 201 t1 PUT /v2/team/app/manifests/v1 | <bare>
 200 t1 GET /v2/team/app/manifests/v1
-201 t1 PUT /v2/team/app/manifests/v1 | { "layers": null, "schemaVersion": 2, "config": {"size":2,"digest":"{abc}","mediaType":"application/vnd.oci.empty.v1+json"} }
-400 t1 PUT /v2/team/app/manifests/v1 | { "layers": null, "manifests":[], "schemaVersion": 2, "config": {"size":2,"digest":"{config}","mediaType":"application/vnd.oci.empty.v1+json"} }
+201 t1 PUT /v2/team/app/manifests/v1 | <bare_abc>
+400 t1 PUT /v2/team/app/manifests/v1 | { "layers": null, "manifests":[], "schemaVersion": 2, {of_config} }
 400 t1 PUT /v2/team/app/manifests/v1 ; Content-Type: application/vnd.oci.image.index.v1+json | <bare>
 201 t1 POST /v2/team/app/blobs/uploads/?digest={config} | {}
 201 t1 PUT /v2/team/app/manifests/{sbom} | <sbom>
@@ -100,7 +100,10 @@ fn meanwhile<K: Keeper>(
         format!(in alloc; "201 t2 PUT /v2/other/blobs/uploads/{last}?digest={{x}} | x")?
     };
     let script = format!(in alloc;
-        "201 t2 POST /v2/other/blobs/uploads/?digest={digest} | {text}\n202 t2 POST /v2/other/blobs/uploads/\n{to_last}\n401 nobody GET /v2/\n200 t2 GET /v2/\n403 t2 GET /v2/nowhere/tags/list\n403 t2 GET /v2/team/app/tags/list\n403 t2 POST /v2/team/app/blobs/uploads/"
+        "201 t2 POST /v2/other/blobs/uploads/?digest={digest} | {text}\n\
+          202 t2 POST /v2/other/blobs/uploads/\n{to_last}\n401 nobody GET /v2/\n200 t2 GET /v2/\n\
+          403 t2 GET /v2/nowhere/tags/list\n403 t2 GET /v2/team/app/tags/list\n\
+          403 t2 POST /v2/team/app/blobs/uploads/"
     )?;
     play(rt, alloc, registry, script.as_str())
 }

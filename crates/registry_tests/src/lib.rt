@@ -1,5 +1,5 @@
-//! Tests of whole registries that are no worked examples: streams, faults, want of memory, rows counted in
-//! SQL, runs and isolation.
+//! Tests of whole registries that are no worked examples: streams, faults, rows counted in SQL, runs and
+//! isolation.
 #![tactic(auto)]
 
 #[cfg(test)]
@@ -10,8 +10,6 @@ mod cuts;
 mod ends;
 #[cfg(test)]
 mod isolation;
-#[cfg(test)]
-mod memory;
 #[cfg(test)]
 mod rows;
 #[cfg(test)]

@@ -9,14 +9,18 @@ use std::alloc::Global;
 use std::process::Abort;
 use std::test::Fail;
 
-/// The words that stand for documents and for digests, these by sha256sum: a manifest with a config alone
+/// The words that stand for documents and for digests, these by sha256sum: manifests with a config alone
 /// (191 bytes), one with an artifact type and the subject `abc` (379 bytes), the same without the type
-/// (343 bytes); the digests, of which `{config}` is that of `{}`. Those of digests stand in documents too,
-/// so they come last.
+/// (343 bytes); the digests, of which `{config}` is that of `{}`. A word stands before those that stand in
+/// its text.
 const WORDS: &str =
-    r#"<bare> { "layers": null, "schemaVersion": 2, "config": {"size":2,"digest":"{config}","mediaType":"application/vnd.oci.empty.v1+json"} }
-<sbom> {"schemaVersion":2,"artifactType":"application/x.sbom","config":{"mediaType":"application/vnd.oci.empty.v1+json","digest":"{config}","size":2},"layers":[],"subject":{"mediaType":"application/vnd.oci.image.manifest.v1+json","digest":"{abc}","size":3}}
-<plain> {"schemaVersion":2,"config":{"mediaType":"application/vnd.oci.empty.v1+json","digest":"{config}","size":2},"layers":[],"subject":{"mediaType":"application/vnd.oci.image.manifest.v1+json","digest":"{abc}","size":3}}
+    r#"<bare> { "layers": null, "schemaVersion": 2, "config": {"size":2,"digest":"{config}",{empty}} }
+<bare_abc> { "layers": null, "schemaVersion": 2, "config": {"size":2,"digest":"{abc}",{empty}} }
+<sbom> {"schemaVersion":2,"artifactType":"application/x.sbom",{of_config},"layers":[],{of_abc}}
+<plain> {"schemaVersion":2,{of_config},"layers":[],{of_abc}}
+{of_config} "config":{{empty},"digest":"{config}","size":2}
+{of_abc} "subject":{"mediaType":"application/vnd.oci.image.manifest.v1+json","digest":"{abc}","size":3}
+{empty} "mediaType":"application/vnd.oci.empty.v1+json"
 {abc} sha256:ba7816bf8f01cfea414140de5dae2223b00361a396177a9cb410ff61f20015ad
 {hello} sha256:2cf24dba5fb0a30e26e83b2ac5b9e29e1b161e5c1fa7425e73043362938b9824
 {nothing} sha256:e3b0c44298fc1c149afbf4c8996fb92427ae41e4649b934ca495991b7852b855

@@ -16,7 +16,7 @@ use Rattle.store_world.specs.Tables.{Tables, AreTables, no_tables}
 use Rattle.store_world.specs.Registry.{IsOfSchemaTwo}
 use Rattle.store_world.proofs.NewTables.{are_new, agree_new}
 use Rattle.store_statements.specs.Known.{KnowsRegistry}
-use Rattle.store_statements.specs.Held.{tables_in, held, HoldsTables, IsReady, Makes}
+use Rattle.store_statements.specs.Held.{tables_in, held, HoldsTables, IsReady, SettlesOn}
 use Rattle.store_statements.specs.Steps.{VersionComes, IsNew}
 use Rattle.store_statements.proofs.Transactions.{commits, makes}
 use Rattle.registry_model.specs.World.{no_world}
@@ -59,7 +59,7 @@ is_new old new inside it comes =
     record { ready = c.ready; version = came_two (held old).version (held new).version c.id c.puts (ap (λ (t : Tables). t.version) (no_rows old.now it)); tables = c.others ∙ ap (λ (t : Tables). record t { version = (held new).version }) (no_rows old.now it) }
 
 -- and once committed they stand for the empty world
-pub makes_none : (mid end : State) → IsNew mid → Shows mid end mid.now mid.now false → Makes end no_world
+pub makes_none : (mid end : State) → IsNew mid → Shows mid end mid.now mid.now false → SettlesOn end no_world
 makes_none mid end n shows =
     let c = commits mid end (record no_tables { version = (held mid).version }) (n.ready, n.tables) shows in
     makes end (record no_tables { version = (held mid).version }) no_world c (refl, record { tables = are_new _; agree = agree_new _ n.version })

@@ -6,7 +6,7 @@ ghost use Rattle.store_schema.specs.Schema.{no_schema};
 ghost use Rattle.store_schema.specs.Making.{IsEmptyWith, IsOther};
 ghost use Rattle.registry_model.specs.World.{no_world};
 ghost use Rattle.store_statements.specs.Clauses.{Lasts, LastsUncommitted};
-ghost use Rattle.store_statements.specs.Held.{IsReady, Makes, IsBack};
+ghost use Rattle.store_statements.specs.Held.{IsReady, SettlesOn, IsBack};
 ghost use Rattle.store_opening.specs.Opening.{IsIdle};
 ghost use Rattle.store_opening.specs.Asking.{IsUnnumbered, IsWanting};
 ghost use Rattle.store_statements.specs.Steps.{VersionComes, IsNew};
@@ -77,7 +77,7 @@ fn make<S: Alter>(tx: &mut Transaction<'_, S>) -> Result<(), OpenFault>
 /// empty.
 pub(crate) fn create<S: Alter>(conn: &mut Connection<S>) -> Result<(), OpenFault>
     ensures made { HasCleanDisk (state S.Store conn.new) → IsEmptyWith no_schema (state S.Store conn.old).now
-        → OnOk result (Makes (state S.Store conn.new) no_world) }
+        → OnOk result (SettlesOn (state S.Store conn.new) no_world) }
     ensures wanting { HasCleanDisk (state S.Store conn.new)
         → IsEmptyWith no_schema (state S.Store conn.old).now → IfErr result IsWanting }
     ensures back { HasCleanDisk (state S.Store conn.new) → IsIdle (state S.Store conn.old)

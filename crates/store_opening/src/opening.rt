@@ -6,7 +6,7 @@ ghost use Rattle.store_schema.specs.Schema.{no_schema};
 ghost use Rattle.store_schema.specs.Making.{IsEmptyWith};
 ghost use Rattle.registry_model.specs.World.{no_world};
 ghost use Rattle.store_statements.specs.Clauses.{Lasts};
-ghost use Rattle.store_statements.specs.Held.{HoldsTables, StaysSettled, Makes, IsBack};
+ghost use Rattle.store_statements.specs.Held.{HoldsTables, StaysSettled, SettlesOn, IsBack};
 ghost use Rattle.store_opening.specs.Opening.{IsIdle, HoldsRegistry, SaysTwo, versions_in, has_version_table};
 ghost use Rattle.store_opening.specs.Asking.{IsWanting, IsWantingOr, IsTold, IsUnnumbered, NamesNotTwo, ShowsAlone};
 
@@ -65,7 +65,7 @@ fn only_two(found: Result<i64, OpenFault>) -> Result<(), OpenFault>
 /// memory or a failure; an empty database and a registry's of schema 2 by these two alone.
 pub fn take_up<S: Alter>(conn: &mut Connection<S>) -> Result<(), OpenFault>
     ensures made { HasCleanDisk (state S.Store conn.new) → IsEmptyWith no_schema (state S.Store conn.old).now
-        → OnOk result (Makes (state S.Store conn.new) no_world) }
+        → OnOk result (SettlesOn (state S.Store conn.new) no_world) }
     ensures found { HasCleanDisk (state S.Store conn.new) → IsIdle (state S.Store conn.old)
         → HoldsRegistry (state S.Store conn.old).now
         → OnOk result (StaysSettled (state S.Store conn.old) (state S.Store conn.new)) }

@@ -17,8 +17,8 @@ use Rattle.sqlite.specs.Change.{created, indexed}
 -- ---- the parts of a table
 
 -- a column that takes no NULL
-abbrev pub needed : List ℕ → Kind → Column
-needed name kind = record {
+abbrev pub required : List ℕ → Kind → Column
+required name kind = record {
   name = name;
   kind = kind;
   is_strict = true;
@@ -28,7 +28,7 @@ needed name kind = record {
 }
 
 abbrev pub optional : List ℕ → Kind → Column
-optional name kind = record (needed name kind) { not_null = false }
+optional name kind = record (required name kind) { not_null = false }
 
 abbrev pub repos_name : List ℕ
 repos_name = codes "registry_repos"
@@ -74,47 +74,47 @@ keyed name columns places references = record (unkeyed name columns) {
 
 -- which schema this is; one row
 abbrev pub version_table : Table
-version_table = unkeyed (codes "registry_schema") (needed (codes "version") Integer ∷ [])
+version_table = unkeyed (codes "registry_schema") (required (codes "version") Integer ∷ [])
 
 abbrev pub repos_table : Table
 repos_table =
     keyed repos_name
-    (needed (codes "name") Text ∷ needed (codes "quota") Integer ∷ needed (codes "last_session") Integer
+    (required (codes "name") Text ∷ required (codes "quota") Integer ∷ required (codes "last_session") Integer
     ∷ [])
     (1 ∷ []) []
 
 abbrev pub grants_table : Table
 grants_table =
     keyed (codes "registry_grants")
-    (needed (codes "token") Text ∷ needed (codes "repo") Text ∷ needed (codes "level") Integer ∷ [])
+    (required (codes "token") Text ∷ required (codes "repo") Text ∷ required (codes "level") Integer ∷ [])
     (1 ∷ 2 ∷ []) (to_repos 2 ∷ [])
 
 abbrev pub tags_table : Table
 tags_table =
     keyed (codes "registry_tags")
-    (needed (codes "repo") Text ∷ needed (codes "tag") Text ∷ needed (codes "digest") Text ∷ [])
+    (required (codes "repo") Text ∷ required (codes "tag") Text ∷ required (codes "digest") Text ∷ [])
     (1 ∷ 2 ∷ []) (to_repos 1 ∷ [])
 
 -- bytes, each once; `sha256` is 64 lower-case hexadecimal digits
 abbrev pub contents_table : Table
 contents_table =
     record (unkeyed (codes "registry_contents")
-    (optional (codes "id") Integer ∷ needed (codes "sha256") Text ∷ needed (codes "size") Integer
-    ∷ needed (codes "bytes") Blob ∷ []))
+    (optional (codes "id") Integer ∷ required (codes "sha256") Text ∷ required (codes "size") Integer
+    ∷ required (codes "bytes") Blob ∷ []))
     { key = Some 0; primary = 0 ∷ [] }
 
 abbrev pub blob_links_table : Table
 blob_links_table =
     keyed (codes "registry_blob_links")
-    (needed (codes "repo") Text ∷ needed (codes "digest") Text ∷ needed (codes "size") Integer
-    ∷ needed (codes "content") Integer ∷ [])
+    (required (codes "repo") Text ∷ required (codes "digest") Text ∷ required (codes "size") Integer
+    ∷ required (codes "content") Integer ∷ [])
     (1 ∷ 2 ∷ []) (to_repos 1 ∷ [])
 
 abbrev pub manifest_links_table : Table
 manifest_links_table =
     keyed (codes "registry_manifest_links")
-    (needed (codes "repo") Text ∷ needed (codes "digest") Text ∷ needed (codes "size") Integer
-    ∷ needed (codes "kind") Integer ∷ optional (codes "subject") Text ∷ needed (codes "content") Integer
+    (required (codes "repo") Text ∷ required (codes "digest") Text ∷ required (codes "size") Integer
+    ∷ required (codes "kind") Integer ∷ optional (codes "subject") Text ∷ required (codes "content") Integer
     ∷ [])
     (1 ∷ 2 ∷ []) (to_repos 1 ∷ [])
 
@@ -122,15 +122,15 @@ manifest_links_table =
 abbrev pub uploads_table : Table
 uploads_table =
     keyed (codes "registry_uploads")
-    (needed (codes "repo") Text ∷ needed (codes "number") Integer ∷ needed (codes "size") Integer ∷ [])
+    (required (codes "repo") Text ∷ required (codes "number") Integer ∷ required (codes "size") Integer ∷ [])
     (1 ∷ 2 ∷ []) (to_repos 1 ∷ [])
 
 -- what was appended to them
 abbrev pub pieces_table : Table
 pieces_table =
     keyed (codes "registry_pieces")
-    (needed (codes "repo") Text ∷ needed (codes "number") Integer ∷ needed (codes "start") Integer
-    ∷ needed (codes "size") Integer ∷ needed (codes "content") Integer ∷ [])
+    (required (codes "repo") Text ∷ required (codes "number") Integer ∷ required (codes "start") Integer
+    ∷ required (codes "size") Integer ∷ required (codes "content") Integer ∷ [])
     (1 ∷ 2 ∷ 3 ∷ []) (to_repos 1 ∷ [])
 
 abbrev pub subject_index : Index

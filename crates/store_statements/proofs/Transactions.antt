@@ -11,7 +11,7 @@ use Rattle.registry_model.specs.World.{World}
 use Rattle.store_world.specs.Tables.{Tables}
 use Rattle.store_world.specs.Registry.{IsRegistry, Agree}
 use Rattle.store_world.specs.World.{world_of}
-use Rattle.store_statements.specs.Held.{HoldsTables, IsReady, IsSettled, StaysSettled, Becomes, Commits, Makes, IsBack, tables_in, held}
+use Rattle.store_statements.specs.Held.{HoldsTables, IsReady, IsSettled, StaysSettled, Becomes, Commits, SettlesOn, IsBack, tables_in, held}
 
 -- it was committed
 pub commits : (mid end : State) (t : Tables) → Becomes mid t → Shows mid end mid.now mid.now false → Commits end t
@@ -71,7 +71,7 @@ back_if old first mid end (Err e) s same kept inside h = back_failed old first m
 pub registry : (s : State) → IsSettled s → IsRegistry (held s)
 registry s it = record { tables = it.holds.tables; agree = it.agree }
 
-pub makes : (s : State) (t : Tables) (w : World) → Commits s t → (world_of t ≡ w) × IsRegistry t → Makes s w
+pub makes : (s : State) (t : Tables) (w : World) → Commits s t → (world_of t ≡ w) × IsRegistry t → SettlesOn s w
 makes s t w c it = (
   record {
     is_open = c.is_open;

@@ -9,7 +9,7 @@ use Rattle.oci_names.specs.declared.fault.Fault.{Fault}
 use Rattle.oci_names.specs.declared.fault.Fault.TheVariants.{Memory}
 use Rattle.registry_model.specs.World.{World}
 use Rattle.store_world.specs.Tables.{Tables}
-use Rattle.store_statements.specs.Held.{IsReady, IsSettled, StaysSettled, LeavesAsWas, Becomes, Commits, Makes, IsBack, held, world_in, is_storage}
+use Rattle.store_statements.specs.Held.{IsReady, IsSettled, StaysSettled, LeavesAsWas, Becomes, Commits, SettlesOn, IsBack, held, world_in, is_storage}
 
 -- ---- what a caller brings
 module _ {S : Type 0} (g : Ghosts S) (conn : Held S) where
@@ -64,7 +64,7 @@ module _ {S : Type 0} (g : Ghosts S) (old new : Held S) where
 
   -- it is settled, and its world is this of the one before
   abbrev pub MakesWorld : {A E : Type 0} → Result A E → (World → World) → Type 0
-  MakesWorld r f = HasCleanDisk (state g new) → OnOk r (Makes (state g new) (f (world_in (state g old))))
+  MakesWorld r f = HasCleanDisk (state g new) → OnOk r (SettlesOn (state g new) (f (world_in (state g old))))
 
   -- what was committed is this of the tables before
   abbrev pub CommitsTables : {A E : Type 0} → Result A E → (Tables → Tables) → Type 0

@@ -82,5 +82,5 @@ abbrev pub IsBack : State → State → Type 0
 IsBack old new = IsTrue new.is_open → (new.now ≡ old.now) × (new.committed ≡ old.committed)
 
 -- settled, and the tables stand for this world
-abbrev pub Makes : State → World → Type 0
-Makes s w = IsSettled s × (world_in s ≡ w)
+abbrev pub SettlesOn : State → World → Type 0
+SettlesOn s w = IsSettled s × (world_in s ≡ w)

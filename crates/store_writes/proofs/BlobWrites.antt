@@ -10,7 +10,7 @@ use Rattle.store_world.specs.Tables.{Tables}
 use Rattle.store_world.proofs.Blobs.{blob_there}
 use Rattle.store_world.proofs.Repos.{has_repo_found}
 use Rattle.store_world.proofs.Stored.{blob_stored}
-use Rattle.store_statements.specs.Held.{IsSettled, StaysSettled, Commits, Makes, held, world_in}
+use Rattle.store_statements.specs.Held.{IsSettled, StaysSettled, Commits, SettlesOn, held, world_in}
 use Rattle.store_statements.specs.declared.blobs.BlobLink.{BlobLink}
 use Rattle.store_statements.specs.Shown.{blob_link}
 use Rattle.store_statements.specs.Steps.{BlobStored}
@@ -18,13 +18,13 @@ use Rattle.store_statements.proofs.Transactions.{registry, makes}
 use Rattle.store_writes.proofs.WritesAfterReads.{none_found, some_found, same_held, makes_same, commits_as}
 
 pub puts_new : (old mid end : State) (name digest bytes : Text) → IsSettled old → has_repo (world_in old) name ≡ true → StaysSettled old mid → find (has_key name digest) (held old).blobs ≡ None
-    → Commits end (held end) × BlobStored (held mid) (held end) name digest bytes → Makes end (put_blob (world_in old) name digest bytes)
+    → Commits end (held end) × BlobStored (held mid) (held end) name digest bytes → SettlesOn end (put_blob (world_in old) name digest bytes)
 puts_new old mid end name digest bytes settled there stays fresh it =
     let stored = subst (λ (t : Tables). BlobStored t (held end) name digest bytes) (same_held old mid stays) it.1 in
     makes end _ _ (commits_as end _ it.0 stored.others)
     (blob_stored (held old) (held end).contents name digest bytes stored.id (held end).blobs (registry old settled) (sym (has_repo_found (held old) name) ∙ there) stored.grow stored.there fresh stored.comes)
 
-pub puts_there : (old mid : State) (name digest bytes : Text) (link : BlobLink) → StaysSettled old mid → Some link ≡ option_map blob_link (find (has_key name digest) (held old).blobs) → Makes mid (put_blob (world_in old) name digest bytes)
+pub puts_there : (old mid : State) (name digest bytes : Text) (link : BlobLink) → StaysSettled old mid → Some link ≡ option_map blob_link (find (has_key name digest) (held old).blobs) → SettlesOn mid (put_blob (world_in old) name digest bytes)
 puts_there old mid name digest bytes link stays e =
     let found = some_found blob_link (find (has_key name digest) (held old).blobs) link e in
     makes_same old mid _ stays (sym (blob_there (held old) name digest bytes found.0 found.1))

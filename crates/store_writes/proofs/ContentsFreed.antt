@@ -27,7 +27,7 @@ use Rattle.store_world.specs.Tables.{Tables}
 use Rattle.store_world.specs.Registry.{IsRegistry}
 use Rattle.store_world.specs.World.{world_of}
 use Rattle.store_world.proofs.Contents.{Same, contents_kept}
-use Rattle.store_statements.specs.Held.{HoldsTables, IsReady, IsSettled, Commits, Makes, held, tables_in, world_in}
+use Rattle.store_statements.specs.Held.{HoldsTables, IsReady, IsSettled, Commits, SettlesOn, held, tables_in, world_in}
 use Rattle.store_writes.specs.Naming.{is_among, is_in_column, is_named, ContentsGone, Cleared}
 use Rattle.store_statements.proofs.OtherTables.{only_contents}
 use Rattle.store_writes.proofs.ContentSteps.{holds_beside}
@@ -150,7 +150,7 @@ world_stays t new is it =
     (column_stays t new 6 t.manifests it (λ i e. ap (λ b. is_in_column 4 t.blobs i || (b || is_in_column 5 t.pieces i)) e ∙ or_turned (is_in_column 4 t.blobs i) true))
     (column_stays t new 5 t.pieces it (λ i e. ap (λ b. is_in_column 4 t.blobs i || (is_in_column 6 t.manifests i || b)) e ∙ ap (λ b. is_in_column 4 t.blobs i || b) (or_turned (is_in_column 6 t.manifests i) true) ∙ or_turned (is_in_column 4 t.blobs i) true)))
 
-pub makes_cleared : (old new : State) → IsSettled old → Commits new (held new) × Cleared (held old) (held new) → Makes new (world_in old)
+pub makes_cleared : (old new : State) → IsSettled old → Commits new (held new) × Cleared (held old) (held new) → SettlesOn new (world_in old)
 makes_cleared old new settled it = makes new (held new) (world_in old) it.0 (world_stays (held old) (held new) (registry old settled) it.1)
 
 -- ---- one content after another

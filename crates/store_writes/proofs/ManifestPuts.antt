@@ -24,7 +24,7 @@ use Rattle.store_world.proofs.Repos.{has_repo_found}
 use Rattle.store_world.proofs.Stored.{manifest_stored}
 use Rattle.store_world.proofs.Tags.{tag_set, tag_added}
 use Rattle.store_world.proofs.Updates.{update_twice}
-use Rattle.store_statements.specs.Held.{IsReady, IsSettled, Becomes, Makes, held, tables_in, is_storage}
+use Rattle.store_statements.specs.Held.{IsReady, IsSettled, Becomes, SettlesOn, held, tables_in, is_storage}
 use Rattle.store_statements.specs.Steps.{tags_changed, TagComes, ManifestComes}
 use Rattle.store_writes.specs.Worlds.{IsWhole, Turns, tagged}
 use Rattle.store_writes.proofs.RowCounts.{none_changed}
@@ -107,7 +107,7 @@ tagged_there t repo digest bytes tag there found = ap (λ w. tagged w repo tag d
 pub whole : (s : State) → IsSettled s → IsWhole (record s { in_transaction = true })
 whole s settled = record { ready = record { inside = refl; holds = settled.holds }; agree = settled.agree }
 
-pub makes_turned : (old mid end : State) (w : World) → Turns old mid w → Shows mid end mid.now mid.now false → Makes end w
+pub makes_turned : (old mid end : State) (w : World) → Turns old mid w → Shows mid end mid.now mid.now false → SettlesOn end w
 makes_turned old mid end w it shows = makes end (held mid) w (commits mid end (held mid) (it.whole.ready, refl) shows) (it.world, registry_inside mid it.whole)
 
 pub then_ok : {A E P Q : Type 0} (r : Result A E) → (P → Q) → OnOk r P → OnOk r Q
@@ -131,12 +131,12 @@ pub fresh_still : (old mid : State) (repo digest : List ℕ) → mid.now ≡ old
 fresh_still old mid repo digest same none = ap (λ (d : Database). find (has_key repo digest) (tables_in d).manifests) same ∙ none
 
 pub made_there : (old mid new : State) (repo digest bytes : List ℕ) (tag : Option Text) → mid.now ≡ old.now → is_some (find (has_key repo digest) (held old).manifests) ≡ true
-    → Makes new (tagged (world_of (held mid)) repo tag digest) → Makes new (put_manifest (world_of (held old)) repo digest bytes tag)
+    → SettlesOn new (tagged (world_of (held mid)) repo tag digest) → SettlesOn new (put_manifest (world_of (held old)) repo digest bytes tag)
 made_there old mid new repo digest bytes tag same some m =
     let found = some_is (find (has_key repo digest) (held old).manifests) some in
     (m.0, m.1 ∙ ap (λ (d : Database). tagged (world_of (tables_in d)) repo tag digest) same ∙ tagged_there (held old) repo digest bytes tag found.0 found.1)
 
-pub made_new : (old mid new : State) (repo digest bytes : List ℕ) (tag : Option Text) → mid.now ≡ old.now → Makes new (put_manifest (world_of (held mid)) repo digest bytes tag) → Makes new (put_manifest (world_of (held old)) repo digest bytes tag)
+pub made_new : (old mid new : State) (repo digest bytes : List ℕ) (tag : Option Text) → mid.now ≡ old.now → SettlesOn new (put_manifest (world_of (held mid)) repo digest bytes tag) → SettlesOn new (put_manifest (world_of (held old)) repo digest bytes tag)
 made_new old mid new repo digest bytes tag same m = (m.0, m.1 ∙ ap (λ (d : Database). put_manifest (world_of (tables_in d)) repo digest bytes tag) same)
 
 pub memory_unspent : (A B : Type 0) (f : Fault) (r : Result A Fault) → r ≡ Err f → r ≡ Err Memory → is_storage {A = B} (Err f) ≡ false

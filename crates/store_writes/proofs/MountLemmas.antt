@@ -13,7 +13,7 @@ use Rattle.store_world.specs.Tables.{Tables}
 use Rattle.store_world.specs.World.{world_of}
 use Rattle.store_world.proofs.Blobs.{mount_there}
 use Rattle.store_world.proofs.Repos.{has_repo_found}
-use Rattle.store_statements.specs.Held.{IsSettled, StaysSettled, Commits, Makes, held, world_in, tables_in, is_storage}
+use Rattle.store_statements.specs.Held.{IsSettled, StaysSettled, Commits, SettlesOn, held, world_in, tables_in, is_storage}
 use Rattle.store_statements.specs.Shown.{blob_link}
 use Rattle.store_writes.specs.Puts.{LinkIsPut}
 use Rattle.store_statements.specs.declared.blobs.BlobLink.{BlobLink}
@@ -43,7 +43,7 @@ found_none (Some r) e = absurd cc
 
 -- the link came into a transaction's tables
 pub mounts : (first read end : State) (from to digest : List ℕ) (link : BlobLink) → IsSettled first → StaysSettled first read → has_repo (world_in first) to ≡ true → Some link ≡ option_map blob_link (find (has_key from digest) (held first).blobs)
-    → find (has_key to digest) (held first).blobs ≡ None → Commits end (held end) → LinkIsPut (held read) (held end) to digest link.size link.content.id → Makes end (mount (world_in first) from to digest)
+    → find (has_key to digest) (held first).blobs ≡ None → Commits end (held end) → LinkIsPut (held read) (held end) to digest link.size link.content.id → SettlesOn end (mount (world_in first) from to digest)
 mounts first read end from to digest link s stays there found none committed put =
     let row = found_row (find (has_key from digest) (held first).blobs) link found in
     let put_here : LinkIsPut (held first) (held end) to digest link.size link.content.id = subst (λ (t : Tables). LinkIsPut t (held end) to digest link.size link.content.id) (same_tables first read stays) put in
@@ -51,10 +51,10 @@ mounts first read end from to digest link s stays there found none committed put
     (subst (λ (l : BlobLink). LinkIsPut (held first) (held end) to digest l.size l.content.id) row.2 put_here))
 
 -- it was there, and nothing changes
-pub mounts_nothing : (first read : State) (from to digest : List ℕ) (link : BlobLink) → StaysSettled first read → Some link ≡ option_map blob_link (find (has_key to digest) (held first).blobs) → Makes read (mount (world_in first) from to digest)
+pub mounts_nothing : (first read : State) (from to digest : List ℕ) (link : BlobLink) → StaysSettled first read → Some link ≡ option_map blob_link (find (has_key to digest) (held first).blobs) → SettlesOn read (mount (world_in first) from to digest)
 mounts_nothing first read from to digest link stays found =
     let row = found_row (find (has_key to digest) (held first).blobs) link found in
     (stays.0, same_world first read stays ∙ sym (mount_there (held first) from to digest row.0 row.1))
 
-pub makes_from : {A E : Type 0} (first read end : State) (f : World → World) (r : Result A E) → StaysSettled first read → OnOk r (Makes end (f (world_in read))) → OnOk r (Makes end (f (world_in first)))
-makes_from first read end f r stays h = subst (λ (w : World). OnOk r (Makes end (f w))) (same_world first read stays) h
+pub makes_from : {A E : Type 0} (first read end : State) (f : World → World) (r : Result A E) → StaysSettled first read → OnOk r (SettlesOn end (f (world_in read))) → OnOk r (SettlesOn end (f (world_in first)))
+makes_from first read end f r stays h = subst (λ (w : World). OnOk r (SettlesOn end (f w))) (same_world first read stays) h

@@ -19,7 +19,7 @@ use Rattle.store_world.proofs.Sessions.{opened, appended, append_nothing, finish
 use Rattle.store_statements.specs.declared.blobs.BlobLink.{BlobLink}
 use Rattle.store_statements.specs.declared.repos.RepoRow.{RepoRow}
 use Rattle.store_statements.specs.Shown.{blob_link, repo_row}
-use Rattle.store_statements.specs.Held.{IsSettled, StaysSettled, Commits, Makes, held, world_in}
+use Rattle.store_statements.specs.Held.{IsSettled, StaysSettled, Commits, SettlesOn, held, world_in}
 use Rattle.store_statements.specs.Steps.{SessionOpened, Appended, Finished, sessions_without}
 use Rattle.store_statements.proofs.Transactions.{registry, makes}
 use Rattle.store_writes.proofs.WritesAfterReads.{some_found, same_held, commits_as}
@@ -42,7 +42,7 @@ no_bytes : (bytes : Text) → length bytes ≡ 0 → bytes ≡ []
 no_bytes [] e = refl
 no_bytes (b ∷ bs) e = absurd (omega (arith, e))
 
-pub appends_nothing : (s : State) (name : Text) (number : ℕ) (bytes : Text) → IsSettled s → is_some (session_at (world_in s) name number) ≡ true → length bytes ≡ 0 → Makes s (append (world_in s) name number bytes)
+pub appends_nothing : (s : State) (name : Text) (number : ℕ) (bytes : Text) → IsSettled s → is_some (session_at (world_in s) name number) ≡ true → length bytes ≡ 0 → SettlesOn s (append (world_in s) name number bytes)
 appends_nothing s name number bytes settled there none =
     (settled, subst (λ more. world_in s ≡ append (world_in s) name number more) (sym (no_bytes bytes none)) (sym (append_nothing (held s) name number (has_upload s name number settled there))))
 
@@ -58,7 +58,7 @@ piece_free old mid name number size settled stays sized =
     ap (λ (t : Tables). find (has_start name number size) t.pieces) (same_held old mid stays) ∙ rows.piece_fresh (held old).contents (held old).pieces name number size settled.agree.pieces reach
 
 pub appends : (old mid end : State) (name : Text) (number size : ℕ) (bytes : Text) → IsSettled old → StaysSettled old mid → Some size ≡ option_map (λ r. natural_at r 3) (find (of_session name number) (held old).uploads) → 0 < length bytes
-    → Commits end (held end) × Appended (held mid) (held end) name number size bytes → Makes end (append (world_in old) name number bytes)
+    → Commits end (held end) × Appended (held mid) (held end) name number size bytes → SettlesOn end (append (world_in old) name number bytes)
 appends old mid end name number size bytes settled stays sized more it =
     let added = subst (λ (t : Tables). Appended t (held end) name number size bytes) (same_held old mid stays) it.1 in
     makes end _ _ (commits_as end _ it.0 added.others)
@@ -67,14 +67,14 @@ appends old mid end name number size bytes settled stays sized more it =
 -- ---- a session ends
 
 pub finishes_there : (old mid end : State) (name : Text) (number : ℕ) (digest bytes : Text) (link : BlobLink) → IsSettled old → StaysSettled old mid → Some link ≡ option_map blob_link (find (has_key name digest) (held old).blobs)
-    → Commits end (sessions_without (of_session name number) (held mid)) → Makes end (finish (world_in old) name number digest bytes)
+    → Commits end (sessions_without (of_session name number) (held mid)) → SettlesOn end (finish (world_in old) name number digest bytes)
 finishes_there old mid end name number digest bytes link settled stays e c =
     let found = some_found blob_link (find (has_key name digest) (held old).blobs) link e in
     makes end _ _ (subst (λ (t : Tables). Commits end (sessions_without (of_session name number) t)) (same_held old mid stays) c)
     (finished_there (held old) name number digest bytes found.0 (registry old settled) found.1)
 
 pub finishes_new : (old mid end : State) (name : Text) (number : ℕ) (digest bytes : Text) → IsSettled old → is_some (session_at (world_in old) name number) ≡ true → StaysSettled old mid → find (has_key name digest) (held old).blobs ≡ None
-    → Commits end (held end) × Finished (held mid) (held end) name number digest bytes → Makes end (finish (world_in old) name number digest bytes)
+    → Commits end (held end) × Finished (held mid) (held end) name number digest bytes → SettlesOn end (finish (world_in old) name number digest bytes)
 finishes_new old mid end name number digest bytes settled there stays fresh it =
     let stored = subst (λ (t : Tables). Finished t (held end) name number digest bytes) (same_held old mid stays) it.1 in
     makes end _ _ (commits_as end _ it.0 stored.others)
@@ -97,7 +97,7 @@ number_behind old mid name last settled stays found =
     ap (λ (t : Tables). find (of_session name (last + 1)) t.uploads) (same_held old mid stays) ∙ number_free (held old) name (last + 1) (registry old settled) (omega (arith, is.0))
 
 pub opens : (old mid end : State) (name : Text) (last : ℕ) → IsSettled old → StaysSettled old mid → Some last ≡ option_map (λ r. natural_at r 3) (find (of_first name) (held old).repos)
-    → Commits end (held end) × SessionOpened (held mid) (held end) name (last + 1) → (last + 1 ≡ last_number_at (world_in old) name + 1) × Makes end (open_session (world_in old) name)
+    → Commits end (held end) × SessionOpened (held mid) (held end) name (last + 1) → (last + 1 ≡ last_number_at (world_in old) name + 1) × SettlesOn end (open_session (world_in old) name)
 opens old mid end name last settled stays found it =
     let is = last_is (held old).repos name (find (of_first name) (held old).repos) last refl found in
     let come = subst (λ (t : Tables). SessionOpened t (held end) name (last + 1)) (same_held old mid stays) it.1 in

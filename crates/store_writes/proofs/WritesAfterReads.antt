@@ -8,7 +8,7 @@ use Rattle.oci_names.specs.declared.fault.Fault.TheVariants.{Memory, Storage}
 use Rattle.registry_model.specs.World.{World}
 use Rattle.store_world.specs.Tables.{Tables}
 use Rattle.store_world.specs.World.{world_of}
-use Rattle.store_statements.specs.Held.{StaysSettled, Commits, Makes, IsBack, is_storage, held, world_in, tables_in}
+use Rattle.store_statements.specs.Held.{StaysSettled, Commits, SettlesOn, IsBack, is_storage, held, world_in, tables_in}
 use Rattle.store_statements.proofs.Transactions.{stays_back}
 use Rattle.store_statements.proofs.SettledAfter.{stays_then}
 
@@ -24,7 +24,7 @@ pub same_held : (old mid : State) → StaysSettled old mid → held mid ≡ held
 same_held old mid stays = ap tables_in stays.1
 
 -- it was there: nothing was written, and the world is what the write makes of it
-pub makes_same : (old mid : State) (w : World) → StaysSettled old mid → world_in old ≡ w → Makes mid w
+pub makes_same : (old mid : State) (w : World) → StaysSettled old mid → world_in old ≡ w → SettlesOn mid w
 makes_same old mid w stays e = (stays.0, ap (λ (db : Database). world_of (tables_in db)) stays.1 ∙ e)
 
 -- the write failed, and then the connection was seen to be open

@@ -9,7 +9,7 @@ ghost use Rattle.registry_model.specs.Command.{drop_sessions};
 ghost use Rattle.store_world.specs.Keys.{of_first, of_session};
 ghost use Rattle.store_writes.specs.Worlds.{StepsFrom};
 ghost use Rattle.store_statements.specs.Clauses.{Changes, CommitsStep, CommitsTables, GoesBack, KeepsInside, Lasts, LastsUncommitted, MakesWorld, Settled, StaysOnMemory, TablesHave, WorldHas};
-ghost use Rattle.store_statements.specs.Held.{Makes, world_in};
+ghost use Rattle.store_statements.specs.Held.{SettlesOn, world_in};
 ghost use Rattle.store_statements.specs.Steps.{sessions_without, SessionOpened};
 
 use crate::transaction::{alone, checked};
@@ -128,7 +128,7 @@ pub fn open_session<S: Alter>(conn: &mut Connection<S>, repo: &RepoName) -> Resu
     requires below { WorldHas S.Store conn.old (λ w. last_number_at w repo.now < largest) }
     ensures made { HasCleanDisk (state S.Store conn.new)
         → IfOk result
-        (λ n. (n ≡ last_number_at (world_in (state S.Store conn.old)) repo.now + 1) × Makes
+        (λ n. (n ≡ last_number_at (world_in (state S.Store conn.old)) repo.now + 1) × SettlesOn
         (state S.Store conn.new) (open_session (world_in (state S.Store conn.old)) repo.now)) }
     ensures memory { StaysOnMemory S.Store conn.old conn.new result }
     ensures survives { Lasts S.Store conn.old conn.new }

@@ -2,17 +2,17 @@ use Rattle.std.proofs.Common.{◌≤◌, Err, length, take, ap, arith, length-ta
 use Rattle.registry_http.proofs.HeadLemmas.{not_exceeded, refuses_never, refuses_full, not_yet, head_read}
 use Rattle.registry_http.proofs.head.parse_head.Goals as goal
 
-pub returns-then-seen-eq16384 : goal.returns-then-seen-eq16384
-returns-then-seen-eq16384 c =
+pub returns-then-seen-eq-LONGEST_HEAD : goal.returns-then-seen-eq-LONGEST_HEAD
+returns-then-seen-eq-LONGEST_HEAD c =
     let e = c.head_bytes-seen.ensures in
-    refuses_full c.args.buffer.now (rw (c.in-Ok-Partial.field-0-is, e) at c.in-Ok-Partial.ensures.partial) (rw e at c.if-seen-eq16384.true)
+    refuses_full c.args.buffer.now (rw (c.in-Ok-Partial.field-0-is, e) at c.in-Ok-Partial.ensures.partial) (rw e at c.if-seen-eq-LONGEST_HEAD.true)
 
-pub returns-else-seen-eq16384 : goal.returns-else-seen-eq16384
-returns-else-seen-eq16384 c =
+pub returns-else-seen-eq-LONGEST_HEAD : goal.returns-else-seen-eq-LONGEST_HEAD
+returns-else-seen-eq-LONGEST_HEAD c =
     let e = c.head_bytes-seen.ensures in
     let none = rw (c.in-Ok-Partial.field-0-is, e) at c.in-Ok-Partial.ensures.partial in
     let unfinished = rw (c.in-Ok-Partial.field-0-is, e) at c.in-Ok-Partial.ensures.unfinished in
-    not_yet c.args.buffer.now none unfinished (rw e at c.if-seen-eq16384.false)
+    not_yet c.args.buffer.now none unfinished (rw e at c.if-seen-eq-LONGEST_HEAD.false)
 
 pub returns-in-Err : goal.returns-in-Err
 returns-in-Err c =

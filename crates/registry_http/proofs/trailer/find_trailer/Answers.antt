@@ -2,31 +2,31 @@ use Rattle.std.proofs.Common.{◌≤◌, Err, length, take, ap, arith, length-ta
 use Rattle.registry_http.proofs.TrailerLemmas.{section_not_exceeded, trailer_never, trailer_full, trailer_not_yet, trailer_read, trailer_crowded}
 use Rattle.registry_http.proofs.trailer.find_trailer.Goals as goal
 
-pub returns-then-count-gt64 : goal.returns-then-count-gt64
-returns-then-count-gt64 c =
+pub returns-then-count-gt-MOST_FIELDS : goal.returns-then-count-gt-MOST_FIELDS
+returns-then-count-gt-MOST_FIELDS c =
     let e = c.head_bytes-seen.ensures in
     let within = rw (c.in-Ok-Complete.field-0-is, e) at c.in-Ok-Complete.ensures.within in
     let found = rw (c.in-Ok-Complete.field-0-is, e) at c.in-Ok-Complete.ensures.complete in
-    trailer_crowded c.args.unread.now _ _ _ found.0 found.1 within found.2 c.if-count-gt64.true
+    trailer_crowded c.args.unread.now _ _ _ found.0 found.1 within found.2 c.if-count-gt-MOST_FIELDS.true
 
-pub returns-else-count-gt64 : goal.returns-else-count-gt64
-returns-else-count-gt64 c =
+pub returns-else-count-gt-MOST_FIELDS : goal.returns-else-count-gt-MOST_FIELDS
+returns-else-count-gt-MOST_FIELDS c =
     let e = c.head_bytes-seen.ensures in
     let within = rw (c.in-Ok-Complete.field-0-is, e) at c.in-Ok-Complete.ensures.within in
     let found = rw (c.in-Ok-Complete.field-0-is, e) at c.in-Ok-Complete.ensures.complete in
-    trailer_read c.args.unread.now _ _ _ found.0 found.1 within found.2 c.if-count-gt64.false
+    trailer_read c.args.unread.now _ _ _ found.0 found.1 within found.2 c.if-count-gt-MOST_FIELDS.false
 
-pub returns-then-seen-eq16384 : goal.returns-then-seen-eq16384
-returns-then-seen-eq16384 c =
+pub returns-then-seen-eq-LONGEST_HEAD : goal.returns-then-seen-eq-LONGEST_HEAD
+returns-then-seen-eq-LONGEST_HEAD c =
     let e = c.head_bytes-seen.ensures in
-    trailer_full c.args.unread.now (rw (c.in-Ok-Partial.field-0-is, e) at c.in-Ok-Partial.ensures.partial) (rw e at c.if-seen-eq16384.true)
+    trailer_full c.args.unread.now (rw (c.in-Ok-Partial.field-0-is, e) at c.in-Ok-Partial.ensures.partial) (rw e at c.if-seen-eq-LONGEST_HEAD.true)
 
-pub returns-else-seen-eq16384 : goal.returns-else-seen-eq16384
-returns-else-seen-eq16384 c =
+pub returns-else-seen-eq-LONGEST_HEAD : goal.returns-else-seen-eq-LONGEST_HEAD
+returns-else-seen-eq-LONGEST_HEAD c =
     let e = c.head_bytes-seen.ensures in
     let none = rw (c.in-Ok-Partial.field-0-is, e) at c.in-Ok-Partial.ensures.partial in
     let may = rw (c.in-Ok-Partial.field-0-is, e) at c.in-Ok-Partial.ensures.unfinished in
-    trailer_not_yet c.args.unread.now none may (rw e at c.if-seen-eq16384.false)
+    trailer_not_yet c.args.unread.now none may (rw e at c.if-seen-eq-LONGEST_HEAD.false)
 
 pub returns-in-Err : goal.returns-in-Err
 returns-in-Err c =

@@ -2,7 +2,7 @@ use Rattle.std.proofs.Common.{◌∙◌, [], Some, refl, ap, length}
 use Rattle.std.specs.Prelude.{option_map}
 use Rattle.std.specs.FinMap.{get-empty}
 use Rattle.registry_model.specs.World.{text_cmp, new_repo}
-use Rattle.registry_model.specs.Verdict.{changed}
+use Rattle.registry_model.specs.Judging.{changed}
 use Rattle.registry_model.specs.Blobs.{found_blob, found_size}
 use Rattle.registry_model.specs.Operation as op
 use Rattle.registry_model.specs.Worked.{app, abc_digest, holding_abc}

@@ -1,7 +1,7 @@
 use Rattle.std.proofs.Common.{◌∙◌, [], Some, None, ap}
 use Rattle.std.specs.Prelude.{codes}
 use Rattle.registry_model.specs.Operation as op
-use Rattle.registry_model.specs.Verdict.{changed}
+use Rattle.registry_model.specs.Judging.{changed}
 use Rattle.registry_model.specs.Worked.{app, abc_digest, hello_digest, in_session}
 use Rattle.registry_model.proofs.WorkedRequests.{in_app, hello, closes_hello, to_match, to_differ, at_closing}
 use Rattle.registry_model.proofs.worked.a_session_closes_as_a_blob.Goals as goal

@@ -4,7 +4,7 @@ use Rattle.std.specs.Option.{option_and_then}
 use Rattle.std.specs.FinMap.{get-remove, get-from_entries}
 use Rattle.registry_model.specs.declared.refusal.Refusal.TheVariants.{BlobUnknown, ManifestUnknown}
 use Rattle.registry_model.specs.declared.reply.Status.TheVariants.{Accepted}
-use Rattle.registry_model.specs.Outcome.{refuses, makes}
+use Rattle.registry_model.specs.Decision.{refuses, makes}
 use Rattle.registry_model.specs.Answer.{bare_answer}
 use Rattle.registry_model.specs.Blobs.{without_blob}
 use Rattle.registry_model.specs.Manifests.{without_manifest, found_manifest, manifest_of_digest}

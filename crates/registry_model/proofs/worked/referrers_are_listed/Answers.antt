@@ -4,7 +4,7 @@ use Rattle.std.specs.Prelude.{filter}
 use Rattle.std.specs.List.{filter_map}
 use Rattle.oci_names.specs.Text.{Text}
 use Rattle.registry_model.specs.World.{new_repo}
-use Rattle.registry_model.specs.Outcome.{tells}
+use Rattle.registry_model.specs.Decision.{tells}
 use Rattle.registry_model.specs.Referrers.{has_subject, referrer_in, is_wanted, referrers_reply}
 use Rattle.registry_model.specs.Operation as op
 use Rattle.registry_model.specs.Worked.{abc_digest}

@@ -1,8 +1,8 @@
 use Rattle.std.proofs.Common.{cond, nat_le, [], None, ap}
 use Rattle.registry_model.specs.declared.refusal.Refusal.TheVariants.{TokenRequired, NoEndpoint, InvalidName, AccessDenied}
 use Rattle.registry_model.specs.World.{repo_at}
-use Rattle.registry_model.specs.Outcome.{refuses, in_repo}
-use Rattle.registry_model.specs.Verdict.{not_allowed, operate}
+use Rattle.registry_model.specs.Decision.{refuses, in_repo}
+use Rattle.registry_model.specs.Judging.{not_allowed, operate}
 use Rattle.registry_model.specs.Form as form
 use Rattle.registry_model.specs.declared.level.Level.TheVariants.{Pull, Push}
 use Rattle.registry_model.specs.Operation as op

@@ -6,7 +6,7 @@ use Rattle.oci_names.specs.Text.{Text}
 use Rattle.std.specs.Fmt.{digits}
 use Rattle.std.specs.FinMap.{get-from_entries, len-empty}
 use Rattle.registry_model.specs.World.{new_repo}
-use Rattle.registry_model.specs.Verdict.{changed}
+use Rattle.registry_model.specs.Judging.{changed}
 use Rattle.registry_model.specs.Sessions.{show_session}
 use Rattle.registry_model.specs.Operation as op
 use Rattle.registry_model.specs.Worked.{app, in_session}

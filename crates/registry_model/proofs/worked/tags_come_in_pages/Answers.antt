@@ -1,7 +1,7 @@
 use Rattle.std.proofs.Common.{◌∙◌, [], Some, None, ap}
 use Rattle.std.specs.Prelude.{codes}
 use Rattle.std.specs.Fmt.{digits}
-use Rattle.registry_model.specs.Outcome.{tells}
+use Rattle.registry_model.specs.Decision.{tells}
 use Rattle.registry_model.specs.TagPage.{tags_reply}
 use Rattle.registry_model.specs.Operation as op
 use Rattle.registry_model.specs.Worked.{app, four_tags}

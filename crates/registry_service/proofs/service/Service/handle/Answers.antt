@@ -1,7 +1,7 @@
 use Rattle.std.proofs.Common.{◌∙◌, ap, subst}
 use Rattle.registry_model.specs.Answer.{answer_of}
 use Rattle.registry_model.specs.Ask.{ask_of}
-use Rattle.registry_model.specs.Doing.{Does, SpendsAs, kind_of}
+use Rattle.registry_model.specs.Doing.{Does, SpendsAs, course_of_answer}
 use Rattle.registry_service.proofs.DoingLemmas.{does_answered, does_missed, does_lost, spends_answered, spends_missed, spends_lost}
 use Rattle.registry_service.proofs.service.Service.handle.Goals.{in-Ok, in-Err-Memory, in-Err-Storage}
 use Rattle.registry_service.proofs.service.Service.handle.Goals as goal
@@ -14,7 +14,7 @@ returns-clause-does g c honest =
           let a = ap answer_of w.result-is in
           let h = w.in-Ok.ensures in
           does_answered (g.K.Keeper.state c.self.inside.keeper) (g.K.Keeper.state c.judge.new.keeper) (answer_of c.match-judge.result) (ask_of c.args.request.now)
-          (ap kind_of a ∙ h.answers) h.spends.0 (a ∙ (h.comes honest).0) (h.comes honest).1
+          (ap course_of_answer a ∙ h.answers) h.spends.0 (a ∙ (h.comes honest).0) (h.comes honest).1
       | in-Err-Memory w ↦
           let h = rw w.in-Err-Memory.field-0-is at (w.in-Err-Memory.ensures.comes honest) in
           let k = rw w.in-Err-Memory.field-0-is at w.in-Err-Memory.ensures.spends in
@@ -28,12 +28,12 @@ returns-clause-does g c honest =
 
 pub returns-clause-spends : goal.returns-clause-spends
 returns-clause-spends g c =
-    subst (λ k. SpendsAs (kind_of (answer_of c.match-judge.result)) (g.K.Keeper.state k) (g.K.Keeper.state c.judge.new.keeper)) c.self.view_is
+    subst (λ k. SpendsAs (course_of_answer (answer_of c.match-judge.result)) (g.K.Keeper.state k) (g.K.Keeper.state c.judge.new.keeper)) c.self.view_is
     (elim c.match-judge.branch [
       | in-Ok w ↦
           let a = ap answer_of w.result-is in
           let h = w.in-Ok.ensures in
-          spends_answered (g.K.Keeper.state c.self.inside.keeper) (g.K.Keeper.state c.judge.new.keeper) (answer_of c.match-judge.result) (ap kind_of a ∙ h.answers) h.spends.0 h.spends.1
+          spends_answered (g.K.Keeper.state c.self.inside.keeper) (g.K.Keeper.state c.judge.new.keeper) (answer_of c.match-judge.result) (ap course_of_answer a ∙ h.answers) h.spends.0 h.spends.1
       | in-Err-Memory w ↦
           let k = rw w.in-Err-Memory.field-0-is at w.in-Err-Memory.ensures.spends in
           spends_missed (g.K.Keeper.state c.self.inside.keeper) (g.K.Keeper.state c.judge.new.keeper) (answer_of c.match-judge.result)

@@ -14,8 +14,8 @@ use Rattle.registry_model.specs.World.{Repo, Grants, World, repo_at, is_known, w
 use Rattle.registry_model.specs.Answer.{Answer, bare_answer, refused, sent}
 use Rattle.registry_model.specs.Form.{Form, no_form, base, blob, uploads, session, manifest, tags, referrers}
 use Rattle.registry_model.specs.Ask.{Ask}
-use Rattle.registry_model.specs.Operation.{Operation, reads_blob, sizes_blob, deletes_blob, pushes_blob, opens_session, mounts_blob, reads_session, appends_chunk, closes_session, reads_manifest, sizes_manifest, deletes_manifest, pushes_manifest, lists_tags, lists_referrers, operation_of, allow_of, addressed, rank, rank_of, needed}
-use Rattle.registry_model.specs.Outcome.{Outcome, refuses, tells, in_repo}
+use Rattle.registry_model.specs.Operation.{Operation, reads_blob, sizes_blob, deletes_blob, pushes_blob, opens_session, mounts_blob, reads_session, appends_chunk, closes_session, reads_manifest, sizes_manifest, deletes_manifest, pushes_manifest, lists_tags, lists_referrers, operation_of, allow_of, addressed, rank, rank_of, needed_level}
+use Rattle.registry_model.specs.Decision.{Decision, refuses, tells, in_repo}
 use Rattle.registry_model.specs.Blobs as blobs
 use Rattle.registry_model.specs.Sessions as sessions
 use Rattle.registry_model.specs.Mount.{mount_blob}
@@ -25,7 +25,7 @@ use Rattle.registry_model.specs.Referrers as subjects
 
 -- ---- the operation, in a repository that is there
 
-abbrev pub operate : Grants → (Text → Option Repo) → Repo → Text → Operation → Text → Outcome
+abbrev pub operate : Grants → (Text → Option Repo) → Repo → Text → Operation → Text → Decision
 operate grants repos r name (reads_blob digest) body = blobs.read_blob r digest
 operate grants repos r name (sizes_blob digest) body = blobs.size_blob r digest
 operate grants repos r name (deletes_blob digest) body = blobs.delete_blob r digest
@@ -49,37 +49,37 @@ operate grants repos r name (lists_referrers digest artifact_type) body =
 -- ---- the order of refusals
 
 -- the refusal that names the methods which the form has
-abbrev pub not_allowed : Form → Outcome
+abbrev pub not_allowed : Form → Decision
 not_allowed form = tells (record (refused MethodNotAllowed) { allow = Some (allow_of form) })
 
 abbrev pub allows : Grants → Text → Operation → Bool
-allows grants name operation = nat_le (rank (needed operation)) (rank_of (get grants name))
+allows grants name operation = nat_le (rank (needed_level operation)) (rank_of (get grants name))
 
-abbrev pub granted : Grants → (Text → Option Repo) → Text → Form → Option Operation → Text → Outcome
+abbrev pub granted : Grants → (Text → Option Repo) → Text → Form → Option Operation → Text → Decision
 granted grants repos name form None body = not_allowed form
 granted grants repos name form (Some operation) body =
     if allows grants name operation
     then in_repo (repos name) (λ r. operate grants repos r name operation body) else refuses AccessDenied
 
 -- a request on the repository of a name
-abbrev pub decide : Grants → (Text → Option Repo) → Text → Ask → Outcome
+abbrev pub decide : Grants → (Text → Option Repo) → Text → Ask → Decision
 decide grants repos name q =
     if is_repo_name name then granted grants repos name q.form (operation_of q) q.body
     else refuses InvalidName
 
 -- whether the registry is there for the token (OCI Distribution Specification 1.1, Determining Support)
-abbrev pub base_outcome : Outcome
-base_outcome =
+abbrev pub base_decision : Decision
+base_decision =
     tells (record (bare_answer OK)
     { content_type = Some (codes "application/json"); body = sent (codes "{}") })
 
-abbrev pub at_base : Verb → Outcome
-at_base Get = base_outcome
-at_base Head = base_outcome
+abbrev pub at_base : Verb → Decision
+at_base Get = base_decision
+at_base Head = base_decision
 at_base _ = not_allowed base
 
 -- by the path's form
-abbrev pub served_on : Grants → (Text → Option Repo) → Form → Ask → Outcome
+abbrev pub served_on : Grants → (Text → Option Repo) → Form → Ask → Decision
 served_on grants repos no_form q = refuses NoEndpoint
 served_on grants repos base q = at_base q.verb
 served_on grants repos (blob name digest) q = decide grants repos name q
@@ -89,24 +89,25 @@ served_on grants repos (manifest name reference) q = decide grants repos name q
 served_on grants repos (tags name) q = decide grants repos name q
 served_on grants repos (referrers name digest) q = decide grants repos name q
 
-abbrev pub served : Grants → (Text → Option Repo) → Ask → Outcome
+abbrev pub served : Grants → (Text → Option Repo) → Ask → Decision
 served grants repos q = served_on grants repos q.form q
 
 -- what a token with these grants is answered, where the repositories are looked up so
-abbrev pub verdict : Grants → (Text → Option Repo) → Ask → Outcome
-verdict grants repos q = if is_known grants then served grants repos q else refuses TokenRequired
+abbrev pub decision : Grants → (Text → Option Repo) → Ask → Decision
+decision grants repos q = if is_known grants then served grants repos q else refuses TokenRequired
 
 -- a text that is no token counts as none
-abbrev pub judged : World → Option Text → Ask → Outcome
+abbrev pub judged : World → Option Text → Ask → Decision
 judged w None q = refuses TokenRequired
 judged w (Some token) q =
-    if is_token token then verdict (w.grants token) (repo_at w) q else refuses TokenRequired
+    if is_token token then decision (w.grants token) (repo_at w) q else refuses TokenRequired
 
 -- ---- the answer, and the world after it: only the path's repository may change
 
 abbrev pub changed : World → Option Text → Option Repo → World
+changed w name None = w
+changed w None (Some r) = w
 changed w (Some name) (Some r) = with_repo w name r
-changed w _ _ = w
 
 abbrev pub reply_to : World → Ask → Answer
 reply_to w q = (judged w q.token q).reply

@@ -1,4 +1,4 @@
--- What a verdict looks at, and when it changes something.
+-- What a decision looks at, and when it changes something.
 use Rattle.std.proofs.Common.{◌≡◌, ◌∙◌, ℕ, Bool, true, false, cond, ◌&&◌, not, nat_le, Option, Some, None, IfSome, OnSome, refl, ap, subst}
 use Rattle.std.specs.Prelude.{is_some, option_map, length}
 use Rattle.std.specs.Option.{option_and_then}
@@ -15,15 +15,15 @@ use Rattle.registry_model.specs.World.{Repo, Grants, is_known}
 use Rattle.registry_model.specs.Form.{Form, no_form, base, blob, uploads, session, manifest, tags, referrers}
 use Rattle.registry_model.specs.Ask.{Keys, Ask}
 use Rattle.registry_model.specs.Answer.{Answer}
-use Rattle.registry_model.specs.Outcome.{Outcome, refuses, tells, in_repo}
-use Rattle.registry_model.specs.Operation.{Operation, reads_blob, sizes_blob, deletes_blob, pushes_blob, opens_session, mounts_blob, reads_session, appends_chunk, closes_session, reads_manifest, sizes_manifest, deletes_manifest, pushes_manifest, lists_tags, lists_referrers, operation_on, operation_of, addressed, rank, rank_of, needed}
+use Rattle.registry_model.specs.Decision.{Decision, refuses, tells, in_repo}
+use Rattle.registry_model.specs.Operation.{Operation, reads_blob, sizes_blob, deletes_blob, pushes_blob, opens_session, mounts_blob, reads_session, appends_chunk, closes_session, reads_manifest, sizes_manifest, deletes_manifest, pushes_manifest, lists_tags, lists_referrers, operation_on, operation_of, addressed, valid_name, rank, rank_of, needed_level}
 use Rattle.registry_model.specs.Blobs.{found_blob, blob_named, found_size}
 use Rattle.registry_model.specs.Sessions.{Session, show_session, session_named}
 use Rattle.registry_model.specs.Mount.{may_read, source, mounted}
 use Rattle.registry_model.specs.Manifests.{Found, found_manifest, found_manifest_size, manifest_named}
 use Rattle.registry_model.specs.TagPage.{size_in, list_page}
 use Rattle.registry_model.specs.Referrers.{list_referrers}
-use Rattle.registry_model.specs.Verdict.{operate, allows, granted, decide, at_base, served_on, served, verdict}
+use Rattle.registry_model.specs.Judging.{operate, allows, granted, decide, at_base, served_on, served, decision}
 use Rattle.registry_model.specs.Team.{is_reading}
 
 -- what is allowed needs a level
@@ -74,7 +74,7 @@ module _ (g : Grants) (f f' : Text → Option Repo) (agree : (name : Text) → i
     where
       by : (b : Bool) → allows g name op ≡ b
           → cond b (in_repo (f name) (λ r. operate g f r name op body)) (refuses AccessDenied) ≡ cond b (in_repo (f' name) (λ r. operate g f' r name op body)) (refuses AccessDenied)
-      by true e = ap (λ o. in_repo o (λ r. operate g f r name op body)) (agree name (allowed_some (needed op) (get g name) e)) ∙ in_repo_same (f' name) name op body
+      by true e = ap (λ o. in_repo o (λ r. operate g f r name op body)) (agree name (allowed_some (needed_level op) (get g name) e)) ∙ in_repo_same (f' name) name op body
       by false e = refl
 
   decide_same : (name : Text) (q : Ask) → decide g f name q ≡ decide g f' name q
@@ -90,8 +90,8 @@ module _ (g : Grants) (f f' : Text → Option Repo) (agree : (name : Text) → i
   served_same (tags name) q = decide_same name q
   served_same (referrers name digest) q = decide_same name q
 
-  pub verdict_same : (q : Ask) → verdict g f q ≡ verdict g f' q
-  verdict_same q = ap (λ x. cond (is_known g) x (refuses TokenRequired)) (served_same q.form q)
+  pub decision_same : (q : Ask) → decision g f q ≡ decision g f' q
+  decision_same q = ap (λ x. cond (is_known g) x (refuses TokenRequired)) (served_same q.form q)
 
 -- ---- operations that change nothing
 
@@ -181,7 +181,7 @@ at_base_none verb.Put = refl
 at_base_none verb.Delete = refl
 at_base_none verb.Other = refl
 
-in_repo_none : (o : Option Repo) (act : Repo → Outcome) → ((r : Repo) → (act r).change ≡ None) → (in_repo o act).change ≡ None
+in_repo_none : (o : Option Repo) (act : Repo → Decision) → ((r : Repo) → (act r).change ≡ None) → (in_repo o act).change ≡ None
 in_repo_none None act h = refl
 in_repo_none (Some r) act h = h r
 
@@ -232,7 +232,7 @@ module _ (g : Grants) (f : Text → Option Repo) where
   none_served (referrers name digest) q h = none_decided name q h
 
   -- a reading does nothing but read
-  pub reading_changes : (q : Ask) → is_reading q.verb ≡ true → (verdict g f q).change ≡ None
+  pub reading_changes : (q : Ask) → is_reading q.verb ≡ true → (decision g f q).change ≡ None
   reading_changes q h = by (is_known g)
     where
       by : (b : Bool) → (cond b (served g f q) (refuses TokenRequired)).change ≡ None
@@ -270,10 +270,10 @@ module _ (g : Grants) (f : Text → Option Repo) where
       by true e = operation_changes name op body e
       by false e = tt
 
-  decide_changes : (name : Text) (q : Ask) → OnSome (decide g f name q).change (MayPush g name)
+  decide_changes : (name : Text) (q : Ask) → OnSome (decide g f name q).change (IfSome (valid_name name) (λ n. MayPush g n))
   decide_changes name q = by (is_repo_name name)
     where
-      by : (b : Bool) → OnSome (cond b (granted g f name q.form (operation_of q) q.body) (refuses InvalidName)).change (MayPush g name)
+      by : (b : Bool) → OnSome (cond b (granted g f name q.form (operation_of q) q.body) (refuses InvalidName)).change (IfSome (cond b (Some name) None) (λ n. MayPush g n))
       by true = granted_changes name q.form (operation_of q) q.body
       by false = tt
 
@@ -287,9 +287,9 @@ module _ (g : Grants) (f : Text → Option Repo) where
   served_changes (tags name) q = decide_changes name q
   served_changes (referrers name digest) q = decide_changes name q
 
-  -- a verdict changes something where the token may push to the addressed name alone
-  pub verdict_changes : (q : Ask) (name : Text) → addressed q.form ≡ Some name → OnSome (verdict g f q).change (MayPush g name)
-  verdict_changes q name e = subst (λ o. OnSome (verdict g f q).change (IfSome o (λ n. MayPush g n))) e (by (is_known g))
+  -- a decision changes something where the token may push to the addressed name alone
+  pub decision_changes : (q : Ask) (name : Text) → addressed q.form ≡ Some name → OnSome (decision g f q).change (MayPush g name)
+  decision_changes q name e = subst (λ o. OnSome (decision g f q).change (IfSome o (λ n. MayPush g n))) e (by (is_known g))
     where
       by : (b : Bool) → OnSome (cond b (served g f q) (refuses TokenRequired)).change (IfSome (addressed q.form) (λ n. MayPush g n))
       by true = served_changes q.form q

@@ -7,26 +7,26 @@ use Rattle.registry_model.specs.World.{Repo}
 use Rattle.registry_model.specs.Usage.{goes_over}
 use Rattle.registry_model.specs.Answer.{Answer, refused}
 
-pub record Outcome : Type 0 where
+pub record Decision : Type 0 where
   pub reply : Answer
   pub change : Option Repo
 
 -- a refusal changes nothing
-abbrev pub refuses : Refusal → Outcome
+abbrev pub refuses : Refusal → Decision
 refuses e = record { reply = refused e; change = None }
 
 -- a reply that changes nothing
-abbrev pub tells : Answer → Outcome
+abbrev pub tells : Answer → Decision
 tells a = record { reply = a; change = None }
 
-abbrev pub makes : Answer → Repo → Outcome
+abbrev pub makes : Answer → Repo → Decision
 makes a r = record { reply = a; change = Some r }
 
 -- what would go over the quota is refused (profile)
-abbrev pub within_quota : Repo → Repo → Answer → Outcome
+abbrev pub within_quota : Repo → Repo → Answer → Decision
 within_quota old new a = if goes_over old new then refuses QuotaExceeded else makes a new
 
 -- an operation on the repository of a name; a name without one is refused as one without a grant is (profile)
-abbrev pub in_repo : Option Repo → (Repo → Outcome) → Outcome
+abbrev pub in_repo : Option Repo → (Repo → Decision) → Decision
 in_repo None act = refuses AccessDenied
 in_repo (Some r) act = act r

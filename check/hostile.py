@@ -1,0 +1,535 @@
+#!/usr/bin/env python3
+"""Memory that is refused, a disk that stops, and a server that is killed.
+
+    check/hostile.py memory|disk|kill [--kills N]    one of the three, or all where none is named
+
+The executables are the proved ones that `make build` and `make test` leave. refusing.rs, a library that is
+loaded before a program, lets one growth of memory fail, or the disk stop at one write; `rustc` compiles it.
+Nothing is installed.
+
+*memory*: rows of the worked examples are played over both keepers with the Nth growth refused, for every N
+up to a run that meets no refusal: each answer is the row's, or says that memory was wanting and is then
+the row's when it is asked for again. Then each order of the administrator's over a file: it is done, or says
+`registry: out of memory` and is done when it is given again.
+*disk*: each kind of write, over a file whose disk stops at the Nth write or sync, for every N up to a run
+without a stop. What is found afterwards is the world before the write or the one after it, and the one
+after it where the write was answered so. Then a service answers 500 and the program ends with status 3.
+*kill*: a server is killed at random moments of pushes, chunks, manifests, tags and deletions; all that was
+acknowledged is there, byte for byte, and sqlite3 finds the file sound.
+"""
+import concurrent.futures
+import hashlib
+import json
+import os
+import random
+import re
+import shutil
+import socket
+import sqlite3
+import subprocess
+import sys
+import tempfile
+import time
+
+TOP = os.path.dirname(os.path.dirname(os.path.abspath(__file__)))
+
+
+def built(name, crate):
+    """What `make build` left, or else the merge gate."""
+    here = f"{TOP}/build/{name}"
+    return here if os.path.exists(here) else f"{TOP}/crates/{crate}/out/{crate}"
+
+
+REGISTRY = built("registry", "registry_cli")
+EXAMPLES = built("registry_examples", "registry_examples")
+DATA = f"{TOP}/crates/registry_examples/data"
+SECONDS = 60
+
+# Rows of the worked examples, by their files.
+ROWS = [
+    ("blobs", "push_then_get_of_a_blob"),
+    ("uploads", "mount_between_own_repositories"),
+    ("uploads", "session_ranges"),
+    ("quota", "quota_of_pushes"),
+    ("administrator", "clear_keeps_what_is_named"),
+    ("administrator", "administrator_drops"),
+    ("administrator", "refused_commands"),
+    ("manifests", "manifest_kept_to_the_byte"),
+    ("referrers", "referrers_and_their_filter"),
+    ("pages", "tag_pages"),
+    ("contents", "pieces"),
+]
+
+wrong = []
+
+
+def say(held, what):
+    print(("ok    " if held else "WRONG ") + what, flush=True)
+    if not held:
+        wrong.append(what)
+
+
+def digest(body):
+    return "sha256:" + hashlib.sha256(body).hexdigest()
+
+
+class Refusing:
+    """Runs programs behind refusing.so."""
+
+    def __init__(self, room):
+        self.library = f"{room}/refusing.so"
+        words = ["rustc", "--edition", "2021", "--crate-type", "cdylib", "-C", "panic=abort", "-O"]
+        subprocess.run([*words, "-o", self.library, f"{TOP}/check/refusing.rs"], check=True)
+
+    def run(self, words, growth=0, stop=0, given=b"", at=None):
+        """Returns what the program did, and the numbers of growths and of writes that it asked for."""
+        told, tell = os.pipe()
+        env = {"LD_PRELOAD": self.library, "REFUSE_GROWTH": str(growth), "TELL_COUNTS": str(tell)}
+        if stop:
+            env["STOP_DISK"] = str(stop)
+        try:
+            ran = subprocess.run(
+                words, input=given, capture_output=True, env=env, pass_fds=[tell], cwd=at, timeout=SECONDS
+            )
+        finally:
+            os.close(tell)
+        with os.fdopen(told, "rb") as it:
+            counts = re.fullmatch(rb"growths=(\d+) writes=(\d+)\n", it.read())
+        return ran, *((int(counts[1]), int(counts[2])) if counts else (0, 0))
+
+
+# ---- memory
+
+
+def sections(file):
+    """The sections of a file of examples, by their kinds and names, and what stands before the first."""
+    with open(f"{DATA}/{file}.talk", encoding="utf-8") as it:
+        parts = re.split(r"(?m)^(?=(?:example|setting|reply) )", it.read())
+    return parts[0], {tuple(part.split("\n", 1)[0].split(" ")[:2]): part for part in parts[1:]}
+
+
+def row_alone(file, name):
+    """The row with the settings that it begins with, and what is shared by all files."""
+    head, here = sections(file)
+    with open(f"{DATA}/words.talk", encoding="utf-8") as it:
+        shared = it.read()
+    texts, after = [], ("example", name)
+    while after in here:
+        texts.insert(0, here[after])
+        begins = here[after].split("\n", 1)[0].split(" after ")
+        after = ("setting", begins[1]) if len(begins) > 1 else None
+    return "\n".join([shared, head, *texts])
+
+
+def refuse_in_row(refusing, room, file, name):
+    """Refuses each growth in turn while a row is played, and returns how many of them there were, how many
+    of these were the player's own, and what went wrong."""
+    at = f"{room}/{name}"
+    os.mkdir(at)
+    text = row_alone(file, name)
+    for to, talk in (("row", text), ("read", text.replace(f"example {name}", f"setting {name}"))):
+        with open(f"{at}/{to}.talk", "w", encoding="utf-8") as it:
+            it.write(talk)
+    words = [EXAMPLES, "--patient"]
+    # the same text with nothing to play: from where on growths are those of playing
+    read = refusing.run([*words, "read.talk"], at=at)[1]
+    played, own, n, bad = 0, 0, read, []
+    while len(bad) < 3:
+        n += 1
+        try:
+            ran, growths, _ = refusing.run([*words, "row.talk"], growth=n, at=at)
+        except subprocess.TimeoutExpired:
+            bad.append(f"growth {n}: the program hangs")
+            continue
+        if (ran.returncode, ran.stdout) != (0, f"row.talk: {name} ok\n".encode()):
+            if ran.returncode == 1 and not ran.stdout and re.search(rb"allocation failed|OutOfMemory|out of memory", ran.stderr):
+                own += 1
+            else:
+                bad.append(f"growth {n}: status {ran.returncode}: {(ran.stdout + ran.stderr)[-300:].decode(errors='replace')}")
+        if n > growths:
+            break
+        played += 1
+    return name, played, own, bad
+
+
+def refuse_in_rows(refusing, room):
+    with concurrent.futures.ThreadPoolExecutor(os.cpu_count()) as pool:
+        for name, played, own, bad in pool.map(lambda row: refuse_in_row(refusing, room, *row), ROWS):
+            told = f"{name}: {played} growths refused in turn over both keepers, {own} of them of the player's own"
+            say(not bad and played > own, told + "".join(f"\n        {it}" for it in bad))
+
+
+def order(*words):
+    return lambda db: [REGISTRY, words[0], "--db", db, *words[1:]]
+
+
+# Orders one after the other, each on what those before it left.
+ORDERS = [
+    order("repo", "--name", "team/app", "--quota", "1000"),
+    order("quota", "--name", "team/app", "--quota", "2000"),
+    order("grant", "--token", "t1", "--name", "team/app", "--level", "3"),
+    order("usage"),
+    order("sessions", "--name", "team/app"),
+    order("clear"),
+    order("revoke", "--token", "t1", "--name", "team/app"),
+    order("drop", "--name", "team/app"),
+]
+
+
+def refuse_in_orders(refusing, room):
+    db, total = f"{room}/orders.db", 0
+    for words in ORDERS:
+        name = words(db)[1]
+        whole, growths, _ = refusing.run(words(copied(db, f"{room}/whole.db")))
+        say(whole.returncode == 0, f"{name} is done where memory is ample")
+        bad = []
+        for n in range(1, growths + 1):
+            other = copied(db, f"{room}/refused.db")
+            ran, _, _ = refusing.run(words(other), growth=n)
+            if (ran.returncode, ran.stdout) != (whole.returncode, whole.stdout):
+                if (ran.returncode, ran.stdout, ran.stderr) != (3, b"", b"registry: out of memory\n"):
+                    bad.append(f"growth {n}: status {ran.returncode}: {(ran.stdout + ran.stderr)[-200:]}")
+                again, _, _ = refusing.run(words(other))
+                if (again.returncode, again.stdout) != (whole.returncode, whole.stdout):
+                    bad.append(f"growth {n}, and again: status {again.returncode}: {again.stderr[-200:]}")
+            if world(other) != world(f"{room}/whole.db"):
+                bad.append(f"growth {n}: another world")
+            if len(bad) > 2:
+                break
+        say(not bad, f"{name}: {growths} growths refused in turn" + "".join(f"\n        {it}" for it in bad))
+        total += growths
+        copied(f"{room}/whole.db", db)
+    print(f"      {total} growths of orders")
+
+
+# ---- files
+
+
+def parts_of(db):
+    return [it for it in (db, db + "-wal", db + "-shm", db + "-journal") if os.path.exists(it)]
+
+
+def copied(db, to):
+    """Copies a database with its log, or takes the copy away where there is none; returns its path."""
+    for it in parts_of(to):
+        os.remove(it)
+    for it in parts_of(db):
+        shutil.copyfile(it, to + it[len(db):])
+    return to
+
+
+def world(db):
+    """What a database says, by another program: repositories with their blobs, manifests, tags and sessions
+    as whole bytes, and grants. A file that is not there, or has no tables yet, is the empty world."""
+    if not os.path.exists(db):
+        return {}, []
+    with tempfile.TemporaryDirectory() as room:
+        con = sqlite3.connect(copied(db, f"{room}/read.db"))
+        ask = lambda text: con.execute(text).fetchall()
+        if ask("PRAGMA integrity_check") != [("ok",)] or ask("PRAGMA foreign_key_check"):
+            return "unsound"
+        if not ask("SELECT 1 FROM sqlite_schema WHERE name = 'registry_schema'"):
+            return {}, []
+        contents = dict(ask("SELECT id, bytes FROM registry_contents"))
+        repos = {
+            name: {"quota": quota, "last": last, "blobs": {}, "manifests": {}, "tags": {}, "sessions": {}}
+            for name, quota, last in ask("SELECT name, quota, last_session FROM registry_repos")
+        }
+        for repo, name, content in ask("SELECT repo, digest, content FROM registry_blob_links"):
+            repos[repo]["blobs"][name] = contents[content]
+        for repo, name, content in ask("SELECT repo, digest, content FROM registry_manifest_links"):
+            repos[repo]["manifests"][name] = contents[content]
+        for repo, tag, name in ask("SELECT repo, tag, digest FROM registry_tags"):
+            repos[repo]["tags"][tag] = name
+        for repo, number in ask("SELECT repo, number FROM registry_uploads"):
+            repos[repo]["sessions"][number] = b""
+        pieces = "SELECT repo, number, content FROM registry_pieces ORDER BY repo, number, start"
+        for repo, number, content in ask(pieces):
+            repos[repo]["sessions"][number] += contents[content]
+        grants = sorted(ask("SELECT token, repo, level FROM registry_grants"))
+        con.close()
+        return repos, grants
+
+
+# ---- a disk that stops
+
+
+def request(method, target, body=b"", *fields):
+    head = [f"{method} {target} HTTP/1.1", "Host: r", "Authorization: Bearer t1", *fields, f"Content-Length: {len(body)}"]
+    return "\r\n".join([*head, "", ""]).encode() + body
+
+
+ABC, HELLO, CONFIG = b"abc", b"hello", b"{}"
+MANIFEST = json.dumps(
+    {
+        "schemaVersion": 2,
+        "config": {"mediaType": "application/vnd.oci.empty.v1+json", "digest": digest(CONFIG), "size": len(CONFIG)},
+        "layers": [],
+    }
+).encode()
+AT = "/v2/team/app"
+NO_TOKEN = b"GET /v2/ HTTP/1.1\r\nHost: r\r\n\r\n"
+FAILED = b"HTTP/1.1 500 Internal Server Error\r\nContent-Length: 0\r\n\r\n"
+UNAUTHORIZED = b"HTTP/1.1 401 "
+
+
+def push(body):
+    return request("POST", f"{AT}/blobs/uploads/?digest={digest(body)}", body)
+
+
+# The writes of a keeper, one after the other: orders, and requests with the status that they are answered.
+WRITES = [
+    ("add a repository", ORDERS[0]),
+    ("set its quota", ORDERS[1]),
+    ("add another", order("repo", "--name", "team/lib", "--quota", "1000")),
+    ("grant a level", ORDERS[2]),
+    ("grant another", order("grant", "--token", "t1", "--name", "team/lib", "--level", "3")),
+    ("push a blob", (push(ABC), 201)),
+    ("push a config", (push(CONFIG), 201)),
+    ("mount a blob", (request("POST", f"/v2/team/lib/blobs/uploads/?mount={digest(ABC)}&from=team/app"), 201)),
+    ("push a manifest", (request("PUT", f"{AT}/manifests/v1", MANIFEST), 201)),
+    ("push it under another tag", (request("PUT", f"{AT}/manifests/v2", MANIFEST), 201)),
+    ("delete a tag", (request("DELETE", f"{AT}/manifests/v1"), 202)),
+    ("open a session", (request("POST", f"{AT}/blobs/uploads/"), 202)),
+    ("append to it", (request("PATCH", f"{AT}/blobs/uploads/1", b"hel", "Content-Range: 0-2"), 202)),
+    ("append again", (request("PATCH", f"{AT}/blobs/uploads/1", b"lo", "Content-Range: 3-4"), 202)),
+    ("close it", (request("PUT", f"{AT}/blobs/uploads/1?digest={digest(HELLO)}"), 201)),
+    ("open one more", (request("POST", f"{AT}/blobs/uploads/"), 202)),
+    ("end the sessions", ORDERS[4]),
+    ("delete a blob", (request("DELETE", f"{AT}/blobs/{digest(ABC)}"), 202)),
+    ("delete a manifest", (request("DELETE", f"{AT}/manifests/{digest(MANIFEST)}"), 202)),
+    ("clear", ORDERS[5]),
+    ("revoke a level", ORDERS[6]),
+    ("drop a repository", ORDERS[7]),
+]
+STOPPED = (3, b"registry: storage failure\n")
+
+
+def do(refusing, db, what, stop=0):
+    """Does a write; returns whether it was acknowledged, how many writes to the file that took, and why the
+    answer is none that it may get."""
+    if callable(what):
+        ran, _, writes = refusing.run(what(db), stop=stop)
+        done = ran.returncode == 0
+        bad = "" if done or (ran.returncode, ran.stderr) == STOPPED else f"status {ran.returncode}: {ran.stderr}"
+        return done, writes, bad
+    text, status = what
+    # a request with no token follows: a service whose storage has failed answers nothing else
+    ran, _, writes = refusing.run([REGISTRY, "stdio", "--db", db], stop=stop, given=text + NO_TOKEN)
+    done = ran.stdout.startswith(f"HTTP/1.1 {status} ".encode())
+    if done:
+        # the storage may still fail at the end, when the log is put back
+        bad = "" if UNAUTHORIZED in ran.stdout and ran.returncode in (0, 3) else f"{ran.returncode} {ran.stdout} {ran.stderr}"
+    elif ran.stdout:
+        bad = "" if ran.stdout == FAILED * 2 and (ran.returncode, ran.stderr) == STOPPED else f"{ran.returncode} {ran.stdout} {ran.stderr}"
+    else:
+        # the database is not opened
+        bad = "" if (ran.returncode, ran.stderr) == STOPPED else f"{ran.returncode} {ran.stderr}"
+    return done, writes, bad
+
+
+def stop_in_writes(refusing, room):
+    db, total = f"{room}/stops.db", 0
+    for name, what in WRITES:
+        before = world(db)
+        done, writes, bad = do(refusing, copied(db, f"{room}/whole.db"), what)
+        after = world(f"{room}/whole.db")
+        say(done and not bad, f"{name}: it is done where the disk goes on{bad and ': '}{bad}")
+        wrong_ones, were = [], [0, 0]
+        for n in range(1, writes + 1):
+            other = copied(db, f"{room}/stopped.db")
+            done, _, bad = do(refusing, other, what, stop=n)
+            # opened again by the registry itself, which reads the log, and looked at by another program
+            opened, _, _ = refusing.run([REGISTRY, "usage", "--db", other])
+            found = world(other)
+            if bad or opened.returncode or found not in (before, after) or done and found != after:
+                wrong_ones.append(f"stop {n}: {bad or opened.stderr or ('acknowledged, and lost' if done else 'another world')}")
+            were[found == after] += 1
+        total += writes
+        told = f"{name}: {writes} stops, {were[0]} with the world before and {were[1]} with the one after"
+        say(not wrong_ones, told + "".join(f"\n        {it}" for it in wrong_ones[:3]))
+        copied(f"{room}/whole.db", db)
+    print(f"      {total} stops")
+
+
+# ---- kills
+
+
+class Server:
+    def __init__(self, db):
+        with socket.socket() as it:
+            it.bind(("127.0.0.1", 0))
+            self.port = it.getsockname()[1]
+        words = [REGISTRY, "serve", "--db", db, "--listen", f"127.0.0.1:{self.port}"]
+        self.process = subprocess.Popen(words, stdout=subprocess.PIPE)
+        if self.process.stdout.readline() != b"registry: listening\n":
+            raise OSError("the server does not listen")
+
+    def connect(self):
+        return socket.create_connection(("127.0.0.1", self.port), timeout=SECONDS)
+
+    def kill(self):
+        self.process.kill()
+        self.process.wait()
+        self.process.stdout.close()
+
+
+def answer(connection, text):
+    """The status, the fields and the body of the reply; None where the connection ends before it is whole."""
+    try:
+        connection.sendall(text)
+        had = b""
+        while b"\r\n\r\n" not in had:
+            more = connection.recv(65536)
+            if not more:
+                return None
+            had += more
+        head, body = had.split(b"\r\n\r\n", 1)
+        fields = {name.lower(): value for name, _, value in (line.partition(": ") for line in head.decode().split("\r\n")[1:])}
+        while len(body) < int(fields.get("content-length", 0)):
+            more = connection.recv(65536)
+            if not more:
+                return None
+            body += more
+        return int(head.split(b" ")[1]), fields, body
+    except OSError:
+        return None
+
+
+class Believed:
+    """What was acknowledged, and what was asked for last, which may have happened or not."""
+
+    def __init__(self):
+        self.blobs, self.tags, self.session, self.count = {}, {}, None, 0
+
+
+def act(chance, connection, it):
+    """Asks for one write and notes what is acknowledged; whether the connection still stands. `it.open` is what
+    the write that was not acknowledged would make."""
+    body = bytes(chance.randrange(256) for _ in range(chance.choice([1, 100, 5000, 70000])))
+    kind = chance.choice(["push", "push", "chunk", "chunk", "manifest", "delete"])
+    it.open = None
+    if kind == "delete" and it.blobs:
+        name = chance.choice(sorted(it.blobs))
+        it.open = ("delete", name)
+        reply = answer(connection, request("DELETE", f"{AT}/blobs/{name}"))
+        if reply and reply[0] == 202:
+            del it.blobs[name]
+    elif kind == "manifest":
+        text = MANIFEST[:-1] + b', "annotations": {"n": "%d"}}' % chance.randrange(1 << 40)
+        tag = f"t{chance.randrange(5)}"
+        it.open = ("tag", tag, text)
+        reply = answer(connection, request("PUT", f"{AT}/manifests/{tag}", text))
+        if reply and reply[0] == 201:
+            it.tags[tag] = text
+    elif kind == "chunk" and it.session:
+        number, had = it.session
+        it.open = ("chunk", number, had + body)
+        reply = answer(connection, request("PATCH", f"{AT}/blobs/uploads/{number}", body))
+        if reply and reply[0] == 202:
+            it.session = number, had + body
+    elif kind == "chunk":
+        reply = answer(connection, request("POST", f"{AT}/blobs/uploads/"))
+        if reply and reply[0] == 202:
+            it.session = int(reply[1]["location"].rsplit("/", 1)[1]), b""
+    else:
+        it.open = ("push", digest(body), body)
+        reply = answer(connection, push(body))
+        if reply and reply[0] == 201:
+            it.blobs[digest(body)] = body
+    if reply is None:
+        return False
+    if reply[0] >= 300:
+        say(False, f"{kind} is answered {reply[0]} {reply[2][:100]}")
+    it.count += 1
+    it.open = None
+    return True
+
+
+def is_kept(it, db):
+    """Whether the file holds what was acknowledged, and nothing else but what was asked for last."""
+    found = world(db)
+    if found == "unsound":
+        return "sqlite3 finds the file unsound"
+    repo = found[0]["team/app"]
+    blobs, tags, session = dict(it.blobs), dict(it.tags), it.session
+    open_ = it.open or ("none",)
+    got = {name: bytes_ for name, bytes_ in repo["blobs"].items() if name != digest(CONFIG)}
+    if got != blobs:
+        if open_[0] == "push":
+            blobs[open_[1]] = open_[2]
+        if open_[0] == "delete":
+            blobs.pop(open_[1], None)
+        if got != blobs:
+            return "blobs differ"
+    # what happened is believed from here on
+    it.blobs = blobs
+    told = {tag: digest(text) for tag, text in tags.items()}
+    if repo["tags"] != told:
+        if open_[0] == "tag":
+            tags[open_[1]] = open_[2]
+        if repo["tags"] != {tag: digest(text) for tag, text in tags.items()}:
+            return "tags differ"
+    it.tags = tags
+    if any(repo["manifests"].get(digest(text)) != text for text in tags.values()):
+        return "manifests differ"
+    if session:
+        there = repo["sessions"].get(session[0])
+        if there != session[1]:
+            if open_[0] != "chunk" or there != open_[2]:
+                return "the session differs"
+            it.session = session[0], there
+    return ""
+
+
+def kill_servers(room, kills):
+    chance, it = random.Random(20_261_124), Believed()
+    db = f"{room}/kills.db"
+    for words in (ORDERS[0], order("quota", "--name", "team/app", "--quota", "1000000000"), ORDERS[2]):
+        subprocess.run(words(db), check=True)
+    server = Server(db)
+    with server.connect() as connection:
+        say(answer(connection, push(CONFIG))[0] == 201, "the config is pushed")
+    bad = []
+    for round_ in range(kills):
+        end = time.monotonic() + chance.random() * 0.4
+        with server.connect() as connection:
+            # a process of its own ends the server in the middle of whatever it does
+            killer = subprocess.Popen(["sh", "-c", f"sleep {max(end - time.monotonic(), 0):.3f}; kill -9 {server.process.pid}"])
+            while act(chance, connection, it):
+                pass
+        killer.wait()
+        server.kill()
+        why = is_kept(it, db)
+        if why:
+            bad.append(f"kill {round_ + 1}: {why}")
+            break
+        server = Server(db)
+    server.kill()
+    told = f"{kills} kills, {it.count} writes acknowledged, all of them there"
+    say(not bad, told + "".join(f"\n        {it}" for it in bad))
+
+
+def main():
+    words = [it for it in sys.argv[1:] if it in ("memory", "disk", "kill")] or ["memory", "disk", "kill"]
+    kills = int(sys.argv[sys.argv.index("--kills") + 1]) if "--kills" in sys.argv else 20
+    needed = [REGISTRY] + [EXAMPLES] * ("memory" in words)
+    lacking = [it for it in needed if not os.path.exists(it)] + ["rustc"] * (shutil.which("rustc") is None)
+    if lacking:
+        print(f"check-hostile needs {', '.join(lacking)}", file=sys.stderr)
+        return 2
+    with tempfile.TemporaryDirectory() as room:
+        refusing = Refusing(room)
+        if "memory" in words:
+            refuse_in_rows(refusing, room)
+            refuse_in_orders(refusing, room)
+        if "disk" in words:
+            stop_in_writes(refusing, room)
+        if "kill" in words:
+            kill_servers(room, kills)
+    print(f"{len(wrong)} wrong" if wrong else "nothing was lost, and nothing answered wrongly")
+    return 1 if wrong else 0
+
+
+if __name__ == "__main__":
+    sys.exit(main())

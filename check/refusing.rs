@@ -1,0 +1,154 @@
+//! A library that is loaded before a program (LD_PRELOAD) and lets its memory or its disk fail.
+//!
+//! `REFUSE_GROWTH=N` refuses the Nth growth of memory. `STOP_DISK=N` stops the disk: the Nth write to a
+//! database file, or sync of one, fails, and so does each after it. When the program ends, a line
+//! `growths=G writes=W` with the numbers that there were goes to the descriptor of `TELL_COUNTS`.
+#![no_std]
+
+use core::ffi::{c_char, c_int, c_void};
+use core::ptr;
+use core::sync::atomic::{AtomicU64, Ordering::Relaxed};
+
+const EIO: c_int = 5;
+
+static GROWTHS: AtomicU64 = AtomicU64::new(0);
+static REFUSED: AtomicU64 = AtomicU64::new(0);
+static WRITES: AtomicU64 = AtomicU64::new(0);
+static STOPPED: AtomicU64 = AtomicU64::new(u64::MAX);
+static TELL: AtomicU64 = AtomicU64::new(0);
+
+extern "C" {
+    fn __libc_malloc(size: usize) -> *mut c_void;
+    fn __libc_realloc(old: *mut c_void, size: usize) -> *mut c_void;
+    fn __errno_location() -> *mut c_int;
+    fn getenv(name: *const c_char) -> *const c_char;
+    fn write(file: c_int, bytes: *const c_void, count: usize) -> isize;
+    fn syscall(number: i64, ...) -> i64;
+}
+
+#[panic_handler]
+fn panic(_: &core::panic::PanicInfo) -> ! {
+    loop {}
+}
+
+/// Core names it and nothing here calls it: a panic ends in the loop above.
+#[no_mangle]
+extern "C" fn rust_eh_personality() {}
+
+/// The number of a variable of the environment.
+unsafe fn number(name: &core::ffi::CStr) -> Option<u64> {
+    let text = getenv(name.as_ptr());
+    if text.is_null() {
+        return None;
+    }
+    core::ffi::CStr::from_ptr(text).to_str().ok()?.parse().ok()
+}
+
+extern "C" fn begin() {
+    unsafe {
+        REFUSED.store(number(c"REFUSE_GROWTH").unwrap_or(0), Relaxed);
+        STOPPED.store(number(c"STOP_DISK").unwrap_or(u64::MAX), Relaxed);
+        TELL.store(number(c"TELL_COUNTS").unwrap_or(0), Relaxed);
+    }
+}
+
+/// Writes a number behind a text.
+fn put(line: &mut [u8; 80], end: &mut usize, name: &[u8], mut number: u64) {
+    for byte in name {
+        line[*end] = *byte;
+        *end += 1;
+    }
+    let mut digits = [0; 20];
+    let mut first = digits.len();
+    loop {
+        first -= 1;
+        digits[first] = b'0' + (number % 10) as u8;
+        number /= 10;
+        if number == 0 {
+            break;
+        }
+    }
+    for digit in &digits[first..] {
+        line[*end] = *digit;
+        *end += 1;
+    }
+}
+
+extern "C" fn end() {
+    let file = TELL.load(Relaxed);
+    if file == 0 {
+        return;
+    }
+    let mut line = [0; 80];
+    let mut end = 0;
+    put(&mut line, &mut end, b"growths=", GROWTHS.load(Relaxed));
+    put(&mut line, &mut end, b" writes=", WRITES.load(Relaxed));
+    line[end] = b'\n';
+    unsafe { write(file as c_int, line.as_ptr().cast(), end + 1) };
+}
+
+#[used]
+#[link_section = ".init_array"]
+static BEGIN: extern "C" fn() = begin;
+
+#[used]
+#[link_section = ".fini_array"]
+static END: extern "C" fn() = end;
+
+fn grows() -> bool {
+    GROWTHS.fetch_add(1, Relaxed) + 1 != REFUSED.load(Relaxed)
+}
+
+#[no_mangle]
+pub unsafe extern "C" fn malloc(size: usize) -> *mut c_void {
+    if grows() { __libc_malloc(size) } else { ptr::null_mut() }
+}
+
+#[no_mangle]
+pub unsafe extern "C" fn realloc(old: *mut c_void, size: usize) -> *mut c_void {
+    if grows() { __libc_realloc(old, size) } else { ptr::null_mut() }
+}
+
+/// Whether the disk still writes; where not, the error is that of a broken one.
+unsafe fn writes() -> bool {
+    let goes = WRITES.fetch_add(1, Relaxed) + 1 < STOPPED.load(Relaxed);
+    if !goes {
+        *__errno_location() = EIO;
+    }
+    goes
+}
+
+const SYS_PWRITE64: i64 = 18;
+const SYS_FSYNC: i64 = 74;
+const SYS_FDATASYNC: i64 = 75;
+const SYS_FTRUNCATE: i64 = 77;
+
+#[no_mangle]
+pub unsafe extern "C" fn pwrite(file: c_int, bytes: *const c_void, count: usize, at: i64) -> isize {
+    if writes() { syscall(SYS_PWRITE64, file, bytes, count, at) as isize } else { -1 }
+}
+
+#[no_mangle]
+pub unsafe extern "C" fn pwrite64(file: c_int, bytes: *const c_void, count: usize, at: i64) -> isize {
+    pwrite(file, bytes, count, at)
+}
+
+#[no_mangle]
+pub unsafe extern "C" fn fsync(file: c_int) -> c_int {
+    if writes() { syscall(SYS_FSYNC, file) as c_int } else { -1 }
+}
+
+#[no_mangle]
+pub unsafe extern "C" fn fdatasync(file: c_int) -> c_int {
+    if writes() { syscall(SYS_FDATASYNC, file) as c_int } else { -1 }
+}
+
+#[no_mangle]
+pub unsafe extern "C" fn ftruncate(file: c_int, length: i64) -> c_int {
+    if writes() { syscall(SYS_FTRUNCATE, file, length) as c_int } else { -1 }
+}
+
+#[no_mangle]
+pub unsafe extern "C" fn ftruncate64(file: c_int, length: i64) -> c_int {
+    ftruncate(file, length)
+}
