@@ -97,7 +97,7 @@ pub fn serve_stdio<R: Read, W: Write, E: Write, K: Keeper>(
 ) -> u8
     ensures honest { K.is_honest service.new → K.is_honest service.old }
     ensures serves { K.is_honest service.new → ServesStored result
-        (ends (R.remaining reader.old) (R.remaining reader.new) (W.contents out.old) (W.contents out.new))
+        (streams (R.remaining reader.old) (R.remaining reader.new) (W.contents out.old) (W.contents out.new))
         (K.state service.old) (K.state service.new) }
     ensures failed { 0 < result → 3 ≤ result }
     ensures status { result ≤ 4 }
@@ -140,7 +140,7 @@ pub fn serve_from<R: Read, W: Write, E: Write, K: Keeper>(
 ) -> Ended<K>
     ensures honest { K.is_honest result.keeper → K.is_honest keeper }
     ensures serves { K.is_honest result.keeper → ServesStored result.status
-        (ends (R.remaining reader.old) (R.remaining reader.new) (W.contents out.old) (W.contents out.new))
+        (streams (R.remaining reader.old) (R.remaining reader.new) (W.contents out.old) (W.contents out.new))
         (K.state keeper) (K.state result.keeper) }
     ensures failed { 0 < result.status → 3 ≤ result.status }
     ensures status { result.status ≤ 4 }
