@@ -142,7 +142,8 @@ def refuse_in_row(refusing, room, file, name):
             bad.append(f"growth {n}: the program hangs")
             continue
         if (ran.returncode, ran.stdout) != (0, f"row.talk: {name} ok\n".encode()):
-            if ran.returncode == 1 and not ran.stdout and re.search(rb"allocation failed|OutOfMemory|out of memory", ran.stderr):
+            # the player ends so for want of memory of its own, and with status 0 whatever the registry answers
+            if ran.returncode == 1 and not ran.stdout and ran.stderr.startswith(b"Error: "):
                 own += 1
             else:
                 bad.append(f"growth {n}: status {ran.returncode}: {(ran.stdout + ran.stderr)[-300:].decode(errors='replace')}")
@@ -152,11 +153,10 @@ def refuse_in_row(refusing, room, file, name):
     return name, played, own, bad
 
 
-def refuse_in_rows(refusing, room):
-    with concurrent.futures.ThreadPoolExecutor(os.cpu_count()) as pool:
-        for name, played, own, bad in pool.map(lambda row: refuse_in_row(refusing, room, *row), ROWS):
-            told = f"{name}: {played} growths refused in turn over both keepers, {own} of them of the player's own"
-            say(not bad and played > own, told + "".join(f"\n        {it}" for it in bad))
+def refuse_in_rows(refusing, room, pool):
+    for name, played, own, bad in pool.map(refuse_in_row, [refusing] * len(ROWS), [room] * len(ROWS), *zip(*ROWS)):
+        told = f"{name}: {played} growths refused in turn over both keepers, {own} of them the player's own"
+        say(not bad and played > own, told + "".join(f"\n        {it}" for it in bad))
 
 
 def order(*words):
@@ -176,27 +176,40 @@ ORDERS = [
 ]
 
 
-def refuse_in_orders(refusing, room):
-    db, total = f"{room}/orders.db", 0
-    for words in ORDERS:
+def refuse_in_order(refusing, db, at, which, done, wanted, numbers):
+    """Gives an order with each of these growths refused in turn, on a copy of the file at a place of its own, and
+    returns what went wrong. `done` is its status and its output where memory is ample."""
+    bad = []
+    for n in numbers:
+        other = copied(db, at)
+        words = ORDERS[which](other)
+        ran, _, _ = refusing.run(words, growth=n)
+        if (ran.returncode, ran.stdout) != done:
+            if (ran.returncode, ran.stdout, ran.stderr) != (3, b"", b"registry: out of memory\n"):
+                bad.append(f"growth {n}: status {ran.returncode}: {(ran.stdout + ran.stderr)[-200:]}")
+            again, _, _ = refusing.run(words)
+            if (again.returncode, again.stdout) != done:
+                bad.append(f"growth {n}, and again: status {again.returncode}: {again.stderr[-200:]}")
+        if rows(other) != wanted:
+            bad.append(f"growth {n}: another world")
+        if len(bad) > 2:
+            break
+    return bad
+
+
+def refuse_in_orders(refusing, room, pool):
+    db, total, share = f"{room}/orders.db", 0, os.cpu_count()
+    for which, words in enumerate(ORDERS):
         name = words(db)[1]
         whole, growths, _ = refusing.run(words(copied(db, f"{room}/whole.db")))
         say(whole.returncode == 0, f"{name} is done where memory is ample")
-        bad = []
-        for n in range(1, growths + 1):
-            other = copied(db, f"{room}/refused.db")
-            ran, _, _ = refusing.run(words(other), growth=n)
-            if (ran.returncode, ran.stdout) != (whole.returncode, whole.stdout):
-                if (ran.returncode, ran.stdout, ran.stderr) != (3, b"", b"registry: out of memory\n"):
-                    bad.append(f"growth {n}: status {ran.returncode}: {(ran.stdout + ran.stderr)[-200:]}")
-                again, _, _ = refusing.run(words(other))
-                if (again.returncode, again.stdout) != (whole.returncode, whole.stdout):
-                    bad.append(f"growth {n}, and again: status {again.returncode}: {again.stderr[-200:]}")
-            if world(other) != world(f"{room}/whole.db"):
-                bad.append(f"growth {n}: another world")
-            if len(bad) > 2:
-                break
-        say(not bad, f"{name}: {growths} growths refused in turn" + "".join(f"\n        {it}" for it in bad))
+        done, wanted = (whole.returncode, whole.stdout), rows(f"{room}/whole.db")
+        parts = [
+            pool.submit(refuse_in_order, refusing, db, f"{room}/part{i}.db", which, done, wanted, range(1 + i, growths + 1, share))
+            for i in range(share)
+        ]
+        bad = [it for part in parts for it in part.result()]
+        say(not bad, f"{name}: {growths} growths refused in turn" + "".join(f"\n        {it}" for it in bad[:3]))
         total += growths
         copied(f"{room}/whole.db", db)
     print(f"      {total} growths of orders")
@@ -224,9 +237,15 @@ def world(db):
     if not os.path.exists(db):
         return {}, []
     with tempfile.TemporaryDirectory() as room:
-        con = sqlite3.connect(copied(db, f"{room}/read.db"))
-        ask = lambda text: con.execute(text).fetchall()
-        if ask("PRAGMA integrity_check") != [("ok",)] or ask("PRAGMA foreign_key_check"):
+        return rows(copied(db, f"{room}/read.db"), is_checked=True)
+
+
+def rows(db, is_checked=False):
+    """The same of a file that nobody reads afterwards, and whether it is sound, where that is asked."""
+    con = sqlite3.connect(db)
+    ask = lambda text: con.execute(text).fetchall()
+    try:
+        if is_checked and (ask("PRAGMA integrity_check") != [("ok",)] or ask("PRAGMA foreign_key_check")):
             return "unsound"
         if not ask("SELECT 1 FROM sqlite_schema WHERE name = 'registry_schema'"):
             return {}, []
@@ -246,9 +265,9 @@ def world(db):
         pieces = "SELECT repo, number, content FROM registry_pieces ORDER BY repo, number, start"
         for repo, number, content in ask(pieces):
             repos[repo]["sessions"][number] += contents[content]
-        grants = sorted(ask("SELECT token, repo, level FROM registry_grants"))
+        return repos, sorted(ask("SELECT token, repo, level FROM registry_grants"))
+    finally:
         con.close()
-        return repos, grants
 
 
 # ---- a disk that stops
@@ -518,11 +537,13 @@ def main():
     if lacking:
         print(f"check-hostile needs {', '.join(lacking)}", file=sys.stderr)
         return 2
-    with tempfile.TemporaryDirectory() as room:
+    # in memory, where there is such a place: nothing here is about what a power failure leaves
+    with tempfile.TemporaryDirectory(dir="/dev/shm" if os.access("/dev/shm", os.W_OK) else None) as room:
         refusing = Refusing(room)
         if "memory" in words:
-            refuse_in_rows(refusing, room)
-            refuse_in_orders(refusing, room)
+            with concurrent.futures.ProcessPoolExecutor(os.cpu_count()) as pool:
+                refuse_in_rows(refusing, room, pool)
+                refuse_in_orders(refusing, room, pool)
         if "disk" in words:
             stop_in_writes(refusing, room)
         if "kill" in words:

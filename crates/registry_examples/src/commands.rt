@@ -42,11 +42,7 @@ pub fn carry_out<K: Keeper>(
 }
 
 /// How many bytes a repository uses.
-pub fn used<K: Keeper>(
-    alloc: Global,
-    keeper: &mut K,
-    name: &str,
-) -> Result<Result<u64, Fault>> {
+pub fn used<K: Keeper>(alloc: Global, keeper: &mut K, name: &str) -> Result<Result<u64, Fault>> {
     let name = name_of(alloc, name)?;
     Ok(match keeper.usage(&name) {
         Ok(usage) => Ok(usage.used),

@@ -274,7 +274,7 @@ module _ (b before : Text) (t : Traffic) (p : Progress b before t) where
     reply_cut n short sent =
         stops (reply_for i a) n t.left' w s
         (λ tail. replying i (behind ++ tail) (ap (λ y. y ++ tail) begins ∙ append_assoc (print_item i) behind tail)
-            request same (Run-more _ p.items p.texts _ i (before ++ reply_for i a) s p.run replies)) short sent
+        request same (Run-more _ p.items p.texts _ i (before ++ reply_for i a) s p.run replies)) short sent
 
 -- what stands before the body goes out in part
 pub continue_cut : (b : Text) (t : Traffic) (p : Progress b [] t) (text : Text) (w : Option Text) (n : ℕ) → ((tail : Text) → IsBefore (b ++ tail) text)

@@ -44,15 +44,13 @@ fn route_by<'a>(
     before_third: &'a str,
     before_second: &'a str,
 ) -> Route<'a>
-    ensures {
-        form_of result ≡ form_by (record {
-            third = third.now;
-            second = second.now;
-            last = last.now;
-            before_third = before_third.now;
-            before_second = before_second.now;
-        })
-    }
+    ensures { form_of result ≡ form_by (record {
+      third = third.now;
+      second = second.now;
+      last = last.now;
+      before_third = before_third.now;
+      before_second = before_second.now;
+    }) }
 {
     if second == "tags" && last == "list" {
         return Route::Tags {

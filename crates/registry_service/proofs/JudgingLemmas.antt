@@ -85,7 +85,8 @@ module _ (s : State) (q : Ask) (form : Form) (text token : Text) (b : Bool) (at 
       → (a ≡ (judged s.world q.token q).reply) × (t ≡ record { world = changed s.world (addressed q.form) (judged s.world q.token q).change; spent = false })
   judged_at_base a t is_base told unspent e =
       let so : judged s.world q.token q ≡ at_base q.verb =
-      judged_by ∙ ap (λ x. served_on (s.world.grants token) (repo_at s.world) x q) is_base in
-      (told ∙ ap (λ d. d.reply) (sym so),
-      e ∙ (λ i. record { world = s.world; spent = unspent i })
-      ∙ ap (λ c. record { world = changed s.world (addressed q.form) c; spent = false }) (sym (ap (λ d. d.change) so ∙ at_base_none q.verb)))
+      judged_by ∙ ap (λ x. served_on (s.world.grants token) (repo_at s.world) x q) is_base in (
+        told ∙ ap (λ d. d.reply) (sym so),
+        e ∙ (λ i. record { world = s.world; spent = unspent i })
+            ∙ ap (λ c. record { world = changed s.world (addressed q.form) c; spent = false }) (sym (ap (λ d. d.change) so ∙ at_base_none q.verb)),
+      )
