@@ -81,16 +81,15 @@ class Refusing:
         words = ["rustc", "--edition", "2021", "--crate-type", "cdylib", "-C", "panic=abort", "-O"]
         subprocess.run([*words, "-o", self.library, f"{TOP}/check/refusing.rs"], check=True)
 
-    def run(self, words, growth=0, stop=0, given=b"", at=None):
+    def run(self, words, growth=0, stop=0, given=b"", at=None, out=subprocess.PIPE):
         """Returns what the program did, and the numbers of growths and of writes that it asked for."""
         told, tell = os.pipe()
         env = {"LD_PRELOAD": self.library, "REFUSE_GROWTH": str(growth), "TELL_COUNTS": str(tell)}
         if stop:
             env["STOP_DISK"] = str(stop)
         try:
-            ran = subprocess.run(
-                words, input=given, capture_output=True, env=env, pass_fds=[tell], cwd=at, timeout=SECONDS
-            )
+            how = {"stdout": out, "stderr": subprocess.PIPE, "env": env, "pass_fds": [tell], "cwd": at}
+            ran = subprocess.run(words, input=given, timeout=SECONDS, **how)
         finally:
             os.close(tell)
         with os.fdopen(told, "rb") as it:
@@ -166,7 +165,7 @@ def order(*words):
 # Orders one after the other, each on what those before it left.
 ORDERS = [
     order("repo", "--name", "team/app", "--quota", "1000"),
-    order("quota", "--name", "team/app", "--quota", "2000"),
+    order("quota", "--name", "team/app", "--quota", "1000000"),
     order("grant", "--token", "t1", "--name", "team/app", "--level", "3"),
     order("usage"),
     order("sessions", "--name", "team/app"),
@@ -213,6 +212,43 @@ def refuse_in_orders(refusing, room, pool):
         total += growths
         copied(f"{room}/whole.db", db)
     print(f"      {total} growths of orders")
+
+
+def pushes_on_sockets(refusing, db, growth):
+    """The statuses of two pushes on connections of their own, with this growth refused, and the number of growths."""
+    told, tell = os.pipe()
+    env = {"LD_PRELOAD": refusing.library, "REFUSE_GROWTH": str(growth), "TELL_COUNTS": str(tell)}
+    server, statuses = Server(db, "--connections", "2", env=env, pass_fds=[tell]), []
+    os.close(tell)
+    for _ in range(2):
+        with server.connect() as connection:
+            reply = answer(connection, push(ABC))
+            statuses.append(reply and reply[0])
+    server.process.wait(SECONDS)
+    server.kill()
+    with os.fdopen(told, "rb") as it:
+        return statuses, int(re.match(rb"growths=(\d+)", it.read())[1])
+
+
+def refuse_on_sockets(refusing, room):
+    """A server that lacks memory for a connection answers 503, or cannot read the request, and serves the next."""
+    db = f"{room}/sockets.db"
+    for words in (ORDERS[0], ORDERS[2]):
+        subprocess.run(words(db), check=True)
+    statuses, growths = pushes_on_sockets(refusing, copied(db, f"{room}/socket.db"), 0)
+    say(statuses == [201, 201], "a server over a socket answers two pushes 201")
+    seen, bad = {}, []
+    # both pushes lie in the last growths; the opening of the file takes those before
+    for n in range(growths, growths - 600, -3):
+        try:
+            statuses, _ = pushes_on_sockets(refusing, copied(db, f"{room}/socket.db"), n)
+        except OSError:
+            break
+        seen[tuple(statuses)] = seen.get(tuple(statuses), 0) + 1
+        if statuses not in ([201, 201], [503, 201], [201, 503]):
+            bad.append(f"growth {n}: {statuses}")
+    told = f"200 growths refused to a server over a socket, answered {', '.join(f'{k}: {v}' for k, v in seen.items())}"
+    say(not bad and (503, 201) in seen, told + "".join(f"\n        {it}" for it in bad[:3]))
 
 
 # ---- files
@@ -305,6 +341,7 @@ WRITES = [
     ("grant another", order("grant", "--token", "t1", "--name", "team/lib", "--level", "3")),
     ("push a blob", (push(ABC), 201)),
     ("push a config", (push(CONFIG), 201)),
+    ("push a blob of many pages", (push(bytes(i * 7 % 251 for i in range(300_000))), 201)),
     ("mount a blob", (request("POST", f"/v2/team/lib/blobs/uploads/?mount={digest(ABC)}&from=team/app"), 201)),
     ("push a manifest", (request("PUT", f"{AT}/manifests/v1", MANIFEST), 201)),
     ("push it under another tag", (request("PUT", f"{AT}/manifests/v2", MANIFEST), 201)),
@@ -369,18 +406,36 @@ def stop_in_writes(refusing, room):
         say(not wrong_ones, told + "".join(f"\n        {it}" for it in wrong_ones[:3]))
         copied(f"{room}/whole.db", db)
     print(f"      {total} stops")
+    write_nowhere(refusing, room)
+
+
+def write_nowhere(refusing, room):
+    """Where the storage fails, and the reply that says so cannot be written, the status is that of the connection."""
+    db, n = f"{room}/nowhere.db", 0
+    for words in (ORDERS[0], ORDERS[2]):
+        subprocess.run(words(db), check=True)
+    stdio = lambda: [REGISTRY, "stdio", "--db", copied(db, f"{room}/stopped.db")]
+    for n in range(1, 100):
+        if refusing.run(stdio(), stop=n, given=push(ABC))[0].stdout == FAILED:
+            break
+    with open("/dev/full", "wb") as out:
+        ran, _, _ = refusing.run(stdio(), stop=n, given=push(ABC), out=out)
+    say(
+        (ran.returncode, ran.stderr) == (4, b"registry: connection failure\n"),
+        f"a storage failure whose reply cannot be written ends with status 4: {ran.returncode} {ran.stderr}",
+    )
 
 
 # ---- kills
 
 
 class Server:
-    def __init__(self, db):
+    def __init__(self, db, *words, **how):
         with socket.socket() as it:
             it.bind(("127.0.0.1", 0))
             self.port = it.getsockname()[1]
-        words = [REGISTRY, "serve", "--db", db, "--listen", f"127.0.0.1:{self.port}"]
-        self.process = subprocess.Popen(words, stdout=subprocess.PIPE)
+        words = [REGISTRY, "serve", "--db", db, "--listen", f"127.0.0.1:{self.port}", *words]
+        self.process = subprocess.Popen(words, stdout=subprocess.PIPE, **how)
         if self.process.stdout.readline() != b"registry: listening\n":
             raise OSError("the server does not listen")
 
@@ -544,6 +599,7 @@ def main():
             with concurrent.futures.ProcessPoolExecutor(os.cpu_count()) as pool:
                 refuse_in_rows(refusing, room, pool)
                 refuse_in_orders(refusing, room, pool)
+            refuse_on_sockets(refusing, room)
         if "disk" in words:
             stop_in_writes(refusing, room)
         if "kill" in words:

@@ -45,6 +45,11 @@ const CLOSED: &str = r#"201 t1 PUT /v2/team/app/blobs/uploads/1?digest={helhel}
 200 t1 GET /v2/team/app/blobs/{helhel}
 "#;
 
+/// The bytes `abc` under the digests of two algorithms.
+const TWO_DIGESTS: &str = r#"201 t1 POST /v2/team/app/blobs/uploads/?digest={abc} | abc
+201 t1 POST /v2/team/app/blobs/uploads/?digest={abc_512} | abc
+"#;
+
 /// The whole number that a query answers.
 fn number(conn: &mut Connection<MemStore>, query: &str) -> Result<i64, Fail> {
     let row = conn.query_row(query, &[])?;
@@ -85,6 +90,16 @@ fn three_links_name_one_content(rt: HostRuntime) -> Result<(), Fail> {
         &rt,
         after(&rt, rt.alloc(), &[(THREE_LINKS, false)])?,
         (1, 3, 0),
+    );
+    Ok(())
+}
+
+#[test]
+fn two_digests_name_one_content(rt: HostRuntime) -> Result<(), Fail> {
+    same(
+        &rt,
+        after(&rt, rt.alloc(), &[(TWO_DIGESTS, false)])?,
+        (1, 2, 0),
     );
     Ok(())
 }

@@ -6,6 +6,8 @@ use crate::setting::{
 };
 use crate::streams::{Reads, Writes};
 use registry_http::{End, FramingRefusal};
+use registry_model::Keeper;
+use registry_service::Service;
 use std::alloc::Global;
 use std::process::Abort;
 use std::test::Fail;
@@ -15,7 +17,16 @@ const TOKEN_REQUIRED: &[u8] =
       WWW-Authenticate: Bearer realm=\"registry\"\r\n\r\n\
       {\"errors\":[{\"code\":\"UNAUTHORIZED\",\"message\":\"token required\"}]}";
 
-/// The request for the base twice, whose reply is 72 bytes.
+/// The reply to the request for the base, 72 bytes.
+const BASE: &[u8] =
+    b"HTTP/1.1 200 OK\r\nContent-Length: 2\r\nContent-Type: application/json\r\n\r\n{}";
+
+/// The push of `abc` by a client that waits to be told to go on.
+const WAITING_PUSH: &[u8] = b"POST /v2/team/app/blobs/uploads/?digest=\
+      sha256:ba7816bf8f01cfea414140de5dae2223b00361a396177a9cb410ff61f20015ad HTTP/1.1\r\n\
+      Host: r\r\nAuthorization: Bearer t1\r\nExpect: 100-continue\r\nContent-Length: 3\r\n\r\nabc";
+
+/// The request for the base twice.
 const TWICE: &[u8] =
     b"GET /v2/ HTTP/1.1\r\nHost: r\r\nAuthorization: Bearer t1\r\n\r\nGET /v2/ HTTP/1.1\r\nHost: r\r\n\
       Authorization: Bearer t1\r\n\r\n";
@@ -77,32 +88,46 @@ pub fn continue_is_written_before_the_body_comes<M: Maker>(
     Ok(())
 }
 
-/// The request for the base twice: after a failed write what went out is told exactly; and the blob
-/// whose reply could not be written is there.
+/// Serves a connection whose writer takes so many bytes, one a call, and then fails: the first so many
+/// of these go out, and so many of the text in hand are told.
+fn fails_behind<K: Keeper>(
+    rt: &impl Abort,
+    alloc: Global,
+    registry: &mut Service<K>,
+    input: &[u8],
+    wanted: &[u8],
+    room: usize,
+    written: usize,
+) {
+    let mut reader = input;
+    let mut writer = Writes {
+        room,
+        size: 1,
+        fails: true,
+        taken: Vec::new(alloc),
+    };
+    let end = connect(alloc, registry, &mut reader, &mut writer);
+    same_at(rt, room, end, End::WriteFailed { written });
+    let first = wanted.get(..room).unwrap_or(b"");
+    same_at(rt, room, writer.taken.as_slice(), first);
+}
+
+/// After a failed write what went out is told exactly. The blob of a push whose client was not told to go on
+/// is not there; the one whose reply could not be written is.
 pub fn writer_fails_midway<M: Maker>(rt: &impl Abort, alloc: Global) -> Result<(), Fail> {
     let mut registry = setting::<M>(alloc)?;
-    for (input, room, written) in [
-        (TWICE, 82, 10),
-        (TWICE, 0, 0),
-        (TWICE, 72, 0),
-        (TWICE, 71, 71),
-        (b"GET /v2/ HTTP/1.1\r\nHost: r\r\n\r\n", 3, 3),
-        (PUSH, 0, 0),
-    ] {
-        let mut reader = input;
-        let mut writer = Writes {
-            room,
-            size: 1,
-            fails: true,
-            taken: Vec::new(alloc),
-        };
-        let end = connect(alloc, &mut registry, &mut reader, &mut writer);
-        same_at(rt, room, end, End::WriteFailed { written });
-        same(rt, writer.taken.len(), room);
-        if room == 82 {
-            assert!(rt; writer.taken.ends_with(b"HTTP/1.1 2"));
-        }
+    let twice = BASE.repeat(alloc, 2)?;
+    for (room, written) in [(82, 10), (0, 0), (72, 0), (71, 71)] {
+        let wanted = twice.as_slice();
+        fails_behind(rt, alloc, &mut registry, TWICE, wanted, room, written);
     }
+    let nobody = b"GET /v2/ HTTP/1.1\r\nHost: r\r\n\r\n";
+    fails_behind(rt, alloc, &mut registry, nobody, TOKEN_REQUIRED, 3, 3);
+    let go_on = b"HTTP/1.1 100 Continue\r\n\r\n";
+    fails_behind(rt, alloc, &mut registry, WAITING_PUSH, go_on, 5, 5);
+    let absent = ask(alloc, &mut registry, "GET", ABC)?;
+    assert!(rt; absent.starts_with(b"HTTP/1.1 404 Not Found\r\n"));
+    fails_behind(rt, alloc, &mut registry, PUSH, b"", 0, 0);
     let fetched = ask(alloc, &mut registry, "GET", ABC)?;
     same(rt, fetched.as_slice(), found(alloc, ABC, "abc")?.as_bytes());
     Ok(())
@@ -137,7 +162,9 @@ pub fn writer_takes_no_more<M: Maker>(rt: &impl Abort, alloc: Global) -> Result<
 /// The replies of the whole requests before the failed read, and nothing else; nor is anything kept of
 /// the request in which it fails, so one registry serves for all reads.
 pub fn reader_fails_at_each_read<M: Maker>(rt: &impl Abort, alloc: Global) -> Result<(), Fail> {
-    let first = created(alloc, ABC)?.len();
+    let mut replies = created(alloc, ABC)?;
+    let first = replies.len();
+    replies.push_str(found(alloc, ABC, "abc")?.as_str())?;
     let mut registry = setting::<M>(alloc)?;
     for room in 0..PUSH_AND_GET.len() + 1 {
         if room == PUSH.len() {
@@ -148,7 +175,8 @@ pub fn reader_fails_at_each_read<M: Maker>(rt: &impl Abort, alloc: Global) -> Re
         let mut output = Vec::new(alloc);
         let end = connect(alloc, &mut registry, &mut reader, &mut output);
         same_at(rt, room, end, End::ReadFailed);
-        same_at(rt, room, output.len(), written_after(room, first));
+        let written = replies.as_bytes().get(..written_after(room, first));
+        same_at(rt, room, Some(output.as_slice()), written);
     }
     Ok(())
 }

@@ -21,6 +21,9 @@ const WORDS: &str =
 {of_config} "config":{{empty},"digest":"{config}","size":2}
 {of_abc} "subject":{"mediaType":"application/vnd.oci.image.manifest.v1+json","digest":"{abc}","size":3}
 {empty} "mediaType":"application/vnd.oci.empty.v1+json"
+{abc_512} sha512:{512_begins}{512_ends}
+{512_begins} ddaf35a193617abacc417349ae20413112e6fa4e89a97ea20a9eeee64b55d39a
+{512_ends} 2192992a274fc1a836ba3c23a3feebbd454d4423643ce80e2a9ac94fa54ca49f
 {abc} sha256:ba7816bf8f01cfea414140de5dae2223b00361a396177a9cb410ff61f20015ad
 {hello} sha256:2cf24dba5fb0a30e26e83b2ac5b9e29e1b161e5c1fa7425e73043362938b9824
 {nothing} sha256:e3b0c44298fc1c149afbf4c8996fb92427ae41e4649b934ca495991b7852b855
