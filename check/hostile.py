@@ -10,10 +10,11 @@ Nothing is installed.
 *memory*: rows of the worked examples are played over both keepers with the Nth growth refused, for every N
 up to a run that meets no refusal: each answer is the row's, or says that memory was wanting and is then
 the row's when it is asked for again. Then each order of the administrator's over a file: it is done, or says
-`registry: out of memory` and is done when it is given again.
+`registry: out of memory` and is done when it is given again. A server over a socket answers 503 and goes on.
 *disk*: each kind of write, over a file whose disk stops at the Nth write or sync, for every N up to a run
 without a stop. What is found afterwards is the world before the write or the one after it, and the one
 after it where the write was answered so. Then a service answers 500 and the program ends with status 3.
+A server one of whose writes fails answers 500, opens the file again and serves the next connection.
 *kill*: a server is killed at random moments of pushes, chunks, manifests, tags and deletions; all that was
 acknowledged is there, byte for byte, and sqlite3 finds the file sound.
 """
@@ -214,12 +215,20 @@ def refuse_in_orders(refusing, room, pool):
     print(f"      {total} growths of orders")
 
 
-def pushes_on_sockets(refusing, db, growth):
-    """The statuses of two pushes on connections of their own, with this growth refused, and the number of growths."""
+def pushes_on_sockets(refusing, db, growth=0, write=0):
+    """The statuses of two pushes on connections of their own, with this growth refused or this write failing, and
+    the numbers of growths and of writes."""
     told, tell = os.pipe()
-    env = {"LD_PRELOAD": refusing.library, "REFUSE_GROWTH": str(growth), "TELL_COUNTS": str(tell)}
-    server, statuses = Server(db, "--connections", "2", env=env, pass_fds=[tell]), []
-    os.close(tell)
+    numbers = {"REFUSE_GROWTH": str(growth), "FAIL_WRITE": str(write), "TELL_COUNTS": str(tell)}
+    env = {"LD_PRELOAD": refusing.library, **numbers}
+    try:
+        quiet = {"stderr": subprocess.DEVNULL}
+        server, statuses = Server(db, "--connections", "2", env=env, pass_fds=[tell], **quiet), []
+    except OSError:
+        os.close(told)
+        raise
+    finally:
+        os.close(tell)
     for _ in range(2):
         with server.connect() as connection:
             reply = answer(connection, push(ABC))
@@ -227,7 +236,8 @@ def pushes_on_sockets(refusing, db, growth):
     server.process.wait(SECONDS)
     server.kill()
     with os.fdopen(told, "rb") as it:
-        return statuses, int(re.match(rb"growths=(\d+)", it.read())[1])
+        counts = re.match(rb"growths=(\d+) writes=(\d+)", it.read())
+    return statuses, int(counts[1]), int(counts[2])
 
 
 def refuse_on_sockets(refusing, room):
@@ -235,13 +245,13 @@ def refuse_on_sockets(refusing, room):
     db = f"{room}/sockets.db"
     for words in (ORDERS[0], ORDERS[2]):
         subprocess.run(words(db), check=True)
-    statuses, growths = pushes_on_sockets(refusing, copied(db, f"{room}/socket.db"), 0)
+    statuses, growths, _ = pushes_on_sockets(refusing, copied(db, f"{room}/socket.db"))
     say(statuses == [201, 201], "a server over a socket answers two pushes 201")
     seen, bad = {}, []
     # both pushes lie in the last growths; the opening of the file takes those before
     for n in range(growths, growths - 600, -3):
         try:
-            statuses, _ = pushes_on_sockets(refusing, copied(db, f"{room}/socket.db"), n)
+            statuses, _, _ = pushes_on_sockets(refusing, copied(db, f"{room}/socket.db"), growth=n)
         except OSError:
             break
         seen[tuple(statuses)] = seen.get(tuple(statuses), 0) + 1
@@ -249,6 +259,26 @@ def refuse_on_sockets(refusing, room):
             bad.append(f"growth {n}: {statuses}")
     told = f"200 growths refused to a server over a socket, answered {', '.join(f'{k}: {v}' for k, v in seen.items())}"
     say(not bad and (503, 201) in seen, told + "".join(f"\n        {it}" for it in bad[:3]))
+
+
+def fail_once_on_sockets(refusing, room):
+    """A server one of whose writes fails answers 500, opens the file again, and serves the next connection."""
+    db, at = f"{room}/once.db", f"{room}/failed.db"
+    for words in (ORDERS[0], ORDERS[2]):
+        subprocess.run(words(db), check=True)
+    _, _, writes = pushes_on_sockets(refusing, copied(db, at))
+    wanted, seen, bad = world(at), {}, []
+    for n in range(1, writes + 1):
+        try:
+            statuses, _, _ = pushes_on_sockets(refusing, copied(db, at), write=n)
+        except OSError:
+            # the file is not opened
+            continue
+        seen[tuple(statuses)] = seen.get(tuple(statuses), 0) + 1
+        if statuses not in ([201, 201], [500, 201], [201, 500]) or world(at) != wanted:
+            bad.append(f"write {n}: {statuses}")
+    told = f"{writes} writes that fail once under a server, answered {', '.join(f'{k}: {v}' for k, v in seen.items())}"
+    say(not bad and (500, 201) in seen, told + "".join(f"\n        {it}" for it in bad[:3]))
 
 
 # ---- files
@@ -602,6 +632,7 @@ def main():
             refuse_on_sockets(refusing, room)
         if "disk" in words:
             stop_in_writes(refusing, room)
+            fail_once_on_sockets(refusing, room)
         if "kill" in words:
             kill_servers(room, kills)
     print(f"{len(wrong)} wrong" if wrong else "nothing was lost, and nothing answered wrongly")

@@ -1,8 +1,9 @@
 //! A library that is loaded before a program (LD_PRELOAD) and lets its memory or its disk fail.
 //!
 //! `REFUSE_GROWTH=N` refuses the Nth growth of memory. `STOP_DISK=N` stops the disk: the Nth write to a
-//! database file, or sync of one, fails, and so does each after it. When the program ends, a line
-//! `growths=G writes=W` with the numbers that there were goes to the descriptor of `TELL_COUNTS`.
+//! database file, or sync of one, fails, and so does each after it; `FAIL_WRITE=N` lets the Nth alone fail.
+//! When the program ends, a line `growths=G writes=W` with the numbers that there were goes to the
+//! descriptor of `TELL_COUNTS`.
 #![no_std]
 
 use core::ffi::{c_char, c_int, c_void};
@@ -15,6 +16,7 @@ static GROWTHS: AtomicU64 = AtomicU64::new(0);
 static REFUSED: AtomicU64 = AtomicU64::new(0);
 static WRITES: AtomicU64 = AtomicU64::new(0);
 static STOPPED: AtomicU64 = AtomicU64::new(u64::MAX);
+static FAILED: AtomicU64 = AtomicU64::new(0);
 static TELL: AtomicU64 = AtomicU64::new(0);
 
 extern "C" {
@@ -48,6 +50,7 @@ extern "C" fn begin() {
     unsafe {
         REFUSED.store(number(c"REFUSE_GROWTH").unwrap_or(0), Relaxed);
         STOPPED.store(number(c"STOP_DISK").unwrap_or(u64::MAX), Relaxed);
+        FAILED.store(number(c"FAIL_WRITE").unwrap_or(0), Relaxed);
         TELL.store(number(c"TELL_COUNTS").unwrap_or(0), Relaxed);
     }
 }
@@ -111,7 +114,8 @@ pub unsafe extern "C" fn realloc(old: *mut c_void, size: usize) -> *mut c_void {
 
 /// Whether the disk still writes; where not, the error is that of a broken one.
 unsafe fn writes() -> bool {
-    let goes = WRITES.fetch_add(1, Relaxed) + 1 < STOPPED.load(Relaxed);
+    let count = WRITES.fetch_add(1, Relaxed) + 1;
+    let goes = count < STOPPED.load(Relaxed) && count != FAILED.load(Relaxed);
     if !goes {
         *__errno_location() = EIO;
     }
