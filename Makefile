@@ -10,7 +10,7 @@ PROCESSORS := $(shell nproc)
 # The first run: a registry in memory, with one repository and one token.
 DEMO := stdio --memory --repo team/app=1000 --grant t1=team/app=3
 
-.PHONY: help demo build try test check edits check-file check-hostile bench bench-http fmt clean
+.PHONY: help demo build try test check edits check-file check-rows check-hostile bench bench-http fmt clean
 
 # docs/PERFORMANCE.md has what was measured.
 help:
@@ -24,6 +24,7 @@ help:
 	@echo 'make check CRATE=x   proves one crate over what earlier checks kept (seconds after an edit)'
 	@echo 'make edits CRATE=x   tries the must-fail edits of one crate (20 to 60 s each)'
 	@echo 'make check-file      a server'"'"'s file after pushes by curl, looked at by sqlite3'
+	@echo 'make check-rows      the worked examples by the program itself, over a file (after make test; 10 s)'
 	@echo 'make check-hostile   refuses each growth of memory, stops the disk at each write, kills servers (after'
 	@echo '                     make test; 5 min)'
 	@echo 'make bench           requests a second over loopback, beside docker-registry where installed'
@@ -77,6 +78,10 @@ test:
 # A server's database file, looked at by another program: needs curl and sqlite3 beside python3.
 check-file: build
 	python3 check/file.py
+
+# The worked examples by the program itself, commands by its orders (python3).
+check-rows:
+	python3 check/rows.py
 
 # Hostile memory, a hostile disk and kills, over the executables that `make test` leaves: python3 and rustc.
 KILLS = 100

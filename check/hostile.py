@@ -1,7 +1,7 @@
 #!/usr/bin/env python3
-"""Memory that is refused, a disk that stops, and a server that is killed.
+"""Memory that is refused, a disk that stops, a server that is killed, and a client that opens all it can.
 
-    check/hostile.py memory|disk|kill [--kills N]    one of the three, or all where none is named
+    check/hostile.py memory|disk|kill|open [--kills N]    one of the four, or all where none is named
 
 The executables are the proved ones that `make build` and `make test` leave. refusing.rs, a library that is
 loaded before a program, lets one growth of memory fail, or the disk stop at one write; `rustc` compiles it.
@@ -17,6 +17,8 @@ after it where the write was answered so. Then a service answers 500 and the pro
 A server one of whose writes fails answers 500, opens the file again and serves the next connection.
 *kill*: a server is killed at random moments of pushes, chunks, manifests, tags and deletions; all that was
 acknowledged is there, byte for byte, and sqlite3 finds the file sound.
+*open*: a client opens 1,000 upload sessions over a file; the next is refused, in this repository alone, until
+one ends; and where the numbers of sessions are used up none opens.
 """
 import concurrent.futures
 import hashlib
@@ -614,8 +616,48 @@ def kill_servers(room, kills):
     say(not bad, told + "".join(f"\n        {it}" for it in bad))
 
 
+# ---- a client that opens all it can
+
+TOO_MANY = 429, b'{"errors":[{"code":"TOOMANYREQUESTS","message":"too many uploads"}]}'
+
+
+def open_sessions(room):
+    db = f"{room}/open.db"
+    for words in (ORDERS[0], WRITES[2][1], ORDERS[2], WRITES[4][1]):
+        subprocess.run(words(db), check=True)
+    open_at = lambda name: request("POST", f"/v2/{name}/blobs/uploads/")
+    server = Server(db)
+    with server.connect() as connection:
+
+        def ask(text):
+            status, fields, body = answer(connection, text)
+            return (status, fields["location"]) if "location" in fields else (status, body)
+
+        opened = [ask(open_at("team/app")) for _ in range(1000)]
+        say(opened == [(202, f"{AT}/blobs/uploads/{n}") for n in range(1, 1001)], "1,000 sessions are opened")
+        say(ask(open_at("team/app")) == TOO_MANY, "the next is refused")
+        say(ask(open_at("team/lib")) == (202, "/v2/team/lib/blobs/uploads/1"), "one of another repository is opened")
+        closed = request("PUT", f"{AT}/blobs/uploads/7?digest={digest(b'')}")
+        say(ask(closed) == (201, f"{AT}/blobs/{digest(b'')}"), "one of them is closed")
+        say(ask(open_at("team/app")) == (202, f"{AT}/blobs/uploads/1001"), "in its place another is opened")
+        say(ask(open_at("team/app")) == TOO_MANY, "and no further one")
+    server.kill()
+    # the log of a server that was killed is read by the next opening alone
+    subprocess.run(order("usage")(db), check=True, stdout=subprocess.DEVNULL)
+    con = sqlite3.connect(db)
+    con.execute("UPDATE registry_repos SET last_session = 9223372036854775807 WHERE name = 'team/lib'")
+    con.commit()
+    con.close()
+    server = Server(db)
+    with server.connect() as connection:
+        status, _, body = answer(connection, open_at("team/lib"))
+        say((status, body) == TOO_MANY, "where the numbers are used up no session is opened")
+    server.kill()
+
+
 def main():
-    words = [it for it in sys.argv[1:] if it in ("memory", "disk", "kill")] or ["memory", "disk", "kill"]
+    parts = ["memory", "disk", "kill", "open"]
+    words = [it for it in sys.argv[1:] if it in parts] or parts
     kills = int(sys.argv[sys.argv.index("--kills") + 1]) if "--kills" in sys.argv else 20
     needed = [REGISTRY] + [EXAMPLES] * ("memory" in words)
     lacking = [it for it in needed if not os.path.exists(it)] + ["rustc"] * (shutil.which("rustc") is None)
@@ -635,6 +677,8 @@ def main():
             fail_once_on_sockets(refusing, room)
         if "kill" in words:
             kill_servers(room, kills)
+        if "open" in words:
+            open_sessions(room)
     print(f"{len(wrong)} wrong" if wrong else "nothing was lost, and nothing answered wrongly")
     return 1 if wrong else 0
 
