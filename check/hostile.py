@@ -5,7 +5,7 @@
 
 The executables are the proved ones that `make build` and `make test` leave. refusing.rs, a library that is
 loaded before a program, lets one growth of memory fail, or the disk stop at one write; `rustc` compiles it.
-Nothing is installed.
+Nothing is installed. The status is 1 where something is wrong, and 3 where this cannot be run.
 
 *memory*: rows of the worked examples are played over both keepers with the Nth growth refused, for every N
 up to a run that meets no refusal: each answer is the row's, or says that memory was wanting and is then
@@ -47,6 +47,8 @@ REGISTRY = built("registry", "registry_cli")
 EXAMPLES = built("registry_examples", "registry_examples")
 DATA = f"{TOP}/crates/registry_examples/data"
 SECONDS = 60
+# the status where a machine lacks what this needs
+CANNOT_RUN = 3
 
 # Rows of the worked examples, by their files.
 ROWS = [
@@ -83,6 +85,8 @@ class Refusing:
         self.library = f"{room}/refusing.so"
         words = ["rustc", "--edition", "2021", "--crate-type", "cdylib", "-C", "panic=abort", "-O"]
         subprocess.run([*words, "-o", self.library, f"{TOP}/check/refusing.rs"], check=True)
+        # a program that is started behind it runs
+        subprocess.run(["true"], env={"LD_PRELOAD": self.library, "PATH": os.environ["PATH"]}, check=True)
 
     def run(self, words, growth=0, stop=0, given=b"", at=None, out=subprocess.PIPE):
         """Returns what the program did, and the numbers of growths and of writes that it asked for."""
@@ -660,13 +664,17 @@ def main():
     words = [it for it in sys.argv[1:] if it in parts] or parts
     kills = int(sys.argv[sys.argv.index("--kills") + 1]) if "--kills" in sys.argv else 20
     needed = [REGISTRY] + [EXAMPLES] * ("memory" in words)
-    lacking = [it for it in needed if not os.path.exists(it)] + ["rustc"] * (shutil.which("rustc") is None)
+    lacking = [it for it in needed if not os.path.exists(it)]
     if lacking:
         print(f"check-hostile needs {', '.join(lacking)}", file=sys.stderr)
         return 2
     # in memory, where there is such a place: nothing here is about what a power failure leaves
     with tempfile.TemporaryDirectory(dir="/dev/shm" if os.access("/dev/shm", os.W_OK) else None) as room:
-        refusing = Refusing(room)
+        try:
+            refusing = Refusing(room)
+        except (OSError, subprocess.CalledProcessError) as error:
+            print(f"check-hostile needs rustc, and a system that loads a library before a program: {error}", file=sys.stderr)
+            return CANNOT_RUN
         if "memory" in words:
             with concurrent.futures.ProcessPoolExecutor(os.cpu_count()) as pool:
                 refuse_in_rows(refusing, room, pool)
