@@ -14,7 +14,9 @@ the row's when it is asked for again. Then each order of the administrator's ove
 *disk*: each kind of write, over a file whose disk stops at the Nth write or sync, for every N up to a run
 without a stop. What is found afterwards is the world before the write or the one after it, and the one
 after it where the write was answered so. Then a service answers 500 and the program ends with status 3.
-A server one of whose writes fails answers 500, opens the file again and serves the next connection.
+A server one of whose writes fails answers 500, opens the file again and serves the next connection. Then the
+same writes with a system that stops at any place in them: of what was not synced nothing is left, or all, or a
+part, as it is drawn.
 *kill*: a server is killed at random moments of pushes, chunks, manifests, tags and deletions; all that was
 acknowledged is there, byte for byte, and sqlite3 finds the file sound.
 *open*: a client opens 1,000 upload sessions over a file; the next is refused, in this repository alone, until
@@ -29,6 +31,7 @@ import re
 import shutil
 import socket
 import sqlite3
+import struct
 import subprocess
 import sys
 import tempfile
@@ -88,14 +91,17 @@ class Refusing:
         # a program that is started behind it runs
         subprocess.run(["true"], env={"LD_PRELOAD": self.library, "PATH": os.environ["PATH"]}, check=True)
 
-    def run(self, words, growth=0, stop=0, given=b"", at=None, out=subprocess.PIPE):
+    def run(self, words, growth=0, stop=0, given=b"", at=None, out=subprocess.PIPE, log=None):
         """Returns what the program did, and the numbers of growths and of writes that it asked for."""
         told, tell = os.pipe()
         env = {"LD_PRELOAD": self.library, "REFUSE_GROWTH": str(growth), "TELL_COUNTS": str(tell)}
         if stop:
             env["STOP_DISK"] = str(stop)
+        if log:
+            env["LOG_WRITES"] = str(log.fileno())
+        passed = [tell] + ([log.fileno()] if log else [])
         try:
-            how = {"stdout": out, "stderr": subprocess.PIPE, "env": env, "pass_fds": [tell], "cwd": at}
+            how = {"stdout": out, "stderr": subprocess.PIPE, "env": env, "pass_fds": passed, "cwd": at}
             ran = subprocess.run(words, input=given, timeout=SECONDS, **how)
         finally:
             os.close(tell)
@@ -462,6 +468,83 @@ def write_nowhere(refusing, room):
     )
 
 
+# ---- what a crash may leave
+
+
+def records(data):
+    """The records of refusing.so's log."""
+    at, found = 0, []
+    while at < len(data):
+        kind, inode, place, count = struct.unpack_from("<QQqQ", data, at)
+        at += 32
+        size = count if chr(kind) == "W" else 0
+        found.append((chr(kind), inode, place, data[at : at + size]))
+        at += size
+    return found
+
+
+def after_crash(before, log, number, chance):
+    """The files, by their inodes, where the system stops in front of the record of this number: what was synced is
+    there; of each later write nothing, all, or a first part that ends at a sector."""
+    files = {inode: bytearray(data) for inode, data in before.items()}
+    last_sync = {}
+    for at, (kind, inode, _, _) in enumerate(log[:number]):
+        if kind == "S":
+            last_sync[inode] = at
+    for at, (kind, inode, place, data) in enumerate(log[:number]):
+        file = files.setdefault(inode, bytearray())
+        if at > last_sync.get(inode, -1):
+            fate = chance.choice(["none", "all", "part"])
+            if fate == "none":
+                continue
+            if fate == "part" and kind == "W":
+                data = data[: 512 * chance.randrange(len(data) // 512 + 1)]
+        if kind == "W" and data:
+            file.extend(bytes(max(place + len(data) - len(file), 0)))
+            file[place : place + len(data)] = data
+        if kind == "T":
+            del file[place:]
+            file.extend(bytes(place - len(file)))
+    return files
+
+
+def crash_in_writes(refusing, room):
+    """Each kind of write, and every place where the system may stop in it, with four draws of what is left."""
+    db, total, chance = f"{room}/crash.db", 0, random.Random(20_261_124)
+    for name, what in WRITES:
+        before = world(db)
+        whole = copied(db, f"{room}/whole.db")
+        with open(f"{room}/log", "w+b") as log:
+            words, given = (what(whole), b"") if callable(what) else ([REGISTRY, "stdio", "--db", whole], what[0])
+            ran, _, _ = refusing.run(words, given=given, log=log)
+            log.seek(0)
+            done = records(log.read())
+        after, bad, were = world(whole), [], [0, 0]
+        inodes = {os.stat(it).st_ino: it[len(whole) :] for it in parts_of(whole)}
+        was = {inode: open(db + suffix, "rb").read() for inode, suffix in inodes.items() if os.path.exists(db + suffix)}
+        # an order is acknowledged by its end
+        answered = next((at for at, it in enumerate(done) if it[0] == "A"), len(done))
+        if ran.returncode or not inodes.keys() >= {inode for kind, inode, _, _ in done if kind in "WT"}:
+            bad.append(f"status {ran.returncode}, files {inodes}")
+        for number in range(len(done) + 1):
+            for _ in range(4):
+                left = copied("", f"{room}/left.db")
+                for inode, data in after_crash(was, done, number, chance).items():
+                    if inode in inodes:
+                        with open(left + inodes[inode], "wb") as it:
+                            it.write(data)
+                opened, _, _ = refusing.run([REGISTRY, "usage", "--db", left])
+                found = world(left)
+                if opened.returncode or found not in (before, after) or number > answered and found != after:
+                    bad.append(f"record {number} of {len(done)}: {opened.stderr or ('acknowledged, and lost' if number > answered else 'another world')}")
+                were[found == after] += 1
+                total += 1
+        told = f"{name}: {sum(were)} crashes, {were[0]} with the world before and {were[1]} with the one after"
+        say(not bad, told + "".join(f"\n        {it}" for it in bad[:3]))
+        copied(whole, db)
+    print(f"      {total} crashes")
+
+
 # ---- kills
 
 
@@ -683,6 +766,7 @@ def main():
         if "disk" in words:
             stop_in_writes(refusing, room)
             fail_once_on_sockets(refusing, room)
+            crash_in_writes(refusing, room)
         if "kill" in words:
             kill_servers(room, kills)
         if "open" in words:

@@ -3,7 +3,10 @@
 //! `REFUSE_GROWTH=N` refuses the Nth growth of memory. `STOP_DISK=N` stops the disk: the Nth write to a
 //! database file, or sync of one, fails, and so does each after it; `FAIL_WRITE=N` lets the Nth alone fail.
 //! When the program ends, a line `growths=G writes=W` with the numbers that there were goes to the
-//! descriptor of `TELL_COUNTS`.
+//! descriptor of `TELL_COUNTS`. What is done to files goes to the descriptor of `LOG_WRITES`, a record each: its
+//! kind (`W` for a write, `T` for a new length, `S` for a sync, `A` for an answer on standard output), seven
+//! bytes of nothing, then the file's inode number, the place and the count of bytes, as 64-bit numbers, and the
+//! bytes that are written.
 #![no_std]
 
 use core::ffi::{c_char, c_int, c_void};
@@ -18,13 +21,13 @@ static WRITES: AtomicU64 = AtomicU64::new(0);
 static STOPPED: AtomicU64 = AtomicU64::new(u64::MAX);
 static FAILED: AtomicU64 = AtomicU64::new(0);
 static TELL: AtomicU64 = AtomicU64::new(0);
+static LOG: AtomicU64 = AtomicU64::new(0);
 
 extern "C" {
     fn __libc_malloc(size: usize) -> *mut c_void;
     fn __libc_realloc(old: *mut c_void, size: usize) -> *mut c_void;
     fn __errno_location() -> *mut c_int;
     fn getenv(name: *const c_char) -> *const c_char;
-    fn write(file: c_int, bytes: *const c_void, count: usize) -> isize;
     fn syscall(number: i64, ...) -> i64;
 }
 
@@ -52,6 +55,7 @@ extern "C" fn begin() {
         STOPPED.store(number(c"STOP_DISK").unwrap_or(u64::MAX), Relaxed);
         FAILED.store(number(c"FAIL_WRITE").unwrap_or(0), Relaxed);
         TELL.store(number(c"TELL_COUNTS").unwrap_or(0), Relaxed);
+        LOG.store(number(c"LOG_WRITES").unwrap_or(0), Relaxed);
     }
 }
 
@@ -87,7 +91,7 @@ extern "C" fn end() {
     put(&mut line, &mut end, b"growths=", GROWTHS.load(Relaxed));
     put(&mut line, &mut end, b" writes=", WRITES.load(Relaxed));
     line[end] = b'\n';
-    unsafe { write(file as c_int, line.as_ptr().cast(), end + 1) };
+    unsafe { syscall(SYS_WRITE, file as c_int, line.as_ptr(), end + 1) };
 }
 
 #[used]
@@ -122,14 +126,47 @@ unsafe fn writes() -> bool {
     goes
 }
 
+/// Adds a record to the log, where one is kept.
+unsafe fn note(kind: u8, file: c_int, place: i64, bytes: *const c_void, count: usize) {
+    let log = LOG.load(Relaxed) as c_int;
+    if log == 0 {
+        return;
+    }
+    // the inode's number is the second of the numbers that the system tells of a file
+    let mut told = [0_u64; 18];
+    syscall(SYS_FSTAT, file, told.as_mut_ptr());
+    let record = [u64::from(kind), told[1], place as u64, count as u64];
+    syscall(SYS_WRITE, log, record.as_ptr(), 32_usize);
+    if !bytes.is_null() {
+        syscall(SYS_WRITE, log, bytes, count);
+    }
+}
+
+const SYS_WRITE: i64 = 1;
+const SYS_FSTAT: i64 = 5;
 const SYS_PWRITE64: i64 = 18;
 const SYS_FSYNC: i64 = 74;
 const SYS_FDATASYNC: i64 = 75;
 const SYS_FTRUNCATE: i64 = 77;
 
 #[no_mangle]
+pub unsafe extern "C" fn write(file: c_int, bytes: *const c_void, count: usize) -> isize {
+    if file == 1 {
+        note(b'A', file, 0, ptr::null(), count);
+    }
+    syscall(SYS_WRITE, file, bytes, count) as isize
+}
+
+#[no_mangle]
 pub unsafe extern "C" fn pwrite(file: c_int, bytes: *const c_void, count: usize, at: i64) -> isize {
-    if writes() { syscall(SYS_PWRITE64, file, bytes, count, at) as isize } else { -1 }
+    if !writes() {
+        return -1;
+    }
+    let written = syscall(SYS_PWRITE64, file, bytes, count, at) as isize;
+    if written > 0 {
+        note(b'W', file, at, bytes, written as usize);
+    }
+    written
 }
 
 #[no_mangle]
@@ -139,17 +176,29 @@ pub unsafe extern "C" fn pwrite64(file: c_int, bytes: *const c_void, count: usiz
 
 #[no_mangle]
 pub unsafe extern "C" fn fsync(file: c_int) -> c_int {
-    if writes() { syscall(SYS_FSYNC, file) as c_int } else { -1 }
+    if !writes() {
+        return -1;
+    }
+    note(b'S', file, 0, ptr::null(), 0);
+    syscall(SYS_FSYNC, file) as c_int
 }
 
 #[no_mangle]
 pub unsafe extern "C" fn fdatasync(file: c_int) -> c_int {
-    if writes() { syscall(SYS_FDATASYNC, file) as c_int } else { -1 }
+    if !writes() {
+        return -1;
+    }
+    note(b'S', file, 0, ptr::null(), 0);
+    syscall(SYS_FDATASYNC, file) as c_int
 }
 
 #[no_mangle]
 pub unsafe extern "C" fn ftruncate(file: c_int, length: i64) -> c_int {
-    if writes() { syscall(SYS_FTRUNCATE, file, length) as c_int } else { -1 }
+    if !writes() {
+        return -1;
+    }
+    note(b'T', file, length, ptr::null(), 0);
+    syscall(SYS_FTRUNCATE, file, length) as c_int
 }
 
 #[no_mangle]
