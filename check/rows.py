@@ -181,6 +181,20 @@ def play(db, step):
     return ""
 
 
+HEADING = b"                used               quota     blobs manifests      tags  sessions name\n"
+
+
+def tables_that_differ(db):
+    """Where the table of `usage` is another than it should be: of no repositories, and of one with the largest quota."""
+    found = run("usage", "--db", db)
+    if (found.returncode, found.stdout, found.stderr) != (0, HEADING, b""):
+        yield found
+    run("repo", "--db", db, "--name", "a", "--quota", "9223372036854775807")
+    found = run("usage", "--db", db)
+    if found.stdout != HEADING + b" " * 19 + b"0 9223372036854775807" + b"         0" * 4 + b" a\n":
+        yield found
+
+
 def main():
     book, wrong, played, steps = Book(), 0, 0, 0
     with open(f"{DATA}/args", encoding="utf-8") as it:
@@ -202,6 +216,9 @@ def main():
                     print(f"WRONG {file}:{step.line} ({name}): {why}")
                     wrong += 1
                     break
+        for it in tables_that_differ(f"{room}/usage.db"):
+            print(f"WRONG usage: {it}")
+            wrong += 1
     print(f"{played} worked examples of {steps} steps by the program, over a file: {f'{wrong} wrong' if wrong else 'each as it is written'}")
     return 1 if wrong else 0
 
