@@ -18,7 +18,7 @@ help:
 	@echo '                     at once after make build)'
 	@echo 'make build           proves the program and all below it; leaves build/registry (an hour of a'
 	@echo '                     processor, on all there are; up to 12 GB)'
-	@echo 'make test            the merge gate: every proof from nothing, edits, tests (five hours of a'
+	@echo 'make test            the merge gate: every proof from nothing, edits, tests (three hours of a'
 	@echo '                     processor, on four at most; up to 16 GB)'
 	@echo 'make try ARGS=".."   runs the program unproved, for a first look: make try ARGS="--help" (3 min, 2 GB)'
 	@echo 'make check CRATE=x   proves one crate over what earlier checks kept (seconds after an edit)'
