@@ -37,17 +37,8 @@ import sys
 import tempfile
 import time
 
-TOP = os.path.dirname(os.path.dirname(os.path.abspath(__file__)))
+from executables import EXAMPLES, REGISTRY, TOP
 
-
-def built(name, crate):
-    """What `make build` left, or else the merge gate."""
-    here = f"{TOP}/build/{name}"
-    return here if os.path.exists(here) else f"{TOP}/crates/{crate}/out/{crate}"
-
-
-REGISTRY = built("registry", "registry_cli")
-EXAMPLES = built("registry_examples", "registry_examples")
 DATA = f"{TOP}/crates/registry_examples/data"
 SECONDS = 60
 # the status where a machine lacks what this needs
@@ -593,7 +584,7 @@ class Believed:
     """What was acknowledged, and what was asked for last, which may have happened or not."""
 
     def __init__(self):
-        self.blobs, self.tags, self.session, self.count = {}, {}, None, 0
+        self.blobs, self.tags, self.session, self.open, self.count = {}, {}, None, None, 0
 
 
 def act(chance, connection, it):

@@ -174,31 +174,28 @@ pub unsafe extern "C" fn pwrite64(file: c_int, bytes: *const c_void, count: usiz
     pwrite(file, bytes, count, at)
 }
 
+/// Whether the disk still does so, which is then noted.
+unsafe fn goes(kind: u8, file: c_int, place: i64) -> bool {
+    let goes = writes();
+    if goes {
+        note(kind, file, place, ptr::null(), 0);
+    }
+    goes
+}
+
 #[no_mangle]
 pub unsafe extern "C" fn fsync(file: c_int) -> c_int {
-    if !writes() {
-        return -1;
-    }
-    note(b'S', file, 0, ptr::null(), 0);
-    syscall(SYS_FSYNC, file) as c_int
+    if goes(b'S', file, 0) { syscall(SYS_FSYNC, file) as c_int } else { -1 }
 }
 
 #[no_mangle]
 pub unsafe extern "C" fn fdatasync(file: c_int) -> c_int {
-    if !writes() {
-        return -1;
-    }
-    note(b'S', file, 0, ptr::null(), 0);
-    syscall(SYS_FDATASYNC, file) as c_int
+    if goes(b'S', file, 0) { syscall(SYS_FDATASYNC, file) as c_int } else { -1 }
 }
 
 #[no_mangle]
 pub unsafe extern "C" fn ftruncate(file: c_int, length: i64) -> c_int {
-    if !writes() {
-        return -1;
-    }
-    note(b'T', file, length, ptr::null(), 0);
-    syscall(SYS_FTRUNCATE, file, length) as c_int
+    if goes(b'T', file, length) { syscall(SYS_FTRUNCATE, file, length) as c_int } else { -1 }
 }
 
 #[no_mangle]

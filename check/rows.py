@@ -13,19 +13,11 @@ import subprocess
 import sys
 import tempfile
 
-TOP = os.path.dirname(os.path.dirname(os.path.abspath(__file__)))
+from executables import REGISTRY, TOP
+
 DATA = f"{TOP}/crates/registry_examples"
 LEVELS = {"pull": "1", "push": "2", "delete": "3"}
 FAULTS = {"NoRepo": b"registry: no such repository\n", "NoGrant": b"registry: no such grant\n", "RepoThere": b"registry: repository already there\n"}
-
-
-def built(name, crate):
-    """What `make build` left, or else the merge gate."""
-    here = f"{TOP}/build/{name}"
-    return here if os.path.exists(here) else f"{TOP}/crates/{crate}/out/{crate}"
-
-
-REGISTRY = built("registry", "registry_cli")
 
 
 class Words:
