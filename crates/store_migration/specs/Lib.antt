@@ -1,0 +1,3 @@
+pub mod OldTables
+pub mod OldWorld
+pub mod Both

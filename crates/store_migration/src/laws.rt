@@ -1,0 +1,14 @@
+//! Laws of moving rows, which a migration relies on. Each is the contract of a function that does nothing.
+ghost use Rattle.std.specs.Prelude.{◌≡◌};
+ghost use Rattle.store_world.specs.Tables.{Tables};
+ghost use Rattle.store_migration.specs.OldTables.{OldTables, IsOldRegistry};
+ghost use Rattle.store_migration.specs.OldWorld.{old_world};
+ghost use Rattle.store_migration.specs.Both.{world_of_both, AreBoth, emptied};
+
+/// Once the tables that only schema 2 has are made, with no row in them, the rows of both schemas stand for
+/// the world of schema 1.
+pub fn old_rows_stand_for_their_world()
+    ensures world { (old : OldTables) (t : Tables) → IsOldRegistry old t
+        → world_of_both old (emptied t) ≡ old_world old t }
+    ensures both { (old : OldTables) (t : Tables) → IsOldRegistry old t → AreBoth old (emptied t) }
+{}
