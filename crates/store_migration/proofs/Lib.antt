@@ -1,1 +1,5 @@
 pub mod Starts
+pub mod Merged
+pub mod BothWorlds
+pub mod Unmoved
+pub mod BlobMoves

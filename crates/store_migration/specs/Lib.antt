@@ -1,3 +1,4 @@
 pub mod OldTables
 pub mod OldWorld
 pub mod Both
+pub mod Moves
