@@ -3,3 +3,4 @@ pub mod Merged
 pub mod BothWorlds
 pub mod Unmoved
 pub mod BlobMoves
+pub mod ManifestMoves

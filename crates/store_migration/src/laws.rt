@@ -4,7 +4,7 @@ ghost use Rattle.store_world.specs.Tables.{Tables};
 ghost use Rattle.store_migration.specs.OldTables.{OldTables, IsOldRegistry};
 ghost use Rattle.store_migration.specs.OldWorld.{old_world};
 ghost use Rattle.store_migration.specs.Both.{world_of_both, AreBoth, emptied};
-ghost use Rattle.store_migration.specs.Moves.{BlobMoved};
+ghost use Rattle.store_migration.specs.Moves.{BlobMoved, ManifestMoved};
 
 /// Once the tables that only schema 2 has are made, with no row in them, the rows of both schemas stand for
 /// the world of schema 1.
@@ -19,5 +19,13 @@ pub fn a_moved_blob_stays()
     ensures world { (olds news : OldTables) (t u : Tables) → AreBoth olds t → BlobMoved olds news t u
         → world_of_both news u ≡ world_of_both olds t }
     ensures both { (olds news : OldTables) (t u : Tables) → AreBoth olds t → BlobMoved olds news t u
+        → AreBoth news u }
+{}
+
+/// A manifest is moved: the rows of both schemas stand for the same world.
+pub fn a_moved_manifest_stays()
+    ensures world { (olds news : OldTables) (t u : Tables) → AreBoth olds t → ManifestMoved olds news t u
+        → world_of_both news u ≡ world_of_both olds t }
+    ensures both { (olds news : OldTables) (t u : Tables) → AreBoth olds t → ManifestMoved olds news t u
         → AreBoth news u }
 {}
