@@ -4,3 +4,4 @@ pub mod BothWorlds
 pub mod Unmoved
 pub mod BlobMoves
 pub mod ManifestMoves
+pub mod SessionMoves
