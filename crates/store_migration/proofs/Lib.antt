@@ -5,3 +5,4 @@ pub mod Unmoved
 pub mod BlobMoves
 pub mod ManifestMoves
 pub mod SessionMoves
+pub mod Free

@@ -1,6 +1,9 @@
 //! Laws of moving rows, which a migration relies on. Each is the contract of a function that does nothing.
-ghost use Rattle.std.specs.Prelude.{◌≡◌};
+ghost use Rattle.std.specs.Prelude.{◌≡◌, ℕ, true, find, is_some, None};
+ghost use Rattle.oci_names.specs.Text.{Text};
+ghost use Rattle.store_world.specs.Keys.{has_key, of_session};
 ghost use Rattle.store_world.specs.Tables.{Tables};
+ghost use Rattle.store_world.specs.Registry.{is_repo};
 ghost use Rattle.store_migration.specs.OldTables.{OldTables, IsOldRegistry};
 ghost use Rattle.store_migration.specs.OldWorld.{old_world};
 ghost use Rattle.store_migration.specs.Both.{world_of_both, AreBoth, emptied};
@@ -12,6 +15,20 @@ pub fn old_rows_stand_for_their_world()
     ensures world { (old : OldTables) (t : Tables) → IsOldRegistry old t
         → world_of_both old (emptied t) ≡ old_world old t }
     ensures both { (old : OldTables) (t : Tables) → IsOldRegistry old t → AreBoth old (emptied t) }
+{}
+
+/// What stands in a table of schema 1 does not stand in those of schema 2 under its key, and its repository
+/// is there: so a row of that key can come.
+pub fn an_old_key_is_free()
+    ensures blobs { (old : OldTables) (t : Tables) (name digest : Text) → AreBoth old t
+        → is_some (find (has_key name digest) old.blobs) ≡ true
+        → (is_repo t.repos name ≡ true) × (find (has_key name digest) t.blobs ≡ None) }
+    ensures manifests { (old : OldTables) (t : Tables) (name digest : Text) → AreBoth old t
+        → is_some (find (has_key name digest) old.manifests) ≡ true
+        → (is_repo t.repos name ≡ true) × (find (has_key name digest) t.manifests ≡ None) }
+    ensures sessions { (old : OldTables) (t : Tables) (name : Text) (number : ℕ) → AreBoth old t
+        → is_some (find (of_session name number) old.sessions) ≡ true
+        → (is_repo t.repos name ≡ true) × (find (of_session name number) t.uploads ≡ None) }
 {}
 
 /// A blob is moved: the rows of both schemas stand for the same world.
