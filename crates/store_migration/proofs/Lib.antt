@@ -6,3 +6,4 @@ pub mod BlobMoves
 pub mod ManifestMoves
 pub mod SessionMoves
 pub mod Free
+pub mod Listed

@@ -2,3 +2,4 @@ pub mod OldTables
 pub mod OldWorld
 pub mod Both
 pub mod Moves
+pub mod Listed

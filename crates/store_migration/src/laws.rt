@@ -1,13 +1,17 @@
 //! Laws of moving rows, which a migration relies on. Each is the contract of a function that does nothing.
-ghost use Rattle.std.specs.Prelude.{◌≡◌, ℕ, true, find, is_some, None};
+ghost use Rattle.std.specs.Prelude.{◌≡◌, ℕ, List, [], true, map, find, is_some, None};
+ghost use Rattle.std.specs.List.Sorted.{IsPermutation};
+ghost use Rattle.sqlite.specs.Order.{Row};
 ghost use Rattle.oci_names.specs.Text.{Text};
 ghost use Rattle.store_world.specs.Keys.{has_key, of_session};
 ghost use Rattle.store_world.specs.Tables.{Tables};
+ghost use Rattle.store_world.specs.Changes.{without};
 ghost use Rattle.store_world.specs.Registry.{is_repo};
 ghost use Rattle.store_migration.specs.OldTables.{OldTables, IsOldRegistry};
 ghost use Rattle.store_migration.specs.OldWorld.{old_world};
 ghost use Rattle.store_migration.specs.Both.{world_of_both, AreBoth, emptied};
 ghost use Rattle.store_migration.specs.Moves.{BlobMoved, ManifestMoved, SessionMoved};
+ghost use Rattle.store_migration.specs.Listed.{key_of, session_of, left_by_keys, left_by_sessions};
 
 /// Once the tables that only schema 2 has are made, with no row in them, the rows of both schemas stand for
 /// the world of schema 1.
@@ -29,6 +33,19 @@ pub fn an_old_key_is_free()
     ensures sessions { (old : OldTables) (t : Tables) (name : Text) (number : ℕ) → AreBoth old t
         → is_some (find (of_session name number) old.sessions) ≡ true
         → (is_repo t.repos name ≡ true) × (find (of_session name number) t.uploads ≡ None) }
+{}
+
+/// Where the keys of all rows are listed, in whatever order, and the rows of each key go in turn, no row is
+/// left. Under a key of which no row is there, none goes.
+pub fn rows_of_listed_keys_go()
+    ensures keys { (keys : List (Text × Text)) (rows : List Row) → IsPermutation keys (map key_of rows)
+        → left_by_keys keys rows ≡ [] }
+    ensures sessions { (keys : List (Text × ℕ)) (rows : List Row) → IsPermutation keys (map session_of rows)
+        → left_by_sessions keys rows ≡ [] }
+    ensures gone_key { (rows : List Row) (name digest : Text) → find (has_key name digest) rows ≡ None
+        → without (has_key name digest) rows ≡ rows }
+    ensures gone_session { (rows : List Row) (name : Text) (number : ℕ)
+        → find (of_session name number) rows ≡ None → without (of_session name number) rows ≡ rows }
 {}
 
 /// A blob is moved: the rows of both schemas stand for the same world.
