@@ -7,3 +7,4 @@ pub mod ManifestMoves
 pub mod SessionMoves
 pub mod Free
 pub mod Listed
+pub mod Ends

@@ -5,12 +5,13 @@ ghost use Rattle.sqlite.specs.Order.{Row};
 ghost use Rattle.oci_names.specs.Text.{Text};
 ghost use Rattle.store_world.specs.Keys.{has_key, of_session};
 ghost use Rattle.store_world.specs.Tables.{Tables};
-ghost use Rattle.store_world.specs.Changes.{without};
-ghost use Rattle.store_world.specs.Registry.{is_repo};
-ghost use Rattle.store_migration.specs.OldTables.{OldTables, IsOldRegistry};
+ghost use Rattle.store_world.specs.Changes.{without, changed};
+ghost use Rattle.store_world.specs.World.{world_of};
+ghost use Rattle.store_world.specs.Registry.{is_repo, IsOfSchemaTwo, IsRegistry};
+ghost use Rattle.store_migration.specs.OldTables.{OldTables, no_old_tables, IsOfSchemaOne, IsOldRegistry};
 ghost use Rattle.store_migration.specs.OldWorld.{old_world};
 ghost use Rattle.store_migration.specs.Both.{world_of_both, AreBoth, emptied};
-ghost use Rattle.store_migration.specs.Moves.{BlobMoved, ManifestMoved, SessionMoved};
+ghost use Rattle.store_migration.specs.Moves.{BlobMoved, ManifestMoved, SessionMoved, Stage, MovesThrough, with_version_two};
 ghost use Rattle.store_migration.specs.Listed.{key_of, session_of, left_by_keys, left_by_sessions};
 
 /// Once the tables that only schema 2 has are made, with no row in them, the rows of both schemas stand for
@@ -72,4 +73,43 @@ pub fn a_moved_session_stays()
     ensures repos { (olds news : OldTables) (t u : Tables) → SessionMoved olds news t u → u.repos ≡ t.repos }
     ensures both { (olds news : OldTables) (t u : Tables) → AreBoth olds t → SessionMoved olds news t u
         → AreBoth news u }
+{}
+
+/// The version of schema 1, raised, is that of schema 2.
+pub fn the_version_becomes_two()
+    ensures { (rows : List Row) → IsOfSchemaOne rows
+        → IsOfSchemaTwo (changed (λ r. true) with_version_two rows) }
+{}
+
+/// Once no row is left in the tables of schema 1 and the version is 2, the tables are a registry's, of the
+/// same world.
+pub fn no_old_row_is_left()
+    ensures world { (t : Tables) (version : List Row) → AreBoth no_old_tables t → IsOfSchemaTwo version
+        → world_of (record t { version = version }) ≡ world_of_both no_old_tables t }
+    ensures registry { (t : Tables) (version : List Row) → AreBoth no_old_tables t → IsOfSchemaTwo version
+        → IsRegistry (record t { version = version }) }
+{}
+
+/// However many rows are moved, and in whatever order, the rows of both schemas stand for the same world
+/// after each of them.
+pub fn moved_rows_stay()
+    ensures world { (first : Stage) (stages : List Stage) (last : Stage) → AreBoth first.old first.tables
+        → MovesThrough first stages last
+        → world_of_both last.old last.tables ≡ world_of_both first.old first.tables }
+    ensures both { (first : Stage) (stages : List Stage) (last : Stage) → AreBoth first.old first.tables
+        → MovesThrough first stages last → AreBoth last.old last.tables }
+{}
+
+/// The tables of schema 1 become those of schema 2, row by row: they stand for the world as it was.
+pub fn a_migration_keeps_the_world()
+    ensures world { (old : OldTables) (t u : Tables) (stages : List Stage) (version : List Row)
+        → IsOldRegistry old t
+        → MovesThrough (record { old = old; tables = emptied t }) stages
+        (record { old = no_old_tables; tables = u })
+        → IsOfSchemaTwo version → world_of (record u { version = version }) ≡ old_world old t }
+    ensures registry { (old : OldTables) (t u : Tables) (stages : List Stage) (version : List Row)
+        → IsOldRegistry old t
+        → MovesThrough (record { old = old; tables = emptied t }) stages
+        (record { old = no_old_tables; tables = u })
+        → IsOfSchemaTwo version → IsRegistry (record u { version = version }) }
 {}
