@@ -8,3 +8,4 @@ pub mod SessionMoves
 pub mod Free
 pub mod Listed
 pub mod Ends
+pub mod WorkedMoves

@@ -3,3 +3,4 @@ pub mod OldWorld
 pub mod Both
 pub mod Moves
 pub mod Listed
+pub mod Worked
