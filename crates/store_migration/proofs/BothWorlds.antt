@@ -16,7 +16,7 @@ use Rattle.store_world.specs.Changes.{Grow}
 use Rattle.store_world.proofs.Contents.{Same, blobs_kept, manifests_kept, sessions_kept, contents_grown}
 use Rattle.store_migration.specs.OldTables.{OldTables}
 use Rattle.store_migration.specs.OldWorld.{old_blobs, old_manifests, old_sessions}
-use Rattle.store_migration.specs.Both.{both_blobs, both_manifests, both_sessions, both_repo_in, world_of_both, AreReady, AreBoth}
+use Rattle.store_migration.specs.Both.{both_blobs, both_manifests, both_sessions, both_repo_in, world_of_both, IsRegistryOnceTwo, AreBoth}
 use Rattle.store_migration.proofs.Merged.{both_stay}
 
 -- ---- name by name
@@ -46,7 +46,7 @@ module _ (olds news : OldTables) (t : Tables) (contents : ℤ → Option Text) (
 -- ---- contents come
 
 -- the registry that the tables are once their version is written
-pub once_two : (t : Tables) → AreReady t → IsRegistry (record t { version = (Null ∷ Int (pos 2) ∷ []) ∷ [] })
+pub once_two : (t : Tables) → IsRegistryOnceTwo t → IsRegistry (record t { version = (Null ∷ Int (pos 2) ∷ []) ∷ [] })
 once_two t are = are ((Null ∷ Int (pos 2) ∷ []) ∷ []) refl
 
 abbrev pub grown : Tables → (ℤ → Option Text) → Tables

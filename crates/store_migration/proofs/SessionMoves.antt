@@ -28,7 +28,7 @@ use Rattle.store_world.proofs.SessionRows.{number_came, has_came, has_changed, n
 use Rattle.store_world.proofs.SessionsKept.{with_sessions_rows, registry_appended}
 use Rattle.store_migration.specs.OldTables.{OldTables, IsOldSessionRow, WasGiven}
 use Rattle.store_migration.specs.OldWorld.{old_session_entry, old_sessions}
-use Rattle.store_migration.specs.Both.{both_sessions, world_of_both, AreUnmoved, AreReady, AreBoth}
+use Rattle.store_migration.specs.Both.{both_sessions, world_of_both, AreUnmoved, IsRegistryOnceTwo, AreBoth}
 use Rattle.store_migration.specs.Moves.{LeftEmpty, Filled, SessionMoved}
 use Rattle.store_migration.proofs.Merged.{both_stay, both_moved}
 use Rattle.store_migration.proofs.BothWorlds.{grown, once_two, worlds_agree, world_grown, both_grown}
@@ -131,7 +131,7 @@ module _ (old : OldTables) (t : Tables) (name : Text) (number : ℕ) (bytes : Te
   no_piece = no_pieces t.uploads t.pieces name number (once_two t both.news).agree.pieces_open free
 
   -- what is kept true of the rest
-  left_both : (pieces rows : List Row) → AreReady (record t { pieces = pieces; uploads = rows }) → AreUnmoved same_session (without (of_session name number) old.sessions) rows
+  left_both : (pieces rows : List Row) → IsRegistryOnceTwo (record t { pieces = pieces; uploads = rows }) → AreUnmoved same_session (without (of_session name number) old.sessions) rows
       → AreBoth (left old t name number bytes row found is) (record t { pieces = pieces; uploads = rows })
   left_both pieces rows ready unmoved = record {
     version = both.version;
@@ -153,7 +153,7 @@ module _ (old : OldTables) (t : Tables) (name : Text) (number : ℕ) (bytes : Te
   opened_unmoved : AreUnmoved same_session (without (of_session name number) old.sessions) uploads
   opened_unmoved = unmoved_left same_session (of_session name number) old.sessions t.uploads uploads (upload_columns name number) c (λ r. session_turned name number r) both.sessions
 
-  opened_ready : AreReady (record t { uploads = uploads })
+  opened_ready : IsRegistryOnceTwo (record t { uploads = uploads })
   opened_ready version two = registry_reopened (record t { version = version }) name number uploads c free (both.news version two) repo given
 
   -- ---- it is empty
@@ -192,7 +192,7 @@ module _ (old : OldTables) (t : Tables) (name : Text) (number : ℕ) (bytes : Te
     end : 0 + length bytes ≡ length bytes
     end = omega arith
 
-    filled_ready : AreReady (record t { pieces = pieces; uploads = sized })
+    filled_ready : IsRegistryOnceTwo (record t { pieces = pieces; uploads = sized })
     filled_ready version two = subst (λ n. IsRegistry (record t { version = version; pieces = pieces; uploads = changed (of_session name number) (with_size n) uploads })) end
         (registry_appended (record t { version = version; uploads = uploads }) name number 0 bytes id pieces (opened_ready version two) reach (reopened_there t name number uploads c free) more held d)
 

@@ -9,7 +9,7 @@ use Rattle.store_world.specs.Tables.{Tables}
 use Rattle.store_world.specs.World.{tags_of, grants_of}
 use Rattle.store_migration.specs.OldTables.{OldTables, IsOldRegistry}
 use Rattle.store_migration.specs.OldWorld.{old_blobs, old_manifests, old_sessions, old_repo_in, old_world}
-use Rattle.store_migration.specs.Both.{both_repo_in, world_of_both, AreBoth, AreUnmoved, AreReady, emptied}
+use Rattle.store_migration.specs.Both.{both_repo_in, world_of_both, AreBoth, AreUnmoved, IsRegistryOnceTwo, emptied}
 
 alone : (old : OldTables) (t : Tables) (r : Row) → both_repo_in old (emptied t) r ≡ old_repo_in old t r
 alone old t r = λ i. record {
@@ -30,7 +30,7 @@ none_moved : (same : Row → Row → Bool) (rows : List Row) → AreUnmoved same
 none_moved same [] = tt
 none_moved same (r ∷ rs) = (refl, none_moved same rs)
 
-ready : (old : OldTables) (t : Tables) → IsOldRegistry old t → AreReady (emptied t)
+ready : (old : OldTables) (t : Tables) → IsOldRegistry old t → IsRegistryOnceTwo (emptied t)
 ready old t is = λ version two. record {
   tables = record {
     repos = is.repos;

@@ -56,8 +56,9 @@ world_of_both old t = record {
 -- ---- what is kept true while rows are moved
 
 -- the tables of schema 2 are a registry's as soon as the version says so, which is written last
-abbrev pub AreReady : Tables → Type 0
-AreReady t = (version : List Row) → IsOfSchemaTwo version → IsRegistry (record t { version = version })
+abbrev pub IsRegistryOnceTwo : Tables → Type 0
+IsRegistryOnceTwo t =
+    (version : List Row) → IsOfSchemaTwo version → IsRegistry (record t { version = version })
 
 -- no row of schema 2 has the key of one of schema 1
 abbrev pub AreUnmoved : (Row → Row → Bool) → List Row → List Row → Type 0
@@ -66,7 +67,7 @@ AreUnmoved same olds news = AllByRecursion (λ r. find (same r) news ≡ None) o
 pub record AreBoth (old : OldTables) (t : Tables) : Type 0 where
   pub version : IsOfSchemaOne t.version
   pub olds : AreOldTables t.repos old
-  pub news : AreReady t
+  pub news : IsRegistryOnceTwo t
   pub blobs : AreUnmoved same_key old.blobs t.blobs
   pub manifests : AreUnmoved same_key old.manifests t.manifests
   pub sessions : AreUnmoved same_session old.sessions t.uploads
