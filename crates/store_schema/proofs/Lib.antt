@@ -10,3 +10,6 @@ pub mod Children
 pub mod Pages
 pub mod MakeLemmas
 pub mod Refusals
+pub mod Creations
+pub mod BesideLemmas
+pub mod BesideTexts

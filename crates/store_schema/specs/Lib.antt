@@ -3,4 +3,5 @@ pub mod Rows
 pub mod Layout
 pub mod Making
 pub mod Ordered
+pub mod Beside
 pub mod Commands

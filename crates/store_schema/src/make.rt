@@ -1,5 +1,5 @@
 //! The making of the tables.
-ghost use Rattle.std.specs.Prelude.{◌≡◌, ℕ, IsTrue, OnOk, IfErr};
+ghost use Rattle.std.specs.Prelude.{◌≡◌, ◌∷◌, [], ℕ, List, IsTrue, OnOk, IfErr};
 ghost use Rattle.sqlite.specs.State.{HasCleanDisk, KeepsCommit, Survives};
 ghost use Rattle.sqlite.specs.Held.{state};
 ghost use Rattle.sqlite.specs.Change.{created, indexed};
@@ -8,6 +8,7 @@ ghost use Rattle.sqlite.specs.Table.{Table};
 ghost use Rattle.sqlite.specs.Schema.{Schema};
 ghost use Rattle.store_schema.specs.Schema.{no_schema, fresh_schema};
 ghost use Rattle.store_schema.specs.Making.{MakesTable, MakesIndex, IsEmptyWith, IsOther, shared_tables, linked_tables};
+ghost use Rattle.store_schema.specs.Beside.{Comes, MakesNamed, shared_names, link_names, upload_names, registry_names};
 
 use sqlite::{Alter, Error, Transaction};
 
@@ -35,6 +36,10 @@ fn create<S: Alter>(tx: &mut Transaction<'_, S>, text: &str) -> Result<(), Error
         (λ e. (schema : Schema) (at : ℕ) (table : Table) (index : Index)
         → MakesIndex schema text.now at table index
         → IsEmptyWith schema (state S.Store tx.old.conn.now).now → IsOther e) }
+    ensures comes { HasCleanDisk (state S.Store tx.new.conn.now)
+        → OnOk result
+        ((name : List ℕ) → MakesNamed text.now name
+        → Comes (name ∷ []) (state S.Store tx.old.conn.now).now (state S.Store tx.new.conn.now).now) }
     ensures inside { HasCleanDisk (state S.Store tx.new.conn.now)
         → OnOk result (IsTrue (state S.Store tx.new.conn.now).in_transaction) }
     ensures kept { HasCleanDisk (state S.Store tx.new.conn.now)
@@ -55,6 +60,9 @@ fn make_shared<S: Alter>(tx: &mut Transaction<'_, S>) -> Result<(), Error>
         → OnOk result (IsEmptyWith shared_tables (state S.Store tx.new.conn.now).now) }
     ensures unmade { HasCleanDisk (state S.Store tx.new.conn.now)
         → IsEmptyWith no_schema (state S.Store tx.old.conn.now).now → IfErr result IsOther }
+    ensures comes { HasCleanDisk (state S.Store tx.new.conn.now)
+        → OnOk result
+        (Comes shared_names (state S.Store tx.old.conn.now).now (state S.Store tx.new.conn.now).now) }
     ensures inside { HasCleanDisk (state S.Store tx.new.conn.now)
         → OnOk result (IsTrue (state S.Store tx.new.conn.now).in_transaction) }
     ensures kept { HasCleanDisk (state S.Store tx.new.conn.now)
@@ -94,6 +102,9 @@ fn make_links<S: Alter>(tx: &mut Transaction<'_, S>) -> Result<(), Error>
         → OnOk result (IsEmptyWith linked_tables (state S.Store tx.new.conn.now).now) }
     ensures unmade { HasCleanDisk (state S.Store tx.new.conn.now)
         → IsEmptyWith shared_tables (state S.Store tx.old.conn.now).now → IfErr result IsOther }
+    ensures comes { HasCleanDisk (state S.Store tx.new.conn.now)
+        → OnOk result
+        (Comes link_names (state S.Store tx.old.conn.now).now (state S.Store tx.new.conn.now).now) }
     ensures inside { HasCleanDisk (state S.Store tx.new.conn.now)
         → OnOk result (IsTrue (state S.Store tx.new.conn.now).in_transaction) }
     ensures kept { HasCleanDisk (state S.Store tx.new.conn.now)
@@ -129,6 +140,9 @@ fn make_uploads<S: Alter>(tx: &mut Transaction<'_, S>) -> Result<(), Error>
         → OnOk result (IsEmptyWith fresh_schema (state S.Store tx.new.conn.now).now) }
     ensures unmade { HasCleanDisk (state S.Store tx.new.conn.now)
         → IsEmptyWith linked_tables (state S.Store tx.old.conn.now).now → IfErr result IsOther }
+    ensures comes { HasCleanDisk (state S.Store tx.new.conn.now)
+        → OnOk result
+        (Comes upload_names (state S.Store tx.old.conn.now).now (state S.Store tx.new.conn.now).now) }
     ensures inside { HasCleanDisk (state S.Store tx.new.conn.now)
         → OnOk result (IsTrue (state S.Store tx.new.conn.now).in_transaction) }
     ensures kept { HasCleanDisk (state S.Store tx.new.conn.now)
@@ -160,8 +174,8 @@ fn make_uploads<S: Alter>(tx: &mut Transaction<'_, S>) -> Result<(), Error>
 }
 
 /// Makes the tables and indexes of a registry. In an empty database they are the schema, with no row.
-/// What else the database has stays; where one of their names is taken, or another failure comes, the
-/// caller gives the transaction up.
+/// Whatever the database has, all that it had stays, and none of their names was taken; where one is, or
+/// another failure comes, the caller gives the transaction up.
 pub fn make_tables<S: Alter>(tx: &mut Transaction<'_, S>) -> Result<(), Error>
     requires { HasCleanDisk (state S.Store tx.old.conn.now)
         → IsTrue (state S.Store tx.old.conn.now).in_transaction }
@@ -170,6 +184,9 @@ pub fn make_tables<S: Alter>(tx: &mut Transaction<'_, S>) -> Result<(), Error>
         → OnOk result (IsEmptyWith fresh_schema (state S.Store tx.new.conn.now).now) }
     ensures unmade { HasCleanDisk (state S.Store tx.new.conn.now)
         → IsEmptyWith no_schema (state S.Store tx.old.conn.now).now → IfErr result IsOther }
+    ensures comes { HasCleanDisk (state S.Store tx.new.conn.now)
+        → OnOk result
+        (Comes registry_names (state S.Store tx.old.conn.now).now (state S.Store tx.new.conn.now).now) }
     ensures inside { HasCleanDisk (state S.Store tx.new.conn.now)
         → OnOk result (IsTrue (state S.Store tx.new.conn.now).in_transaction) }
     ensures kept { HasCleanDisk (state S.Store tx.new.conn.now)

@@ -4,6 +4,10 @@ use Rattle.sqlite.specs.Held.{state}
 use Rattle.store_schema.proofs.Texts.{makes_uploads, makes_pieces, makes_sha256_index, makes_subject_index}
 use Rattle.store_schema.proofs.MakeLemmas.{then_indexed}
 use Rattle.store_schema.proofs.Refusals.{if_passed, then_unindexed}
+use Rattle.std.proofs.Common.{◌∷◌, []}
+use Rattle.store_schema.specs.Schema.{uploads_table, pieces_table, sha256_index, subject_index}
+use Rattle.store_schema.proofs.BesideLemmas.{comes_then, more_comes, then_comes}
+use Rattle.store_schema.proofs.BesideTexts.{names_uploads, names_pieces, names_sha256, names_subject}
 use Rattle.store_schema.proofs.make.make_uploads.Goals as goal
 
 pub returns-clause-made : goal.returns-clause-made
@@ -34,3 +38,14 @@ returns-clause-unmade g c clean none =
     let two : HasCleanDisk (state g.S.Store c.create-2.new.tx.conn.now) = omega (arith, c.create-3.ensures.survives.clean) in
     let one : HasCleanDisk (state g.S.Store c.create.new.tx.conn.now) = omega (arith, c.create-2.ensures.survives.clean) in
     then_unindexed _ _ _ _ _ (state g.S.Store c.create-3.new.tx.conn.now).now c.create-4.result makes_subject_index (c.create-4.ensures.unindexed clean) (c.in_ok-create-3.ensures.indexed three _ _ _ _ makes_sha256_index (c.in_ok-create-2.ensures.made two _ _ makes_pieces (c.in_ok-create.ensures.made one _ _ makes_uploads none)))
+
+pub returns-clause-comes : goal.returns-clause-comes
+returns-clause-comes g c clean =
+    let three : HasCleanDisk (state g.S.Store c.create-3.new.tx.conn.now) = omega (arith, c.create-4.ensures.survives.clean) in
+    let two : HasCleanDisk (state g.S.Store c.create-2.new.tx.conn.now) = omega (arith, c.create-3.ensures.survives.clean) in
+    let one : HasCleanDisk (state g.S.Store c.create.new.tx.conn.now) = omega (arith, c.create-2.ensures.survives.clean) in
+    let upto_1 = c.in_ok-create.ensures.comes one _ names_uploads in
+    let upto_2 = comes_then (state g.S.Store c.args.tx.now.conn.now).now (state g.S.Store c.create.new.tx.conn.now).now (state g.S.Store c.create-2.new.tx.conn.now).now (uploads_table.name ∷ []) (pieces_table.name ∷ []) upto_1 (c.in_ok-create-2.ensures.comes two _ names_pieces) in
+    let upto_3 = comes_then (state g.S.Store c.args.tx.now.conn.now).now (state g.S.Store c.create-2.new.tx.conn.now).now (state g.S.Store c.create-3.new.tx.conn.now).now (uploads_table.name ∷ pieces_table.name ∷ []) (sha256_index.name ∷ []) upto_2 (c.in_ok-create-3.ensures.comes three _ names_sha256) in
+    more_comes (state g.S.Store c.args.tx.now.conn.now).now (state g.S.Store c.create-3.new.tx.conn.now).now (state g.S.Store c.create-4.new.tx.conn.now).now (uploads_table.name ∷ pieces_table.name ∷ sha256_index.name ∷ []) (subject_index.name ∷ []) c.create-4.result upto_3
+    (then_comes _ _ (state g.S.Store c.create-3.new.tx.conn.now).now (state g.S.Store c.create-4.new.tx.conn.now).now c.create-4.result names_subject (c.create-4.ensures.comes clean))

@@ -1,0 +1,17 @@
+use Rattle.std.proofs.Common.{◌++◌, arith}
+use Rattle.sqlite.specs.State.{HasCleanDisk}
+use Rattle.sqlite.specs.Held.{state}
+use Rattle.store_schema.specs.Beside.{shared_names, link_names, upload_names}
+use Rattle.store_schema.proofs.BesideLemmas.{more_comes}
+use Rattle.store_schema.proofs.make.make_tables.Goals as goal
+
+pub returns-clause-comes : goal.returns-clause-comes
+returns-clause-comes g c clean =
+    let two : HasCleanDisk (state g.S.Store c.make_links.new.tx.conn.now) = omega (arith, c.make_uploads.ensures.survives.clean) in
+    let one : HasCleanDisk (state g.S.Store c.make_shared.new.tx.conn.now) = omega (arith, c.make_links.ensures.survives.clean) in
+    let a = (state g.S.Store c.args.tx.now.conn.now).now in
+    let b = (state g.S.Store c.make_shared.new.tx.conn.now).now in
+    let d = (state g.S.Store c.make_links.new.tx.conn.now).now in
+    let e = (state g.S.Store c.make_uploads.new.tx.conn.now).now in
+    more_comes a b e shared_names (link_names ++ upload_names) c.make_uploads.result (c.in_ok-make_shared.ensures.comes one)
+    (more_comes b d e link_names upload_names c.make_uploads.result (c.in_ok-make_links.ensures.comes two) (c.make_uploads.ensures.comes clean))
