@@ -1,12 +1,12 @@
 -- What is there before the tables are made stays.
-use Rattle.std.proofs.Common.{◌≡◌, ℕ, Bool, true, false, List, [], ◌∷◌, ◌++◌, None, Some, Ok, Err, Result, OnOk, inl, inr, refl, sym, ap, subst, ◌∙◌, append_assoc, append-nil}
-use Rattle.std.specs.Prelude.{◌+◌, ◌||◌, Option, is_some, slice_get, cond}
-use Rattle.std.specs.List.{position_from}
+use Rattle.std.proofs.Common.{◌≡◌, ℕ, zero, suc, Bool, true, false, List, [], ◌∷◌, ◌++◌, None, Some, Ok, Err, Result, OnOk, inl, inr, refl, sym, ap, subst, ◌∙◌, append_assoc, append-nil, arith}
+use Rattle.std.specs.Prelude.{◌≢◌, ◌<◌, ◌+◌, ◌||◌, Option, is_some, slice_get, cond}
+use Rattle.std.specs.List.{AllByRecursion, position_from}
 use Rattle.std.proofs.lemmas.Bool.{cases_Bool}
 use Rattle.sqlite.specs.Schema.{Schema}
 use Rattle.sqlite.specs.Table.{Table}
 use Rattle.sqlite.specs.Tree.{Trees}
-use Rattle.sqlite.specs.Change.{KeepsRows}
+use Rattle.sqlite.specs.Change.{created, next_tree, KeepsRows}
 use Rattle.sqlite.specs.Rows.{Part}
 use Rattle.sqlite.specs.Command.TheVariants.{CreateTable, CreateIndex}
 use Rattle.sqlite.specs.Does.{Tally, AtPlace, lacks_sequence}
@@ -17,8 +17,10 @@ use Rattle.sqlite.proofs.Callers.{command_of, statement_of, runs_as}
 use Rattle.sqlite_catalog.specs.Calls.{CreatesTable, CreatesIndex}
 use Rattle.sqlite_catalog.specs.Change.{is_used}
 use Rattle.sqlite_schema.specs.Names.{same_name}
-use Rattle.store_schema.specs.Beside.{IsFront, Keeps, AreFree, Comes, MakesNamed}
-use Rattle.store_schema.proofs.Creations.{understood_creation, table_is_named, index_is_named}
+use Rattle.store_schema.specs.Beside.{IsFront, Keeps, AreFree, Comes, IsNewBeside, MakesNamed, MakesOne}
+use Rattle.sqlite_catalog.proofs.StepLemmas.{table_below}
+use Rattle.sqlite_rules.specs.Lists.{Has}
+use Rattle.store_schema.proofs.Creations.{understood_creation, table_is_named, index_is_named, no_table_index}
 use Rattle.store_schema.proofs.Writes.{went, same_value}
 
 -- ---- one thing after the other
@@ -83,10 +85,68 @@ all_free : (schema : Schema) (xs ys : List (List ℕ)) → AreFree schema xs →
 all_free schema [] ys h k = k
 all_free schema (x ∷ xs) ys h k = (h.0, all_free schema xs ys h.1 k)
 
-pub comes_then : (a b c : Database) (xs ys : List (List ℕ)) → Comes xs a b → Comes ys b c → Comes (xs ++ ys) a c
-comes_then a b c xs ys h k = record {
+-- ---- a table that is new stays so
+
+position_front : {A : Type 0} (p : A → Bool) (n at : ℕ) (xs more : List A) → position_from p n xs ≡ Some at → position_from p n (xs ++ more) ≡ Some at
+position_front p n at [] more found = absurd cc
+position_front p n at (x ∷ xs) more found = go (p x) (position_front p (n + 1) at xs more) found
+  where
+    go : (b : Bool) → (position_from p (n + 1) xs ≡ Some at → position_from p (n + 1) (xs ++ more) ≡ Some at)
+        → cond b (Some n) (position_from p (n + 1) xs) ≡ Some at → cond b (Some n) (position_from p (n + 1) (xs ++ more)) ≡ Some at
+    go true rest e = e
+    go false rest e = rest e
+
+get_front : {A : Type 0} (xs more : List A) (at : ℕ) (x : A) → slice_get xs at ≡ Some x → slice_get (xs ++ more) at ≡ Some x
+get_front [] more at x found = absurd cc
+get_front (y ∷ ys) more zero x found = found
+get_front (y ∷ ys) more (suc at) x found = get_front ys more at x found
+
+kept_at : (tables : List Table) (a b : Trees) (at : ℕ) (t : Table) → KeepsRows tables a b → slice_get tables at ≡ Some t → b t.tree ≡ a t.tree
+kept_at [] a b at t kept found = absurd cc
+kept_at (x ∷ xs) a b zero t kept found = let same : x ≡ t = cc in subst (λ (y : Table). b y.tree ≡ a y.tree) same kept.0
+kept_at (x ∷ xs) a b (suc at) t kept found = kept_at xs a b at t kept.1 found
+
+new_stays : (before : List Table) (b c : Database) (t : Table) → Keeps b c → IsNewBeside before b t → IsNewBeside before c t
+new_stays before b c t kept it = record {
+  at = it.at;
+  named = subst (λ ts. position_from (λ x. same_name x.name t.name) 0 ts ≡ Some it.at) (sym kept.tables.1) (position_front (λ x. same_name x.name t.name) 0 it.at b.schema.tables kept.tables.0 it.named);
+  tree = it.tree;
+  place = subst (λ ts. slice_get ts it.at ≡ Some (record t { tree = it.tree })) (sym kept.tables.1) (get_front b.schema.tables kept.tables.0 it.at (record t { tree = it.tree }) it.place);
+  empty = kept_at b.schema.tables b.trees c.trees it.at (record t { tree = it.tree }) kept.rows it.place ∙ it.empty;
+  apart = it.apart;
+}
+
+all_stay : (before : List Table) (b c : Database) (ts : List Table) → Keeps b c → AllByRecursion (IsNewBeside before b) ts → AllByRecursion (IsNewBeside before c) ts
+all_stay before b c [] kept h = tt
+all_stay before b c (t ∷ ts) kept h = (new_stays before b c t kept h.0, all_stay before b c ts kept h.1)
+
+apart_front : (xs more : List Table) (tree : ℕ) → AllByRecursion (λ (t : Table). t.tree ≢ tree) (xs ++ more) → AllByRecursion (λ (t : Table). t.tree ≢ tree) xs
+apart_front [] more tree h = tt
+apart_front (x ∷ xs) more tree h = (h.0, apart_front xs more tree h.1)
+
+all_earlier : (before after : List Table) (c : Database) (ts : List Table) → IsFront before after → AllByRecursion (IsNewBeside after c) ts → AllByRecursion (IsNewBeside before c) ts
+all_earlier before after c [] front h = tt
+all_earlier before after c (t ∷ ts) front h = (
+  record {
+    at = h.0.at;
+    named = h.0.named;
+    tree = h.0.tree;
+    place = h.0.place;
+    empty = h.0.empty;
+    apart = apart_front before front.0 h.0.tree (subst (λ l. AllByRecursion (λ (x : Table). x.tree ≢ h.0.tree) l) front.1 h.0.apart);
+  },
+  all_earlier before after c ts front h.1,
+)
+
+all_both : (P : Table → Type 0) (ts us : List Table) → AllByRecursion P ts → AllByRecursion P us → AllByRecursion P (ts ++ us)
+all_both P [] us h k = k
+all_both P (t ∷ ts) us h k = (h.0, all_both P ts us h.1 k)
+
+pub comes_then : (a b c : Database) (xs ys : List (List ℕ)) (ts us : List Table) → Comes xs ts a b → Comes ys us b c → Comes (xs ++ ys) (ts ++ us) a c
+comes_then a b c xs ys ts us h k = record {
   free = all_free a.schema xs ys h.free (all_before a b ys h.kept k.free);
   kept = keeps_then a b c h.kept k.kept;
+  made = all_both (IsNewBeside a.schema.tables c) ts us (all_stay a.schema.tables b c ts k.kept h.made) (all_earlier a.schema.tables b.schema.tables c us h.kept.tables k.made);
 }
 
 -- ---- a statement that makes a table or an index
@@ -107,12 +167,52 @@ index_kept db after table text it = record {
   rows = it.rows;
 }
 
+-- the table that comes last, behind none of its name
+position_last : (p : Table → Bool) (n : ℕ) (xs : List Table) (y : Table) → is_some (position_from p n xs) ≡ false → p y ≡ true
+    → (k : ℕ) × (position_from p n (xs ++ y ∷ []) ≡ Some (n + k)) × (slice_get (xs ++ y ∷ []) k ≡ Some y)
+position_last p n [] y none is = (0, rw is (ap Some (omega arith)), refl)
+position_last p n (x ∷ xs) y none is = go (p x) (position_last p (n + 1) xs y) none
+  where
+    go : (b : Bool) → (is_some (position_from p (n + 1) xs) ≡ false → p y ≡ true → (k : ℕ) × (position_from p (n + 1) (xs ++ y ∷ []) ≡ Some (n + 1 + k)) × (slice_get (xs ++ y ∷ []) k ≡ Some y))
+        → is_some (cond b (Some n) (position_from p (n + 1) xs)) ≡ false
+        → (k : ℕ) × (cond b (Some n) (position_from p (n + 1) (xs ++ y ∷ [])) ≡ Some (n + k)) × (slice_get ((x ∷ xs) ++ y ∷ []) k ≡ Some y)
+    go true rest e = absurd cc
+    go false rest e = let it = rest e is in (suc it.0, it.1 ∙ ap Some (omega arith), it.2)
+
+first_none : (a b c : Bool) → (a || b || c) ≡ false → a ≡ false
+first_none false b c e = refl
+first_none true b c e = absurd cc
+
+below_all : (ts : List Table) (n : ℕ) → ((t : Table) → Has ts t → t.tree < n) → AllByRecursion (λ (t : Table). t.tree ≢ n) ts
+below_all [] n below = tt
+below_all (t ∷ ts) n below = ((λ same. let low = below t (inl refl) in absurd (omega (arith, same, low))), below_all ts n (λ x has. below x (inr has)))
+
+table_new : (db after : Database) (text : List ℕ) (table : Table) (it : CreatesTable db.schema text db.trees after.schema after.trees) → it.table ≡ table → same_name table.name table.name ≡ true
+    → IsNewBeside db.schema.tables after table
+table_new db after text table it same itself =
+    let new : Table = record table { tree = next_tree db.schema } in
+    let free = subst (λ (t : Table). is_used db.schema t.name ≡ false) same it.free in
+    let last = position_last (λ x. same_name x.name table.name) 0 db.schema.tables new (first_none _ _ _ free) itself in
+    let tables : after.schema.tables ≡ db.schema.tables ++ new ∷ [] = ap (λ (s : Schema). s.tables) (it.is ∙ ap (created db.schema) same) in
+    record {
+      at = last.0;
+      named = subst (λ ts. position_from (λ x. same_name x.name table.name) 0 ts ≡ Some last.0) (sym tables) (last.1 ∙ ap Some (omega arith));
+      tree = next_tree db.schema;
+      place = subst (λ ts. slice_get ts last.0 ≡ Some new) (sym tables) last.2;
+      empty = it.empty;
+      apart = below_all db.schema.tables (next_tree db.schema) (table_below db.schema);
+    }
+
 at_some : {X A : Type 0} (P : X → Part A) (o : Option X) (a : A) → AtPlace P o (Ok a) → (x : X) × P x (Ok a)
 at_some P None a h = absurd (let e = h in cc)
 at_some P (Some x) a h = (x, h)
 
+-- a table that is known to be made
+abbrev Made : List ℕ → Database → Database → Type 0
+Made text old new = (table : Table) → MakesOne text table → IsNewBeside old.schema.tables new table
+
 module _ (text name : List ℕ) (old new : State) (count : ℕ) (named : MakesNamed text name) where
-  table_comes : Writes old new None CreateTable text [] count → Comes (name ∷ []) old.now new.now
+  table_comes : Writes old new None CreateTable text [] count → Comes (name ∷ []) [] old.now new.now × Made text old.now new.now
   table_comes w =
       let all = went w.changed in
       let first = went all.1 in
@@ -122,24 +222,31 @@ module _ (text name : List ℕ) (old new : State) (count : ℕ) (named : MakesNa
         | inl lacks ↦ table_kept first.0 all.0 _ (rw lacks at first.2)
         | inr none ↦ subst (Keeps first.0) (sym (same_value (rw none at first.2))) (keeps_all first.0)
       ] in
-      let kept = keeps_then old.now first.0 all.0 (table_kept old.now first.0 text made) counted in
-      record {
-        free = (subst (λ n. is_used old.now.schema n ≡ false) (table_is_named text name made.table named made.defined) made.free, tt);
-        kept = subst (Keeps old.now) (sym now) kept;
-      }
+      let kept = keeps_then old.now first.0 all.0 (table_kept old.now first.0 text made) counted in (
+        record {
+          free = (subst (λ n. is_used old.now.schema n ≡ false) (table_is_named text name made.table named made.defined) made.free, tt);
+          kept = subst (Keeps old.now) (sym now) kept;
+          made = tt;
+        },
+        (λ table one. subst (λ (d : Database). IsNewBeside old.now.schema.tables d table) (sym now)
+            (new_stays old.now.schema.tables first.0 all.0 table counted (table_new old.now first.0 text table made (same_value (sym made.defined ∙ one.defined)) one.itself))),
+      )
 
-  index_comes : (at : ℕ) → Writes old new None (CreateIndex at) text [] count → Comes (name ∷ []) old.now new.now
+  index_comes : (at : ℕ) → Writes old new None (CreateIndex at) text [] count → Comes (name ∷ []) [] old.now new.now × Made text old.now new.now
   index_comes at w =
       let here = at_some _ (slice_get old.now.schema.tables at) (w.tally, new.now) w.changed in
       let all = went here.1 in
       let made = all.1 in
-      let now : new.now ≡ all.0 = ap (λ (p : Tally × Database). p.1) (same_value all.2) in
-      record {
-        free = (subst (λ n. is_used old.now.schema n ≡ false) (index_is_named text name here.0 made.index named made.defined) made.free, tt);
-        kept = subst (Keeps old.now) (sym now) (index_kept old.now all.0 here.0 text made);
-      }
+      let now : new.now ≡ all.0 = ap (λ (p : Tally × Database). p.1) (same_value all.2) in (
+        record {
+          free = (subst (λ n. is_used old.now.schema n ≡ false) (index_is_named text name here.0 made.index named made.defined) made.free, tt);
+          kept = subst (Keeps old.now) (sym now) (index_kept old.now all.0 here.0 text made);
+          made = tt;
+        },
+        (λ table one. absurd (no_table_index text name here.0 table made.index named one.defined made.defined)),
+      )
 
-  pub comes : Executes text [] old new (Ok count) → Comes (name ∷ []) old.now new.now
+  pub comes : Executes text [] old new (Ok count) → Comes (name ∷ []) [] old.now new.now × Made text old.now new.now
   unfolding ExecutesIn
   comes h =
       let it = understood_creation old.now.schema text name h.0 named h.1.is in
@@ -154,11 +261,22 @@ module _ (text name : List ℕ) (old new : State) (count : ℕ) (named : MakesNa
 
 -- ---- the same of a call's result
 
-pub then_comes : {A E : Type 0} (text name : List ℕ) (old new : Database) (r : Result A E) → MakesNamed text name
-    → OnOk r ((name : List ℕ) → MakesNamed text name → Comes (name ∷ []) old new) → OnOk r (Comes (name ∷ []) old new)
-then_comes text name old new (Ok x) named h = h name named
-then_comes text name old new (Err e) named h = tt
+-- the text makes this table, or an index
+pub one_comes : (text : List ℕ) (table : Table) (old new : Database) → MakesOne text table
+    → ((name : List ℕ) → MakesNamed text name → Comes (name ∷ []) [] old new × ((t : Table) → MakesOne text t → IsNewBeside old.schema.tables new t)) → Comes (table.name ∷ []) (table ∷ []) old new
+one_comes text table old new one h =
+    let it = h table.name one.named in record { free = it.0.free; kept = it.0.kept; made = (it.1 table one, tt) }
 
-pub more_comes : {A E : Type 0} (a b c : Database) (xs ys : List (List ℕ)) (r : Result A E) → Comes xs a b → OnOk r (Comes ys b c) → OnOk r (Comes (xs ++ ys) a c)
-more_comes a b c xs ys (Ok x) h k = comes_then a b c xs ys h k
-more_comes a b c xs ys (Err e) h k = tt
+pub then_one : {A E : Type 0} (text : List ℕ) (table : Table) (old new : Database) (r : Result A E) → MakesOne text table
+    → OnOk r ((name : List ℕ) → MakesNamed text name → Comes (name ∷ []) [] old new × ((t : Table) → MakesOne text t → IsNewBeside old.schema.tables new t)) → OnOk r (Comes (table.name ∷ []) (table ∷ []) old new)
+then_one text table old new (Ok x) one h = one_comes text table old new one h
+then_one text table old new (Err e) one h = tt
+
+pub then_index : {A E : Type 0} (text name : List ℕ) (old new : Database) (r : Result A E) → MakesNamed text name
+    → OnOk r ((name : List ℕ) → MakesNamed text name → Comes (name ∷ []) [] old new × ((t : Table) → MakesOne text t → IsNewBeside old.schema.tables new t)) → OnOk r (Comes (name ∷ []) [] old new)
+then_index text name old new (Ok x) named h = (h name named).0
+then_index text name old new (Err e) named h = tt
+
+pub more_comes : {A E : Type 0} (a b c : Database) (xs ys : List (List ℕ)) (ts us : List Table) (r : Result A E) → Comes xs ts a b → OnOk r (Comes ys us b c) → OnOk r (Comes (xs ++ ys) (ts ++ us) a c)
+more_comes a b c xs ys ts us (Ok x) h k = comes_then a b c xs ys ts us h k
+more_comes a b c xs ys ts us (Err e) h k = tt

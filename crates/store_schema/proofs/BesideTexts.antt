@@ -4,43 +4,43 @@ use Rattle.sqlite_tied.specs.Compute.{everything}
 use Rattle.sqlite_schema.specs.Names.{same_name}
 use Rattle.store_schema.specs.Schema.{version_text, repos_text, grants_text, tags_text, contents_text, blob_links_text, manifest_links_text, uploads_text, pieces_text, subject_index_text, sha256_index_text}
 use Rattle.store_schema.specs.Schema.{version_table, repos_table, grants_table, tags_table, contents_table, blob_links_table, manifest_links_table, uploads_table, pieces_table, subject_index, sha256_index}
-use Rattle.store_schema.specs.Beside.{MakesNamed}
+use Rattle.store_schema.specs.Beside.{MakesNamed, MakesOne}
 
-pub names_version : MakesNamed version_text version_table.name
+pub one_version : MakesOne version_text version_table
 unfolding everything same_name
-names_version = (refl, refl, (refl, refl))
+one_version = record { named = (refl, refl, (refl, refl)); defined = refl; itself = refl }
 
-pub names_repos : MakesNamed repos_text repos_table.name
+pub one_repos : MakesOne repos_text repos_table
 unfolding everything same_name
-names_repos = (refl, refl, (refl, refl))
+one_repos = record { named = (refl, refl, (refl, refl)); defined = refl; itself = refl }
 
-pub names_grants : MakesNamed grants_text grants_table.name
+pub one_grants : MakesOne grants_text grants_table
 unfolding everything same_name
-names_grants = (refl, refl, (refl, refl))
+one_grants = record { named = (refl, refl, (refl, refl)); defined = refl; itself = refl }
 
-pub names_tags : MakesNamed tags_text tags_table.name
+pub one_tags : MakesOne tags_text tags_table
 unfolding everything same_name
-names_tags = (refl, refl, (refl, refl))
+one_tags = record { named = (refl, refl, (refl, refl)); defined = refl; itself = refl }
 
-pub names_contents : MakesNamed contents_text contents_table.name
+pub one_contents : MakesOne contents_text contents_table
 unfolding everything same_name
-names_contents = (refl, refl, (refl, refl))
+one_contents = record { named = (refl, refl, (refl, refl)); defined = refl; itself = refl }
 
-pub names_blob_links : MakesNamed blob_links_text blob_links_table.name
+pub one_blob_links : MakesOne blob_links_text blob_links_table
 unfolding everything same_name
-names_blob_links = (refl, refl, (refl, refl))
+one_blob_links = record { named = (refl, refl, (refl, refl)); defined = refl; itself = refl }
 
-pub names_manifest_links : MakesNamed manifest_links_text manifest_links_table.name
+pub one_manifest_links : MakesOne manifest_links_text manifest_links_table
 unfolding everything same_name
-names_manifest_links = (refl, refl, (refl, refl))
+one_manifest_links = record { named = (refl, refl, (refl, refl)); defined = refl; itself = refl }
 
-pub names_uploads : MakesNamed uploads_text uploads_table.name
+pub one_uploads : MakesOne uploads_text uploads_table
 unfolding everything same_name
-names_uploads = (refl, refl, (refl, refl))
+one_uploads = record { named = (refl, refl, (refl, refl)); defined = refl; itself = refl }
 
-pub names_pieces : MakesNamed pieces_text pieces_table.name
+pub one_pieces : MakesOne pieces_text pieces_table
 unfolding everything same_name
-names_pieces = (refl, refl, (refl, refl))
+one_pieces = record { named = (refl, refl, (refl, refl)); defined = refl; itself = refl }
 
 pub names_sha256 : MakesNamed sha256_index_text sha256_index.name
 unfolding everything same_name

@@ -13,6 +13,7 @@ use Rattle.sqlite_ast.specs.declared.CreateTable.{CreateTable}
 use Rattle.sqlite_ast.specs.declared.CreateIndex.{CreateIndex}
 use Rattle.sqlite_ast.specs.declared.Statement.{Statement}
 use Rattle.sqlite_ast.specs.declared.Statement.TheVariants as written
+use Rattle.sqlite_syntax.specs.declared.statement.Parsed.{Parsed}
 use Rattle.sqlite_resolve.specs.declared.compiled.Compiled.{Compiled}
 use Rattle.sqlite_resolve.specs.declared.error.CompileError.{CompileError}
 use Rattle.sqlite_resolve.specs.Lowering.{Checked, and_then}
@@ -165,3 +166,19 @@ index_is_named text name on i named e =
     let it = then_ok (first text) _ i e in
     let known = subst (reads_as_making text name) it.1 named in
     index_named_so name it.0.formats on it.0.statement i known.2 it.2
+
+-- a text does not make both
+neither_so : (name : List ℕ) (formats : List (List ℕ)) (on t : Table) (s : Statement) (i : Index) → makes_named name formats s → compile.table_in formats s ≡ Ok t → compile.index_in on s ≡ Ok i → ⊥
+unfolding compile.table_in compile.index_in
+neither_so name formats on t (written.CreateTable def) i it e f = failed f
+neither_so name formats on t (written.CreateIndex def) i it e f = failed e
+neither_so name formats on t _ i it e f = it
+
+pub no_table_index : (text name : List ℕ) (on t : Table) (i : Index) → MakesNamed text name → table_defined_by text ≡ Ok t → index_defined_by on text ≡ Ok i → ⊥
+unfolding table_defined_by index_defined_by
+no_table_index text name on t i named e f =
+    let it = then_ok (first text) _ t e in
+    let known = subst (reads_as_making text name) it.1 named in
+    let other = then_ok (first text) _ i f in
+    let same : other.0 ≡ it.0 = same_value (sym other.1 ∙ it.1) in
+    neither_so name it.0.formats on t it.0.statement i known.2 it.2 (subst (λ (p : Parsed). compile.index_in on p.statement ≡ Ok i) same other.2)

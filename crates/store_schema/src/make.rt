@@ -8,7 +8,7 @@ ghost use Rattle.sqlite.specs.Table.{Table};
 ghost use Rattle.sqlite.specs.Schema.{Schema};
 ghost use Rattle.store_schema.specs.Schema.{no_schema, fresh_schema};
 ghost use Rattle.store_schema.specs.Making.{MakesTable, MakesIndex, IsEmptyWith, IsOther, shared_tables, linked_tables};
-ghost use Rattle.store_schema.specs.Beside.{Comes, MakesNamed, shared_names, link_names, upload_names, registry_names};
+ghost use Rattle.store_schema.specs.Beside.{Comes, IsNewBeside, MakesNamed, MakesOne, shared_names, shared_ones, link_names, link_ones, upload_names, upload_ones, registry_names, registry_tables};
 
 use sqlite::{Alter, Error, Transaction};
 
@@ -39,7 +39,10 @@ fn create<S: Alter>(tx: &mut Transaction<'_, S>, text: &str) -> Result<(), Error
     ensures comes { HasCleanDisk (state S.Store tx.new.conn.now)
         → OnOk result
         ((name : List ℕ) → MakesNamed text.now name
-        → Comes (name ∷ []) (state S.Store tx.old.conn.now).now (state S.Store tx.new.conn.now).now) }
+        → Comes (name ∷ []) [] (state S.Store tx.old.conn.now).now (state S.Store tx.new.conn.now).now
+        × ((table : Table) → MakesOne text.now table
+        → IsNewBeside (state S.Store tx.old.conn.now).now.schema.tables (state S.Store tx.new.conn.now).now
+        table)) }
     ensures inside { HasCleanDisk (state S.Store tx.new.conn.now)
         → OnOk result (IsTrue (state S.Store tx.new.conn.now).in_transaction) }
     ensures kept { HasCleanDisk (state S.Store tx.new.conn.now)
@@ -62,7 +65,8 @@ fn make_shared<S: Alter>(tx: &mut Transaction<'_, S>) -> Result<(), Error>
         → IsEmptyWith no_schema (state S.Store tx.old.conn.now).now → IfErr result IsOther }
     ensures comes { HasCleanDisk (state S.Store tx.new.conn.now)
         → OnOk result
-        (Comes shared_names (state S.Store tx.old.conn.now).now (state S.Store tx.new.conn.now).now) }
+        (Comes shared_names shared_ones (state S.Store tx.old.conn.now).now
+        (state S.Store tx.new.conn.now).now) }
     ensures inside { HasCleanDisk (state S.Store tx.new.conn.now)
         → OnOk result (IsTrue (state S.Store tx.new.conn.now).in_transaction) }
     ensures kept { HasCleanDisk (state S.Store tx.new.conn.now)
@@ -104,7 +108,8 @@ fn make_links<S: Alter>(tx: &mut Transaction<'_, S>) -> Result<(), Error>
         → IsEmptyWith shared_tables (state S.Store tx.old.conn.now).now → IfErr result IsOther }
     ensures comes { HasCleanDisk (state S.Store tx.new.conn.now)
         → OnOk result
-        (Comes link_names (state S.Store tx.old.conn.now).now (state S.Store tx.new.conn.now).now) }
+        (Comes link_names link_ones (state S.Store tx.old.conn.now).now
+        (state S.Store tx.new.conn.now).now) }
     ensures inside { HasCleanDisk (state S.Store tx.new.conn.now)
         → OnOk result (IsTrue (state S.Store tx.new.conn.now).in_transaction) }
     ensures kept { HasCleanDisk (state S.Store tx.new.conn.now)
@@ -142,7 +147,8 @@ fn make_uploads<S: Alter>(tx: &mut Transaction<'_, S>) -> Result<(), Error>
         → IsEmptyWith linked_tables (state S.Store tx.old.conn.now).now → IfErr result IsOther }
     ensures comes { HasCleanDisk (state S.Store tx.new.conn.now)
         → OnOk result
-        (Comes upload_names (state S.Store tx.old.conn.now).now (state S.Store tx.new.conn.now).now) }
+        (Comes upload_names upload_ones (state S.Store tx.old.conn.now).now
+        (state S.Store tx.new.conn.now).now) }
     ensures inside { HasCleanDisk (state S.Store tx.new.conn.now)
         → OnOk result (IsTrue (state S.Store tx.new.conn.now).in_transaction) }
     ensures kept { HasCleanDisk (state S.Store tx.new.conn.now)
@@ -186,7 +192,8 @@ pub fn make_tables<S: Alter>(tx: &mut Transaction<'_, S>) -> Result<(), Error>
         → IsEmptyWith no_schema (state S.Store tx.old.conn.now).now → IfErr result IsOther }
     ensures comes { HasCleanDisk (state S.Store tx.new.conn.now)
         → OnOk result
-        (Comes registry_names (state S.Store tx.old.conn.now).now (state S.Store tx.new.conn.now).now) }
+        (Comes registry_names registry_tables (state S.Store tx.old.conn.now).now
+        (state S.Store tx.new.conn.now).now) }
     ensures inside { HasCleanDisk (state S.Store tx.new.conn.now)
         → OnOk result (IsTrue (state S.Store tx.new.conn.now).in_transaction) }
     ensures kept { HasCleanDisk (state S.Store tx.new.conn.now)

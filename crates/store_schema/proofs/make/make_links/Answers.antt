@@ -6,8 +6,8 @@ use Rattle.store_schema.proofs.MakeLemmas.{then_made}
 use Rattle.store_schema.proofs.Refusals.{if_passed, then_unmade}
 use Rattle.std.proofs.Common.{◌∷◌, []}
 use Rattle.store_schema.specs.Schema.{contents_table, blob_links_table, manifest_links_table}
-use Rattle.store_schema.proofs.BesideLemmas.{comes_then, more_comes, then_comes}
-use Rattle.store_schema.proofs.BesideTexts.{names_contents, names_blob_links, names_manifest_links}
+use Rattle.store_schema.proofs.BesideLemmas.{comes_then, more_comes, one_comes, then_one}
+use Rattle.store_schema.proofs.BesideTexts.{one_contents, one_blob_links, one_manifest_links}
 use Rattle.store_schema.proofs.make.make_links.Goals as goal
 
 pub returns-clause-made : goal.returns-clause-made
@@ -35,7 +35,7 @@ pub returns-clause-comes : goal.returns-clause-comes
 returns-clause-comes g c clean =
     let two : HasCleanDisk (state g.S.Store c.create-2.new.tx.conn.now) = omega (arith, c.create-3.ensures.survives.clean) in
     let one : HasCleanDisk (state g.S.Store c.create.new.tx.conn.now) = omega (arith, c.create-2.ensures.survives.clean) in
-    let upto_1 = c.in_ok-create.ensures.comes one _ names_contents in
-    let upto_2 = comes_then (state g.S.Store c.args.tx.now.conn.now).now (state g.S.Store c.create.new.tx.conn.now).now (state g.S.Store c.create-2.new.tx.conn.now).now (contents_table.name ∷ []) (blob_links_table.name ∷ []) upto_1 (c.in_ok-create-2.ensures.comes two _ names_blob_links) in
-    more_comes (state g.S.Store c.args.tx.now.conn.now).now (state g.S.Store c.create-2.new.tx.conn.now).now (state g.S.Store c.create-3.new.tx.conn.now).now (contents_table.name ∷ blob_links_table.name ∷ []) (manifest_links_table.name ∷ []) c.create-3.result upto_2
-    (then_comes _ _ (state g.S.Store c.create-2.new.tx.conn.now).now (state g.S.Store c.create-3.new.tx.conn.now).now c.create-3.result names_manifest_links (c.create-3.ensures.comes clean))
+    let upto_1 = one_comes _ _ (state g.S.Store c.args.tx.now.conn.now).now (state g.S.Store c.create.new.tx.conn.now).now one_contents (c.in_ok-create.ensures.comes one) in
+    let upto_2 = comes_then (state g.S.Store c.args.tx.now.conn.now).now (state g.S.Store c.create.new.tx.conn.now).now (state g.S.Store c.create-2.new.tx.conn.now).now (contents_table.name ∷ []) (blob_links_table.name ∷ []) (contents_table ∷ []) (blob_links_table ∷ []) upto_1 (one_comes _ _ (state g.S.Store c.create.new.tx.conn.now).now (state g.S.Store c.create-2.new.tx.conn.now).now one_blob_links (c.in_ok-create-2.ensures.comes two)) in
+    more_comes (state g.S.Store c.args.tx.now.conn.now).now (state g.S.Store c.create-2.new.tx.conn.now).now (state g.S.Store c.create-3.new.tx.conn.now).now (contents_table.name ∷ blob_links_table.name ∷ []) (manifest_links_table.name ∷ []) (contents_table ∷ blob_links_table ∷ []) (manifest_links_table ∷ []) c.create-3.result upto_2
+    (then_one _ _ (state g.S.Store c.create-2.new.tx.conn.now).now (state g.S.Store c.create-3.new.tx.conn.now).now c.create-3.result one_manifest_links (c.create-3.ensures.comes clean))

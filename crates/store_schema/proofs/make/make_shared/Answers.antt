@@ -6,8 +6,8 @@ use Rattle.store_schema.proofs.MakeLemmas.{then_made}
 use Rattle.store_schema.proofs.Refusals.{if_passed, then_unmade}
 use Rattle.std.proofs.Common.{◌∷◌, []}
 use Rattle.store_schema.specs.Schema.{version_table, repos_table, grants_table, tags_table}
-use Rattle.store_schema.proofs.BesideLemmas.{comes_then, more_comes, then_comes}
-use Rattle.store_schema.proofs.BesideTexts.{names_version, names_repos, names_grants, names_tags}
+use Rattle.store_schema.proofs.BesideLemmas.{comes_then, more_comes, one_comes, then_one}
+use Rattle.store_schema.proofs.BesideTexts.{one_version, one_repos, one_grants, one_tags}
 use Rattle.store_schema.proofs.make.make_shared.Goals as goal
 
 pub returns-clause-made : goal.returns-clause-made
@@ -44,8 +44,8 @@ returns-clause-comes g c clean =
     let three : HasCleanDisk (state g.S.Store c.create-3.new.tx.conn.now) = omega (arith, c.create-4.ensures.survives.clean) in
     let two : HasCleanDisk (state g.S.Store c.create-2.new.tx.conn.now) = omega (arith, c.create-3.ensures.survives.clean) in
     let one : HasCleanDisk (state g.S.Store c.create.new.tx.conn.now) = omega (arith, c.create-2.ensures.survives.clean) in
-    let upto_1 = c.in_ok-create.ensures.comes one _ names_version in
-    let upto_2 = comes_then (state g.S.Store c.args.tx.now.conn.now).now (state g.S.Store c.create.new.tx.conn.now).now (state g.S.Store c.create-2.new.tx.conn.now).now (version_table.name ∷ []) (repos_table.name ∷ []) upto_1 (c.in_ok-create-2.ensures.comes two _ names_repos) in
-    let upto_3 = comes_then (state g.S.Store c.args.tx.now.conn.now).now (state g.S.Store c.create-2.new.tx.conn.now).now (state g.S.Store c.create-3.new.tx.conn.now).now (version_table.name ∷ repos_table.name ∷ []) (grants_table.name ∷ []) upto_2 (c.in_ok-create-3.ensures.comes three _ names_grants) in
-    more_comes (state g.S.Store c.args.tx.now.conn.now).now (state g.S.Store c.create-3.new.tx.conn.now).now (state g.S.Store c.create-4.new.tx.conn.now).now (version_table.name ∷ repos_table.name ∷ grants_table.name ∷ []) (tags_table.name ∷ []) c.create-4.result upto_3
-    (then_comes _ _ (state g.S.Store c.create-3.new.tx.conn.now).now (state g.S.Store c.create-4.new.tx.conn.now).now c.create-4.result names_tags (c.create-4.ensures.comes clean))
+    let upto_1 = one_comes _ _ (state g.S.Store c.args.tx.now.conn.now).now (state g.S.Store c.create.new.tx.conn.now).now one_version (c.in_ok-create.ensures.comes one) in
+    let upto_2 = comes_then (state g.S.Store c.args.tx.now.conn.now).now (state g.S.Store c.create.new.tx.conn.now).now (state g.S.Store c.create-2.new.tx.conn.now).now (version_table.name ∷ []) (repos_table.name ∷ []) (version_table ∷ []) (repos_table ∷ []) upto_1 (one_comes _ _ (state g.S.Store c.create.new.tx.conn.now).now (state g.S.Store c.create-2.new.tx.conn.now).now one_repos (c.in_ok-create-2.ensures.comes two)) in
+    let upto_3 = comes_then (state g.S.Store c.args.tx.now.conn.now).now (state g.S.Store c.create-2.new.tx.conn.now).now (state g.S.Store c.create-3.new.tx.conn.now).now (version_table.name ∷ repos_table.name ∷ []) (grants_table.name ∷ []) (version_table ∷ repos_table ∷ []) (grants_table ∷ []) upto_2 (one_comes _ _ (state g.S.Store c.create-2.new.tx.conn.now).now (state g.S.Store c.create-3.new.tx.conn.now).now one_grants (c.in_ok-create-3.ensures.comes three)) in
+    more_comes (state g.S.Store c.args.tx.now.conn.now).now (state g.S.Store c.create-3.new.tx.conn.now).now (state g.S.Store c.create-4.new.tx.conn.now).now (version_table.name ∷ repos_table.name ∷ grants_table.name ∷ []) (tags_table.name ∷ []) (version_table ∷ repos_table ∷ grants_table ∷ []) (tags_table ∷ []) c.create-4.result upto_3
+    (then_one _ _ (state g.S.Store c.create-3.new.tx.conn.now).now (state g.S.Store c.create-4.new.tx.conn.now).now c.create-4.result one_tags (c.create-4.ensures.comes clean))

@@ -1,7 +1,7 @@
 use Rattle.std.proofs.Common.{◌++◌, arith}
 use Rattle.sqlite.specs.State.{HasCleanDisk}
 use Rattle.sqlite.specs.Held.{state}
-use Rattle.store_schema.specs.Beside.{shared_names, link_names, upload_names}
+use Rattle.store_schema.specs.Beside.{shared_names, shared_ones, link_names, link_ones, upload_names, upload_ones}
 use Rattle.store_schema.proofs.BesideLemmas.{more_comes}
 use Rattle.store_schema.proofs.make.make_tables.Goals as goal
 
@@ -13,5 +13,5 @@ returns-clause-comes g c clean =
     let b = (state g.S.Store c.make_shared.new.tx.conn.now).now in
     let d = (state g.S.Store c.make_links.new.tx.conn.now).now in
     let e = (state g.S.Store c.make_uploads.new.tx.conn.now).now in
-    more_comes a b e shared_names (link_names ++ upload_names) c.make_uploads.result (c.in_ok-make_shared.ensures.comes one)
-    (more_comes b d e link_names upload_names c.make_uploads.result (c.in_ok-make_links.ensures.comes two) (c.make_uploads.ensures.comes clean))
+    more_comes a b e shared_names (link_names ++ upload_names) shared_ones (link_ones ++ upload_ones) c.make_uploads.result (c.in_ok-make_shared.ensures.comes one)
+    (more_comes b d e link_names upload_names link_ones upload_ones c.make_uploads.result (c.in_ok-make_links.ensures.comes two) (c.make_uploads.ensures.comes clean))

@@ -6,8 +6,8 @@ use Rattle.store_schema.proofs.MakeLemmas.{then_indexed}
 use Rattle.store_schema.proofs.Refusals.{if_passed, then_unindexed}
 use Rattle.std.proofs.Common.{◌∷◌, []}
 use Rattle.store_schema.specs.Schema.{uploads_table, pieces_table, sha256_index, subject_index}
-use Rattle.store_schema.proofs.BesideLemmas.{comes_then, more_comes, then_comes}
-use Rattle.store_schema.proofs.BesideTexts.{names_uploads, names_pieces, names_sha256, names_subject}
+use Rattle.store_schema.proofs.BesideLemmas.{comes_then, more_comes, one_comes, then_index}
+use Rattle.store_schema.proofs.BesideTexts.{one_uploads, one_pieces, names_sha256, names_subject}
 use Rattle.store_schema.proofs.make.make_uploads.Goals as goal
 
 pub returns-clause-made : goal.returns-clause-made
@@ -44,8 +44,8 @@ returns-clause-comes g c clean =
     let three : HasCleanDisk (state g.S.Store c.create-3.new.tx.conn.now) = omega (arith, c.create-4.ensures.survives.clean) in
     let two : HasCleanDisk (state g.S.Store c.create-2.new.tx.conn.now) = omega (arith, c.create-3.ensures.survives.clean) in
     let one : HasCleanDisk (state g.S.Store c.create.new.tx.conn.now) = omega (arith, c.create-2.ensures.survives.clean) in
-    let upto_1 = c.in_ok-create.ensures.comes one _ names_uploads in
-    let upto_2 = comes_then (state g.S.Store c.args.tx.now.conn.now).now (state g.S.Store c.create.new.tx.conn.now).now (state g.S.Store c.create-2.new.tx.conn.now).now (uploads_table.name ∷ []) (pieces_table.name ∷ []) upto_1 (c.in_ok-create-2.ensures.comes two _ names_pieces) in
-    let upto_3 = comes_then (state g.S.Store c.args.tx.now.conn.now).now (state g.S.Store c.create-2.new.tx.conn.now).now (state g.S.Store c.create-3.new.tx.conn.now).now (uploads_table.name ∷ pieces_table.name ∷ []) (sha256_index.name ∷ []) upto_2 (c.in_ok-create-3.ensures.comes three _ names_sha256) in
-    more_comes (state g.S.Store c.args.tx.now.conn.now).now (state g.S.Store c.create-3.new.tx.conn.now).now (state g.S.Store c.create-4.new.tx.conn.now).now (uploads_table.name ∷ pieces_table.name ∷ sha256_index.name ∷ []) (subject_index.name ∷ []) c.create-4.result upto_3
-    (then_comes _ _ (state g.S.Store c.create-3.new.tx.conn.now).now (state g.S.Store c.create-4.new.tx.conn.now).now c.create-4.result names_subject (c.create-4.ensures.comes clean))
+    let upto_1 = one_comes _ _ (state g.S.Store c.args.tx.now.conn.now).now (state g.S.Store c.create.new.tx.conn.now).now one_uploads (c.in_ok-create.ensures.comes one) in
+    let upto_2 = comes_then (state g.S.Store c.args.tx.now.conn.now).now (state g.S.Store c.create.new.tx.conn.now).now (state g.S.Store c.create-2.new.tx.conn.now).now (uploads_table.name ∷ []) (pieces_table.name ∷ []) (uploads_table ∷ []) (pieces_table ∷ []) upto_1 (one_comes _ _ (state g.S.Store c.create.new.tx.conn.now).now (state g.S.Store c.create-2.new.tx.conn.now).now one_pieces (c.in_ok-create-2.ensures.comes two)) in
+    let upto_3 = comes_then (state g.S.Store c.args.tx.now.conn.now).now (state g.S.Store c.create-2.new.tx.conn.now).now (state g.S.Store c.create-3.new.tx.conn.now).now (uploads_table.name ∷ pieces_table.name ∷ []) (sha256_index.name ∷ []) (uploads_table ∷ pieces_table ∷ []) [] upto_2 ((c.in_ok-create-3.ensures.comes three _ names_sha256).0) in
+    more_comes (state g.S.Store c.args.tx.now.conn.now).now (state g.S.Store c.create-3.new.tx.conn.now).now (state g.S.Store c.create-4.new.tx.conn.now).now (uploads_table.name ∷ pieces_table.name ∷ sha256_index.name ∷ []) (subject_index.name ∷ []) (uploads_table ∷ pieces_table ∷ []) [] c.create-4.result upto_3
+    (then_index _ _ (state g.S.Store c.create-3.new.tx.conn.now).now (state g.S.Store c.create-4.new.tx.conn.now).now c.create-4.result names_subject (c.create-4.ensures.comes clean))
