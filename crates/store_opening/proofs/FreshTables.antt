@@ -49,7 +49,7 @@ alone_said [] [] id e = refl
 alone_said [] (r ∷ rs) id e = absurd cc
 alone_said (r ∷ rs) after id e = absurd cc
 
-came_two : (olds news : List Row) (id : ℤ) → PutsRow olds news id (Int (pos 2) ∷ []) → olds ≡ [] → IsOfSchemaTwo news
+pub came_two : (olds news : List Row) (id : ℤ) → PutsRow olds news id (Int (pos 2) ∷ []) → olds ≡ [] → IsOfSchemaTwo news
 came_two olds news id p none = subst IsOfSchemaTwo (sym p.news_are) (alone_said p.before p.after id (sym p.olds_are ∙ none))
 
 -- with the version they are new

@@ -4,3 +4,5 @@ pub mod FreshTables
 pub mod VersionRows
 pub mod VersionAsked
 pub mod OpeningLemmas
+mod VersionInserts
+mod BesideTables

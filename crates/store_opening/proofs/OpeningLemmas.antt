@@ -216,3 +216,12 @@ on_two found (Err e) P Q is h then = tt
 pub on_err : {A E : Type 0} (r : Result A E) (P : Type 0) → P → OnErr r P
 on_err (Ok x) P p = tt
 on_err (Err e) P p = p
+
+pub on_ok : {A E : Type 0} (r : Result A E) (P : Type 0) → P → OnOk r P
+on_ok (Ok x) P p = p
+on_ok (Err e) P p = tt
+
+-- what is taken up was asked, and answered 2
+pub two_asked : (s : State) (found : Result ℤ OpenFault) → IfOk found (IsOfSchema s) → (r : Result ⊤ OpenFault) → OnOk r (found ≡ Ok (pos 2)) → OnOk r (IsOfSchema s (pos 2))
+two_asked s found of (Ok x) is = subst (λ f. IfOk f (IsOfSchema s)) is of
+two_asked s found of (Err e) is = tt

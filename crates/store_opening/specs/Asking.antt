@@ -1,7 +1,8 @@
 -- How an opening fails.
 use Rattle.std.specs.Prelude.{◌≡◌, ◌≢◌, ◌⊎◌, ℤ, pos, List, [], ◌∷◌, ⊤}
 use Rattle.sqlite.specs.declared.error.Error.{Error}
-use Rattle.sqlite.specs.declared.error.Error.TheVariants.{SqlInputError}
+use Rattle.sqlite.specs.declared.error.Error.TheVariants.{SqliteFailure, SqlInputError}
+use Rattle.sqlite.specs.declared.error.ErrorCode.TheVariants.{NameTaken}
 use Rattle.sqlite.specs.declared.types.Value.TheVariants.{Int}
 use Rattle.sqlite.specs.Order.{Row, column}
 use Rattle.sqlite.specs.Clock.{timed}
@@ -10,6 +11,7 @@ use Rattle.sqlite.specs.Listing.{IsSourceOf, reads_listing}
 use Rattle.sqlite.specs.State.{State, IsStatement}
 use Rattle.sqlite_resolve.specs.declared.compiled.Compiled.{Compiled}
 use Rattle.sqlite_resolve.specs.declared.error.CompileError.{CompileError}
+use Rattle.sqlite_resolve.specs.declared.error.CompileError.TheVariants.{Exists}
 use Rattle.store_opening.specs.declared.opening.OpenFault.{OpenFault}
 use Rattle.store_opening.specs.declared.opening.OpenFault.TheVariants.{Memory, Storage, Schema}
 use Rattle.store_statements.specs.VersionTexts.{version_find}
@@ -21,6 +23,10 @@ IsWanting fault = (fault ≡ Memory) ⊎ (fault ≡ Storage)
 -- the statement's text was understood
 abbrev pub IsFailing : Error → Type 0
 IsFailing e = (cause : CompileError) → e ≢ SqlInputError cause
+
+-- a name was taken
+abbrev pub IsTaking : Error → Type 0
+IsTaking e = (e ≡ SqliteFailure NameTaken) ⊎ (e ≡ SqlInputError Exists)
 
 -- one row, which shows this number
 abbrev pub ShowsAlone : List Row → ℤ → Type 0

@@ -1,14 +1,15 @@
 //! The opening of a registry on a database.
-ghost use Rattle.std.specs.Prelude.{◌≡◌, ◌≢◌, ℤ, pos, Ok, OnOk, OnErr, IfOk, IfErr};
+ghost use Rattle.std.specs.Prelude.{◌≡◌, ◌≢◌, ℤ, pos, true, false, Ok, OnOk, OnErr, IfOk, IfErr};
 ghost use Rattle.sqlite.specs.State.{HasCleanDisk};
 ghost use Rattle.sqlite.specs.Held.{state};
 ghost use Rattle.store_schema.specs.Schema.{no_schema};
 ghost use Rattle.store_schema.specs.Making.{IsEmptyWith};
+ghost use Rattle.store_schema.specs.Beside.{AreFree, registry_names};
 ghost use Rattle.registry_model.specs.World.{no_world};
 ghost use Rattle.store_statements.specs.Clauses.{Lasts};
 ghost use Rattle.store_statements.specs.Held.{HoldsTables, StaysSettled, SettlesOn, IsBack};
-ghost use Rattle.store_opening.specs.Opening.{IsIdle, HoldsRegistry, SaysTwo, versions_in, has_version_table};
-ghost use Rattle.store_opening.specs.Asking.{IsWanting, IsWantingOr, IsTold, IsUnnumbered, NamesNotTwo, ShowsAlone};
+ghost use Rattle.store_opening.specs.Opening.{IsIdle, IsOpenedBeside, HoldsRegistry, SaysTwo, versions_in, has_version_table};
+ghost use Rattle.store_opening.specs.Asking.{IsWanting, IsWantingOr, IsTold, IsUnnumbered, NamesNotTwo, IsOfSchema, ShowsAlone};
 
 use crate::making::create;
 use crate::version::read_version;
@@ -62,7 +63,8 @@ fn only_two(found: Result<i64, OpenFault>) -> Result<(), OpenFault>
 /// schema 2. Whatever the database is: outside a transaction a refusal leaves it as it was, where it is open
 /// still, and `Schema` names the one number that it says. `NotARegistry`: it says none, or a name is taken.
 /// Tables of another number than 2, or of none or several, are refused so, and by no other fault but want of
-/// memory or a failure; an empty database and a registry's of schema 2 by these two alone.
+/// memory or a failure; an empty database and a registry's of schema 2 by these two alone. Where no table
+/// says it, the tables are made only where each of their names is free, and all that was there stays.
 pub fn take_up<S: Alter>(conn: &mut Connection<S>) -> Result<(), OpenFault>
     ensures made { HasCleanDisk (state S.Store conn.new) → IsEmptyWith no_schema (state S.Store conn.old).now
         → OnOk result (SettlesOn (state S.Store conn.new) no_world) }
@@ -81,6 +83,15 @@ pub fn take_up<S: Alter>(conn: &mut Connection<S>) -> Result<(), OpenFault>
     ensures unsaid { HasCleanDisk (state S.Store conn.new) → HoldsTables (state S.Store conn.old).now
         → ((n : ℤ) → ShowsAlone (versions_in (state S.Store conn.old).now) n → ⊥)
         → IfErr result (IsWantingOr OpenFault.NotARegistry) }
+    ensures asked { HasCleanDisk (state S.Store conn.new)
+        → has_version_table (state S.Store conn.old).now.schema ≡ true
+        → OnOk result (IsOfSchema (state S.Store conn.old) (pos 2)) }
+    ensures free { HasCleanDisk (state S.Store conn.new)
+        → has_version_table (state S.Store conn.old).now.schema ≡ false
+        → OnOk result (AreFree (state S.Store conn.old).now.schema registry_names) }
+    ensures beside { HasCleanDisk (state S.Store conn.new)
+        → has_version_table (state S.Store conn.old).now.schema ≡ false
+        → OnOk result (IsOpenedBeside (state S.Store conn.old).now (state S.Store conn.new)) }
     ensures told { HasCleanDisk (state S.Store conn.new) → IfErr result (IsTold (state S.Store conn.old)) }
     ensures another { IfErr result NamesNotTwo }
     ensures back { HasCleanDisk (state S.Store conn.new) → IsIdle (state S.Store conn.old)

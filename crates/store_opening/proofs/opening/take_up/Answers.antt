@@ -4,6 +4,7 @@ use Rattle.store_opening.specs.Opening.{versions_in}
 use Rattle.store_opening.proofs.OpeningLemmas.{is_marked, settled, is_two, two_told, wanting_told, other_told, unsaid_told, told_as, never_two, names_none, on_two, on_err}
 use Rattle.store_statements.proofs.SettledAfter.{stays_read}
 use Rattle.store_opening.proofs.VersionAsked.{back_left}
+use Rattle.store_opening.proofs.OpeningLemmas.{two_asked}
 use Rattle.store_opening.proofs.opening.take_up.Goals as goal
 
 pub returns-then-not-is_marked-clause-found : goal.returns-then-not-is_marked-clause-found
@@ -74,3 +75,12 @@ returns-then-not-is_marked-clause-another g c = names_none c.create.result c.cre
 
 pub returns-clause-another : goal.returns-clause-another
 returns-clause-another g c = never_two c.read_version.result c.only_two.result c.only_two.ensures.other c.read_version.ensures.unnumbered
+
+pub returns-then-not-is_marked-clause-asked : goal.returns-then-not-is_marked-clause-asked
+returns-then-not-is_marked-clause-asked g c clean marked =
+    let told = c.is_marked.ensures in
+    let not = c.if-not-is_marked.true in
+    absurd cc
+
+pub returns-clause-asked : goal.returns-clause-asked
+returns-clause-asked g c clean marked = two_asked (state g.S.Store c.args.conn.now) c.read_version.result (c.read_version.ensures.told clean) c.only_two.result c.only_two.ensures.two
