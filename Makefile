@@ -44,7 +44,7 @@ demo:
 build:
 	@echo 'Proves some 900 functions: an hour of a processor, on all there are, and up to 12 GB of memory.' >&2
 	$(MAKE) --no-print-directory --jobs=$(PROCESSORS) $(addprefix prove-,$(all_below_registry_cli))
-	cd crates/registry_cli && rt run -- --version
+	cd crates/registry_cli && rt run --jobs $(PROCESSORS) -- --version
 	mkdir -p build
 	cp crates/registry_cli/out/registry_cli build/registry
 

@@ -25,10 +25,9 @@ use Rattle.store_world.proofs.Stored.{manifest_stored}
 use Rattle.store_world.proofs.Tags.{tag_set, tag_added}
 use Rattle.store_world.proofs.Updates.{update_twice}
 use Rattle.store_statements.specs.Held.{IsReady, IsSettled, Becomes, SettlesOn, held, tables_in, is_storage}
-use Rattle.store_statements.specs.Steps.{tags_changed, TagComes, ManifestComes}
+use Rattle.store_statements.specs.Steps.{tags_changed, TagComes, ManifestComes, ContentKept}
 use Rattle.store_writes.specs.Worlds.{IsWhole, Turns, tagged}
 use Rattle.store_writes.proofs.RowCounts.{none_changed}
-use Rattle.store_writes.proofs.ContentSteps.{Comprises}
 use Rattle.store_statements.proofs.Transactions.{commits, makes}
 
 pub registry_inside : (s : State) → IsWhole s → IsRegistry (held s)
@@ -70,10 +69,10 @@ no_tag old repo digest is = record { whole = is; world = sym (update_same (held 
 
 -- ---- the manifest
 
-pub fresh_manifest : (old mid : State) (id : ℤ) (repo digest bytes : List ℕ) → Comprises old mid id bytes → find (has_key repo digest) (held old).manifests ≡ None → find (has_key repo digest) (held mid).manifests ≡ None
+pub fresh_manifest : (old mid : State) (id : ℤ) (repo digest bytes : List ℕ) → ContentKept (held old) (held mid) id bytes → find (has_key repo digest) (held old).manifests ≡ None → find (has_key repo digest) (held mid).manifests ≡ None
 fresh_manifest old mid id repo digest bytes c none = ap (λ (t : Tables). find (has_key repo digest) t.manifests) c.others ∙ none
 
-pub manifest_came : (old mid new : State) (id : ℤ) (repo digest bytes : List ℕ) → IsWhole old → is_repo (held old).repos repo ≡ true → find (has_key repo digest) (held old).manifests ≡ None → Comprises old mid id bytes
+pub manifest_came : (old mid new : State) (id : ℤ) (repo digest bytes : List ℕ) → IsWhole old → is_repo (held old).repos repo ≡ true → find (has_key repo digest) (held old).manifests ≡ None → ContentKept (held old) (held mid) id bytes
     → (m : ManifestShown) → manifest_in bytes ≡ Ok m → (subject : Option Text) → subject ≡ m.subject
     → ManifestComes mid new (manifest_columns repo digest (length bytes) m.kind subject id) → Turns old new (put_manifest (world_of (held old)) repo digest bytes None)
 manifest_came old mid new id repo digest bytes is there none c m reads subject refers link =

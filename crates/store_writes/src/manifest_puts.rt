@@ -3,6 +3,7 @@ ghost use Rattle.std.specs.Prelude.{◌≡◌, ◌≤◌, true, length, find, No
 ghost use Rattle.sqlite.specs.State.{HasCleanDisk, KeepsCommit};
 ghost use Rattle.sqlite.specs.Held.{state};
 ghost use Rattle.oci_manifest.specs.Manifest.{shown, manifest_in};
+ghost use Rattle.oci_names.specs.Digest.{matches};
 ghost use Rattle.registry_model.specs.Ask.{text_in};
 ghost use Rattle.registry_model.specs.Limits.{largest_manifest};
 ghost use Rattle.registry_model.specs.Lookups.{put_manifest};
@@ -18,7 +19,7 @@ use oci_manifest::Manifest;
 use oci_names::{Digest, Fault, RepoName, Tag};
 use sqlite::{Alter, Connection, Transaction};
 use std::alloc::Global;
-use store_contents::find_or_add;
+use store_statements::contents::keep_matching;
 use store_statements::manifests::{add_manifest_link, find_manifest_link};
 use store_statements::tags::{add_tag, set_tag};
 
@@ -81,6 +82,7 @@ fn add_manifest<S: Alter>(
     bytes: &[u8],
     manifest: &Manifest,
 ) -> Result<(), Fault>
+    requires matching { matches digest.now bytes.now ≡ true }
     requires reads { manifest_in bytes.now ≡ Ok (shown manifest.now) }
     requires fits { length bytes.now ≤ largest_manifest }
     ensures made { TurnsFresh S.Store tx.old.conn.now tx.new.conn.now result repo.now digest.now
@@ -89,7 +91,7 @@ fn add_manifest<S: Alter>(
     ensures same_reference { tx.new.conn.ghost_name ≡ tx.old.conn.ghost_name }
     ensures survives { LastsUncommitted S.Store tx.old.conn.now tx.new.conn.now }
 {
-    let content = find_or_add(alloc, tx, bytes)?;
+    let content = keep_matching(alloc, tx, digest, bytes)?;
     let size = bytes.len() as u64;
     add_manifest_link(
         tx,
@@ -112,6 +114,7 @@ fn add_tagged<S: Alter>(
     manifest: &Manifest,
     tag: Option<&Tag>,
 ) -> Result<(), Fault>
+    requires matching { matches digest.now bytes.now ≡ true }
     requires reads { manifest_in bytes.now ≡ Ok (shown manifest.now) }
     requires fits { length bytes.now ≤ largest_manifest }
     ensures made { TurnsFresh S.Store tx.old.conn.now tx.new.conn.now result repo.now digest.now
@@ -141,6 +144,7 @@ fn add_tagged_alone<S: Alter>(
     requires there { TablesHave S.Store conn.old (λ t. is_repo t.repos repo.now ≡ true) }
     requires fresh { TablesHave S.Store conn.old
         (λ t. find (has_key repo.now digest.now) t.manifests ≡ None) }
+    requires matching { matches digest.now bytes.now ≡ true }
     requires reads { manifest_in bytes.now ≡ Ok (shown manifest.now) }
     requires fits { length bytes.now ≤ largest_manifest }
     ensures made { MakesWorld S.Store conn.old conn.new result
@@ -203,6 +207,7 @@ fn put_new<S: Alter>(
     requires there { TablesHave S.Store conn.old (λ t. is_repo t.repos repo.now ≡ true) }
     requires fresh { TablesHave S.Store conn.old
         (λ t. find (has_key repo.now digest.now) t.manifests ≡ None) }
+    requires matching { matches digest.now bytes.now ≡ true }
     requires reads { manifest_in bytes.now ≡ Ok (shown manifest.now) }
     requires fits { length bytes.now ≤ largest_manifest }
     ensures made { MakesWorld S.Store conn.old conn.new result
@@ -229,6 +234,7 @@ pub fn put_manifest<S: Alter>(
 ) -> Result<(), Fault>
     requires settled { Settled S.Store conn.old }
     requires there { WorldHas S.Store conn.old (λ w. has_repo w repo.now ≡ true) }
+    requires matching { matches digest.now bytes.now ≡ true }
     requires reads { manifest_in bytes.now ≡ Ok (shown manifest.now) }
     requires fits { length bytes.now ≤ largest_manifest }
     ensures made { MakesWorld S.Store conn.old conn.new result
