@@ -1,8 +1,9 @@
 //! The keeper over ordered maps.
-ghost use Rattle.std.specs.Prelude.{◌≡◌, true, IfOk};
+ghost use Rattle.std.specs.Prelude.{◌≡◌, ◌≤◌, true, IfOk};
 ghost use Rattle.std.specs.FinMap.{insert, remove};
-ghost use Rattle.registry_model.specs.World.{no_world};
+ghost use Rattle.registry_model.specs.World.{no_world, repo_at, update_repo};
 ghost use Rattle.registry_model.specs.Doing.{keeps};
+ghost use Rattle.registry_model.specs.Limits.{largest};
 ghost use Rattle.registry_model.specs.Lookups.{usages_of};
 ghost use Rattle.registry_model.specs.Keeping.{usages_shown};
 ghost use Rattle.registry_maps.specs.Maps.{levels_in, world_of, Makes, or_memory};
@@ -64,6 +65,20 @@ impl MapKeeper {
             alloc,
             repos: BTreeMap::new(alloc),
             grants: BTreeMap::new(alloc),
+        }
+    }
+
+    /// Counts the session numbers of a repository up to this one as given out, and no other, so that a
+    /// registry which goes on where another ended gives none twice. Nothing where the repository is not
+    /// there.
+    pub fn set_last_number(&mut self, name: &RepoName, last: u64)
+        requires { last ≤ largest }
+        ensures { let w = world_of self.old.repos self.old.grants in
+            ⟦<MapKeeper as Keeper>⟧.state self.new
+            ≡ keeps (update_repo w name.now (λ r. record r { last = last }) (repo_at w name.now)) }
+    {
+        if let Some(repository) = self.repos.get_mut(name) {
+            repository.last = last;
         }
     }
 
