@@ -10,7 +10,8 @@ PROCESSORS := $(shell nproc)
 # The first run: a registry in memory, with one repository and one token.
 DEMO := stdio --memory --repo team/app=1000 --grant t1=team/app=3
 
-.PHONY: help demo build try test check edits check-file check-rows check-hostile bench bench-http fmt clean
+.PHONY: help demo build try test check edits check-file check-rows check-hostile check-clients check-install
+.PHONY: bench bench-http install deb fmt clean
 
 # docs/PERFORMANCE.md has what was measured.
 help:
@@ -27,6 +28,10 @@ help:
 	@echo 'make check-rows      the worked examples by the program itself, over a file (after make test; 10 s)'
 	@echo 'make check-hostile   refuses each growth of memory, stops the disk at each write, kills servers (after'
 	@echo '                     make test; 5 min)'
+	@echo 'make check-clients   curl, skopeo, buildah, podman, ctr and oras-go through nginx, those that are installed'
+	@echo '                     (deploy/install-clients.sh installs them)'
+	@echo 'make install         executable, man page, completion, service and nginx files (PREFIX, DESTDIR, SYSCONFDIR)'
+	@echo 'make deb             the same as a Debian package, build/firkhen_*.deb; make check-install looks at both'
 	@echo 'make bench           requests a second over loopback, beside docker-registry where installed'
 	@echo 'make bench-http      requests a second over standard input, beside cat and sha256sum'
 	@echo 'make fmt, make clean lays out the sources; removes what was built'
@@ -87,6 +92,31 @@ check-rows:
 KILLS = 100
 check-hostile:
 	python3 check/hostile.py --kills $(KILLS)
+
+# Real clients through nginx, with the configuration of deploy/nginx (python3, nginx, openssl).
+check-clients:
+	python3 check/clients.py
+
+# Where things go; nginx and the service read SYSCONFDIR.
+PREFIX = /usr/local
+DESTDIR =
+SYSCONFDIR = /etc
+
+# (what the gate left is as proved as what `make build` leaves)
+build/registry:
+	@if [ -x crates/registry_cli/out/registry_cli ]; then \
+	  mkdir -p build && cp crates/registry_cli/out/registry_cli build/registry; else $(MAKE) build; fi
+
+install: build/registry
+	DESTDIR="$(DESTDIR)" PREFIX="$(PREFIX)" SYSCONFDIR="$(SYSCONFDIR)" deploy/install.sh
+
+# A Debian package, by dpkg-deb.
+deb: build/registry
+	deploy/deb.sh
+
+# What these two make: files and modes, the man page and the completion beside --help, the unit by systemd-analyze.
+check-install: build/registry
+	python3 check/install.py
 
 # Requests a second over loopback on a database file, beside docker-registry where installed (python3).
 bench: build

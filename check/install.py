@@ -1,0 +1,171 @@
+#!/usr/bin/env python3
+"""Looks at what `make install` and `make deb` make, in a folder that is taken away again.
+
+The files and their modes; that a second installation leaves the administrator's files as they are; that the man
+page and the completion say what --help says, line by line; the unit, by systemd-analyze; and that the package has
+the same files. Tools that are not installed are named. `make check-install` calls this.
+"""
+import glob
+import os
+import re
+import shutil
+import subprocess
+import sys
+import tempfile
+
+from executables import REGISTRY, TOP
+
+PROGRAM = f"{TOP}/build/registry"
+FILES = {
+    "usr/bin/registry": 0o755,
+    "usr/share/man/man1/registry.1": 0o644,
+    "usr/share/bash-completion/completions/registry": 0o644,
+    "usr/lib/systemd/system/firkhen.service": 0o644,
+    "usr/share/firkhen/token-line": 0o755,
+    "usr/share/doc/firkhen/CLIENTS.md": 0o644,
+    "usr/share/doc/firkhen/ENDPOINTS.md": 0o644,
+    "usr/share/doc/firkhen/SECURITY.md": 0o644,
+    "etc/default/firkhen": 0o644,
+    "etc/nginx/sites-available/firkhen": 0o644,
+    "etc/nginx/firkhen/locations.conf": 0o644,
+    "etc/nginx/firkhen/tokens.conf": 0o600,
+}
+# what a package has besides, and the man page under another name
+PACKAGED = {"usr/share/doc/firkhen/changelog.gz", "usr/share/doc/firkhen/copyright", "usr/share/man/man1/registry.1.gz"}
+# of ten: 0 is a service that can do nothing, and below 2 systemd says OK
+EXPOSURE = 2.0
+
+
+def say(held, what, why=""):
+    print(("ok    " if held else "WRONG ") + what + ("" if held or not why else f": {why}"), flush=True)
+    if not held:
+        say.wrong += 1
+
+
+say.wrong = 0
+
+
+def run(*words, **more):
+    ran = subprocess.run(words, stdout=subprocess.PIPE, stderr=subprocess.STDOUT, check=False, **more)
+    ran.text = ran.stdout.decode(errors="replace")
+    return ran
+
+
+def has(*tools):
+    lacking = [it for it in tools if shutil.which(it) is None]
+    if lacking:
+        print(f"--    not installed: {', '.join(lacking)}")
+    return not lacking
+
+
+def install(room):
+    ran = run("make", "-C", TOP, "install", f"DESTDIR={room}", "PREFIX=/usr")
+    say(ran.returncode == 0, "make install", ran.text)
+
+
+def files_in(room):
+    found = (os.path.join(folder, name) for folder, _, names in os.walk(room) for name in names)
+    return {os.path.relpath(it, room): os.stat(it).st_mode & 0o777 for it in found}
+
+
+def look_at_files(room):
+    install(room)
+    found = files_in(room)
+    say(found == FILES, "the files and their modes", str(set(found.items()) ^ set(FILES.items())))
+    tokens = f"{room}/etc/nginx/firkhen/tokens.conf"
+    with open(tokens, "w", encoding="utf-8") as it:
+        it.write("mine\n")
+    install(room)
+    with open(tokens, encoding="utf-8") as it:
+        say(it.read() == "mine\n", "a second installation leaves the table of tokens")
+
+
+def helps():
+    """The text of each --help, by the command; of the whole program under nothing."""
+    whole = run(PROGRAM, "--help").text
+    names = [it for it in re.findall(r"^  ([a-z]+) ", whole.split("Options:")[0], re.MULTILINE) if it != "help"]
+    return {"": whole, **{name: run(PROGRAM, name, "--help").text for name in names}}
+
+
+def look_at_the_man_page(room, told):
+    if not has("man", "col"):
+        return
+    env = {**os.environ, "MANWIDTH": "200", "LC_ALL": "C.UTF-8", "MAN_KEEP_FORMATTING": ""}
+    ran = run("sh", "-c", f"man --warnings --local-file {room}/usr/share/man/man1/registry.1 | col -b", env=env)
+    say("warning" not in ran.text, "the man page is laid out without a warning", ran.text[:500])
+    shown = " ".join(ran.text.replace("\u2010", "-").split())
+    for name, text in told.items():
+        said = [it for line in text.splitlines() for it in re.split(r" {2,}", line.strip())]
+        said = [it.replace("Usage: ", "").replace("registry <COMMAND>", "registry COMMAND") for it in said if not it.endswith(":")]
+        lacking = [it for it in said if it not in shown and not it.startswith(("help", "Print this message"))]
+        say(lacking == [], f"the man page says what `registry {name} --help` says".replace("  ", " "), str(lacking))
+
+
+def look_at_the_completion(room, told):
+    at = f"{room}/usr/share/bash-completion/completions/registry"
+
+    def offered(*words):
+        quoted = " ".join(f"'{it}'" for it in words)
+        text = f"source {at}; COMP_WORDS=({quoted}); COMP_CWORD={len(words) - 1}; _registry; printf '%s\\n' \"${{COMPREPLY[@]}}\""
+        return set(run("bash", "-c", text).text.split())
+
+    say(offered("registry", "") == {*told, "--help", "--version"} - {""}, "the completion offers each command", str(offered("registry", "")))
+    for name in filter(None, told):
+        wanted = set(re.findall(r"^ +(?:-[a-zA-Z], )?(--[a-z]+)", told[name], re.MULTILINE))
+        say(offered("registry", name, "--") == wanted, f"and the options of {name}", str(offered("registry", name, "--")))
+    say(offered("registry", "gr") == {"grant"}, "a word that is begun is ended")
+
+
+def look_at_the_unit(room):
+    if not has("systemd-analyze"):
+        return
+    unit = f"{room}/usr/lib/systemd/system/firkhen.service"
+    # (that the executable is where the unit has it, and its man page, is known from the files)
+    with open(unit, encoding="utf-8") as it:
+        text = it.read().replace("/usr/bin/", f"{room}/usr/bin/").replace("Documentation=man:registry(1)", "Documentation=")
+    unit = f"{room}/firkhen.service"
+    with open(unit, "w", encoding="utf-8") as it:
+        it.write(text)
+    ran = run("systemd-analyze", "verify", unit)
+    about = [line for line in ran.text.splitlines() if "firkhen" in line]
+    say(about == [], "systemd-analyze verify has nothing to say of the unit", "\n".join(about))
+    ran = run("systemd-analyze", "security", "--offline=true", unit)
+    score = re.search(r"exposure level for firkhen.service: ([0-9.]+)", ran.text)
+    say(score and float(score[1]) < EXPOSURE, f"systemd-analyze security: {score and score[1]}", ran.text[-500:])
+
+
+def look_at_the_package():
+    if not has("dpkg-deb", "dpkg-shlibdeps"):
+        return
+    for old in glob.glob(f"{TOP}/build/firkhen_*.deb"):
+        os.remove(old)
+    ran = run("make", "-C", TOP, "deb")
+    say(ran.returncode == 0, "make deb", ran.text)
+    made = glob.glob(f"{TOP}/build/firkhen_*.deb")
+    if len(made) != 1:
+        say(False, "one package", str(made))
+        return
+    listed = [line.split() for line in run("dpkg-deb", "--contents", made[0]).text.splitlines()]
+    found = {it[-1][2:] for it in listed if it[0].startswith("-")}
+    say(found == (set(FILES) | PACKAGED) - {"usr/share/man/man1/registry.1"}, "the package has the same files", str(found ^ set(FILES)))
+    say(all(it[1] == "root/root" for it in listed), "all of them root's")
+    say(["-rw-------"] == [it[0] for it in listed if it[-1].endswith("tokens.conf")], "the table of tokens root's alone")
+
+
+def main():
+    if not os.path.exists(PROGRAM) or REGISTRY != PROGRAM:
+        print("check-install needs build/registry", file=sys.stderr)
+        return 2
+    with tempfile.TemporaryDirectory() as room:
+        told = helps()
+        look_at_files(room)
+        look_at_the_man_page(room, told)
+        look_at_the_completion(room, told)
+        look_at_the_unit(room)
+    look_at_the_package()
+    print(f"{say.wrong} wrong" if say.wrong else "what is installed is as it should be")
+    return 1 if say.wrong else 0
+
+
+if __name__ == "__main__":
+    sys.exit(main())
