@@ -93,8 +93,12 @@ def look_at_the_man_page(room, told):
     env = {**os.environ, "MANWIDTH": "200", "LC_ALL": "C.UTF-8", "MAN_KEEP_FORMATTING": ""}
     ran = run("sh", "-c", f"man --warnings --local-file {room}/usr/share/man/man1/registry.1 | col -b", env=env)
     say("warning" not in ran.text, "the man page is laid out without a warning", ran.text[:500])
-    shown = " ".join(ran.text.replace("\u2010", "-").split())
+    page = ran.text.replace("\u2010", "-")
+    # a command's part begins with its name, by itself on a line
+    parts = re.split(r"^   ([a-z]+)$", page.split("EXIT STATUS")[0], flags=re.MULTILINE)
+    parts = {"": page, **dict(zip(parts[1::2], parts[2::2]))}
     for name, text in told.items():
+        shown = " ".join(parts.get(name, "").split())
         said = [it for line in text.splitlines() for it in re.split(r" {2,}", line.strip())]
         said = [it.replace("Usage: ", "").replace("registry <COMMAND>", "registry COMMAND") for it in said if not it.endswith(":")]
         lacking = [it for it in said if it not in shown and not it.startswith(("help", "Print this message"))]
