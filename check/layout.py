@@ -1,0 +1,91 @@
+"""OCI image layouts, made here so that every digest is known before a client is asked."""
+import gzip
+import hashlib
+import io
+import json
+import os
+import tarfile
+
+MEDIA = "application/vnd.oci.image.{}"
+
+
+def digest(body):
+    return "sha256:" + hashlib.sha256(body).hexdigest()
+
+
+def bytes_of(seed, size):
+    """Bytes that do not compress, the same for the same seed."""
+    return hashlib.shake_128(seed.encode()).digest(size)
+
+
+def layer_of(name, content):
+    """A tar of one file, and the same in gzip."""
+    tar = io.BytesIO()
+    with tarfile.open(fileobj=tar, mode="w") as it:
+        entry = tarfile.TarInfo(name)
+        entry.size = len(content)
+        it.addfile(entry, io.BytesIO(content))
+    return tar.getvalue(), gzip.compress(tar.getvalue(), 1, mtime=0)
+
+
+class Layout:
+    """A layout in a folder, under the tag v1: an image for each platform, and an index where there are several."""
+
+    def __init__(self, folder, seed, size, platforms=("amd64",), subject=None):
+        self.folder, self.blobs, self.kinds = folder, {}, {}
+        os.makedirs(f"{folder}/blobs/sha256")
+        tar, packed = layer_of("content", bytes_of(seed, size))
+        images = [self.image(seed, platform, tar, packed, subject) for platform in platforms]
+        whole = images[0] if len(images) == 1 else self.index(images)
+        self.digest, self.layer = whole["digest"], digest(packed)
+        self.write("oci-layout", json.dumps({"imageLayoutVersion": "1.0.0"}).encode())
+        named = {**whole, "annotations": {"org.opencontainers.image.ref.name": "v1"}}
+        self.write("index.json", json.dumps({"schemaVersion": 2, "manifests": [named]}).encode())
+
+    def write(self, name, body):
+        with open(f"{self.folder}/{name}", "wb") as it:
+            it.write(body)
+
+    def blob(self, kind, body):
+        at = digest(body)
+        self.blobs[at], self.kinds[at] = body, kind
+        self.write(f"blobs/{at.replace(':', '/')}", body)
+        return {"mediaType": MEDIA.format(kind), "digest": at, "size": len(body)}
+
+    def image(self, seed, platform, tar, packed, subject):
+        # (ctr takes a config without a time of making as made by nobody)
+        config = {
+            "created": "2024-01-01T00:00:00Z",
+            "architecture": platform,
+            "os": "linux",
+            "config": {"Labels": {"seed": seed}},
+            "rootfs": {"type": "layers", "diff_ids": [digest(tar)]},
+            "history": [{"created": "2024-01-01T00:00:00Z", "created_by": "check"}],
+        }
+        manifest = {
+            "schemaVersion": 2,
+            "mediaType": MEDIA.format("manifest.v1+json"),
+            "config": self.blob("config.v1+json", json.dumps(config).encode()),
+            "layers": [self.blob("layer.v1.tar+gzip", packed)],
+        }
+        if subject:
+            manifest["subject"] = {"mediaType": MEDIA.format("manifest.v1+json"), "digest": subject.digest, "size": len(subject.blobs[subject.digest])}
+        self.config = manifest["config"]["digest"]
+        found = self.blob("manifest.v1+json", json.dumps(manifest).encode())
+        return {**found, "platform": {"architecture": platform, "os": "linux"}}
+
+    def index(self, images):
+        body = {"schemaVersion": 2, "mediaType": MEDIA.format("index.v1+json"), "manifests": images}
+        return self.blob("index.v1+json", json.dumps(body).encode())
+
+    def tar(self):
+        """The layout in one file."""
+        with tarfile.open(f"{self.folder}.tar", "w") as it:
+            it.add(self.folder, arcname=".")
+        return f"{self.folder}.tar"
+
+
+def top_of(folder):
+    """The digest of what a layout holds."""
+    with open(f"{folder}/index.json", encoding="utf-8") as it:
+        return json.load(it)["manifests"][0]["digest"]
