@@ -4,6 +4,7 @@
 nginx is started with a certificate that is made here, and `registry serve` behind it, both in a folder that is
 taken away again. Each client that is installed pushes and pulls, mounts, is refused as a stranger and where a
 layer or a quota is too large, and what arrived is compared by digests; clients that are not installed are named.
+(Where it runs as root, skopeo, buildah and podman note in /var/lib/containers/cache where they have seen blobs.)
 deploy/install-clients.sh installs what is looked for. `make check-clients` calls this.
 """
 import base64
@@ -45,6 +46,8 @@ class Client:
 
     # whether the manifest is another where a layer is packed by it
     packs_again = False
+    # whether it has a daemon or storage of its own
+    needs_root = False
     # whether a 413 that is answered before it has sent all lets it wait for ever
     may_wait = False
 
@@ -54,7 +57,8 @@ class Client:
 
     @classmethod
     def lacks(cls):
-        return [it for it in cls.needs if shutil.which(it) is None and not os.path.exists(it)]
+        lacking = [it for it in cls.needs if shutil.which(it) is None and not os.path.exists(it)]
+        return lacking + (["the rights of root"] if cls.needs_root and os.geteuid() else [])
 
     def begin(self):
         pass
@@ -97,7 +101,7 @@ class Skopeo(Client):
 class Storing(Client):
     """podman and buildah keep images unpacked: what is pushed has the same config, and the layers as they pack them."""
 
-    packs_again = True
+    packs_again, needs_root = True, True
 
     def __init__(self, front):
         super().__init__(front)
@@ -161,7 +165,7 @@ class Ctr(Client):
     """containerd, with a daemon of its own."""
 
     name, needs = "ctr", ["ctr", "containerd"]
-    may_wait = True
+    needs_root, may_wait = True, True
 
     def version(self):
         return self.run("ctr", "--version").text.split()[-1]
@@ -287,6 +291,7 @@ class Docker(Client):
     """Docker's daemon, one of its own that makes no network. It pulls what the others pushed, and pushes another form."""
 
     name, needs = "docker", ["docker", "/usr/sbin/dockerd", "containerd"]
+    needs_root = True
 
     def version(self):
         return self.run("/usr/sbin/dockerd", "--version").text.split()[2].rstrip(",")
@@ -495,7 +500,7 @@ def look_at_the_quota(front):
 def is_there(kind):
     lacks = kind.lacks()
     if lacks:
-        print(f"--    {kind.name}: not installed ({', '.join(lacks)})")
+        print(f"--    {kind.name}: left out, for want of {', '.join(lacks)}")
     return not lacks
 
 
