@@ -365,16 +365,14 @@ class Check:
 
     def mount(self):
         """The same image to another repository: its blobs are mounted, not sent."""
-        before = self.mounts()
+        mounts = "POST /v2/team/lib/blobs/uploads/?", "mount=sha256", "201 "
+        before = self.front.asked(*mounts)
         ran = self.client.pass_on(self.layouts["image"], f"team/app:{self.client.name}", f"team/lib:{self.client.name}")
         if ran is None:
             print(f"--    {self.client.name} does not ask for a mount")
             return
         self.works(ran, "push to another repository")
-        self.say(self.mounts() > before, "which mounts blobs")
-
-    def mounts(self):
-        return self.front.asked("POST /v2/team/lib/blobs/uploads/?", "mount=sha256", "201 ")
+        self.say(self.front.was_asked(before, *mounts), "which mounts blobs")
 
     def refusals(self):
         own, name = self.layouts["image"], self.client.name
@@ -390,7 +388,7 @@ class Check:
             self.is_refused(ran, "a layer over 64 MiB", "64 MiB", "413")
         else:
             print(f"        {self.client.name}: a layer over 64 MiB: {ran.text}, as is known of it")
-        self.say(self.front.asked("413 ") > told, "it was told 413")
+        self.say(self.front.was_asked(told, "413 "), "it was told 413")
         self.say(self.front.digest(*where.split(":")) is None, "and nothing came of it")
 
     def all(self):

@@ -167,3 +167,11 @@ class Front:
         """How many lines of nginx's record have all the words."""
         with open(f"{self.room}/access.log", encoding="utf-8") as it:
             return sum(all(word in line for word in words) for line in it)
+
+    def was_asked(self, before, *words):
+        """Whether there are more such lines than before; nginx writes one when it is done with the connection."""
+        for _ in range(100):
+            if self.asked(*words) > before:
+                return True
+            time.sleep(0.1)
+        return False
