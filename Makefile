@@ -53,14 +53,14 @@ build:
 	mkdir -p build
 	cp crates/registry_cli/out/registry_cli build/registry
 
-# Each library after those that it stands on, so that independent ones are proved side by side. All wait for
-# the first three, which get more processors; none waits long for the last ones, which give way.
-FIRST := oci_names oci_manifest registry_model
-LAST := registry_maps store_opening store_reads
+# Each library after those that it stands on, so that independent ones are proved side by side. The longest row of
+# them, each waiting for the one before it, gets more processors, and the others give way to it.
+ROW := oci_names oci_manifest registry_model store_schema store_contents store_world store_statements store_writes \
+  registry_store
 define prove
 .PHONY: prove-$(1)
 prove-$(1): $(addprefix prove-,$(below_$(1)))
-	JOBS=$(if $(filter $(1),$(FIRST)),4,2) $(if $(filter $(1),$(LAST)),nice) check/prove.sh $(1) $(all_below_$(1))
+	JOBS=$(if $(filter $(1),$(ROW)),4,2) $(if $(filter $(1),$(ROW)),,nice) check/prove.sh $(1) $(all_below_$(1))
 endef
 $(foreach crate,$(CRATES),$(eval $(call prove,$(crate))))
 
