@@ -22,7 +22,7 @@ pub const INDEX_DIGEST: &str =
     "sha256:bc5857ac9458293d5111ab85c952172cd7f56bceb4e3014ddc4cafac8927b313";
 
 /// An index whose subject is `INDEX`.
-const REFERRER: &[u8] = b"{\"schemaVersion\":2,\"manifests\":[],\
+pub const REFERRER: &[u8] = b"{\"schemaVersion\":2,\"manifests\":[],\
       \"subject\":{\"mediaType\":\"application/vnd.oci.image.index.v1+json\",\"digest\":\
       \"sha256:bc5857ac9458293d5111ab85c952172cd7f56bceb4e3014ddc4cafac8927b313\",\"size\":34}}";
 

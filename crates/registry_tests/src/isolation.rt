@@ -1,5 +1,6 @@
 //! Isolation of teams, by bytes: two registries that agree on what a team sees tell it the same.
 
+use crate::runs::tells_in_turn;
 use crate::script::{Line, lines, play};
 use crate::setting::{Maker, add, empty, grant, same, same_at, setting};
 use oci_names::{Digest, RepoName};
@@ -7,6 +8,7 @@ use registry_model::{AdminCommand, Keeper, Level, Quota};
 use registry_service::Service;
 use std::alloc::Global;
 use std::process::Abort;
+use std::str;
 use std::test::Fail;
 
 /// What `t1` asks of one registry, in order: pushes and fetches of a blob, of the empty one, its mounts
@@ -109,32 +111,64 @@ fn meanwhile<K: Keeper>(
 }
 
 /// Gives the requests of `t1` to both registries, in the second one after what others do there: the
-/// replies begin as they must, and are the same byte for byte.
+/// replies begin as they must, and are the same byte for byte. They are the answer.
 fn answers_alike<K: Keeper, L: Keeper>(
     rt: &impl Abort,
     alloc: Global,
     alone: &mut Service<K>,
     shared: &mut Service<L>,
     requests: &[Line],
-) -> Result<(), Fail> {
+) -> Result<Vec<Vec<u8>>, Fail> {
+    let mut replies = Vec::new(alloc);
     for (request, round) in requests.iter().zip(0_u32..100) {
         let first = request.reply(rt, alloc, alone)?;
         meanwhile(rt, alloc, shared, round)?;
         let second = request.reply(rt, alloc, shared)?;
         same_at(rt, round as usize, first.as_slice(), second.as_slice());
+        replies.push(first)?;
     }
-    Ok(())
+    Ok(replies)
+}
+
+/// The requests as one run, in a registry of no more than what `t1` sees, its two repositories and its levels
+/// on them, are told the same replies.
+fn view_tells<M: Maker>(
+    rt: &impl Abort,
+    alloc: Global,
+    requests: &[Line],
+    replies: &[Vec<u8>],
+) -> Result<(), Fail> {
+    let mut registry = empty::<M>(alloc)?;
+    for name in ["team/app", "team/lib"] {
+        add(alloc, &mut registry, name, 1000)?;
+        grant(alloc, &mut registry, "t1", name, Level::Delete)?;
+    }
+    let mut spelled = Vec::new(alloc);
+    for request in requests {
+        spelled.push(request.spell(alloc)?)?;
+    }
+    let mut steps = Vec::new(alloc);
+    for request in spelled.iter() {
+        steps.push(request.step()?)?;
+    }
+    let mut told = Vec::new(alloc);
+    for reply in replies {
+        told.push(str::from_utf8(reply.as_slice())?)?;
+    }
+    tells_in_turn(rt, alloc, &mut registry, steps.as_slice(), told.as_slice())
 }
 
 /// Two registries that are alike but for what `other` holds: the replies to `t1` are the same byte
-/// for byte, whatever others do before each of its requests in the second.
+/// for byte, whatever others do before each of its requests in the second; and so are those of one run
+/// over what it sees alone.
 pub fn two_registries<A: Maker, B: Maker>(rt: &impl Abort, alloc: Global) -> Result<(), Fail> {
     let mut alone = setting::<A>(alloc)?;
     let mut shared = setting::<B>(alloc)?;
     play(rt, alloc, &mut shared, OTHER)?;
     let requests = lines(alloc, OWN)?;
     same(rt, requests.len(), 43);
-    answers_alike(rt, alloc, &mut alone, &mut shared, requests.as_slice())
+    let replies = answers_alike(rt, alloc, &mut alone, &mut shared, requests.as_slice())?;
+    view_tells::<A>(rt, alloc, requests.as_slice(), replies.as_slice())
 }
 
 /// A registry of `team/lib`, `team/app` and `lonely`, with the levels that `t1` has in the setting;
@@ -175,5 +209,6 @@ pub fn nothing_in_common_but_a_view<A: Maker, B: Maker>(
     let mut requests = lines(alloc, OWN)?;
     requests.extend_from_slice(lines(alloc, OUTSIDE)?.as_slice())?;
     same(rt, requests.len(), 50);
-    answers_alike(rt, alloc, &mut alone, &mut shared, requests.as_slice())
+    answers_alike(rt, alloc, &mut alone, &mut shared, requests.as_slice())?;
+    Ok(())
 }

@@ -4,11 +4,13 @@ ghost use Rattle.std.specs.Prelude.{◌≡◌, true, false};
 ghost use Rattle.registry_model.specs.Answer.{answer_of};
 ghost use Rattle.registry_model.specs.Heads.{is_sent};
 
-use crate::setting::{ABC, DELETED, HELLO, Maker, grant, same, setting};
+use crate::setting::{ABC, DELETED, HELLO, Maker, grant, same, same_at, setting};
 use oci_names::{RepoName, Token};
 use registry_http::write_reply;
-use registry_model::{AdminCommand, Body, Level, Query, Quota, Reply, Request, Route, Verb};
-use registry_service::{Outcome, Step};
+use registry_model::{
+    AdminCommand, Body, Keeper, Level, Query, Quota, Reply, Request, Route, Verb,
+};
+use registry_service::{Outcome, Service, Step};
 use std::alloc::Global;
 use std::process::Abort;
 use std::str;
@@ -104,9 +106,9 @@ fn outcome_text(alloc: Global, outcome: &Outcome) -> Result<Vec<u8>, Fail> {
     let mut text = Vec::new(alloc);
     match outcome {
         Outcome::Reply(reply) => {
-            write_reply(reply, is_for_head(reply), false, &mut text).map_err(
-                |_| "the reply is written",
-            )?;
+            if write_reply(reply, is_for_head(reply), false, &mut text).is_err() {
+                return Err("the reply is written".into());
+            }
         }
         Outcome::Admin(Ok(())) => {}
         Outcome::Admin(Err(fault)) => {
@@ -116,8 +118,26 @@ fn outcome_text(alloc: Global, outcome: &Outcome) -> Result<Vec<u8>, Fail> {
     Ok(text)
 }
 
-/// Runs the steps in the setting, in which `t3` has level 2 on `team/app` too, and compares the text of
-/// each outcome.
+/// Runs the steps, and compares the text of each outcome.
+pub fn tells_in_turn<K: Keeper>(
+    rt: &impl Abort,
+    alloc: Global,
+    registry: &mut Service<K>,
+    steps: &[Step],
+    expected: &[&str],
+) -> Result<(), Fail> {
+    let Ok(outcomes) = registry.run(alloc, steps) else {
+        return Err("the steps are run".into());
+    };
+    same(rt, outcomes.len(), expected.len());
+    for (place, (outcome, text)) in outcomes.iter().zip(expected).enumerate() {
+        let told = outcome_text(alloc, outcome)?;
+        same_at(rt, place, str::from_utf8(told.as_slice())?, *text);
+    }
+    Ok(())
+}
+
+/// The same in the setting, in which `t3` has level 2 on `team/app` too.
 fn tells<M: Maker>(
     rt: &impl Abort,
     alloc: Global,
@@ -126,13 +146,7 @@ fn tells<M: Maker>(
 ) -> Result<(), Fail> {
     let mut registry = setting::<M>(alloc)?;
     grant(alloc, &mut registry, "t3", "team/app", Level::Push)?;
-    let outcomes = registry.run(alloc, steps).map_err(|_| "a run")?;
-    same(rt, outcomes.len(), expected.len());
-    for (outcome, text) in outcomes.iter().zip(expected) {
-        let told = outcome_text(alloc, outcome)?;
-        same(rt, str::from_utf8(told.as_slice())?, *text);
-    }
-    Ok(())
+    tells_in_turn(rt, alloc, &mut registry, steps, expected)
 }
 
 /// To `t1` the replies are the same, whatever `t2` and the administrator do elsewhere in between.

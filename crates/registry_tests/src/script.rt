@@ -3,8 +3,9 @@
 
 use crate::setting::{same, serve};
 use registry_http::End;
-use registry_model::Keeper;
-use registry_service::Service;
+use registry_http::target::verb;
+use registry_model::{Keeper, Query, Request, Route};
+use registry_service::{Service, Step};
 use std::alloc::Global;
 use std::process::Abort;
 use std::test::Fail;
@@ -62,8 +63,8 @@ impl<'a> Line<'a> {
         })
     }
 
-    /// The bytes of the request, with each word written out; `nobody` has no token.
-    fn request(&self, alloc: Global) -> Result<String, Fail> {
+    /// The request, with each word written out.
+    pub fn spell(&self, alloc: Global) -> Result<Spelled, Fail> {
         let mut target = self.target.to_string(alloc)?;
         let mut body = self.body.to_string(alloc)?;
         for line in WORDS.lines() {
@@ -71,6 +72,17 @@ impl<'a> Line<'a> {
             target = target.as_str().replace(alloc, word, meaning)?;
             body = body.as_str().replace(alloc, word, meaning)?;
         }
+        Ok(Spelled {
+            token: self.token.to_string(alloc)?,
+            field: self.field.to_string(alloc)?,
+            target,
+            body,
+        })
+    }
+
+    /// The bytes of the request; `nobody` has no token.
+    fn request(&self, alloc: Global) -> Result<String, Fail> {
+        let Spelled { target, body, .. } = self.spell(alloc)?;
         let token = self.token;
         let mut request = format!(in alloc; "{target} HTTP/1.1\r\nHost: r\r\n")?;
         if token != "nobody" {
@@ -102,6 +114,50 @@ impl<'a> Line<'a> {
         assert!(rt; served.output.starts_with(wanted.as_bytes()), "to {line}");
         Ok(served.output)
     }
+}
+
+/// A request of a script in which each word is written out.
+#[derive(Drop)]
+pub struct Spelled {
+    token: String,
+    field: String,
+    /// The method, a space, the path and its query.
+    target: String,
+    body: String,
+}
+
+impl Spelled {
+    /// The request as a step of a run; its path and its query have no escapes.
+    pub fn step(&self) -> Result<Step<'_>, Fail> {
+        let (method, target) = self.target.as_str().split_once(' ').ok_or("a method")?;
+        let (path, query) = target.split_once('?').unwrap_or((target, ""));
+        Ok(Step::Request(Request {
+            token: Some(self.token.as_str()),
+            method: verb(method.as_bytes()),
+            route: Route::from_path(path),
+            query: Query {
+                digest: value_of(query, "digest="),
+                mount: value_of(query, "mount="),
+                from: value_of(query, "from="),
+                n: value_of(query, "n="),
+                last: value_of(query, "last="),
+                artifact_type: value_of(query, "artifactType="),
+            },
+            content_type: value_of(self.field.as_str(), "Content-Type: ").map(str::as_bytes),
+            content_range: value_of(self.field.as_str(), "Content-Range: ").map(str::as_bytes),
+            body: self.body.as_bytes(),
+        }))
+    }
+}
+
+/// What follows the key in the first part of a query, or the only one of a field, that begins with it.
+fn value_of<'a>(text: &'a str, key: &str) -> Option<&'a str> {
+    for part in text.split('&') {
+        if let Some(value) = part.strip_prefix(key) {
+            return Some(value);
+        }
+    }
+    None
 }
 
 /// The lines of a script.

@@ -11,6 +11,9 @@ use std::process::Abort;
 use std::str;
 use std::test::Fail;
 
+/// The largest number of a session.
+const LARGEST: u64 = 9_223_372_036_854_775_807;
+
 const NOTHING: &str = "sha256:e3b0c44298fc1c149afbf4c8996fb92427ae41e4649b934ca495991b7852b855";
 
 const TOO_MANY: &str =
@@ -87,6 +90,36 @@ fn too_many_uploads(rt: HostRuntime) -> Result<(), Fail> {
         rt.alloc(),
         &mut registry,
         ONE_TOO_MANY,
+        replies.as_slice(),
+    )
+}
+
+/// The largest number is given to one session, and none opens behind it, whatever has ended.
+const NUMBERS_USED_UP: &str = r#"202 t1 POST /v2/team/app/blobs/uploads/
+429 t1 POST /v2/team/app/blobs/uploads/
+201 t1 PUT /v2/team/app/blobs/uploads/9223372036854775807?digest={nothing}
+429 t1 POST /v2/team/app/blobs/uploads/
+202 t1 POST /v2/team/lib/blobs/uploads/
+"#;
+
+/// No number of requests leads there: the keeper is told that all numbers but one were given. Over a file
+/// `check/hostile.py` does the same.
+#[test]
+fn session_numbers_are_used_up(rt: HostRuntime) -> Result<(), Fail> {
+    let name = RepoName::parse(rt.alloc(), "team/app")?;
+    let mut keeper = setting::<InMaps>(rt.alloc())?.into_keeper();
+    keeper.set_last_number(&name, LARGEST - 1);
+    let mut registry = Service::new(keeper);
+    let mut replies = vec![in rt.alloc(); opened(rt.alloc(), "team/app", LARGEST)?]?;
+    replies.push(TOO_MANY.to_string(rt.alloc())?)?;
+    replies.push(created(rt.alloc(), NOTHING)?)?;
+    replies.push(TOO_MANY.to_string(rt.alloc())?)?;
+    replies.push(opened(rt.alloc(), "team/lib", 1)?)?;
+    is_told(
+        &rt,
+        rt.alloc(),
+        &mut registry,
+        NUMBERS_USED_UP,
         replies.as_slice(),
     )
 }
