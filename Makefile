@@ -11,7 +11,7 @@ PROCESSORS := $(shell nproc)
 DEMO := stdio --memory --repo team/app=1000 --grant t1=team/app=3
 
 .PHONY: help demo build try test check edits check-file check-rows check-hostile check-clients check-install
-.PHONY: bench bench-http install deb fmt clean
+.PHONY: bench bench-quick bench-http install deb fmt clean
 
 # docs/PERFORMANCE.md has what was measured.
 help:
@@ -32,7 +32,9 @@ help:
 	@echo '                     (deploy/install-clients.sh installs them)'
 	@echo 'make install         executable, man page, completion, service and nginx files (PREFIX, DESTDIR, SYSCONFDIR)'
 	@echo 'make deb             the same as a Debian package, build/firkhen_*.deb; make check-install looks at both'
-	@echo 'make bench           requests a second over loopback, beside docker-registry where installed'
+	@echo 'make bench           requests over loopback, beside docker-registry, sha256sum, dd and cat where installed'
+	@echo '                     (under 8 min, after make build; OLD=path: beside an older executable as well)'
+	@echo 'make bench-quick     its ten lines that matter (60 s, after make build)'
 	@echo 'make bench-http      requests a second over standard input, beside cat and sha256sum'
 	@echo 'make fmt, make clean lays out the sources; removes what was built'
 
@@ -118,9 +120,14 @@ deb: build/registry
 check-install: build/registry
 	python3 check/install.py
 
-# Requests a second over loopback on a database file, beside docker-registry where installed (python3).
+# Requests over loopback on a database file, beside docker-registry where installed, sha256sum, dd and cat
+# (python3 with its sqlite3). OLD names an older executable, which is measured in the same run.
+OLD =
 bench: build
-	python3 bench/loopback.py
+	python3 bench/loopback.py $(if $(OLD),--old '$(OLD)')
+
+bench-quick: build
+	python3 bench/loopback.py --quick
 
 # Requests a second and MB/s over standard input, beside `cat` and `sha256sum` of the same bytes (python3).
 bench-http: build
