@@ -13,6 +13,21 @@ MEDIA = IMAGE + "manifest.v1+json"
 FIRST = 10
 
 
+# the lines of the short run
+LINES = (
+    "push of 1 KiB",
+    "GET of 1 KiB",
+    "push of 64 MiB",
+    "GET of 64 MiB",
+    "POST+PATCH+PUT of 64 MiB, one PATCH",
+    "the PUT of 64 MiB, one PATCH",
+    "manifest PUT",
+    "list of 1,000 tags",
+    "push of 1 KiB beside 10",
+    "push of 1 KiB beside 100,000",
+)
+
+
 @dataclass
 class Plan:
     """How much is asked: sizes with how many requests a round, uploads with how many PATCHes each, and how
@@ -29,17 +44,22 @@ class Plan:
     pushes: int = 20
     # docker-registry looks at no other blob as it takes one, and 100,000 blobs of it are 400,000 files
     beside_files: int = 10_000
+    manifests: int = 100
     grown: int = 16
+    # the cases that are wanted, where not all are
+    lines: tuple = ()
     notes: list = field(default_factory=list)
 
 
 QUICK = Plan(
     rounds=2,
-    sizes=(("1 KiB", KIB, 100), ("64 MiB", 64 * MIB, 1)),
+    sizes=(("1 KiB", KIB, 50), ("64 MiB", 64 * MIB, 1)),
     uploads=(("64 MiB, one PATCH", 64 * MIB, 1, 1),),
     beside=(10, 100_000),
     pushes=5,
     beside_files=10,
+    manifests=40,
+    lines=LINES,
 )
 
 
@@ -70,6 +90,8 @@ class Cases:
 
     def take(self, name, count, call, prepare=lambda: None):
         """The least of some rounds. What a request needs is prepared before the clock starts."""
+        if self.plan.lines and name not in self.plan.lines:
+            return
         self.peer.forget_peak()
         least = None
         for _ in range(self.plan.rounds):
@@ -136,11 +158,11 @@ def sessions(cases):
 
 
 def manifests(cases):
-    peer, blob, fields = cases.peer, cases.fresh(KIB), {"Content-Type": MEDIA}
+    peer, blob, fields, count = cases.peer, cases.fresh(KIB), {"Content-Type": MEDIA}, cases.plan.manifests
     peer.push(blob, IMAGES)
-    left = iter([manifest_of(blob, note) for note in range(100 * cases.plan.rounds)])
+    left = iter([manifest_of(blob, note) for note in range(count * cases.plan.rounds)])
     path, accept = f"/v2/{IMAGES}/manifests/v1", {"Accept": MEDIA}
-    cases.take("manifest PUT", 100, lambda it: peer.request("PUT", path, it, fields), lambda: next(left))
+    cases.take("manifest PUT", count, lambda it: peer.request("PUT", path, it, fields), lambda: next(left))
     cases.take("manifest GET", 200, lambda _: peer.request("GET", path, None, accept))
     cases.take("manifest HEAD", 200, lambda _: peer.request("HEAD", path, None, accept))
 

@@ -23,19 +23,6 @@ from servers import Docker, Firkhen, new_database
 REGISTRY = os.path.abspath("build/registry")
 US, OLD, DOCKER, LIMITS = "registry", "old", "docker-registry", "limits"
 QUICK_PARTS = ("blobs", "uploads", "manifests", "lists", "growing")
-# the lines of the short run
-LINES = (
-    "push of 1 KiB",
-    "GET of 1 KiB",
-    "push of 64 MiB",
-    "GET of 64 MiB",
-    "POST+PATCH+PUT of 64 MiB, one PATCH",
-    "the PUT of 64 MiB, one PATCH",
-    "manifest PUT",
-    "list of 1,000 tags",
-    "push of 1 KiB beside 10",
-    "push of 1 KiB beside 100,000",
-)
 # what one time is to be to others: the most that it may be of their sum
 AIMS = (
     ("push of 64 MiB", US, (("sha256sum of 64 MiB", LIMITS), ("dd conv=fsync of 64 MiB", LIMITS)), 1.6),
@@ -184,7 +171,7 @@ def main():
     for program in limits.lacking() + [DOCKER] * (shutil.which(DOCKER) is None):
         plan.notes.append(f"{program} is not installed: skipped")
     found = run(asked, plan)
-    show(found, LINES if asked.quick else ())
+    show(found, plan.lines)
     show_aims(found)
     for note in plan.notes:
         print(f"note: {note}")
