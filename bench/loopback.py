@@ -92,14 +92,14 @@ def run(asked, plan):
 def beside(ours, other):
     """Another server's time, how many times ours it is, and its peak memory."""
     if other is None:
-        return " " * 29
-    memory = f"{other[1]:8.0f}" if other[1] else " " * 8
-    return f"{other[0] * 1e6:13,.0f}{other[0] / ours:8.1f}{memory}"
+        return " " * 34
+    memory = f"{other[1]:7.0f}" if other[1] else " " * 7
+    return f"{other[0] * 1e6:20,.0f}{other[0] / ours:7.1f}{memory}"
 
 
 def show(found, lines):
     others = [name for name in (OLD, DOCKER) if name in found]
-    head = "".join(f"{name + ' us':>17}{'times':>6}{'MiB':>6}" for name in others)
+    head = "".join(f"{name + ' us':>20}{'times':>7}{'MiB':>7}" for name in others)
     print(f"{'':38}{'registry us':>13}{'a second':>10}{'MiB':>7}{head}")
     for case, (seconds, peak) in found[US].items():
         if lines and case not in lines:
