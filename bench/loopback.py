@@ -116,28 +116,26 @@ def verdict(value, most):
     return "reached" if value <= most else "MISSED"
 
 
-def show_aims(found):
-    """Each aim whose cases were all taken."""
-    print("\nWhat is aimed at, as ratios of this run:")
+def aims(found):
+    """A line for each aim whose cases were all taken."""
     for case, server, unders, most in AIMS:
         times = [found.get(of, {}).get(name) for name, of in ((case, server), *unders)]
         if all(times):
             value = times[0][0] / sum(seconds for seconds, _ in times[1:])
             text = " + ".join(f"{name}, {of}" if of == DOCKER else name for name, of in unders)
-            print(f"  {verdict(value, most):8}{value:8.2f} (at most {most})  {case} / {text}")
+            yield f"{verdict(value, most):8}{value:8.2f} (at most {most})  {case} / {text}"
     if CLOSING in found[US]:
         seconds = found[US][CLOSING][0]
-        value = f"{seconds * 1e3:.1f} ms (at most {CLOSING_AIM * 1e3:.0f})"
-        print(f"  {verdict(seconds, CLOSING_AIM):8}{value}  {CLOSING}")
-    if OLD in found:
-        show_slower(found)
+        value = f"{seconds * 1e3:8.1f} ms (at most {CLOSING_AIM * 1e3:.0f})"
+        yield f"{verdict(seconds, CLOSING_AIM):8}{value}  {CLOSING}"
 
 
-def show_slower(found):
+def slower(found):
     """The cases that the older executable does faster; a twentieth is what runs differ by."""
     for case, (seconds, _) in found[US].items():
-        if case in found[OLD] and seconds > 1.05 * found[OLD][case][0]:
-            print(f"  SLOWER  {seconds / found[OLD][case][0]:8.2f} times the old one's  {case}")
+        old = found.get(OLD, {}).get(case)
+        if old and seconds > 1.05 * old[0]:
+            yield f"SLOWER  {seconds / old[0]:8.2f} times the old one's  {case}"
 
 
 def write(found):
@@ -172,7 +170,9 @@ def main():
         plan.notes.append(f"{program} is not installed: skipped")
     found = run(asked, plan)
     show(found, plan.lines)
-    show_aims(found)
+    said = [*aims(found), *slower(found)]
+    if said:
+        print("\nWhat is aimed at, as ratios of this run:", *said, sep="\n  ")
     for note in plan.notes:
         print(f"note: {note}")
     print(f"{time.perf_counter() - begun:.0f} s")
