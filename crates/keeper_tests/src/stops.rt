@@ -280,18 +280,19 @@ fn begun(alloc: Global, file: Stopped, calls: u64) -> Result<Option<Service<Stop
 /// More calls than are made.
 const MOST_CALLS: u64 = 4096;
 
+/// Steps that add up to any number below `MOST_CALLS`.
+const STEPS: [u64; 12] = [2048, 1024, 512, 256, 128, 64, 32, 16, 8, 4, 2, 1];
+
 /// The least number of calls of a file after which such a registry is there.
 fn calls_to_begin(alloc: Global, file: Stopped) -> Result<u64, Fail> {
-    let mut low = 0_u64;
-    let mut high = MOST_CALLS;
-    for _ in 0..12 {
-        let between = low + (high - low) / 2;
-        match begun(alloc, file, between)? {
-            Some(_) => high = between,
-            None => low = between,
+    let mut too_few = 0_u64;
+    for step in STEPS {
+        let calls = too_few.saturating_add(step);
+        if begun(alloc, file, calls)?.is_none() {
+            too_few = calls;
         }
     }
-    Ok(high)
+    Ok(too_few.saturating_add(1))
 }
 
 /// What came of a change over files one of which stops.
@@ -362,7 +363,7 @@ fn stops(
             told,
             whole,
             mut left,
-        } = attempted(rt, alloc, change, file, first + further)?;
+        } = attempted(rt, alloc, change, file, first.saturating_add(further))?;
         for _ in 0..2 {
             let rows = left.rows(alloc)?;
             let is_changed = rows.as_str() == changed.as_str();
