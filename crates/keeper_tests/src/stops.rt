@@ -3,7 +3,7 @@
 
 use crate::disks::{Left, Stopped, Stopping, open_new};
 use crate::keeping::{ABC, INDEX, INDEX_DIGEST, REFERRER, same};
-use oci_names::{RepoName, Token};
+use oci_names::{Digest, RepoName, Tag, Token};
 use registry_model::{
     AdminCommand, AdminFault, Keeper, Level, Query, Quota, Request, Route, Status, Verb,
 };
@@ -317,6 +317,31 @@ fn is_spent<K: Keeper>(
     Ok(())
 }
 
+/// A spent store says of every read that the storage failed.
+fn reads_fail<K: Keeper>(rt: &impl Abort, alloc: Global, keeper: &mut K) -> Result<(), Fail> {
+    let name = RepoName::parse(alloc, "team/app")?;
+    let token = Token::parse(alloc, "t1")?;
+    let digest = Digest::parse(alloc, ABC)?;
+    let tag = Tag::parse(alloc, "v1")?;
+    assert!(rt; keeper.known(&token).is_err());
+    assert!(rt; keeper.has_repo(&name).is_err());
+    assert!(rt; keeper.level(&token, &name).is_err());
+    assert!(rt; keeper.blob(alloc, &name, &digest).is_err());
+    assert!(rt; keeper.blob_size(&name, &digest).is_err());
+    assert!(rt; keeper.manifest(alloc, &name, &digest).is_err());
+    assert!(rt; keeper.manifest_size(&name, &digest).is_err());
+    assert!(rt; keeper.tag(alloc, &name, &tag).is_err());
+    assert!(rt; keeper.tags_after(alloc, &name, "", None).is_err());
+    assert!(rt; keeper.manifests_of_subject(alloc, &name, &digest).is_err());
+    assert!(rt; keeper.session_size(&name, 1).is_err());
+    assert!(rt; keeper.session(alloc, &name, 1).is_err());
+    assert!(rt; keeper.sessions_open(&name).is_err());
+    assert!(rt; keeper.last_number(&name).is_err());
+    assert!(rt; keeper.usage(&name).is_err());
+    assert!(rt; keeper.usages(alloc).is_err());
+    Ok(())
+}
+
 /// Whether a change that changes nothing of what is seen can be made.
 fn is_going<K: Keeper>(alloc: Global, keeper: &mut K) -> Result<bool, Fail> {
     let name = RepoName::parse(alloc, "team/lib")?;
@@ -338,6 +363,9 @@ fn attempted(
         is_spent(rt, alloc, &mut registry)?;
     }
     let mut keeper = registry.into_keeper();
+    if let Told::Lost = told {
+        reads_fail(rt, alloc, &mut keeper)?;
+    }
     let whole = told == Told::Done && is_going(alloc, &mut keeper)?;
     let left = Left::of(keeper);
     Ok(Attempt { told, whole, left })
