@@ -11,7 +11,7 @@ PROCESSORS := $(shell nproc)
 DEMO := stdio --memory --repo team/app=1000 --grant t1=team/app=3
 
 .PHONY: help demo build try test check edits check-file check-rows check-hostile check-clients check-install
-.PHONY: bench bench-quick bench-http install deb fmt clean
+.PHONY: check-docs bench bench-quick bench-http install deb fmt clean
 
 # docs/PERFORMANCE.md has what was measured.
 help:
@@ -30,6 +30,7 @@ help:
 	@echo '                     make test; 5 min)'
 	@echo 'make check-clients   curl, skopeo, buildah, podman, ctr and oras-go through nginx, those that are installed'
 	@echo '                     (deploy/install-clients.sh installs them)'
+	@echo 'make check-docs      the commands of the tutorial and other pages, and what they print (10 s)'
 	@echo 'make install         executable, man page, completion, service and nginx files (PREFIX, DESTDIR, SYSCONFDIR)'
 	@echo 'make deb             the same as a Debian package, build/firkhen_*.deb; make check-install looks at both'
 	@echo 'make bench           requests over loopback, beside docker-registry, sha256sum, dd and cat where installed'
@@ -119,6 +120,10 @@ deb: build/registry
 # What these two make: files and modes, the man page and the completion beside --help, the unit by systemd-analyze.
 check-install: build/registry
 	python3 check/install.py
+
+# The commands of the pages, and what they print (python3, curl, skopeo, podman, nginx, openssl, sqlite3).
+check-docs: build/registry
+	python3 check/docs.py
 
 # Requests over loopback on a database file, beside docker-registry where installed, sha256sum, dd and cat
 # (python3 with its sqlite3). OLD names an older executable, which is measured in the same run.
