@@ -31,6 +31,7 @@ PATH = f"{os.environ['PATH']}:/usr/sbin"
 PAGES = {
     "README.md": ["curl", "skopeo"],
     "docs/TUTORIAL.md": ["nginx", "openssl", "curl", "podman", "skopeo"],
+    "docs/OPERATIONS.md": ["curl", "sqlite3"],
 }
 # those that the pages name: of the server, and of nginx
 PORTS = (7000, 8443)

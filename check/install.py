@@ -24,6 +24,7 @@ FILES = {
     "usr/share/firkhen/token-line": 0o755,
     "usr/share/doc/firkhen/CLIENTS.md": 0o644,
     "usr/share/doc/firkhen/ENDPOINTS.md": 0o644,
+    "usr/share/doc/firkhen/OPERATIONS.md": 0o644,
     "usr/share/doc/firkhen/SECURITY.md": 0o644,
     "etc/default/firkhen": 0o644,
     "etc/nginx/sites-available/firkhen": 0o644,
