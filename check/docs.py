@@ -19,6 +19,7 @@ import subprocess
 import sys
 import tempfile
 import time
+from contextlib import suppress
 
 import house
 from executables import TOP
@@ -66,7 +67,7 @@ class Command:
         return self.text.endswith("&")
 
     def fits(self, said):
-        """(nothing tells two texts apart that differ in line ends at their ends)"""
+        """(line ends at the very end do not count)"""
         lines = [re.escape(it).replace("…", ".*") for it in self.printed]
         lines = ["(?s:.*)" if it == ".*" else it for it in lines]
         return re.fullmatch("\n".join(lines), said.rstrip("\n")) is not None
@@ -153,10 +154,11 @@ class Shell:
 
     def end(self):
         """With all that it left running; what went on by itself has told its number in a file."""
-        os.killpg(self.shell.pid, signal.SIGTERM)
+        with suppress(ProcessLookupError):
+            os.killpg(self.shell.pid, signal.SIGTERM)
         self.shell.wait()
         for name in glob.glob(f"{self.room}/here/**/*.pid", recursive=True):
-            with open(name, encoding="utf-8") as it:
+            with open(name, encoding="utf-8") as it, suppress(ProcessLookupError):
                 os.kill(int(it.read()), signal.SIGTERM)
         until(lambda: not any(map(listens, PORTS)), "the end of a page's servers")
         self.said.close()
@@ -193,8 +195,9 @@ def compare_picture():
 
 
 def lacks(page):
-    lacking = [it for it in PAGES[page] if shutil.which(it, path=PATH) is None]
-    lacking += ["the rights of root"] if "podman" in PAGES[page] and os.geteuid() else []
+    called = PAGES.get(page, [])
+    lacking = [it for it in called if shutil.which(it, path=PATH) is None]
+    lacking += ["the rights of root"] if "podman" in called and os.geteuid() else []
     return lacking + [f"port {port}, which another process has" for port in PORTS if listens(port)]
 
 
