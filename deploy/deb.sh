@@ -7,7 +7,8 @@ made=$(mktemp -d)
 trap 'rm -rf "$made"' EXIT
 version=$("$program" --version | cut -d' ' -f2)
 architecture=$(dpkg --print-architecture)
-when=${SOURCE_DATE_EPOCH:-$(git -C "$top" log -1 --format=%ct)}
+# (a checkout that git does not read is of today)
+when=${SOURCE_DATE_EPOCH:-$(git -C "$top" log -1 --format=%ct 2> /dev/null || date +%s)}
 package=$made/package
 documents=$package/usr/share/doc/firkhen
 
