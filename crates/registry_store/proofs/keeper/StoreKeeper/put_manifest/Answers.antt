@@ -8,7 +8,7 @@ use Rattle.registry_store.proofs.KeeperAnswers.{write_told, written, unfailed}
 use Rattle.registry_store.proofs.keeper.StoreKeeper.put_manifest.Goals as goal
 
 pub put_manifest-answer-requires : goal.put_manifest-answer-requires
-put_manifest-answer-requires g c = record { settled = λ clean. c.self.invariant c.if-self.false clean; there = asked g.S.Store c.self.inside.conn c.args.self.now c.self.inside.spent c.self.view_is (λ w. has_repo w c.args.repo.now ≡ true) c.if-self.false c.requires.there; reads = c.requires.reads; fits = c.requires.fits }
+put_manifest-answer-requires g c = record { settled = λ clean. c.self.invariant c.if-self.false clean; there = asked g.S.Store c.self.inside.conn c.args.self.now c.self.inside.spent c.self.view_is (λ w. has_repo w c.args.repo.now ≡ true) c.if-self.false c.requires.there; matching = c.requires.matching; reads = c.requires.reads; fits = c.requires.fits }
 
 pub invariant_of-self : goal.invariant_of-self
 invariant_of-self g c unspent clean = written c.put_manifest-answer.result (state g.S.Store c.self.inside.conn) (state g.S.Store c.put_manifest-answer.new.conn) _ (unfailed _ _ _ c.note_fault.ensures.noted unspent) (c.put_manifest-answer.ensures.made clean) (c.put_manifest-answer.ensures.memory clean)
