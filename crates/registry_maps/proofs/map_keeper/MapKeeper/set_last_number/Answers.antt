@@ -1,4 +1,4 @@
-use Rattle.std.proofs.Common.{◌≡◌, ◌∙◌, rules, refl, ap}
+use Rattle.std.proofs.Common.{◌∙◌, rules, refl, ap}
 use Rattle.registry_maps.specs.Maps.{state_of}
 use Rattle.registry_maps.proofs.SeenWorlds.{lent_some, lent_none, changed_by, nothing_made}
 use Rattle.registry_maps.proofs.map_keeper.MapKeeper.set_last_number.Goals as goal
