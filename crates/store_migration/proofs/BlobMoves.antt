@@ -26,7 +26,7 @@ use Rattle.store_migration.specs.OldWorld.{old_blob_entry, old_blobs}
 use Rattle.store_migration.specs.Both.{both_blobs, world_of_both, AreUnmoved, AreBoth}
 use Rattle.store_migration.specs.Moves.{BlobMoved}
 use Rattle.store_migration.proofs.Merged.{both_stay, both_moved}
-use Rattle.store_migration.proofs.BothWorlds.{grown, worlds_agree, world_grown, both_grown}
+use Rattle.store_migration.proofs.BothWorlds.{grown, worlds_agree, world_grown, both_grown, beside_free}
 use Rattle.store_migration.proofs.Unmoved.{row_of, unmoved_left}
 
 -- ---- keys
@@ -100,7 +100,7 @@ module _ (old : OldTables) (t : Tables) (name digest bytes : Text) (id : ℤ) (r
       sessions_repo = both.olds.sessions_repo;
       given = both.olds.given;
     };
-    news = λ version two. (blob_added (record t { version = version }) name digest bytes id rows (both.news version two) repo held fresh c).1;
+    news = λ version beside two none. (blob_added (record t { version = version; beside = beside }) name digest bytes id rows (both.news version beside two none) repo held fresh c).1;
     blobs = unmoved_left same_key (has_key name digest) old.blobs t.blobs rows (blob_columns name digest (length bytes) id) c (λ r. key_turned name digest r) both.blobs;
     manifests = both.manifests;
     sessions = both.sessions;
@@ -111,14 +111,14 @@ module _ (old : OldTables) (t : Tables) (name digest bytes : Text) (id : ℤ) (r
 pub blob_moves : (olds news : OldTables) (t u : Tables) → AreBoth olds t → BlobMoved olds news t u → (world_of_both news u ≡ world_of_both olds t) × AreBoth news u
 blob_moves olds news t u both m = subst (λ x. (world_of_both news x ≡ world_of_both olds t) × AreBoth news x) (sym m.others) (subst (λ o. (world_of_both o target ≡ world_of_both olds t) × AreBoth o target) (sym m.gone) (
   blob_world olds mid m.name m.digest m.bytes m.id u.blobs ready m.held row.0 row.1 row.2 m.comes ∙ world_grown olds t u.contents both m.grow,
-  blob_both olds mid m.name m.digest m.bytes m.id u.blobs ready m.held row.0 row.1 row.2 m.comes,
+  beside_free _ (record mid { blobs = u.blobs }) u.beside (blob_both olds mid m.name m.digest m.bytes m.id u.blobs ready m.held row.0 row.1 row.2 m.comes),
 ))
   where
     mid : Tables
     mid = grown t u.contents
 
     target : Tables
-    target = record t { contents = u.contents; blobs = u.blobs }
+    target = record t { contents = u.contents; blobs = u.blobs; beside = u.beside }
 
     ready : AreBoth olds mid
     ready = both_grown olds t u.contents both m.grow

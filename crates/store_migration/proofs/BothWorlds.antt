@@ -9,7 +9,7 @@ use Rattle.sqlite.specs.declared.types.Value.TheVariants.{Null, Int}
 use Rattle.sqlite_trees.proofs.ListLemmas.{all_weaker}
 use Rattle.oci_names.specs.Text.{Text}
 use Rattle.store_schema.specs.Rows.{bytes_at, natural_at, integer_at}
-use Rattle.store_world.specs.Tables.{Tables}
+use Rattle.store_world.specs.Tables.{Tables, Beside, nothing_beside}
 use Rattle.store_world.specs.World.{tags_of, grants_of}
 use Rattle.store_world.specs.Registry.{BlobAgrees, ManifestAgrees, PieceAgrees, Agree, IsRegistry}
 use Rattle.store_world.specs.Changes.{Grow}
@@ -43,17 +43,23 @@ module _ (olds news : OldTables) (t : Tables) (contents : ℤ → Option Text) (
         quota = natural_at r 2;
       }
 
+-- ---- rows beside the tables of schema 2
+
+-- they say nothing
+pub beside_free : (old : OldTables) (t : Tables) (rows : Beside) → AreBoth old t → AreBoth old (record t { beside = rows })
+beside_free old t rows both = record { version = both.version; olds = both.olds; news = both.news; blobs = both.blobs; manifests = both.manifests; sessions = both.sessions }
+
 -- ---- contents come
 
 -- the registry that the tables are once their version is written
-pub once_two : (t : Tables) → IsRegistryOnceTwo t → IsRegistry (record t { version = (Null ∷ Int (pos 2) ∷ []) ∷ [] })
-once_two t are = are ((Null ∷ Int (pos 2) ∷ []) ∷ []) refl
+pub once_two : (t : Tables) → IsRegistryOnceTwo t → IsRegistry (record t { version = (Null ∷ Int (pos 2) ∷ []) ∷ []; beside = nothing_beside })
+once_two t are = are ((Null ∷ Int (pos 2) ∷ []) ∷ []) nothing_beside refl tt
 
 abbrev pub grown : Tables → (ℤ → Option Text) → Tables
 grown t contents = record t { contents = contents }
 
 module _ (old : OldTables) (t : Tables) (contents : ℤ → Option Text) (both : AreBoth old t) (grow : Grow t.contents contents) where
-  agree : Agree (record t { version = (Null ∷ Int (pos 2) ∷ []) ∷ [] })
+  agree : Agree (record t { version = (Null ∷ Int (pos 2) ∷ []) ∷ []; beside = nothing_beside })
   agree = (once_two t both.news).agree
 
   blobs_same : Same t.contents contents 4 t.blobs
@@ -75,7 +81,7 @@ module _ (old : OldTables) (t : Tables) (contents : ℤ → Option Text) (both :
   both_grown = record {
     version = both.version;
     olds = both.olds;
-    news = λ version two. (contents_grown (record t { version = version }) contents (both.news version two) grow).1;
+    news = λ version beside two none. (contents_grown (record t { version = version; beside = beside }) contents (both.news version beside two none) grow).1;
     blobs = both.blobs;
     manifests = both.manifests;
     sessions = both.sessions;

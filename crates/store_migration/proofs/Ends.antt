@@ -1,7 +1,7 @@
 -- Many moves, one after the other, and where they end: no row is left in the tables of schema 1.
 use Rattle.std.proofs.Common.{◌≡◌, inl, inr, List, [], ◌∷◌, refl, subst, ◌∙◌, true}
 use Rattle.sqlite.specs.Order.{Row}
-use Rattle.store_world.specs.Tables.{Tables}
+use Rattle.store_world.specs.Tables.{Tables, Beside, IsEmptyBeside}
 use Rattle.store_world.specs.Changes.{changed}
 use Rattle.store_world.specs.World.{world_of}
 use Rattle.store_world.specs.Registry.{IsOfSchemaTwo, IsRegistry}
@@ -14,9 +14,8 @@ use Rattle.store_migration.proofs.BlobMoves.{blob_moves}
 use Rattle.store_migration.proofs.ManifestMoves.{manifest_moves}
 use Rattle.store_migration.proofs.SessionMoves.{session_moves}
 
-pub ends : (t : Tables) (version : List Row) → AreBoth no_old_tables t → IsOfSchemaTwo version
-    → (world_of (record t { version = version }) ≡ world_of_both no_old_tables t) × IsRegistry (record t { version = version })
-ends t version both two = (refl, both.news version two)
+pub ends : (t : Tables) (version : List Row) (beside : Beside) → AreBoth no_old_tables t → IsOfSchemaTwo version → IsEmptyBeside beside → IsRegistry (record t { version = version; beside = beside })
+ends t version beside both two none = both.news version beside two none
 
 pub row_moves : (olds news : OldTables) (t u : Tables) → AreBoth olds t → Moved olds news t u → (world_of_both news u ≡ world_of_both olds t) × AreBoth news u
 row_moves olds news t u both (inl m) = blob_moves olds news t u both m
@@ -32,10 +31,10 @@ rows_move first (next ∷ stages) last both h =
     (all.0 ∙ one.0, all.1)
 
 pub all_move : (old : OldTables) (t u : Tables) (stages : List Stage) (version : List Row) → IsOldRegistry old t → MovesThrough (record { old = old; tables = emptied t }) stages (record { old = no_old_tables; tables = u }) → IsOfSchemaTwo version
-    → (world_of (record u { version = version }) ≡ old_world old t) × IsRegistry (record u { version = version })
+    → (world_of (record u { version = version }) ≡ old_world old t) × ((beside : Beside) → IsEmptyBeside beside → IsRegistry (record u { version = version; beside = beside }))
 all_move old t u stages version is h two =
     let moved = rows_move (record { old = old; tables = emptied t }) stages (record { old = no_old_tables; tables = u }) (both_begin old t is) h in
-    (moved.0 ∙ world_begins old t, moved.1.news version two)
+    (moved.0 ∙ world_begins old t, λ beside none. moved.1.news version beside two none)
 
 -- ---- the version
 

@@ -26,7 +26,7 @@ use Rattle.store_migration.specs.OldWorld.{old_manifest_entry, old_manifests}
 use Rattle.store_migration.specs.Both.{both_manifests, world_of_both, AreBoth}
 use Rattle.store_migration.specs.Moves.{ManifestMoved}
 use Rattle.store_migration.proofs.Merged.{both_stay, both_moved}
-use Rattle.store_migration.proofs.BothWorlds.{grown, worlds_agree, world_grown, both_grown}
+use Rattle.store_migration.proofs.BothWorlds.{grown, worlds_agree, world_grown, both_grown, beside_free}
 use Rattle.store_migration.proofs.Unmoved.{row_of, unmoved_left}
 use Rattle.store_migration.proofs.BlobMoves.{key_free, key_turned, in_rows}
 
@@ -86,7 +86,7 @@ module _ (old : OldTables) (t : Tables) (name digest bytes : Text) (id : ℤ) (r
       sessions_repo = both.olds.sessions_repo;
       given = both.olds.given;
     };
-    news = λ version two. (manifest_added (record t { version = version }) name digest bytes id rows (both.news version two) repo held fresh c).1;
+    news = λ version beside two none. (manifest_added (record t { version = version; beside = beside }) name digest bytes id rows (both.news version beside two none) repo held fresh c).1;
     blobs = both.blobs;
     manifests = unmoved_left same_key (has_key name digest) old.manifests t.manifests rows (link_columns name digest bytes id) c (λ r. key_turned name digest r) both.manifests;
     sessions = both.sessions;
@@ -97,14 +97,14 @@ module _ (old : OldTables) (t : Tables) (name digest bytes : Text) (id : ℤ) (r
 pub manifest_moves : (olds news : OldTables) (t u : Tables) → AreBoth olds t → ManifestMoved olds news t u → (world_of_both news u ≡ world_of_both olds t) × AreBoth news u
 manifest_moves olds news t u both m = subst (λ x. (world_of_both news x ≡ world_of_both olds t) × AreBoth news x) (sym m.others) (subst (λ o. (world_of_both o target ≡ world_of_both olds t) × AreBoth o target) (sym m.gone) (
   manifest_world olds mid m.name m.digest m.bytes m.id u.manifests ready m.held row.0 row.1 row.2 m.comes ∙ world_grown olds t u.contents both m.grow,
-  manifest_both olds mid m.name m.digest m.bytes m.id u.manifests ready m.held row.0 row.1 row.2 m.comes,
+  beside_free _ (record mid { manifests = u.manifests }) u.beside (manifest_both olds mid m.name m.digest m.bytes m.id u.manifests ready m.held row.0 row.1 row.2 m.comes),
 ))
   where
     mid : Tables
     mid = grown t u.contents
 
     target : Tables
-    target = record t { contents = u.contents; manifests = u.manifests }
+    target = record t { contents = u.contents; manifests = u.manifests; beside = u.beside }
 
     ready : AreBoth olds mid
     ready = both_grown olds t u.contents both m.grow

@@ -31,7 +31,7 @@ use Rattle.store_migration.specs.OldWorld.{old_session_entry, old_sessions}
 use Rattle.store_migration.specs.Both.{both_sessions, world_of_both, AreUnmoved, IsRegistryOnceTwo, AreBoth}
 use Rattle.store_migration.specs.Moves.{LeftEmpty, Filled, SessionMoved}
 use Rattle.store_migration.proofs.Merged.{both_stay, both_moved}
-use Rattle.store_migration.proofs.BothWorlds.{grown, once_two, worlds_agree, world_grown, both_grown}
+use Rattle.store_migration.proofs.BothWorlds.{grown, once_two, worlds_agree, world_grown, both_grown, beside_free}
 use Rattle.store_migration.proofs.Unmoved.{row_of, unmoved_left}
 
 -- ---- numbers
@@ -154,7 +154,7 @@ module _ (old : OldTables) (t : Tables) (name : Text) (number : ℕ) (bytes : Te
   opened_unmoved = unmoved_left same_session (of_session name number) old.sessions t.uploads uploads (upload_columns name number) c (λ r. session_turned name number r) both.sessions
 
   opened_ready : IsRegistryOnceTwo (record t { uploads = uploads })
-  opened_ready version two = registry_reopened (record t { version = version }) name number uploads c free (both.news version two) repo given
+  opened_ready version beside two none = registry_reopened (record t { version = version; beside = beside }) name number uploads c free (both.news version beside two none) repo given
 
   -- ---- it is empty
 
@@ -193,8 +193,8 @@ module _ (old : OldTables) (t : Tables) (name : Text) (number : ℕ) (bytes : Te
     end = omega arith
 
     filled_ready : IsRegistryOnceTwo (record t { pieces = pieces; uploads = sized })
-    filled_ready version two = subst (λ n. IsRegistry (record t { version = version; pieces = pieces; uploads = changed (of_session name number) (with_size n) uploads })) end
-        (registry_appended (record t { version = version; uploads = uploads }) name number 0 bytes id pieces (opened_ready version two) reach (reopened_there t name number uploads c free) more held d)
+    filled_ready version beside two none = subst (λ n. IsRegistry (record t { version = version; beside = beside; pieces = pieces; uploads = changed (of_session name number) (with_size n) uploads })) end
+        (registry_appended (record t { version = version; beside = beside; uploads = uploads }) name number 0 bytes id pieces (opened_ready version beside two none) reach (reopened_there t name number uploads c free) more held d)
 
     unmoved_sized : (r : Row) → find (same_session r) uploads ≡ None → find (same_session r) sized ≡ None
     unmoved_sized r none = find_changed (of_session name number) (same_session r) (with_size (length bytes)) (λ x. refl) uploads ∙ ap (option_map (λ x. cond (of_session name number x) (with_size (length bytes) x) x)) none
@@ -218,13 +218,13 @@ session_moves olds news t u both m = go m.filled
     less = record olds { sessions = without (of_session m.name m.number) olds.sessions }
 
     go : LeftEmpty t u m.bytes m.uploads ⊎ Filled t u m.name m.number m.bytes m.uploads → Keeps olds news t u
-    go (inl n) = subst (λ x. Keeps olds news t x) (sym n.others) (subst (λ o. Keeps olds o t (record t { uploads = m.uploads })) (sym m.gone) (
+    go (inl n) = subst (λ x. Keeps olds news t x) (sym n.others) (subst (λ o. Keeps olds o t (record t { uploads = m.uploads; beside = u.beside })) (sym m.gone) (
       empty_world olds t m.name m.number m.bytes both row.0 row.1 row.2 m.uploads m.opens n.none,
-      empty_both olds t m.name m.number m.bytes both row.0 row.1 row.2 m.uploads m.opens,
+      beside_free _ (record t { uploads = m.uploads }) u.beside (empty_both olds t m.name m.number m.bytes both row.0 row.1 row.2 m.uploads m.opens),
     ))
     go (inr p) = subst (λ x. Keeps olds news t x) (sym p.others) (subst (λ o. Keeps olds o t target) (sym m.gone) (
       filled_world olds mid m.name m.number m.bytes ready row.0 row.1 row.2 m.uploads m.opens p.more p.id p.held u.pieces p.comes ∙ world_grown olds t u.contents both p.grow,
-      filled_both olds mid m.name m.number m.bytes ready row.0 row.1 row.2 m.uploads m.opens p.more p.id p.held u.pieces p.comes,
+      beside_free _ (record mid { pieces = u.pieces; uploads = changed (of_session m.name m.number) (with_size (length m.bytes)) m.uploads }) u.beside (filled_both olds mid m.name m.number m.bytes ready row.0 row.1 row.2 m.uploads m.opens p.more p.id p.held u.pieces p.comes),
     ))
       where
         mid : Tables
@@ -234,7 +234,7 @@ session_moves olds news t u both m = go m.filled
         ready = both_grown olds t u.contents both p.grow
 
         target : Tables
-        target = record t { contents = u.contents; pieces = u.pieces; uploads = changed (of_session m.name m.number) (with_size (length m.bytes)) m.uploads }
+        target = record t { contents = u.contents; pieces = u.pieces; uploads = changed (of_session m.name m.number) (with_size (length m.bytes)) m.uploads; beside = u.beside }
 
 -- no number is given out by it
 pub session_repos : (olds news : OldTables) (t u : Tables) → SessionMoved olds news t u → u.repos ≡ t.repos

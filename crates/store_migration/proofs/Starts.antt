@@ -31,7 +31,7 @@ none_moved same [] = tt
 none_moved same (r ∷ rs) = (refl, none_moved same rs)
 
 ready : (old : OldTables) (t : Tables) → IsOldRegistry old t → IsRegistryOnceTwo (emptied t)
-ready old t is = λ version two. record {
+ready old t is = λ version beside two none. record {
   tables = record {
     repos = is.repos;
     grants = is.grants;
@@ -41,7 +41,7 @@ ready old t is = λ version two. record {
     uploads = record { types = tt; apart = tt; ids = (tt, tt) };
     pieces = record { types = tt; apart = tt; ids = (tt, tt) };
   };
-  agree = record { version = two; granted = is.granted; tagged = is.tagged; blobs_repo = tt; manifests_repo = tt; uploads_repo = tt; blobs = tt; manifests = tt; uploads = tt; pieces = tt; pieces_open = tt };
+  agree = record { version = two; granted = is.granted; tagged = is.tagged; blobs_repo = tt; manifests_repo = tt; uploads_repo = tt; blobs = tt; manifests = tt; uploads = tt; pieces = tt; pieces_open = tt; beside = none };
 }
 
 pub both_begin : (old : OldTables) (t : Tables) → IsOldRegistry old t → AreBoth old (emptied t)

@@ -9,7 +9,7 @@ use Rattle.oci_names.specs.Text.{Text}
 use Rattle.registry_model.specs.World.{text_cmp, Repo, World}
 use Rattle.store_schema.specs.Rows.{bytes_at, natural_at}
 use Rattle.store_world.specs.Keys.{of_first, same_key, same_session}
-use Rattle.store_world.specs.Tables.{Tables}
+use Rattle.store_world.specs.Tables.{Tables, Beside, IsEmptyBeside}
 use Rattle.store_world.specs.World.{blob_entry, manifest_entry, session_entry, tags_of, grants_of}
 use Rattle.store_world.specs.Registry.{IsOfSchemaTwo, IsRegistry}
 use Rattle.store_migration.specs.OldTables.{OldTables, AreOldTables, IsOfSchemaOne}
@@ -55,10 +55,12 @@ world_of_both old t = record {
 
 -- ---- what is kept true while rows are moved
 
--- the tables of schema 2 are a registry's as soon as the version says so, which is written last
+-- the tables of schema 2 are a registry's as soon as the further ones are empty and the version says so,
+-- which is written last
 abbrev pub IsRegistryOnceTwo : Tables → Type 0
 IsRegistryOnceTwo t =
-    (version : List Row) → IsOfSchemaTwo version → IsRegistry (record t { version = version })
+    (version : List Row) (beside : Beside) → IsOfSchemaTwo version → IsEmptyBeside beside
+    → IsRegistry (record t { version = version; beside = beside })
 
 -- no row of schema 2 has the key of one of schema 1
 abbrev pub AreUnmoved : (Row → Row → Bool) → List Row → List Row → Type 0

@@ -1,5 +1,6 @@
 -- One row moved from a table of schema 1 to those of schema 2, as the statements say it that move it: its
--- bytes have an id, as they had or got it, a row that names them comes, and the old row goes.
+-- bytes have an id, as they had or got it, a row that names them comes, and the old row goes, which is one of
+-- the rows beside the tables of schema 2.
 use Rattle.std.specs.Prelude.{◌≡◌, ◌<◌, ◌⊎◌, ℕ, ℤ, pos, List, [], ◌∷◌, length, find, option_map, Some}
 use Rattle.sqlite.specs.declared.types.Value.TheVariants.{Int}
 use Rattle.sqlite.specs.Order.{Row, column}
@@ -23,7 +24,7 @@ pub record BlobMoved (olds news : OldTables) (t u : Tables) : Type 0 where
   pub grow : Grow t.contents u.contents
   pub held : u.contents id ≡ Some bytes
   pub comes : Comes t.blobs u.blobs (blob_columns name digest (length bytes) id)
-  pub others : u ≡ record t { contents = u.contents; blobs = u.blobs }
+  pub others : u ≡ record t { contents = u.contents; blobs = u.blobs; beside = u.beside }
   pub gone : news ≡ record olds { blobs = without (has_key name digest) olds.blobs }
 
 -- a manifest: a link comes, with the kind and the subject as which the bytes read
@@ -37,7 +38,7 @@ pub record ManifestMoved (olds news : OldTables) (t u : Tables) : Type 0 where
   pub held : u.contents id ≡ Some bytes
   pub comes : Comes t.manifests u.manifests
       (manifest_columns name digest (length bytes) (kind_in bytes) (subject_or_none (manifest_in bytes)) id)
-  pub others : u ≡ record t { contents = u.contents; manifests = u.manifests }
+  pub others : u ≡ record t { contents = u.contents; manifests = u.manifests; beside = u.beside }
   pub gone : news ≡ record olds { manifests = without (has_key name digest) olds.manifests }
 
 -- the bytes of a session become its one piece, and its size is theirs
@@ -51,12 +52,13 @@ pub record Filled (t u : Tables) (name : Text) (number : ℕ) (bytes : Text) (up
     contents = u.contents;
     pieces = u.pieces;
     uploads = changed (of_session name number) (with_size (length bytes)) uploads;
+    beside = u.beside;
   }
 
 -- there are none
 pub record LeftEmpty (t u : Tables) (bytes : Text) (uploads : List Row) : Type 0 where
   pub none : bytes ≡ []
-  pub others : u ≡ record t { uploads = uploads }
+  pub others : u ≡ record t { uploads = uploads; beside = u.beside }
 
 -- an upload session: it is opened under its number, and no number is given out; then its bytes come
 pub record SessionMoved (olds news : OldTables) (t u : Tables) : Type 0 where

@@ -4,7 +4,7 @@ ghost use Rattle.std.specs.List.Sorted.{IsPermutation};
 ghost use Rattle.sqlite.specs.Order.{Row};
 ghost use Rattle.oci_names.specs.Text.{Text};
 ghost use Rattle.store_world.specs.Keys.{has_key, of_session};
-ghost use Rattle.store_world.specs.Tables.{Tables};
+ghost use Rattle.store_world.specs.Tables.{Tables, Beside, IsEmptyBeside};
 ghost use Rattle.store_world.specs.Changes.{without, changed};
 ghost use Rattle.store_world.specs.World.{world_of};
 ghost use Rattle.store_world.specs.Registry.{is_repo, IsOfSchemaTwo, IsRegistry};
@@ -82,12 +82,13 @@ pub fn the_version_becomes_two()
 {}
 
 /// Once no row is left in the tables of schema 1 and the version is 2, the tables are a registry's, of the
-/// same world.
+/// same world, whatever tables stand empty beside them.
 pub fn no_old_row_is_left()
     ensures world { (t : Tables) (version : List Row) → AreBoth no_old_tables t → IsOfSchemaTwo version
         → world_of (record t { version = version }) ≡ world_of_both no_old_tables t }
-    ensures registry { (t : Tables) (version : List Row) → AreBoth no_old_tables t → IsOfSchemaTwo version
-        → IsRegistry (record t { version = version }) }
+    ensures registry { (t : Tables) (version : List Row) (beside : Beside) → AreBoth no_old_tables t
+        → IsOfSchemaTwo version → IsEmptyBeside beside
+        → IsRegistry (record t { version = version; beside = beside }) }
 {}
 
 /// However many rows are moved, and in whatever order, the rows of both schemas stand for the same world
@@ -108,8 +109,9 @@ pub fn a_migration_keeps_the_world()
         (record { old = no_old_tables; tables = u })
         → IsOfSchemaTwo version → world_of (record u { version = version }) ≡ old_world old t }
     ensures registry { (old : OldTables) (t u : Tables) (stages : List Stage) (version : List Row)
-        → IsOldRegistry old t
+        (beside : Beside) → IsOldRegistry old t
         → MovesThrough (record { old = old; tables = emptied t }) stages
         (record { old = no_old_tables; tables = u })
-        → IsOfSchemaTwo version → IsRegistry (record u { version = version }) }
+        → IsOfSchemaTwo version → IsEmptyBeside beside
+        → IsRegistry (record u { version = version; beside = beside }) }
 {}

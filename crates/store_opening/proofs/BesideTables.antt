@@ -13,10 +13,10 @@ use Rattle.store_schema.specs.Rows.{bytes_at, HaveIds}
 use Rattle.store_schema.specs.Layout.{tree_of, rows_of}
 use Rattle.store_schema.specs.Beside.{Keeps, Comes, IsNewBeside, registry_names, registry_tables}
 use Rattle.store_contents.specs.Contents.{AreContentRows, AreApart, content_rows}
-use Rattle.store_world.specs.Tables.{Tables, AreTables, no_tables}
+use Rattle.store_world.specs.Tables.{Tables, AreTables, IsEmptyBeside, new_tables}
 use Rattle.store_world.proofs.NewTables.{are_new}
 use Rattle.store_statements.specs.Known.{KnowsRegistry}
-use Rattle.store_statements.specs.Held.{tables_in, held, HoldsTables}
+use Rattle.store_statements.specs.Held.{tables_in, held, HoldsTables, beside_in}
 use Rattle.store_statements.specs.VersionTexts.{version_add}
 use Rattle.store_opening.specs.Opening.{IsMadeBeside, IsOpenedBeside}
 use Rattle.store_opening.proofs.FreshTables.{came_two, makes_none}
@@ -31,7 +31,7 @@ none_in before db table it =
     ap db.trees tree ∙ it.empty
 
 module _ (before : List Table) (db : Database) (made : AllByRecursion (IsNewBeside before db) registry_tables) where
-  no_rows : tables_in db ≡ no_tables
+  no_rows : tables_in db ≡ new_tables [] (beside_in db)
   no_rows = λ i. record {
     version = none_in before db version_table made.0 i;
     repos = none_in before db repos_table made.1.0 i;
@@ -42,6 +42,7 @@ module _ (before : List Table) (db : Database) (made : AllByRecursion (IsNewBesi
     manifests = none_in before db manifest_links_table made.1.1.1.1.1.1.0 i;
     uploads = none_in before db uploads_table made.1.1.1.1.1.1.1.0 i;
     pieces = none_in before db pieces_table made.1.1.1.1.1.1.1.1.0 i;
+    beside = beside_in db;
   }
 
   holds_none : KnowsRegistry db.schema → HoldsTables db
@@ -50,7 +51,7 @@ module _ (before : List Table) (db : Database) (made : AllByRecursion (IsNewBesi
       record {
         known = known;
         contents = record { known = known.contents; rows = subst AreContentRows (sym none) tt; apart = subst AreApart (sym none) tt; ids = subst HaveIds (sym none) (tt, tt) };
-        tables = subst AreTables (sym no_rows) (are_new []);
+        tables = subst AreTables (sym no_rows) (are_new [] (beside_in db));
       }
 
 -- ---- what was there
@@ -78,14 +79,15 @@ module _ (first : Database) (mid new : State) (comes : Comes registry_names regi
       let left = version_put first.schema.tables mid new n comes.made.0 ran.0 in
       record {
         kept = keeps left;
-        fresh = λ known.
+        fresh = λ known alone.
             let none = no_rows first.schema.tables mid.now comes.made in
             let holds = holds_none first.schema.tables mid.now comes.made (subst KnowsRegistry left.schema known) in
             let c = version_by mid new (Ok n) (record { inside = inside; holds = holds }) ran in
             record {
               ready = c.ready;
               version = came_two (held mid).version (held new).version c.id c.puts (ap (λ (t : Tables). t.version) none);
-              tables = c.others ∙ ap (λ (t : Tables). record t { version = (held new).version }) none;
+              beside = alone;
+              tables = c.others ∙ ap (λ (t : Tables). record t { version = (held new).version }) none ∙ ap (new_tables (held new).version) (sym (ap (λ (t : Tables). t.beside) c.others));
             };
       }
 
@@ -93,5 +95,5 @@ module _ (first : Database) (mid new : State) (comes : Comes registry_names regi
 pub opened_beside : (first : Database) (mid end : State) → IsMadeBeside first mid → Shows mid end mid.now mid.now false → IsOpenedBeside first end
 opened_beside first mid end it shows = record {
   kept = subst (Keeps first) (sym shows.now_is) it.kept;
-  stands = λ known. makes_none mid end (it.fresh (subst (λ (d : Database). KnowsRegistry d.schema) shows.now_is known)) shows;
+  stands = λ known alone. makes_none mid end (it.fresh (subst (λ (d : Database). KnowsRegistry d.schema) shows.now_is known) (subst (λ (d : Database). IsEmptyBeside (beside_in d)) shows.now_is alone)) shows;
 }

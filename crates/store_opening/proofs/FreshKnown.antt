@@ -28,7 +28,7 @@ to_second = refl
 -- each table's references
 children : KnowsChildren fresh_schema
 unfolding same_name
-children child h ref r = cases h
+children child h ref r = inl (cases h)
   where
     Known : Table → Reference → Type 0
     Known c f = NamesRepo fresh_schema c f.columns × (parent_key fresh_schema.tables f ≡ Some (repo_key fresh_schema))

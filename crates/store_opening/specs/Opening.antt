@@ -5,11 +5,12 @@ use Rattle.sqlite.specs.Schema.{Schema}
 use Rattle.sqlite.specs.Effect.{Database}
 use Rattle.sqlite.specs.State.{State}
 use Rattle.sqlite_schema.specs.Names.{table_named}
+use Rattle.store_world.specs.Tables.{IsEmptyBeside}
 use Rattle.store_world.specs.Registry.{Agree, IsOfSchemaTwo}
 use Rattle.registry_model.specs.World.{no_world}
 use Rattle.store_schema.specs.Beside.{Keeps}
 use Rattle.store_statements.specs.Known.{KnowsRegistry}
-use Rattle.store_statements.specs.Held.{HoldsTables, SettlesOn, tables_in}
+use Rattle.store_statements.specs.Held.{HoldsTables, SettlesOn, tables_in, beside_in}
 use Rattle.store_statements.specs.Steps.{IsNew}
 
 -- what the rows of `registry_schema` say
@@ -37,12 +38,13 @@ has_version_table schema = is_some (table_named schema (codes "registry_schema")
 
 -- ---- tables that are made beside others
 
--- what was there stays, and over a schema that the store knows the tables are new
+-- what was there stays; over a schema that the store knows, where no further table has a row that may go with
+-- a repository, the tables are new
 pub record IsMadeBeside (old : Database) (new : State) : Type 0 where
   pub kept : Keeps old new.now
-  pub fresh : KnowsRegistry new.now.schema → IsNew new
+  pub fresh : KnowsRegistry new.now.schema → IsEmptyBeside (beside_in new.now) → IsNew new
 
--- the same once it is committed: over a schema that the store knows they stand for the empty world
+-- the same once it is committed: there they stand for the empty world
 pub record IsOpenedBeside (old : Database) (new : State) : Type 0 where
   pub kept : Keeps old new.now
-  pub stands : KnowsRegistry new.now.schema → SettlesOn new no_world
+  pub stands : KnowsRegistry new.now.schema → IsEmptyBeside (beside_in new.now) → SettlesOn new no_world

@@ -83,8 +83,9 @@ fn make<S: Alter>(tx: &mut Transaction<'_, S>) -> Result<(), OpenFault>
 }
 
 /// Makes the tables, all or none, in a transaction of its own, beside what there is, which stays. In an empty
-/// database, and over any schema that the store knows, they stand for the world without repositories and
-/// grants. `NotARegistry`: one of their names is taken.
+/// database, and over any schema that the store knows, where no further table has a row that may go with a
+/// repository, they stand for the world without repositories and grants. `NotARegistry`: one of their names
+/// is taken.
 pub(crate) fn create<S: Alter>(conn: &mut Connection<S>) -> Result<(), OpenFault>
     ensures made { HasCleanDisk (state S.Store conn.new) → IsEmptyWith no_schema (state S.Store conn.old).now
         → OnOk result (SettlesOn (state S.Store conn.new) no_world) }

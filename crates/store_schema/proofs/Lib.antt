@@ -1,4 +1,5 @@
 pub mod Texts
+pub mod OldTexts
 pub mod Fresh
 pub mod Lists
 pub mod Ids

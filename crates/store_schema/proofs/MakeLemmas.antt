@@ -14,7 +14,7 @@ use Rattle.sqlite.specs.State.{State, Writes, Executes, mode_of}
 use Rattle.sqlite.proofs.Callers.{statement_of, runs_as}
 use Rattle.sqlite_resolve.specs.declared.compiled.Compiled.{Compiled}
 use Rattle.sqlite_resolve.specs.declared.error.CompileError.{CompileError}
-use Rattle.store_schema.specs.Making.{MakesTable, MakesIndex, IsEmptyWith, statement_in}
+use Rattle.store_schema.specs.Making.{MakesTable, MakesIndex, Grows, GrowsIndex, IsEmptyWith, statement_in}
 use Rattle.store_schema.proofs.Selects.{means_command}
 use Rattle.store_schema.proofs.Writes.{went, same_value, at_place}
 
@@ -30,9 +30,8 @@ all_pushed : (news : Trees) (tables : List Table) (last : Table) → AllByRecurs
 all_pushed news [] last h e = (e, tt)
 all_pushed news (t ∷ ts) last h e = (h.0, all_pushed news ts last h.1 e)
 
-pub makes_table : (schema : Schema) (table : Table) (text : List ℕ) (old new : State) (count : ℕ) → MakesTable schema text table → IsEmptyWith schema old.now → Executes text [] old new (Ok count) → IsEmptyWith (created schema table) new.now
-makes_table schema table text old new count it none h =
-    let has = none.schema_is in
+pub grows : (schema : Schema) (table : Table) (text : List ℕ) (old new : State) (count : ℕ) → MakesTable schema text table → old.now.schema ≡ schema → Executes text [] old new (Ok count) → Grows schema table old.now new.now
+grows schema table text old new count it has h =
     let w = subst (λ t. Writes old new None CreateTable t [] count) (statement_is text _ it.whole) (runs_as text [] old new schema has CreateTable (means_command schema text CreateTable it.means) it.means.plain count h) in
     let all = went w.changed in
     let first = went all.1 in
@@ -42,27 +41,37 @@ makes_table schema table text old new count it none h =
     let schema_is : first.0.schema ≡ created schema table = made.is ∙ ap (λ s. created s made.table) has ∙ ap (created schema) same in
     let plain : lacks_sequence first.0.schema ≡ false = ap lacks_sequence schema_is ∙ it.uncounted in
     let now : new.now ≡ first.0 = ap (λ (p : Tally × Database). p.1) (same_value all.2) ∙ same_value (rw plain at first.2) in
-    let empty : new.now.trees (next_tree schema) ≡ [] = ap (λ (d : Database). d.trees (next_tree schema)) now ∙ subst (λ s. first.0.trees (next_tree s) ≡ []) has made.empty in
-    let kept : KeepsRows schema.tables old.now.trees new.now.trees = subst (λ (d : Database). KeepsRows schema.tables old.now.trees d.trees) (sym now) (subst (λ s. KeepsRows s.tables old.now.trees first.0.trees) has made.others) in
     record {
       schema_is = ap (λ (d : Database). d.schema) now ∙ schema_is;
-      empty = all_pushed new.now.trees schema.tables (record table { tree = next_tree schema }) (all_kept old.now.trees new.now.trees schema.tables kept none.empty) empty;
+      empty = ap (λ (d : Database). d.trees (next_tree schema)) now ∙ subst (λ s. first.0.trees (next_tree s) ≡ []) has made.empty;
+      kept = subst (λ (d : Database). KeepsRows schema.tables old.now.trees d.trees) (sym now) (subst (λ s. KeepsRows s.tables old.now.trees first.0.trees) has made.others);
     }
 
-pub makes_index : (schema : Schema) (at : ℕ) (table : Table) (index : Index) (text : List ℕ) (old new : State) (count : ℕ) → MakesIndex schema text at table index → IsEmptyWith schema old.now → Executes text [] old new (Ok count) → IsEmptyWith (indexed schema table index) new.now
-makes_index schema at table index text old new count it none h =
-    let has = none.schema_is in
+pub makes_table : (schema : Schema) (table : Table) (text : List ℕ) (old new : State) (count : ℕ) → MakesTable schema text table → IsEmptyWith schema old.now → Executes text [] old new (Ok count) → IsEmptyWith (created schema table) new.now
+makes_table schema table text old new count it none h =
+    let g = grows schema table text old new count it none.schema_is h in
+    record {
+      schema_is = g.schema_is;
+      empty = all_pushed new.now.trees schema.tables (record table { tree = next_tree schema }) (all_kept old.now.trees new.now.trees schema.tables g.kept none.empty) g.empty;
+    }
+
+pub grows_index : (schema : Schema) (at : ℕ) (table : Table) (index : Index) (text : List ℕ) (old new : State) (count : ℕ) → MakesIndex schema text at table index → old.now.schema ≡ schema → Executes text [] old new (Ok count) → GrowsIndex schema table index old.now new.now
+grows_index schema at table index text old new count it has h =
     let w = subst (λ t. Writes old new None (CreateIndex at) t [] count) (statement_is text _ it.whole) (runs_as text [] old new schema has (CreateIndex at) (means_command schema text (CreateIndex at) it.means) it.means.plain count h) in
     let here = at_place _ (slice_get schema.tables at) table _ it.place (subst (λ s. Does old.step_limit (mode_of old) [] (record old.now { schema = s }) text None (CreateIndex at) (Ok (w.tally, new.now))) has w.changed) in
     let all = went here in
     let made = all.1 in
     let same : made.index ≡ index = (let both : Ok made.index ≡ Ok index = sym made.defined ∙ it.defined in cc) in
     let now : new.now ≡ all.0 = ap (λ (p : Tally × Database). p.1) (same_value all.2) in
-    let schema_is : all.0.schema ≡ indexed schema table index = made.is ∙ ap (indexed schema table) same in
     record {
-      schema_is = ap (λ (d : Database). d.schema) now ∙ schema_is;
-      empty = all_kept old.now.trees new.now.trees schema.tables (subst (λ (d : Database). KeepsRows schema.tables old.now.trees d.trees) (sym now) made.rows) none.empty;
+      schema_is = ap (λ (d : Database). d.schema) now ∙ made.is ∙ ap (indexed schema table) same;
+      kept = subst (λ (d : Database). KeepsRows schema.tables old.now.trees d.trees) (sym now) made.rows;
     }
+
+pub makes_index : (schema : Schema) (at : ℕ) (table : Table) (index : Index) (text : List ℕ) (old new : State) (count : ℕ) → MakesIndex schema text at table index → IsEmptyWith schema old.now → Executes text [] old new (Ok count) → IsEmptyWith (indexed schema table index) new.now
+makes_index schema at table index text old new count it none h =
+    let g = grows_index schema at table index text old new count it none.schema_is h in
+    record { schema_is = g.schema_is; empty = all_kept old.now.trees new.now.trees schema.tables g.kept none.empty }
 
 -- ---- the same of a call's result
 
@@ -75,3 +84,13 @@ pub then_indexed : {A : Type 0} (schema : Schema) (at : ℕ) (table : Table) (in
     → OnOk r ((schema : Schema) (at : ℕ) (table : Table) (index : Index) → MakesIndex schema text at table index → IsEmptyWith schema old → IsEmptyWith (indexed schema table index) new) → IsEmptyWith schema old → OnOk r (IsEmptyWith (indexed schema table index) new)
 then_indexed schema at table index text old new (Ok x) makes h none = h schema at table index makes none
 then_indexed schema at table index text old new (Err e) makes h none = tt
+
+pub then_grows : {A : Type 0} (schema : Schema) (table : Table) (text : List ℕ) (old new : Database) (r : Result A Error) → MakesTable schema text table
+    → OnOk r ((schema : Schema) (table : Table) → MakesTable schema text table → old.schema ≡ schema → Grows schema table old new) → old.schema ≡ schema → OnOk r (new.schema ≡ created schema table)
+then_grows schema table text old new (Ok x) makes h is = (h schema table makes is).schema_is
+then_grows schema table text old new (Err e) makes h is = tt
+
+pub then_grows_index : {A : Type 0} (schema : Schema) (at : ℕ) (table : Table) (index : Index) (text : List ℕ) (old new : Database) (r : Result A Error) → MakesIndex schema text at table index
+    → OnOk r ((schema : Schema) (at : ℕ) (table : Table) (index : Index) → MakesIndex schema text at table index → old.schema ≡ schema → GrowsIndex schema table index old new) → old.schema ≡ schema → OnOk r (new.schema ≡ indexed schema table index)
+then_grows_index schema at table index text old new (Ok x) makes h is = (h schema at table index makes is).schema_is
+then_grows_index schema at table index text old new (Err e) makes h is = tt

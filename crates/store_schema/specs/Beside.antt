@@ -94,9 +94,16 @@ upload_names = uploads_table.name ∷ pieces_table.name ∷ sha256_index.name �
 abbrev pub upload_ones : List Table
 upload_ones = uploads_table ∷ pieces_table ∷ []
 
+-- of the five tables and two indexes that only schema 2 has
+abbrev pub names_of_two : List (List ℕ)
+names_of_two = link_names ++ upload_names
+
+abbrev pub tables_of_two : List Table
+tables_of_two = link_ones ++ upload_ones
+
 -- the names of its nine tables and of its two indexes
 abbrev pub registry_names : List (List ℕ)
-registry_names = shared_names ++ (link_names ++ upload_names)
+registry_names = shared_names ++ names_of_two
 
 abbrev pub registry_tables : List Table
-registry_tables = shared_ones ++ (link_ones ++ upload_ones)
+registry_tables = shared_ones ++ tables_of_two

@@ -5,7 +5,7 @@ use Rattle.sqlite.specs.Table.{Table}
 use Rattle.sqlite.specs.Schema.{Schema}
 use Rattle.sqlite_schema.specs.declared.schema.Index.{Index}
 use Rattle.sqlite.specs.Compile.{table_defined_by, index_defined_by}
-use Rattle.sqlite.specs.Change.{created}
+use Rattle.sqlite.specs.Change.{created, indexed, next_tree, KeepsRows}
 use Rattle.sqlite.specs.declared.error.Error.{Error}
 use Rattle.sqlite.specs.declared.error.Error.TheVariants.{SqliteFailure, SqlInputError}
 use Rattle.sqlite.specs.declared.error.ErrorCode.TheVariants.{NameTaken}
@@ -44,6 +44,17 @@ pub record MakesIndex (schema : Schema) (text : List ℕ) (at : ℕ) (table : Ta
   pub place : slice_get schema.tables at ≡ Some table
   pub defined : index_defined_by table text ≡ Ok index
   pub free : is_used schema index.name ≡ false
+
+-- the table stands behind those of the schema, without rows, and they keep theirs
+pub record Grows (schema : Schema) (table : Table) (old new : Database) : Type 0 where
+  pub schema_is : new.schema ≡ created schema table
+  pub empty : new.trees (next_tree schema) ≡ []
+  pub kept : KeepsRows schema.tables old.trees new.trees
+
+-- the index stands behind those of the schema, and its tables keep their rows
+pub record GrowsIndex (schema : Schema) (table : Table) (index : Index) (old new : Database) : Type 0 where
+  pub schema_is : new.schema ≡ indexed schema table index
+  pub kept : KeepsRows schema.tables old.trees new.trees
 
 -- the schema, and no row in any of its tables
 pub record IsEmptyWith (schema : Schema) (db : Database) : Type 0 where

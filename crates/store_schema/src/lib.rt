@@ -4,4 +4,4 @@
 
 mod make;
 
-pub use make::make_tables;
+pub use make::{make_tables, make_tables_of_two};

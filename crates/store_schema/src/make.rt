@@ -7,8 +7,9 @@ ghost use Rattle.sqlite_schema.specs.declared.schema.Index.{Index};
 ghost use Rattle.sqlite.specs.Table.{Table};
 ghost use Rattle.sqlite.specs.Schema.{Schema};
 ghost use Rattle.store_schema.specs.Schema.{no_schema, fresh_schema};
-ghost use Rattle.store_schema.specs.Making.{MakesTable, MakesIndex, IsEmptyWith, IsOther, shared_tables, linked_tables};
-ghost use Rattle.store_schema.specs.Beside.{Comes, IsNewBeside, MakesNamed, MakesOne, shared_names, shared_ones, link_names, link_ones, upload_names, upload_ones, registry_names, registry_tables};
+ghost use Rattle.store_schema.specs.Making.{MakesTable, MakesIndex, Grows, GrowsIndex, IsEmptyWith, IsOther, shared_tables, linked_tables};
+ghost use Rattle.store_schema.specs.OldSchema.{old_schema, old_linked, both_schema};
+ghost use Rattle.store_schema.specs.Beside.{Comes, IsNewBeside, MakesNamed, MakesOne, shared_names, shared_ones, link_names, link_ones, upload_names, upload_ones, registry_names, registry_tables, names_of_two, tables_of_two};
 
 use sqlite::{Alter, Error, Transaction};
 
@@ -27,6 +28,18 @@ fn create<S: Alter>(tx: &mut Transaction<'_, S>, text: &str) -> Result<(), Error
         → MakesIndex schema text.now at table index
         → IsEmptyWith schema (state S.Store tx.old.conn.now).now
         → IsEmptyWith (indexed schema table index) (state S.Store tx.new.conn.now).now) }
+    ensures grows { HasCleanDisk (state S.Store tx.new.conn.now)
+        → OnOk result
+        ((schema : Schema) (table : Table) → MakesTable schema text.now table
+        → (state S.Store tx.old.conn.now).now.schema ≡ schema
+        → Grows schema table (state S.Store tx.old.conn.now).now (state S.Store tx.new.conn.now).now) }
+    ensures grows_index { HasCleanDisk (state S.Store tx.new.conn.now)
+        → OnOk result
+        ((schema : Schema) (at : ℕ) (table : Table) (index : Index)
+        → MakesIndex schema text.now at table index
+        → (state S.Store tx.old.conn.now).now.schema ≡ schema
+        → GrowsIndex schema table index (state S.Store tx.old.conn.now).now
+        (state S.Store tx.new.conn.now).now) }
     ensures unmade { HasCleanDisk (state S.Store tx.new.conn.now)
         → IfErr result
         (λ e. (schema : Schema) (table : Table) → MakesTable schema text.now table
@@ -106,6 +119,9 @@ fn make_links<S: Alter>(tx: &mut Transaction<'_, S>) -> Result<(), Error>
         → OnOk result (IsEmptyWith linked_tables (state S.Store tx.new.conn.now).now) }
     ensures unmade { HasCleanDisk (state S.Store tx.new.conn.now)
         → IsEmptyWith shared_tables (state S.Store tx.old.conn.now).now → IfErr result IsOther }
+    ensures linked { HasCleanDisk (state S.Store tx.new.conn.now)
+        → (state S.Store tx.old.conn.now).now.schema ≡ old_schema
+        → OnOk result ((state S.Store tx.new.conn.now).now.schema ≡ old_linked) }
     ensures comes { HasCleanDisk (state S.Store tx.new.conn.now)
         → OnOk result
         (Comes link_names link_ones (state S.Store tx.old.conn.now).now
@@ -145,6 +161,9 @@ fn make_uploads<S: Alter>(tx: &mut Transaction<'_, S>) -> Result<(), Error>
         → OnOk result (IsEmptyWith fresh_schema (state S.Store tx.new.conn.now).now) }
     ensures unmade { HasCleanDisk (state S.Store tx.new.conn.now)
         → IsEmptyWith linked_tables (state S.Store tx.old.conn.now).now → IfErr result IsOther }
+    ensures both { HasCleanDisk (state S.Store tx.new.conn.now)
+        → (state S.Store tx.old.conn.now).now.schema ≡ old_linked
+        → OnOk result ((state S.Store tx.new.conn.now).now.schema ≡ both_schema) }
     ensures comes { HasCleanDisk (state S.Store tx.new.conn.now)
         → OnOk result
         (Comes upload_names upload_ones (state S.Store tx.old.conn.now).now
@@ -202,6 +221,30 @@ pub fn make_tables<S: Alter>(tx: &mut Transaction<'_, S>) -> Result<(), Error>
     ensures survives { Survives (state S.Store tx.old.conn.now) (state S.Store tx.new.conn.now) (λ _. ⊥) }
 {
     make_shared(tx)?;
+    make_links(tx)?;
+    make_uploads(tx)
+}
+
+/// Makes the tables and indexes that only schema 2 has, without rows, beside what there is, which stays: over
+/// schema 1 the schema is then that of both. None of their names was taken; where one is, or another failure
+/// comes, the caller gives the transaction up.
+pub fn make_tables_of_two<S: Alter>(tx: &mut Transaction<'_, S>) -> Result<(), Error>
+    requires { HasCleanDisk (state S.Store tx.old.conn.now)
+        → IsTrue (state S.Store tx.old.conn.now).in_transaction }
+    ensures both { HasCleanDisk (state S.Store tx.new.conn.now)
+        → (state S.Store tx.old.conn.now).now.schema ≡ old_schema
+        → OnOk result ((state S.Store tx.new.conn.now).now.schema ≡ both_schema) }
+    ensures comes { HasCleanDisk (state S.Store tx.new.conn.now)
+        → OnOk result
+        (Comes names_of_two tables_of_two (state S.Store tx.old.conn.now).now
+        (state S.Store tx.new.conn.now).now) }
+    ensures inside { HasCleanDisk (state S.Store tx.new.conn.now)
+        → OnOk result (IsTrue (state S.Store tx.new.conn.now).in_transaction) }
+    ensures kept { HasCleanDisk (state S.Store tx.new.conn.now)
+        → KeepsCommit (state S.Store tx.old.conn.now) (state S.Store tx.new.conn.now) }
+    ensures same_reference { tx.new.conn.ghost_name ≡ tx.old.conn.ghost_name }
+    ensures survives { Survives (state S.Store tx.old.conn.now) (state S.Store tx.new.conn.now) (λ _. ⊥) }
+{
     make_links(tx)?;
     make_uploads(tx)
 }

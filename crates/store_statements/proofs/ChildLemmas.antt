@@ -1,5 +1,5 @@
 -- A repository with no children is taken out: each action of a foreign key finds nothing.
-use Rattle.std.proofs.Common.{◌≡◌, ◌≢◌, ◌∙◌, inl, inr, ℕ, List, [], ◌∷◌, Bool, true, false, cond, not, Ok, Err, Result, OnOk, sym, ap, subst, refl}
+use Rattle.std.proofs.Common.{◌≡◌, ◌≢◌, ◌∙◌, inl, inr, ℕ, List, [], ◌∷◌, Bool, true, false, cond, not, Some, Ok, Err, Result, OnOk, sym, ap, subst, refl}
 use Rattle.std.specs.Prelude.{bytes_eq, ◌&&◌}
 use Rattle.std.specs.List.{AllByRecursion, list_any}
 use Rattle.sqlite.specs.declared.types.Value.TheVariants.{Text}
@@ -19,7 +19,7 @@ use Rattle.sqlite_rules.specs.Lists.{Has}
 use Rattle.sqlite_rules.specs.Action.{Work, pairs, loses, is_child_of}
 use Rattle.sqlite_rules.specs.declared.action.Deed.{Deed}
 use Rattle.sqlite_rules.proofs.ListLemmas.{all_has}
-use Rattle.sqlite_schema.specs.Rules.{ParentKey, agree}
+use Rattle.sqlite_schema.specs.Rules.{ParentKey, parent_key, agree}
 use Rattle.sqlite_schema.specs.declared.schema.Reference.{Reference}
 use Rattle.sqlite_schema.specs.declared.schema.Keys.TheVariants.{Enforced}
 use Rattle.store_schema.specs.Schema.{repos_table, grants_table, tags_table, blob_links_table, manifest_links_table, uploads_table, pieces_table}
@@ -30,13 +30,14 @@ use Rattle.store_schema.proofs.Selects.{is_text}
 use Rattle.store_schema.proofs.Writes.{passes, deletes, Edits, Removes}
 use Rattle.store_schema.proofs.Children.{SetsOff, removes_childless, taken_passed}
 use Rattle.store_world.specs.Keys.{of_first, of_second, same_first}
-use Rattle.store_world.specs.Tables.{Tables, IsRepoRow, IsGrantRow, IsTagRow, IsBlobRow, IsManifestRow, IsUploadRow, IsPieceRow}
+use Rattle.store_world.specs.Tables.{Tables, IsEmptyBeside, IsRepoRow, IsGrantRow, IsTagRow, IsBlobRow, IsManifestRow, IsUploadRow, IsPieceRow}
 use Rattle.store_statements.specs.RepoTexts.{repo_take}
-use Rattle.store_statements.specs.Known.{NamesRepo, repo_key}
+use Rattle.store_statements.specs.Known.{NamesRepo, repo_key, trees_of, is_beside}
 use Rattle.store_statements.specs.Held.{held, HoldsTables, Becomes}
 use Rattle.store_statements.specs.Steps.{repos_without}
 use Rattle.store_world.specs.Changes.{without}
 use Rattle.store_statements.specs.Drops.{HasNoChildren, without_children}
+use Rattle.store_statements.proofs.BesideRows.{apart_beside, none_beside}
 use Rattle.store_statements.proofs.OtherTables.{only_repos, contents_beside_repos}
 use Rattle.store_statements.proofs.RepoRows.{name_test, put_are}
 use Rattle.store_statements.proofs.Statements as statements
@@ -99,16 +100,24 @@ module _ (name : List ℕ) (old new : State) (n : ℕ) (h : HoldsTables old.now)
       no_move place name child ref deed (pairs olds []) r columns it.0 it.1 (pairs olds []) named
 
   childless : (mid : Trees) → Applies schema Enforced db (edit_of db table (ids_of did.rows) Given 0 []) mid → (w : Work) → SetsOff schema (pairs olds []) w → (r : Row) → Has (mid w.child.tree) r → list_any (is_child_of w r) w.moves ≡ false
-  childless mid a w set =
-      let it = h.known.children set.child set.listed set.ref set.refers in
-      let key : set.key ≡ repo_key schema = (let x = sym set.key_is ∙ it.1 in cc) in
-      subst (λ (x : Work). (r : Row) → Has (mid x.child.tree) r → list_any (is_child_of x r) x.moves ≡ false) (sym set.is)
-      (subst (λ (k : ParentKey). (r : Row) → Has (mid set.child.tree) r → list_any (is_child_of (record { depth = 0; child = set.child; ref = set.ref; places = k.1; order = k.2; deed = set.deed; moves = pairs olds [] }) r) (pairs olds []) ≡ false) (sym key)
-      (go it.0))
+  childless mid a w set = elim (h.known.children set.child set.listed set.ref set.refers) [
+    | inl it ↦ childless_ours it
+    | inr is ↦ childless_beside is
+  ]
     where
       kept : (tree : ℕ) → set.child.tree ≡ tree → tree ≢ table.tree → mid tree ≡ db tree
       kept tree e away = subst (λ t. mid t ≡ db t) e (all_has (λ (t : Table). t.tree ≢ table.tree → mid t.tree ≡ db t.tree) schema.tables set.child a.tables set.listed (λ x. away (sym e ∙ x)))
 
+      Bare : Work → Type 0
+      Bare x = (r : Row) → Has (mid x.child.tree) r → list_any (is_child_of x r) x.moves ≡ false
+
+      -- a further table has no row
+      childless_beside : is_beside (trees_of schema) set.child ≡ true → Bare w
+      childless_beside is =
+          let none : mid set.child.tree ≡ [] = kept set.child.tree refl (apart_beside (trees_of schema) 1 table.tree set.child refl is) ∙ none_beside db (trees_of schema) schema.tables bare.beside set.child set.listed is in
+          subst Bare (sym set.is) (λ r has. absurd (subst (λ xs. Has xs r) none has))
+
+      -- one of the nine has no row that names the repository
       Left : Type 0
       Left = (r : Row) → Has (mid set.child.tree) r → list_any (is_child_of (record { depth = 0; child = set.child; ref = set.ref; places = 1 ∷ []; order = plain; deed = set.deed; moves = pairs olds [] }) r) (pairs olds []) ≡ false
 
@@ -119,6 +128,13 @@ module _ (name : List ℕ) (old new : State) (n : ℕ) (h : HoldsTables old.now)
       go (inr (inr (inr (inl e)), c)) = none_in mid 1 (tree_of schema manifest_links_table) (kept _ e (λ x. h.known.apart.1.0.1.1.1.1.0 (sym x))) (λ r has. ((all_has IsManifestRow _ r h.tables.manifests.types has).repo, all_has (λ x. of_first name x ≡ false) _ r bare.manifests has)) set.child set.ref set.deed e c
       go (inr (inr (inr (inr (inl e))), c)) = none_in mid 1 (tree_of schema uploads_table) (kept _ e (λ x. h.known.apart.1.0.1.1.1.1.1.0 (sym x))) (λ r has. ((all_has IsUploadRow _ r h.tables.uploads.types has).repo, all_has (λ x. of_first name x ≡ false) _ r bare.uploads has)) set.child set.ref set.deed e c
       go (inr (inr (inr (inr (inr e))), c)) = none_in mid 1 (tree_of schema pieces_table) (kept _ e (λ x. h.known.apart.1.0.1.1.1.1.1.1.0 (sym x))) (λ r has. ((all_has IsPieceRow _ r h.tables.pieces.types has).repo, all_has (λ x. of_first name x ≡ false) _ r bare.pieces has)) set.child set.ref set.deed e c
+
+      childless_ours : NamesRepo schema set.child set.ref.columns × (parent_key schema.tables set.ref ≡ Some (repo_key schema)) → Bare w
+      childless_ours it =
+          let key : set.key ≡ repo_key schema = (let x = sym set.key_is ∙ it.1 in cc) in
+          subst Bare (sym set.is)
+          (subst (λ (k : ParentKey). Bare (record { depth = 0; child = set.child; ref = set.ref; places = k.1; order = k.2; deed = set.deed; moves = pairs olds [] })) (sym key)
+          (go it.0))
 
   removed : Removes schema table (passes params (equals 1 0 ∷ [])) old new
   removed = removes_childless schema table (equals 1 0 ∷ []) params old new n h.tables.repos.ids did childless
@@ -141,12 +157,13 @@ gone p (r ∷ rs) = step (p r) refl (gone p rs)
     step true e more = more
     step false e more = (e, more)
 
-pub childless_now : (name : List ℕ) (t u : Tables) → u ≡ without_children name t → HasNoChildren u name
-childless_now name t u e = subst (λ x. HasNoChildren x name) (sym e) (record {
+pub childless_now : (name : List ℕ) (t u : Tables) → IsEmptyBeside t.beside → u ≡ without_children name t → HasNoChildren u name
+childless_now name t u none e = subst (λ x. HasNoChildren x name) (sym e) (record {
   grants = gone (of_second name) t.grants;
   tags = gone (of_first name) t.tags;
   blobs = gone (of_first name) t.blobs;
   manifests = gone (of_first name) t.manifests;
   uploads = gone (of_first name) t.uploads;
   pieces = gone (of_first name) t.pieces;
+  beside = none;
 })

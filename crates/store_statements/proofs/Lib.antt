@@ -1,3 +1,4 @@
+pub mod BesideRows
 pub mod OtherTables
 pub mod AreRows
 pub mod Statements

@@ -6,6 +6,7 @@ use Rattle.std.proofs.lemmas.Bool.{eqb-true, eqb-false}
 use Rattle.sqlite_keyed.proofs.ListLemmas.{all-slice_get}
 use Rattle.sqlite.specs.Order.{Row}
 use Rattle.sqlite.specs.Table.{Table}
+use Rattle.sqlite.specs.Schema.{Schema}
 use Rattle.sqlite.specs.Tree.{has_rowid}
 use Rattle.sqlite.specs.Effect.{Database}
 use Rattle.store_schema.specs.Schema.{version_table, repos_table, grants_table, tags_table, contents_table, blob_links_table, manifest_links_table, uploads_table, pieces_table}
@@ -14,9 +15,10 @@ use Rattle.store_schema.specs.Layout.{rows_of, tree_of, Stands, KeepsOthers}
 use Rattle.store_schema.proofs.Writes.{rows_in}
 use Rattle.store_contents.specs.Contents.{HoldsContents, KnowsContents, AreContentRows, bytes_in}
 use Rattle.store_contents.specs.Contents as contents-specs
-use Rattle.store_world.specs.Tables.{Tables}
-use Rattle.store_statements.specs.Known.{KnowsRegistry, AreApart, trees_of}
-use Rattle.store_statements.specs.Held.{tables_in}
+use Rattle.store_world.specs.Tables.{Tables, Beside}
+use Rattle.store_statements.specs.Known.{KnowsRegistry, AreApart, trees_of, rows_beside}
+use Rattle.store_statements.specs.Held.{tables_in, beside_in}
+use Rattle.store_statements.proofs.BesideRows.{left_beside}
 
 data Which : Type 0 where
   version : Which
@@ -52,9 +54,9 @@ place manifests = 6
 place uploads = 7
 place pieces = 8
 
--- the tables with these rows
-abbrev with_rows : (Which → List Row) → Tables
-with_rows f = record {
+-- the tables with these rows, and with those of further tables
+abbrev with_rows : (Which → List Row) → Beside → Tables
+with_rows f more = record {
   version = f version;
   repos = f repos;
   grants = f grants;
@@ -64,6 +66,7 @@ with_rows f = record {
   manifests = f manifests;
   uploads = f uploads;
   pieces = f pieces;
+  beside = more;
 }
 
 -- at two places of a list in which no two are one stand two
@@ -117,8 +120,15 @@ module _ (old new : Database) (k : KnowsRegistry old.schema) where
   each_of w rows keeps e v true is = at_itself w v is keeps.schema ∙ e
   each_of w rows keeps e v false is = beside w v is keeps
 
-  only : (w : Which) → KeepsOthers (table_of w) old new → (rows : List Row) → rows_of new (table_of w) ≡ rows → tables_in new ≡ with_rows (written w rows)
-  only w keeps rows e = λ i. with_rows (λ v. each_of w rows keeps e v (place w == place v) refl i)
+  further : (w : Which) → KeepsOthers (table_of w) old new → beside_in new ≡ beside_in old
+  further w keeps = λ i. record {
+    schema = keeps.schema i;
+    rows = (ap (λ (s : Schema). rows_beside new.trees (trees_of s) s.tables) keeps.schema
+        ∙ left_beside old.trees new.trees (tree_of old.schema (table_of w)) (trees_of old.schema) (place w) (at w) old.schema.tables keeps.tables) i;
+  }
+
+  only : (w : Which) → KeepsOthers (table_of w) old new → (rows : List Row) → rows_of new (table_of w) ≡ rows → tables_in new ≡ with_rows (written w rows) (beside_in old)
+  only w keeps rows e = λ i. with_rows (λ v. each_of w rows keeps e v (place w == place v) refl i) (further w keeps i)
 
   pub only_version : KeepsOthers version_table old new → (rows : List Row) → rows_of new version_table ≡ rows → tables_in new ≡ record (tables_in old) { version = rows }
   only_version = only version
@@ -148,15 +158,29 @@ module _ (old new : Database) (k : KnowsRegistry old.schema) where
   only_pieces = only pieces
 
   -- where contents are kept once, a write to another table leaves them so
+  contents_stay : new.schema ≡ old.schema → rows_of new contents_table ≡ rows_of old contents_table → HoldsContents old → HoldsContents new
+  contents_stay schema rows is = record {
+    known = subst KnowsContents (sym schema) is.known;
+    rows = subst AreContentRows (sym rows) is.rows;
+    apart = subst contents-specs.AreApart (sym rows) is.apart;
+    ids = subst HaveIds (sym rows) is.ids;
+  }
+
   contents_beside : (w : Which) → (place w == 4) ≡ false → KeepsOthers (table_of w) old new → HoldsContents old → HoldsContents new
-  contents_beside w other keeps is =
-      let rows : rows_of new contents_table ≡ rows_of old contents_table = beside w contents other keeps in
-      record {
-        known = subst KnowsContents (sym keeps.schema) is.known;
-        rows = subst AreContentRows (sym rows) is.rows;
-        apart = subst contents-specs.AreApart (sym rows) is.apart;
-        ids = subst HaveIds (sym rows) is.ids;
-      }
+  contents_beside w other keeps is = contents_stay keeps.schema (beside w contents other keeps) is
+
+  -- ---- a write to a further table
+
+  module _ (table : Table) (apart : AreApart (tree_of old.schema table ∷ trees_of old.schema)) (keeps : KeepsOthers table old new) where
+    left : (v : Which) → rows_of new (table_of v) ≡ rows_of old (table_of v)
+    left v = rows_in old new table (table_of v) (stands v) keeps
+        (apart_at (tree_of old.schema table ∷ trees_of old.schema) apart (suc (place v)) 0 (λ e. absurd (let x = e in cc)) (tree_of old.schema (table_of v)) (tree_of old.schema table) (at v) refl)
+
+    pub only_further : tables_in new ≡ record (tables_in old) { beside = beside_in new }
+    only_further = λ i. with_rows (λ v. left v i) (beside_in new)
+
+    pub contents_beside_further : HoldsContents old → HoldsContents new
+    contents_beside_further is = contents_stay keeps.schema (left contents) is
 
   pub contents_beside_version : KeepsOthers version_table old new → HoldsContents old → HoldsContents new
   contents_beside_version = contents_beside version refl

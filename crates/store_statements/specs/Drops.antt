@@ -2,10 +2,10 @@
 use Rattle.std.specs.Prelude.{◌≡◌, ℕ, false, List}
 use Rattle.std.specs.List.{AllByRecursion}
 use Rattle.store_world.specs.Keys.{of_first, of_second}
-use Rattle.store_world.specs.Tables.{Tables}
+use Rattle.store_world.specs.Tables.{Tables, IsEmptyBeside}
 use Rattle.store_world.specs.Changes.{without}
 
--- no row of another table names the repository
+-- no row of another table names the repository, and no further table has one that might go with it
 pub record HasNoChildren (t : Tables) (name : List ℕ) : Type 0 where
   pub grants : AllByRecursion (λ r. of_second name r ≡ false) t.grants
   pub tags : AllByRecursion (λ r. of_first name r ≡ false) t.tags
@@ -13,6 +13,7 @@ pub record HasNoChildren (t : Tables) (name : List ℕ) : Type 0 where
   pub manifests : AllByRecursion (λ r. of_first name r ≡ false) t.manifests
   pub uploads : AllByRecursion (λ r. of_first name r ≡ false) t.uploads
   pub pieces : AllByRecursion (λ r. of_first name r ≡ false) t.pieces
+  pub beside : IsEmptyBeside t.beside
 
 -- the tables without each row that names it; contents stay
 abbrev pub dropped : List ℕ → Tables → Tables

@@ -8,10 +8,16 @@ use Rattle.registry_model.specs.World.{World}
 use Rattle.store_schema.specs.Schema.{version_table, repos_table, grants_table, tags_table, blob_links_table, manifest_links_table, uploads_table, pieces_table}
 use Rattle.store_schema.specs.Layout.{rows_of}
 use Rattle.store_contents.specs.Contents.{HoldsContents, bytes_in}
-use Rattle.store_world.specs.Tables.{Tables, AreTables}
+use Rattle.store_world.specs.Tables.{Tables, Beside, AreTables}
 use Rattle.store_world.specs.Registry.{Agree}
 use Rattle.store_world.specs.World.{world_of}
-use Rattle.store_statements.specs.Known.{KnowsRegistry}
+use Rattle.store_statements.specs.Known.{KnowsRegistry, trees_of, rows_beside}
+
+abbrev pub beside_in : Database → Beside
+beside_in db = record {
+  schema = db.schema;
+  rows = rows_beside db.trees (trees_of db.schema) db.schema.tables;
+}
 
 abbrev pub tables_in : Database → Tables
 tables_in db = record {
@@ -24,6 +30,7 @@ tables_in db = record {
   manifests = rows_of db manifest_links_table;
   uploads = rows_of db uploads_table;
   pieces = rows_of db pieces_table;
+  beside = beside_in db;
 }
 
 -- the schema is known, contents are kept once, and each row is of its table

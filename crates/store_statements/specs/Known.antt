@@ -1,10 +1,11 @@
 -- What a schema must be for this store's statements to mean what they say. The schema that a registry makes
 -- in an empty database is so by computation.
-use Rattle.std.specs.Prelude.{◌≡◌, ◌≢◌, ◌⊎◌, ℕ, List, ◌∷◌, [], Some}
+use Rattle.std.specs.Prelude.{◌≡◌, ◌≢◌, ◌⊎◌, ◌==◌, ◌&&◌, ◌++◌, ℕ, Bool, true, false, not, if◌then◌else◌, List, ◌∷◌, [], Some}
+use Rattle.std.specs.List.{list_any}
 use Rattle.sqlite.specs.Order.{Row}
 use Rattle.sqlite.specs.Table.{Table}
 use Rattle.sqlite.specs.Schema.{Schema}
-use Rattle.sqlite.specs.Tree.{IsAscending}
+use Rattle.sqlite.specs.Tree.{IsAscending, Trees}
 use Rattle.sqlite_rules.specs.Lists.{Has}
 use Rattle.sqlite_rules.specs.Action.{works}
 use Rattle.sqlite_schema.specs.declared.schema.Keys.TheVariants.{Enforced}
@@ -46,11 +47,31 @@ NamesRepo schema child places =
 abbrev pub repo_key : Schema → ParentKey
 repo_key schema = (tree_of schema repos_table, 1 ∷ [], plain)
 
--- each foreign key is one of these
+-- ---- further tables
+
+-- there is a foreign key
+abbrev pub refers : List Reference → Bool
+refers [] = false
+refers (ref ∷ refs) = true
+
+-- none of the nine, whose trees these are, and its rows may go with a row of another table
+abbrev pub is_beside : List ℕ → Table → Bool
+is_beside nine table = not (list_any (λ tree. tree == table.tree) nine) && refers table.references
+
+-- the rows of those of these tables that are
+abbrev pub rows_beside : Trees → List ℕ → List Table → List (List Row)
+rows_beside trees nine [] = []
+rows_beside trees nine (table ∷ tables) =
+    (if is_beside nine table then trees table.tree ∷ [] else []) ++ rows_beside trees nine tables
+
+-- ---- foreign keys
+
+-- each foreign key is one of these, or of a further table
 abbrev pub KnowsChildren : Schema → Type 0
 KnowsChildren schema =
     (child : Table) → Has schema.tables child → (ref : Reference) → Has child.references ref
-    → NamesRepo schema child ref.columns × (parent_key schema.tables ref ≡ Some (repo_key schema))
+    → (NamesRepo schema child ref.columns × (parent_key schema.tables ref ≡ Some (repo_key schema)))
+    ⊎ (is_beside (trees_of schema) child ≡ true)
 
 -- no row goes with a row that changes
 abbrev pub IsStill : Schema → Type 0

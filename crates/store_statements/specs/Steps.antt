@@ -6,7 +6,7 @@ use Rattle.sqlite.specs.State.{State}
 use Rattle.oci_names.specs.Text.{Text}
 use Rattle.store_schema.specs.Rows.{PutsRow, bytes_at}
 use Rattle.store_world.specs.Keys.{of_first, of_session, has_key}
-use Rattle.store_world.specs.Tables.{Tables, no_tables}
+use Rattle.store_world.specs.Tables.{Tables, IsEmptyBeside, new_tables}
 use Rattle.store_world.specs.Registry.{IsOfSchemaTwo}
 use Rattle.store_world.specs.Changes.{without, changed, Comes, with_last, with_size, upload_columns, blob_columns, piece_columns, Grow}
 use Rattle.store_statements.specs.Held.{IsReady, held}
@@ -94,11 +94,12 @@ pub record VersionComes (old new : State) : Type 0 where
   pub puts : PutsRow (held old).version (held new).version id (Int (pos 2) ∷ [])
   pub others : held new ≡ record (held old) { version = (held new).version }
 
--- the tables were just made
+-- the tables were just made, beside further ones without rows
 pub record IsNew (s : State) : Type 0 where
   pub ready : IsReady s
   pub version : IsOfSchemaTwo (held s).version
-  pub tables : held s ≡ record no_tables { version = (held s).version }
+  pub beside : IsEmptyBeside (held s).beside
+  pub tables : held s ≡ new_tables (held s).version (held s).beside
 
 -- ---- links to manifests
 

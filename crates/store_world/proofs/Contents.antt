@@ -83,6 +83,7 @@ contents_kept t news is blobs manifests pieces = (λ i. record { repos = from_en
       uploads = is.agree.uploads;
       pieces = all_both _ _ (PieceAgrees news) (λ r h e. record { bytes = h.bytes; there = e ∙ h.there; size = h.size; more = h.more }) t.pieces is.agree.pieces pieces;
       pieces_open = is.agree.pieces_open;
+      beside = is.agree.beside;
     }
 
 -- where contents came and those that were there keep their bytes

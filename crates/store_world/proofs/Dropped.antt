@@ -121,6 +121,7 @@ agree_left t name h = record {
   uploads = uploads_left t.repos (without (of_first name) t.repos) t.pieces t.uploads name (last_in_apart t.repos name) h.uploads;
   pieces = all_without _ (of_first name) t.pieces h.pieces;
   pieces_open = open_left t.uploads t.pieces name h.pieces_open;
+  beside = h.beside;
 }
 
 -- ---- the world

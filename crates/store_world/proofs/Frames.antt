@@ -21,6 +21,7 @@ with_grants_rows t rows is are granted = record {
     uploads = is.agree.uploads;
     pieces = is.agree.pieces;
     pieces_open = is.agree.pieces_open;
+    beside = is.agree.beside;
   };
 }
 
@@ -39,6 +40,7 @@ with_tags_rows t rows is are tagged = record {
     uploads = is.agree.uploads;
     pieces = is.agree.pieces;
     pieces_open = is.agree.pieces_open;
+    beside = is.agree.beside;
   };
 }
 
@@ -57,6 +59,7 @@ with_blobs_rows t rows is are have agrees = record {
     uploads = is.agree.uploads;
     pieces = is.agree.pieces;
     pieces_open = is.agree.pieces_open;
+    beside = is.agree.beside;
   };
 }
 
@@ -75,5 +78,6 @@ with_manifests_rows t rows is are have agrees = record {
     uploads = is.agree.uploads;
     pieces = is.agree.pieces;
     pieces_open = is.agree.pieces_open;
+    beside = is.agree.beside;
   };
 }

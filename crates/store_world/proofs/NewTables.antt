@@ -1,11 +1,11 @@
 -- New tables, of schema 2, stand for the empty world.
 use Rattle.std.proofs.Common.{List}
 use Rattle.sqlite.specs.Order.{Row}
-use Rattle.store_world.specs.Tables.{AreTables, new_tables}
+use Rattle.store_world.specs.Tables.{Beside, AreTables, IsEmptyBeside, new_tables}
 use Rattle.store_world.specs.Registry.{Agree, IsOfSchemaTwo}
 
-pub are_new : (rows : List Row) → AreTables (new_tables rows)
-are_new rows = record {
+pub are_new : (version : List Row) (beside : Beside) → AreTables (new_tables version beside)
+are_new version beside = record {
   repos = record { types = tt; apart = tt; ids = (tt, tt) };
   grants = record { types = tt; apart = tt; ids = (tt, tt) };
   tags = record { types = tt; apart = tt; ids = (tt, tt) };
@@ -15,5 +15,5 @@ are_new rows = record {
   pieces = record { types = tt; apart = tt; ids = (tt, tt) };
 }
 
-pub agree_new : (rows : List Row) → IsOfSchemaTwo rows → Agree (new_tables rows)
-agree_new rows two = record { version = two; granted = tt; tagged = tt; blobs_repo = tt; manifests_repo = tt; uploads_repo = tt; blobs = tt; manifests = tt; uploads = tt; pieces = tt; pieces_open = tt }
+pub agree_new : (version : List Row) (beside : Beside) → IsOfSchemaTwo version → IsEmptyBeside beside → Agree (new_tables version beside)
+agree_new version beside two none = record { version = two; granted = tt; tagged = tt; blobs_repo = tt; manifests_repo = tt; uploads_repo = tt; blobs = tt; manifests = tt; uploads = tt; pieces = tt; pieces_open = tt; beside = none }

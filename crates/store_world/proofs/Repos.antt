@@ -60,6 +60,7 @@ with_repos_rows t repos is are there last = record {
     uploads = all_both _ _ (UploadAgrees repos t.pieces) (λ r h have. record { whole = h.whole; given = le_trans h.given (last (bytes_at r 1) have) }) t.uploads is.agree.uploads is.agree.uploads_repo;
     pieces = is.agree.pieces;
     pieces_open = is.agree.pieces_open;
+    beside = is.agree.beside;
   };
 }
 

@@ -41,6 +41,7 @@ with_sessions_rows t pieces uploads is are_pieces are_uploads have agrees pieces
     uploads = agrees;
     pieces = pieces_agree;
     pieces_open = opens;
+    beside = is.agree.beside;
   };
 }
 
@@ -100,6 +101,7 @@ registry_opened t name uploads is there c = record {
     uploads = all_came (UploadAgrees repos t.pieces) t.uploads uploads (upload_columns name number) c new (all_weaker (UploadAgrees t.repos t.pieces) (UploadAgrees repos t.pieces) old t.uploads is.agree.uploads);
     pieces = is.agree.pieces;
     pieces_open = all_weaker (IsOpen t.uploads) (IsOpen uploads) opens t.pieces is.agree.pieces_open;
+    beside = is.agree.beside;
   };
 }
   where

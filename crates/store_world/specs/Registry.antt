@@ -1,6 +1,7 @@
 -- What is kept true from table to table, so that the rows stand for a world: each row that names a repository
 -- names one that is there, each link and each piece names a content, sizes and what is known of a manifest
--- agree with the bytes, and the pieces of a session lie one behind the other.
+-- agree with the bytes, the pieces of a session lie one behind the other, and no further table has a row that
+-- goes with a repository.
 use Rattle.std.specs.Prelude.{◌≡◌, ◌≤◌, ◌<◌, ◌+◌, ℕ, ℤ, pos, Bool, true, List, [], ◌∷◌, ◌==◌, if◌then◌else◌, find, is_some, length, map, Option, Some, None}
 use Rattle.std.specs.Option.{option_map_or}
 use Rattle.std.specs.List.{AllByRecursion}
@@ -16,7 +17,7 @@ use Rattle.registry_model.specs.Manifests.{kind_in}
 use Rattle.registry_model.specs.Referrers.{subject_or_none}
 use Rattle.store_schema.specs.Rows.{bytes_at, natural_at, integer_at}
 use Rattle.store_world.specs.Keys.{of_first, of_session}
-use Rattle.store_world.specs.Tables.{Tables, AreTables}
+use Rattle.store_world.specs.Tables.{Tables, AreTables, IsEmptyBeside}
 use Rattle.store_world.specs.World.{pieces_of}
 
 -- ---- repositories
@@ -107,6 +108,7 @@ pub record Agree (t : Tables) : Type 0 where
   pub uploads : AllByRecursion (UploadAgrees t.repos t.pieces) t.uploads
   pub pieces : AllByRecursion (PieceAgrees t.contents) t.pieces
   pub pieces_open : AllByRecursion (IsOpen t.uploads) t.pieces
+  pub beside : IsEmptyBeside t.beside
 
 -- the tables stand for a world
 pub record IsRegistry (t : Tables) : Type 0 where

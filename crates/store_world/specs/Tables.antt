@@ -4,11 +4,22 @@ use Rattle.std.specs.List.{AllByRecursion}
 use Rattle.sqlite.specs.declared.types.Value.TheVariants.{Null, Int}
 use Rattle.sqlite.specs.Order.{Row, column}
 use Rattle.sqlite.specs.Tree.{IsAscending}
+use Rattle.sqlite.specs.Schema.{Schema}
 use Rattle.oci_names.specs.Text.{Text}
 use Rattle.registry_model.specs.declared.level.Level.{Level}
 use Rattle.registry_model.specs.declared.level.Level.TheVariants.{Pull, Push, Delete}
+use Rattle.store_schema.specs.Schema.{no_schema}
 use Rattle.store_schema.specs.Rows.{IsTextAt, IsNaturalAt, IsIntegerAt, natural_at, HaveIds}
 use Rattle.store_world.specs.Keys.{same_first, same_key, same_session, same_start}
+
+-- what the nine tables stand among: the whole schema, and the rows of each further table whose rows may go
+-- with a repository
+pub record Beside : Type 0 where
+  pub schema : Schema
+  pub rows : List (List Row)
+
+abbrev pub nothing_beside : Beside
+nothing_beside = record { schema = no_schema; rows = [] }
 
 -- `contents` is the bytes by their ids; `blobs` and `manifests` are the links to them
 pub record Tables : Type 0 where
@@ -21,6 +32,7 @@ pub record Tables : Type 0 where
   pub manifests : List Row
   pub uploads : List Row
   pub pieces : List Row
+  pub beside : Beside
 
 abbrev pub no_tables : Tables
 no_tables = record {
@@ -33,11 +45,16 @@ no_tables = record {
   manifests = [];
   uploads = [];
   pieces = [];
+  beside = nothing_beside;
 }
 
--- without rows, but for those of `registry_schema`
-abbrev pub new_tables : List Row → Tables
-new_tables rows = record no_tables { version = rows }
+-- without rows, but for those of `registry_schema`, and beside further tables
+abbrev pub new_tables : List Row → Beside → Tables
+new_tables version beside = record no_tables { version = version; beside = beside }
+
+-- no further table has a row
+abbrev pub IsEmptyBeside : Beside → Type 0
+IsEmptyBeside beside = AllByRecursion (λ (rows : List Row). rows ≡ []) beside.rows
 
 -- ---- the columns of each table
 

@@ -1,7 +1,11 @@
 //! A repository goes with all that it has.
-ghost use Rattle.std.specs.Prelude.{◌≡◌};
+ghost use Rattle.std.specs.Prelude.{◌≡◌, OnOk};
+ghost use Rattle.sqlite.specs.State.{HasCleanDisk};
+ghost use Rattle.sqlite.specs.Held.{state};
 ghost use Rattle.registry_model.specs.Command.{drop_repo};
 ghost use Rattle.store_statements.specs.Clauses.{Changes, CommitsTables, GoesBack, KeepsInside, Lasts, LastsUncommitted, MakesWorld, Settled, StaysOnMemory};
+ghost use Rattle.store_world.specs.Tables.{IsEmptyBeside};
+ghost use Rattle.store_statements.specs.Held.{IsReady, Becomes, held};
 ghost use Rattle.store_statements.specs.Drops.{dropped, without_links, without_sessions, without_children};
 
 use crate::transaction::{alone, checked};
@@ -51,9 +55,12 @@ fn drop_children<S: Alter>(tx: &mut Transaction<'_, S>, name: &str) -> Result<()
 }
 
 /// Takes the repository out, where it is there, with its tags, links, upload sessions and grants.
-/// Contents stay, also those that nothing names any more.
+/// Contents stay, also those that nothing names any more. No further table has a row that may go with it.
 pub(crate) fn drop_rows<S: Alter>(tx: &mut Transaction<'_, S>, name: &str) -> Result<(), Fault>
-    ensures dropped { Changes S.Store tx.old.conn.now tx.new.conn.now result (dropped name.now) }
+    ensures dropped { HasCleanDisk (state S.Store tx.new.conn.now) → IsReady (state S.Store tx.old.conn.now)
+        → IsEmptyBeside (held (state S.Store tx.old.conn.now)).beside
+        → OnOk result
+        (Becomes (state S.Store tx.new.conn.now) (dropped name.now (held (state S.Store tx.old.conn.now)))) }
     ensures kept { KeepsInside S.Store tx.old.conn.now tx.new.conn.now }
     ensures same_reference { tx.new.conn.ghost_name ≡ tx.old.conn.ghost_name }
     ensures survives { LastsUncommitted S.Store tx.old.conn.now tx.new.conn.now }

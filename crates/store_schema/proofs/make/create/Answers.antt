@@ -1,7 +1,7 @@
 use Rattle.std.proofs.Common.{arith}
 use Rattle.sqlite.specs.State.{HasCleanDisk}
 use Rattle.sqlite.specs.Held.{state}
-use Rattle.store_schema.proofs.MakeLemmas.{makes_table, makes_index}
+use Rattle.store_schema.proofs.MakeLemmas.{makes_table, makes_index, grows, grows_index}
 use Rattle.store_schema.proofs.Refusals.{fails_table, fails_index, if_passed}
 use Rattle.store_schema.proofs.BesideLemmas.{comes}
 use Rattle.store_schema.proofs.make.create.Goals as goal
@@ -35,3 +35,15 @@ returns-clause-comes g c clean name named =
     let early : HasCleanDisk (state g.S.Store c.args.tx.now.conn.now) = omega (arith, c.execute.ensures.survives.clean) in
     let runs = c.in_ok-execute.ensures.runs clean (c.requires early) in
     comes c.args.text.now name (state g.S.Store c.args.tx.now.conn.now) (state g.S.Store c.execute.new.self.conn.now) _ named runs.0
+
+pub returns-clause-grows : goal.returns-clause-grows
+returns-clause-grows g c clean schema table makes is =
+    let early : HasCleanDisk (state g.S.Store c.args.tx.now.conn.now) = omega (arith, c.execute.ensures.survives.clean) in
+    let runs = c.in_ok-execute.ensures.runs clean (c.requires early) in
+    grows schema table c.args.text.now (state g.S.Store c.args.tx.now.conn.now) (state g.S.Store c.execute.new.self.conn.now) _ makes is runs.0
+
+pub returns-clause-grows_index : goal.returns-clause-grows_index
+returns-clause-grows_index g c clean schema at table index makes is =
+    let early : HasCleanDisk (state g.S.Store c.args.tx.now.conn.now) = omega (arith, c.execute.ensures.survives.clean) in
+    let runs = c.in_ok-execute.ensures.runs clean (c.requires early) in
+    grows_index schema at table index c.args.text.now (state g.S.Store c.args.tx.now.conn.now) (state g.S.Store c.execute.new.self.conn.now) _ makes is runs.0

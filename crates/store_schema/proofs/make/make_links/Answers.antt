@@ -2,7 +2,8 @@ use Rattle.std.proofs.Common.{arith}
 use Rattle.sqlite.specs.State.{HasCleanDisk}
 use Rattle.sqlite.specs.Held.{state}
 use Rattle.store_schema.proofs.Texts.{makes_contents, makes_blob_links, makes_manifest_links}
-use Rattle.store_schema.proofs.MakeLemmas.{then_made}
+use Rattle.store_schema.proofs.OldTexts as old_texts
+use Rattle.store_schema.proofs.MakeLemmas.{then_made, then_grows}
 use Rattle.store_schema.proofs.Refusals.{if_passed, then_unmade}
 use Rattle.std.proofs.Common.{◌∷◌, []}
 use Rattle.store_schema.specs.Schema.{contents_table, blob_links_table, manifest_links_table}
@@ -39,3 +40,10 @@ returns-clause-comes g c clean =
     let upto_2 = comes_then (state g.S.Store c.args.tx.now.conn.now).now (state g.S.Store c.create.new.tx.conn.now).now (state g.S.Store c.create-2.new.tx.conn.now).now (contents_table.name ∷ []) (blob_links_table.name ∷ []) (contents_table ∷ []) (blob_links_table ∷ []) upto_1 (one_comes _ _ (state g.S.Store c.create.new.tx.conn.now).now (state g.S.Store c.create-2.new.tx.conn.now).now one_blob_links (c.in_ok-create-2.ensures.comes two)) in
     more_comes (state g.S.Store c.args.tx.now.conn.now).now (state g.S.Store c.create-2.new.tx.conn.now).now (state g.S.Store c.create-3.new.tx.conn.now).now (contents_table.name ∷ blob_links_table.name ∷ []) (manifest_links_table.name ∷ []) (contents_table ∷ blob_links_table ∷ []) (manifest_links_table ∷ []) c.create-3.result upto_2
     (then_one _ _ (state g.S.Store c.create-2.new.tx.conn.now).now (state g.S.Store c.create-3.new.tx.conn.now).now c.create-3.result one_manifest_links (c.create-3.ensures.comes clean))
+
+pub returns-clause-linked : goal.returns-clause-linked
+returns-clause-linked g c clean is =
+    let two : HasCleanDisk (state g.S.Store c.create-2.new.tx.conn.now) = omega (arith, c.create-3.ensures.survives.clean) in
+    let one : HasCleanDisk (state g.S.Store c.create.new.tx.conn.now) = omega (arith, c.create-2.ensures.survives.clean) in
+    then_grows _ _ _ (state g.S.Store c.create-2.new.tx.conn.now).now (state g.S.Store c.create-3.new.tx.conn.now).now c.create-3.result old_texts.makes_manifest_links (c.create-3.ensures.grows clean)
+    (c.in_ok-create-2.ensures.grows two _ _ old_texts.makes_blob_links (c.in_ok-create.ensures.grows one _ _ old_texts.makes_contents is).schema_is).schema_is

@@ -2,7 +2,8 @@ use Rattle.std.proofs.Common.{arith}
 use Rattle.sqlite.specs.State.{HasCleanDisk}
 use Rattle.sqlite.specs.Held.{state}
 use Rattle.store_schema.proofs.Texts.{makes_uploads, makes_pieces, makes_sha256_index, makes_subject_index}
-use Rattle.store_schema.proofs.MakeLemmas.{then_indexed}
+use Rattle.store_schema.proofs.OldTexts as old_texts
+use Rattle.store_schema.proofs.MakeLemmas.{then_indexed, then_grows_index}
 use Rattle.store_schema.proofs.Refusals.{if_passed, then_unindexed}
 use Rattle.std.proofs.Common.{◌∷◌, []}
 use Rattle.store_schema.specs.Schema.{uploads_table, pieces_table, sha256_index, subject_index}
@@ -49,3 +50,11 @@ returns-clause-comes g c clean =
     let upto_3 = comes_then (state g.S.Store c.args.tx.now.conn.now).now (state g.S.Store c.create-2.new.tx.conn.now).now (state g.S.Store c.create-3.new.tx.conn.now).now (uploads_table.name ∷ pieces_table.name ∷ []) (sha256_index.name ∷ []) (uploads_table ∷ pieces_table ∷ []) [] upto_2 ((c.in_ok-create-3.ensures.comes three _ names_sha256).0) in
     more_comes (state g.S.Store c.args.tx.now.conn.now).now (state g.S.Store c.create-3.new.tx.conn.now).now (state g.S.Store c.create-4.new.tx.conn.now).now (uploads_table.name ∷ pieces_table.name ∷ sha256_index.name ∷ []) (subject_index.name ∷ []) (uploads_table ∷ pieces_table ∷ []) [] c.create-4.result upto_3
     (then_index _ _ (state g.S.Store c.create-3.new.tx.conn.now).now (state g.S.Store c.create-4.new.tx.conn.now).now c.create-4.result names_subject (c.create-4.ensures.comes clean))
+
+pub returns-clause-both : goal.returns-clause-both
+returns-clause-both g c clean is =
+    let three : HasCleanDisk (state g.S.Store c.create-3.new.tx.conn.now) = omega (arith, c.create-4.ensures.survives.clean) in
+    let two : HasCleanDisk (state g.S.Store c.create-2.new.tx.conn.now) = omega (arith, c.create-3.ensures.survives.clean) in
+    let one : HasCleanDisk (state g.S.Store c.create.new.tx.conn.now) = omega (arith, c.create-2.ensures.survives.clean) in
+    then_grows_index _ _ _ _ _ (state g.S.Store c.create-3.new.tx.conn.now).now (state g.S.Store c.create-4.new.tx.conn.now).now c.create-4.result old_texts.makes_subject_index (c.create-4.ensures.grows_index clean)
+    (c.in_ok-create-3.ensures.grows_index three _ _ _ _ old_texts.makes_sha256_index (c.in_ok-create-2.ensures.grows two _ _ old_texts.makes_pieces (c.in_ok-create.ensures.grows one _ _ old_texts.makes_uploads is).schema_is).schema_is).schema_is

@@ -2,4 +2,4 @@ use Rattle.store_world.proofs.NewTables.{are_new, agree_new}
 use Rattle.store_world.proofs.laws.tables_that_are_new.Goals as goal
 
 pub returns-clause-registry : goal.returns-clause-registry
-returns-clause-registry c = λ rows two. record { tables = are_new rows; agree = agree_new rows two }
+returns-clause-registry c = λ version beside two none. record { tables = are_new version beside; agree = agree_new version beside two none }

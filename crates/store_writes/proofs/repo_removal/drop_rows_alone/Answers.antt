@@ -14,7 +14,7 @@ returns-in-Ok-clause-made g c clean =
     let mid : HasCleanDisk (state g.S.Store c.drop_rows.new.tx.conn.now) = omega (arith, c.commit.ensures.survives.clean) in
     let first : HasCleanDisk (state g.S.Store c.transaction-tx.result.conn.now) = omega (arith, c.drop_rows.ensures.survives.clean) in
     let settled = c.requires.settled (rw begun at first) in
-    let it = c.in_ok-drop_rows.ensures.dropped mid (rw begun (ready (state g.S.Store c.args.conn.now) settled)) in
+    let it = c.in_ok-drop_rows.ensures.dropped mid (rw begun (ready (state g.S.Store c.args.conn.now) settled)) (rw begun settled.agree.beside) in
     rw same (commits (state g.S.Store c.drop_rows.new.tx.conn.now) (state g.S.Store c.commit.new.self.0) _ (rw begun at it) (c.in-Ok.ensures.ok late).1)
 
 pub returns-in-Ok-clause-survives : goal.returns-in-Ok-clause-survives
@@ -37,7 +37,7 @@ returns-in-Err-clause-back g c clean =
     let settled = c.requires.settled (rw begun at first) in
     let set : IsReady (state g.S.Store c.transaction-tx.result.conn.now) = rw begun (ready (state g.S.Store c.args.conn.now) settled) in
     rw same (back_failed (state g.S.Store c.args.conn.now) (state g.S.Store c.transaction-tx.result.conn.now) (state g.S.Store c.drop_rows.new.tx.conn.now) (state g.S.Store c.commit.new.self.0) _ settled (rw begun)
-    (c.drop_rows.ensures.kept mid set) (c.in_ok-drop_rows.ensures.dropped mid set).0.inside (c.in-Err.ensures.err late))
+    (c.drop_rows.ensures.kept mid set) (c.in_ok-drop_rows.ensures.dropped mid set (rw begun settled.agree.beside)).0.inside (c.in-Err.ensures.err late))
 
 pub returns-in_err-drop_rows-clause-back : goal.returns-in_err-drop_rows-clause-back
 returns-in_err-drop_rows-clause-back g c clean =

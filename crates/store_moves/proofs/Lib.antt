@@ -1,0 +1,4 @@
+pub mod Underway
+pub mod BlobSteps
+pub mod ManifestSteps
+pub mod SessionSteps

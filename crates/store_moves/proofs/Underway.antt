@@ -1,0 +1,29 @@
+-- Tables underway, after what leaves the old rows, and after what was only read.
+use Rattle.std.proofs.Common.{◌≡◌, sym, subst, Result, OnOk}
+use Rattle.std.specs.Prelude.{IsTrue}
+use Rattle.sqlite.specs.Effect.{Database}
+use Rattle.sqlite.specs.State.{State, IsUnchanged}
+use Rattle.store_schema.specs.Rows.{HaveIds}
+use Rattle.store_world.specs.Tables.{Tables, Beside}
+use Rattle.store_statements.specs.Held.{IsReady, HoldsTables, held, tables_in}
+use Rattle.store_migration.specs.OldTables.{OldTables}
+use Rattle.store_old_rows.specs.Olds.{KnowsOld, HasOlds, AreOldRows, olds_of}
+use Rattle.store_moves.specs.Moving.{IsUnderway, Moves}
+
+pub olds_kept : (t u : Tables) → HasOlds t → u.beside ≡ t.beside → u.version ≡ t.version → HasOlds u
+olds_kept t u o b v = record {
+  known = subst (λ (x : Beside). KnowsOld x.schema) (sym b) o.known;
+  version = subst HaveIds (sym v) o.version;
+  rows = subst (λ (x : Beside). AreOldRows (olds_of x)) (sym b) o.rows;
+}
+
+-- ---- it was only read
+
+pub ready_read : (old new : State) → IsReady old → IsUnchanged old new → IsReady new
+ready_read old new is u = record { inside = subst IsTrue (sym u.0.mode) is.inside; holds = subst HoldsTables (sym u.0.now_is) is.holds }
+
+pub underway_read : (old new : State) → IsUnderway (held old) → IsUnchanged old new → IsUnderway (held new)
+underway_read old new under u = subst (λ (d : Database). IsUnderway (tables_in d)) (sym u.0.now_is) under
+
+pub moved_read : {A E : Type 0} (old mid new : State) (f : OldTables → OldTables) (r : Result A E) → IsUnchanged old mid → OnOk r (IsReady new × Moves f (held mid) (held new)) → OnOk r (IsReady new × Moves f (held old) (held new))
+moved_read old mid new f r u h = subst (λ (d : Database). OnOk r (IsReady new × Moves f (tables_in d) (held new))) u.0.now_is h

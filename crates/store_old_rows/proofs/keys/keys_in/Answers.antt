@@ -1,0 +1,9 @@
+use Rattle.std.proofs.Common.{◌<◌, length, arith, ap₂}
+use Rattle.store_old_rows.specs.Shown.{key_shown, two_texts}
+use Rattle.store_old_rows.proofs.KeyRows.{told_more}
+use Rattle.store_old_rows.proofs.keys.keys_in.Goals as goal
+
+pub loop-row-preserved : goal.loop-row-preserved
+loop-row-preserved c =
+    let low : c.loop-row.row-index < length c.args.rows.now = omega arith in
+    told_more key_shown two_texts c.args.rows.now c.loop-row.row-index c.row-item.result c.in_ok-key.key c.loop-row.keys.items _ low c.row-item.is (ap₂ (λ repo digest. (repo, digest)) c.in_ok-key.ensures.repo c.in_ok-key.ensures.digest) c.loop-row.invariant c.in_ok-push.ensures.items

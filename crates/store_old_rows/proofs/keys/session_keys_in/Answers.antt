@@ -1,0 +1,9 @@
+use Rattle.std.proofs.Common.{◌<◌, length, arith, ap₂}
+use Rattle.store_old_rows.specs.Shown.{session_shown, text_and_number}
+use Rattle.store_old_rows.proofs.KeyRows.{told_more}
+use Rattle.store_old_rows.proofs.keys.session_keys_in.Goals as goal
+
+pub loop-row-preserved : goal.loop-row-preserved
+loop-row-preserved c =
+    let low : c.loop-row.row-index < length c.args.rows.now = omega arith in
+    told_more session_shown text_and_number c.args.rows.now c.loop-row.row-index c.row-item.result c.in_ok-key.key c.loop-row.keys.items _ low c.row-item.is (ap₂ (λ repo number. (repo, number)) c.in_ok-key.ensures.repo c.in_ok-key.ensures.number) c.loop-row.invariant c.in_ok-push.ensures.items

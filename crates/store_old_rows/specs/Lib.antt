@@ -1,0 +1,4 @@
+pub mod OldTexts
+pub mod Olds
+pub mod Clauses
+pub mod Shown
