@@ -1,6 +1,6 @@
 -- A blob comes under the key of an old row, and the row goes: it is moved.
 use Rattle.std.proofs.Common.{◌≡◌, ◌∙◌, ℕ, List, length, true, None, Some, Ok, Err, Result, OnOk, refl, sym, ap, subst}
-use Rattle.std.specs.Prelude.{find, option_map, is_some, Option}
+use Rattle.std.specs.Prelude.{find, option_map}
 use Rattle.sqlite.specs.Order.{Row}
 use Rattle.sqlite.specs.Effect.{Database}
 use Rattle.sqlite.specs.State.{State, IsUnchanged}
@@ -20,7 +20,7 @@ use Rattle.store_migration.proofs.Free.{blob_free}
 use Rattle.store_migration.proofs.Listed.{gone_stays}
 use Rattle.store_old_rows.specs.Olds.{HasOlds, old_of, with_olds}
 use Rattle.store_moves.specs.Moving.{IsUnderway, Moves, without_blob}
-use Rattle.store_moves.proofs.Underway.{olds_kept, ready_read}
+use Rattle.store_moves.proofs.Underway.{olds_kept, ready_read, some_of, none_of}
 
 -- ---- the blob comes
 
@@ -48,10 +48,6 @@ stored_if old mid new id name digest bytes (Err e) kept h = tt
 -- the row is there, with these bytes
 abbrev pub Found : Tables → Text → Text → Text → Type 0
 Found t name digest bytes = option_map (λ r. bytes_at r 4) (find (has_key name digest) (old_of t).blobs) ≡ Some bytes
-
-some_of : {X Y : Type 0} (f : X → Y) (o : Option X) (y : Y) → option_map f o ≡ Some y → is_some o ≡ true
-some_of f None y e = absurd (let x = e in cc)
-some_of f (Some x) y e = refl
 
 pub free : (t : Tables) (name digest bytes : Text) → IsUnderway t → Found t name digest bytes → find (has_key name digest) t.blobs ≡ None
 free t name digest bytes under found = (blob_free (old_of t) t name digest under.both (some_of (λ r. bytes_at r 4) (find (has_key name digest) (old_of t).blobs) bytes found)).1
@@ -101,10 +97,6 @@ moved_if old mid new name digest bytes (Err e) under found s h = tt
 
 pub found_read : (old mid : State) (name digest bytes : Text) → IsUnchanged old mid → Found (held old) name digest bytes → Found (held mid) name digest bytes
 found_read old mid name digest bytes u found = subst (λ (d : Database). Found (tables_in d) name digest bytes) (sym u.0.now_is) found
-
-none_of : {X Y : Type 0} (f : X → Y) (o : Option X) → None ≡ option_map f o → o ≡ None
-none_of f None e = refl
-none_of f (Some x) e = absurd (let y = e in cc)
 
 -- the key has no row
 pub not_there : (old new : State) (name digest : Text) → IsReady old → IsUnderway (held old) → IsUnchanged old new → None ≡ option_map (λ r. bytes_at r 4) (find (has_key name digest) (old_of (held old)).blobs) → IsReady new × Moves (without_blob name digest) (held old) (held new)

@@ -2,3 +2,4 @@ pub mod Underway
 pub mod BlobSteps
 pub mod ManifestSteps
 pub mod SessionSteps
+pub mod Listed

@@ -1,6 +1,6 @@
 -- An upload session is opened under the key of an old row, and the row goes: it is moved.
-use Rattle.std.proofs.Common.{◌≡◌, ◌⊎◌, ◌∙◌, ◌<◌, ◌==◌, inl, inr, ℕ, ℤ, List, [], ◌∷◌, length, true, false, arith, None, Some, Ok, Err, Result, OnOk, refl, sym, ap, subst}
-use Rattle.std.specs.Prelude.{find, option_map, is_some, Option}
+use Rattle.std.proofs.Common.{◌≡◌, ◌⊎◌, ◌∙◌, ◌<◌, ◌==◌, inl, inr, ℕ, ℤ, List, [], ◌∷◌, length, false, arith, None, Some, Ok, Err, Result, OnOk, refl, sym, ap, subst}
+use Rattle.std.specs.Prelude.{find, option_map}
 use Rattle.sqlite.specs.Order.{Row}
 use Rattle.sqlite.specs.Effect.{Database}
 use Rattle.sqlite.specs.State.{State, IsUnchanged}
@@ -23,7 +23,7 @@ use Rattle.store_migration.proofs.Free.{number_free}
 use Rattle.store_migration.proofs.Listed.{gone_stays}
 use Rattle.store_old_rows.specs.Olds.{HasOlds, old_of, olds_of, with_olds}
 use Rattle.store_moves.specs.Moving.{IsUnderway, SessionStored, Moves, without_session}
-use Rattle.store_moves.proofs.Underway.{olds_kept, ready_read}
+use Rattle.store_moves.proofs.Underway.{olds_kept, ready_read, some_of, none_of}
 
 -- ---- its piece comes
 
@@ -121,10 +121,6 @@ stored_filled old mid new name number bytes (Err e) more h s = tt
 abbrev pub Found : Tables → Text → ℕ → Text → Type 0
 Found t name number bytes = option_map (λ r. bytes_at r 4) (find (of_session name number) (old_of t).sessions) ≡ Some bytes
 
-some_of : {X Y : Type 0} (f : X → Y) (o : Option X) (y : Y) → option_map f o ≡ Some y → is_some o ≡ true
-some_of f None y e = absurd (let x = e in cc)
-some_of f (Some x) y e = refl
-
 pub free : (t : Tables) (name : Text) (number : ℕ) (bytes : Text) → IsUnderway t → Found t name number bytes → find (of_session name number) t.uploads ≡ None
 free t name number bytes under found = (number_free (old_of t) t name number under.both (some_of (λ r. bytes_at r 4) (find (of_session name number) (old_of t).sessions) bytes found)).1
 
@@ -197,10 +193,6 @@ moved_if old mid new name number bytes (Err e) under found s h = tt
 
 pub found_read : (old mid : State) (name : Text) (number : ℕ) (bytes : Text) → IsUnchanged old mid → Found (held old) name number bytes → Found (held mid) name number bytes
 found_read old mid name number bytes u found = subst (λ (d : Database). Found (tables_in d) name number bytes) (sym u.0.now_is) found
-
-none_of : {X Y : Type 0} (f : X → Y) (o : Option X) → None ≡ option_map f o → o ≡ None
-none_of f None e = refl
-none_of f (Some x) e = absurd (let y = e in cc)
 
 -- the key has no row
 pub not_there : (old new : State) (name : Text) (number : ℕ) → IsReady old → IsUnderway (held old) → IsUnchanged old new → None ≡ option_map (λ r. bytes_at r 4) (find (of_session name number) (old_of (held old)).sessions) → IsReady new × Moves (without_session name number) (held old) (held new)

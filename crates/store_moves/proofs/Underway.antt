@@ -1,6 +1,6 @@
 -- Tables underway, after what leaves the old rows, and after what was only read.
-use Rattle.std.proofs.Common.{◌≡◌, sym, subst, Result, OnOk}
-use Rattle.std.specs.Prelude.{IsTrue}
+use Rattle.std.proofs.Common.{◌≡◌, true, None, Some, refl, sym, subst, Result, OnOk}
+use Rattle.std.specs.Prelude.{Option, option_map, is_some, IsTrue}
 use Rattle.sqlite.specs.Effect.{Database}
 use Rattle.sqlite.specs.State.{State, IsUnchanged}
 use Rattle.store_schema.specs.Rows.{HaveIds}
@@ -27,3 +27,13 @@ underway_read old new under u = subst (λ (d : Database). IsUnderway (tables_in 
 
 pub moved_read : {A E : Type 0} (old mid new : State) (f : OldTables → OldTables) (r : Result A E) → IsUnchanged old mid → OnOk r (IsReady new × Moves f (held mid) (held new)) → OnOk r (IsReady new × Moves f (held old) (held new))
 moved_read old mid new f r u h = subst (λ (d : Database). OnOk r (IsReady new × Moves f (tables_in d) (held new))) u.0.now_is h
+
+-- ---- what is found of a row
+
+pub some_of : {X Y : Type 0} (f : X → Y) (o : Option X) (y : Y) → option_map f o ≡ Some y → is_some o ≡ true
+some_of f None y e = absurd (let x = e in cc)
+some_of f (Some x) y e = refl
+
+pub none_of : {X Y : Type 0} (f : X → Y) (o : Option X) → None ≡ option_map f o → o ≡ None
+none_of f None e = refl
+none_of f (Some x) e = absurd (let y = e in cc)

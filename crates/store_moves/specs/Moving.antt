@@ -1,5 +1,5 @@
 -- What moving a row leaves of the tables of both schemas.
-use Rattle.std.specs.Prelude.{◌≡◌, ◌⊎◌, ℕ, ℤ, List, length, Some, Result, OnOk}
+use Rattle.std.specs.Prelude.{◌≡◌, ◌⊎◌, ℕ, ℤ, List, length, Some, Result, OnOk, IfOk, [], map}
 use Rattle.sqlite_trees.specs.declared.store.Store.{Ghosts}
 use Rattle.sqlite.specs.Order.{Row}
 use Rattle.sqlite.specs.State.{HasCleanDisk, KeepsCommit}
@@ -15,7 +15,11 @@ use Rattle.store_statements.specs.Held.{IsReady, held}
 use Rattle.store_migration.specs.OldTables.{OldTables}
 use Rattle.store_migration.specs.Both.{world_of_both, AreBoth}
 use Rattle.store_migration.specs.Moves.{LeftEmpty, Filled}
+use Rattle.store_migration.specs.Listed.{left_by_keys, left_by_sessions}
+use Rattle.store_old_rows.specs.declared.keys.Key.{Key}
+use Rattle.store_old_rows.specs.declared.keys.SessionKey.{SessionKey}
 use Rattle.store_old_rows.specs.Olds.{HasOlds, old_of}
+use Rattle.store_old_rows.specs.Shown.{key_shown, session_shown}
 
 -- rows of both schemas, as they are while rows are moved
 pub record IsUnderway (t : Tables) : Type 0 where
@@ -33,6 +37,26 @@ without_blob name digest old = record old { blobs = without (has_key name digest
 
 abbrev pub without_manifest : Text → Text → OldTables → OldTables
 without_manifest name digest old = record old { manifests = without (has_key name digest) old.manifests }
+
+-- those of each of these keys go in turn
+abbrev pub without_listed_blobs : List Key → OldTables → OldTables
+without_listed_blobs keys old = record old { blobs = left_by_keys (map key_shown keys) old.blobs }
+
+abbrev pub without_blobs : OldTables → OldTables
+without_blobs old = record old { blobs = [] }
+
+abbrev pub without_listed_manifests : List Key → OldTables → OldTables
+without_listed_manifests keys old = record old { manifests = left_by_keys (map key_shown keys) old.manifests }
+
+abbrev pub without_manifests : OldTables → OldTables
+without_manifests old = record old { manifests = [] }
+
+abbrev pub without_listed_sessions : List SessionKey → OldTables → OldTables
+without_listed_sessions keys old =
+    record old { sessions = left_by_sessions (map session_shown keys) old.sessions }
+
+abbrev pub without_sessions : OldTables → OldTables
+without_sessions old = record old { sessions = [] }
 
 -- a manifest came, under the kind and the subject as which its bytes read
 pub record ManifestStored (t u : Tables) (name digest bytes : Text) : Type 0 where
@@ -59,6 +83,12 @@ module _ {S : Type 0} (g : Ghosts S) (old new : Held S) where
   MovesOn r f =
       HasCleanDisk (state g new) → IsReady (state g old) → IsUnderway (held (state g old))
       → OnOk r (IsReady (state g new) × Moves f (held (state g old)) (held (state g new)))
+
+  -- the value is how many of these rows there were
+  abbrev pub CountsOld : {E : Type 0} → Result ℕ E → (OldTables → List Row) → Type 0
+  CountsOld r rows =
+      HasCleanDisk (state g new) → IsReady (state g old) → IsUnderway (held (state g old))
+      → IfOk r (λ n. n ≡ length (rows (old_of (held (state g old)))))
 
   -- nothing was committed
   abbrev pub KeepsUnderway : Type 0

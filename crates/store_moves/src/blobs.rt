@@ -1,5 +1,5 @@
-//! A blob is moved.
-ghost use Rattle.std.specs.Prelude.{◌≡◌, ◌<◌, ◌^◌, length, find, option_map, None, Some, OnOk};
+//! Blobs are moved.
+ghost use Rattle.std.specs.Prelude.{◌≡◌, ◌<◌, ◌^◌, length, find, option_map, None, Some, OnOk, IfOk};
 ghost use Rattle.sqlite.specs.State.{HasCleanDisk, KeepsCommit};
 ghost use Rattle.sqlite.specs.Held.{state};
 ghost use Rattle.store_schema.specs.Rows.{bytes_at};
@@ -8,12 +8,14 @@ ghost use Rattle.store_statements.specs.Clauses.{KeepsInside, LastsUncommitted};
 ghost use Rattle.store_statements.specs.Held.{IsReady, held};
 ghost use Rattle.store_statements.specs.Steps.{BlobStored};
 ghost use Rattle.store_old_rows.specs.Olds.{old_of};
-ghost use Rattle.store_moves.specs.Moving.{IsUnderway, Moves, MovesOn, KeepsUnderway, without_blob};
+ghost use Rattle.store_moves.specs.Moving.{IsUnderway, Moves, MovesOn, KeepsUnderway, CountsOld, without_blob, without_listed_blobs, without_blobs};
 
+use crate::watch::{OldTable, Watch};
 use oci_names::Fault;
 use sqlite::{Alter, Transaction};
 use std::alloc::Global;
-use store_old_rows::blobs::{blob_bytes, take_blob};
+use store_old_rows::blobs::{blob_bytes, blob_keys, take_blob};
+use store_old_rows::keys::Key;
 use store_statements::blobs::add_blob_link;
 use store_statements::contents::keep;
 use store_statements::numbers::LARGEST;
@@ -98,4 +100,44 @@ pub fn move_blob<S: Alter>(
         Ok(None) => Ok(()),
         Err(fault) => Err(fault),
     }
+}
+
+/// Moves the rows of these blobs, one after the other, says so, and answers how many they are.
+fn move_listed<S: Alter, W: Watch>(
+    alloc: Global,
+    tx: &mut Transaction<'_, S>,
+    keys: &[Key],
+    watch: &mut W,
+) -> Result<usize, Fault>
+    ensures moved { MovesOn S.Store tx.old.conn.now tx.new.conn.now result (without_listed_blobs keys.now) }
+    ensures counted { IfOk result (λ n. n ≡ length keys.now) }
+    ensures kept { KeepsUnderway S.Store tx.old.conn.now tx.new.conn.now }
+    ensures same_reference { tx.new.conn.ghost_name ≡ tx.old.conn.ghost_name }
+    ensures survives { LastsUncommitted S.Store tx.old.conn.now tx.new.conn.now }
+{
+    let mut done = 0;
+    for key in keys {
+        watch.moved(OldTable::Blobs, done, keys.len());
+        move_blob(alloc, tx, &key.repo, &key.digest)?;
+        done += 1;
+    }
+    watch.moved(OldTable::Blobs, done, keys.len());
+    Ok(done)
+}
+
+/// Moves the row of each blob, with the bytes of one of them in memory at a time, and answers how many there
+/// were.
+pub fn move_blobs<S: Alter, W: Watch>(
+    alloc: Global,
+    tx: &mut Transaction<'_, S>,
+    watch: &mut W,
+) -> Result<usize, Fault>
+    ensures moved { MovesOn S.Store tx.old.conn.now tx.new.conn.now result without_blobs }
+    ensures counted { CountsOld S.Store tx.old.conn.now tx.new.conn.now result (λ old. old.blobs) }
+    ensures kept { KeepsUnderway S.Store tx.old.conn.now tx.new.conn.now }
+    ensures same_reference { tx.new.conn.ghost_name ≡ tx.old.conn.ghost_name }
+    ensures survives { LastsUncommitted S.Store tx.old.conn.now tx.new.conn.now }
+{
+    let keys = blob_keys(alloc, tx)?;
+    move_listed(alloc, tx, &keys, watch)
 }

@@ -1,5 +1,6 @@
-//! One row of schema 1 moved to the tables of schema 2, inside a transaction: the rows of both schemas stand
-//! for the same world.
+//! Rows of schema 1 moved to the tables of schema 2, inside a transaction, one after the other: the rows of
+//! both schemas stand for the same world. After a fault, want of memory or a storage failure, nothing is
+//! committed, and the caller gives the transaction up.
 #![tactic(auto)]
 
 mod blobs;
@@ -7,7 +8,9 @@ mod manifests;
 mod sessions;
 #[cfg(test)]
 mod tests;
+mod watch;
 
-pub use blobs::move_blob;
-pub use manifests::move_manifest;
-pub use sessions::move_session;
+pub use blobs::{move_blob, move_blobs};
+pub use manifests::{move_manifest, move_manifests};
+pub use sessions::{move_session, move_sessions};
+pub use watch::{OldTable, Unwatched, Watch};

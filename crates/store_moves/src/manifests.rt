@@ -1,5 +1,5 @@
-//! A manifest is moved.
-ghost use Rattle.std.specs.Prelude.{◌≡◌, ◌<◌, ◌^◌, length, find, option_map, None, Some, OnOk};
+//! Manifests are moved.
+ghost use Rattle.std.specs.Prelude.{◌≡◌, ◌<◌, ◌^◌, length, find, option_map, None, Some, OnOk, IfOk};
 ghost use Rattle.sqlite.specs.State.{HasCleanDisk, KeepsCommit};
 ghost use Rattle.sqlite.specs.Held.{state};
 ghost use Rattle.oci_manifest.specs.Manifest.{manifest_in};
@@ -10,13 +10,15 @@ ghost use Rattle.store_world.specs.Keys.{has_key};
 ghost use Rattle.store_statements.specs.Clauses.{KeepsInside, LastsUncommitted};
 ghost use Rattle.store_statements.specs.Held.{IsReady, held};
 ghost use Rattle.store_old_rows.specs.Olds.{old_of};
-ghost use Rattle.store_moves.specs.Moving.{IsUnderway, ManifestStored, Moves, MovesOn, KeepsUnderway, without_manifest};
+ghost use Rattle.store_moves.specs.Moving.{IsUnderway, ManifestStored, Moves, MovesOn, KeepsUnderway, CountsOld, without_manifest, without_listed_manifests, without_manifests};
 
+use crate::watch::{OldTable, Watch};
 use oci_manifest::{Kind, ManifestFault, read_manifest};
 use oci_names::Fault;
 use sqlite::{Alter, Transaction};
 use std::alloc::Global;
-use store_old_rows::manifests::{manifest_bytes, take_manifest};
+use store_old_rows::keys::Key;
+use store_old_rows::manifests::{manifest_bytes, manifest_keys, take_manifest};
 use store_statements::contents::keep;
 use store_statements::manifests::add_manifest_link;
 use store_statements::numbers::LARGEST;
@@ -140,4 +142,44 @@ pub fn move_manifest<S: Alter>(
         Ok(None) => Ok(()),
         Err(fault) => Err(fault),
     }
+}
+
+/// Moves the rows of these manifests, one after the other, says so, and answers how many they are.
+fn move_listed<S: Alter, W: Watch>(
+    alloc: Global,
+    tx: &mut Transaction<'_, S>,
+    keys: &[Key],
+    watch: &mut W,
+) -> Result<usize, Fault>
+    ensures moved { MovesOn S.Store tx.old.conn.now tx.new.conn.now result (without_listed_manifests keys.now) }
+    ensures counted { IfOk result (λ n. n ≡ length keys.now) }
+    ensures kept { KeepsUnderway S.Store tx.old.conn.now tx.new.conn.now }
+    ensures same_reference { tx.new.conn.ghost_name ≡ tx.old.conn.ghost_name }
+    ensures survives { LastsUncommitted S.Store tx.old.conn.now tx.new.conn.now }
+{
+    let mut done = 0;
+    for key in keys {
+        watch.moved(OldTable::Manifests, done, keys.len());
+        move_manifest(alloc, tx, &key.repo, &key.digest)?;
+        done += 1;
+    }
+    watch.moved(OldTable::Manifests, done, keys.len());
+    Ok(done)
+}
+
+/// Moves the row of each manifest, with the bytes of one of them in memory at a time, and answers how many there
+/// were.
+pub fn move_manifests<S: Alter, W: Watch>(
+    alloc: Global,
+    tx: &mut Transaction<'_, S>,
+    watch: &mut W,
+) -> Result<usize, Fault>
+    ensures moved { MovesOn S.Store tx.old.conn.now tx.new.conn.now result without_manifests }
+    ensures counted { CountsOld S.Store tx.old.conn.now tx.new.conn.now result (λ old. old.manifests) }
+    ensures kept { KeepsUnderway S.Store tx.old.conn.now tx.new.conn.now }
+    ensures same_reference { tx.new.conn.ghost_name ≡ tx.old.conn.ghost_name }
+    ensures survives { LastsUncommitted S.Store tx.old.conn.now tx.new.conn.now }
+{
+    let keys = manifest_keys(alloc, tx)?;
+    move_listed(alloc, tx, &keys, watch)
 }

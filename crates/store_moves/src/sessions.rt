@@ -1,5 +1,5 @@
-//! An upload session is moved.
-ghost use Rattle.std.specs.Prelude.{◌≡◌, ◌<◌, ◌^◌, length, find, option_map, None, Some, OnOk};
+//! Upload sessions are moved.
+ghost use Rattle.std.specs.Prelude.{◌≡◌, ◌<◌, ◌^◌, length, find, option_map, None, Some, OnOk, IfOk};
 ghost use Rattle.sqlite.specs.State.{HasCleanDisk, KeepsCommit};
 ghost use Rattle.sqlite.specs.Held.{state};
 ghost use Rattle.store_schema.specs.Rows.{bytes_at};
@@ -9,12 +9,14 @@ ghost use Rattle.store_statements.specs.Clauses.{KeepsInside, LastsUncommitted};
 ghost use Rattle.store_statements.specs.Held.{IsReady, held};
 ghost use Rattle.store_statements.specs.Steps.{PieceStored, uploads_changed};
 ghost use Rattle.store_old_rows.specs.Olds.{old_of};
-ghost use Rattle.store_moves.specs.Moving.{IsUnderway, SessionStored, Moves, MovesOn, KeepsUnderway, without_session};
+ghost use Rattle.store_moves.specs.Moving.{IsUnderway, SessionStored, Moves, MovesOn, KeepsUnderway, CountsOld, without_session, without_listed_sessions, without_sessions};
 
+use crate::watch::{OldTable, Watch};
 use oci_names::Fault;
 use sqlite::{Alter, Transaction};
 use std::alloc::Global;
-use store_old_rows::sessions::{session_bytes, take_session};
+use store_old_rows::keys::SessionKey;
+use store_old_rows::sessions::{session_bytes, session_keys, take_session};
 use store_statements::contents::keep;
 use store_statements::numbers::LARGEST;
 use store_statements::pieces::add_piece;
@@ -164,4 +166,47 @@ pub fn move_session<S: Alter>(
         Ok(None) => Ok(()),
         Err(fault) => Err(fault),
     }
+}
+
+/// Moves the rows of these sessions, one after the other, says so, and answers how many they are.
+fn move_listed<S: Alter, W: Watch>(
+    alloc: Global,
+    tx: &mut Transaction<'_, S>,
+    keys: &[SessionKey],
+    watch: &mut W,
+) -> Result<usize, Fault>
+    ensures moved { MovesOn S.Store tx.old.conn.now tx.new.conn.now result (without_listed_sessions keys.now) }
+    ensures counted { IfOk result (λ n. n ≡ length keys.now) }
+    ensures kept { KeepsUnderway S.Store tx.old.conn.now tx.new.conn.now }
+    ensures same_reference { tx.new.conn.ghost_name ≡ tx.old.conn.ghost_name }
+    ensures survives { LastsUncommitted S.Store tx.old.conn.now tx.new.conn.now }
+{
+    let mut done = 0;
+    for key in keys {
+        watch.moved(OldTable::Sessions, done, keys.len());
+        if key.number > LARGEST {
+            return Err(Fault::Storage);
+        }
+        move_session(alloc, tx, &key.repo, key.number)?;
+        done += 1;
+    }
+    watch.moved(OldTable::Sessions, done, keys.len());
+    Ok(done)
+}
+
+/// Moves the row of each upload session, with the bytes of one of them in memory at a time, and answers how many there
+/// were.
+pub fn move_sessions<S: Alter, W: Watch>(
+    alloc: Global,
+    tx: &mut Transaction<'_, S>,
+    watch: &mut W,
+) -> Result<usize, Fault>
+    ensures moved { MovesOn S.Store tx.old.conn.now tx.new.conn.now result without_sessions }
+    ensures counted { CountsOld S.Store tx.old.conn.now tx.new.conn.now result (λ old. old.sessions) }
+    ensures kept { KeepsUnderway S.Store tx.old.conn.now tx.new.conn.now }
+    ensures same_reference { tx.new.conn.ghost_name ≡ tx.old.conn.ghost_name }
+    ensures survives { LastsUncommitted S.Store tx.old.conn.now tx.new.conn.now }
+{
+    let keys = session_keys(alloc, tx)?;
+    move_listed(alloc, tx, &keys, watch)
 }

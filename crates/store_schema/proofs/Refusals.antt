@@ -25,7 +25,7 @@ use Rattle.sqlite.specs.Listing.{understood}
 use Rattle.sqlite.proofs.Callers.{command_of, statement_of}
 use Rattle.sqlite_resolve.specs.declared.compiled.Compiled.{Compiled}
 use Rattle.store_schema.specs.Layout.{Means}
-use Rattle.store_schema.specs.Making.{MakesTable, MakesIndex, IsEmptyWith, IsOther, statement_in}
+use Rattle.store_schema.specs.Making.{MakesTable, MakesIndex, IsOther, statement_in}
 use Rattle.store_schema.proofs.Selects.{means_command}
 use Rattle.store_schema.proofs.MakeLemmas.{statement_is}
 use Rattle.store_schema.proofs.Writes.{same_value, at_place}
@@ -143,13 +143,13 @@ module _ (schema : Schema) (k : Command) (text : List ℕ) (old new : State) (e 
       ran c bare is words (inl (inl h, same)) = misplaced c.command h
       ran c bare is words (inl (inr (may, does), same)) = by (rw (bare.0, is, words) at does)
 
-pub fails_table : (schema : Schema) (table : Table) (text : List ℕ) (old new : State) (e : Error) → MakesTable schema text table → IsEmptyWith schema old.now → ExecutesInside 0 text [] old new (Err e) → IsOther e
-fails_table schema table text old new e it none h =
-    fails schema CreateTable text old new e none.schema_is it.means it.whole (none_defined schema table text old e it none.schema_is) h
+pub fails_table : (schema : Schema) (table : Table) (text : List ℕ) (old new : State) (e : Error) → MakesTable schema text table → old.now.schema ≡ schema → ExecutesInside 0 text [] old new (Err e) → IsOther e
+fails_table schema table text old new e it is h =
+    fails schema CreateTable text old new e is it.means it.whole (none_defined schema table text old e it is) h
 
-pub fails_index : (schema : Schema) (at : ℕ) (table : Table) (index : Index) (text : List ℕ) (old new : State) (e : Error) → MakesIndex schema text at table index → IsEmptyWith schema old.now → ExecutesInside 0 text [] old new (Err e) → IsOther e
-fails_index schema at table index text old new e it none h =
-    fails schema (CreateIndex at) text old new e none.schema_is it.means it.whole (no_index_defined schema at table index text old e it none.schema_is) h
+pub fails_index : (schema : Schema) (at : ℕ) (table : Table) (index : Index) (text : List ℕ) (old new : State) (e : Error) → MakesIndex schema text at table index → old.now.schema ≡ schema → ExecutesInside 0 text [] old new (Err e) → IsOther e
+fails_index schema at table index text old new e it is h =
+    fails schema (CreateIndex at) text old new e is it.means it.whole (no_index_defined schema at table index text old e it is) h
 
 -- ---- the same of a call's result
 
@@ -159,11 +159,11 @@ if_passed P (Ok x) e is h = tt
 if_passed P (Err y) e is h = subst P (sym is) h
 
 pub then_unmade : {A : Type 0} (schema : Schema) (table : Table) (text : List ℕ) (old : Database) (r : Result A Error) → MakesTable schema text table
-    → IfErr r (λ e. (schema : Schema) (table : Table) → MakesTable schema text table → IsEmptyWith schema old → IsOther e) → IsEmptyWith schema old → IfErr r IsOther
-then_unmade schema table text old (Ok x) makes h none = tt
-then_unmade schema table text old (Err e) makes h none = h schema table makes none
+    → IfErr r (λ e. (schema : Schema) (table : Table) → MakesTable schema text table → old.schema ≡ schema → IsOther e) → old.schema ≡ schema → IfErr r IsOther
+then_unmade schema table text old (Ok x) makes h is = tt
+then_unmade schema table text old (Err e) makes h is = h schema table makes is
 
 pub then_unindexed : {A : Type 0} (schema : Schema) (at : ℕ) (table : Table) (index : Index) (text : List ℕ) (old : Database) (r : Result A Error) → MakesIndex schema text at table index
-    → IfErr r (λ e. (schema : Schema) (at : ℕ) (table : Table) (index : Index) → MakesIndex schema text at table index → IsEmptyWith schema old → IsOther e) → IsEmptyWith schema old → IfErr r IsOther
-then_unindexed schema at table index text old (Ok x) makes h none = tt
-then_unindexed schema at table index text old (Err e) makes h none = h schema at table index makes none
+    → IfErr r (λ e. (schema : Schema) (at : ℕ) (table : Table) (index : Index) → MakesIndex schema text at table index → old.schema ≡ schema → IsOther e) → old.schema ≡ schema → IfErr r IsOther
+then_unindexed schema at table index text old (Ok x) makes h is = tt
+then_unindexed schema at table index text old (Err e) makes h is = h schema at table index makes is

@@ -43,12 +43,12 @@ fn create<S: Alter>(tx: &mut Transaction<'_, S>, text: &str) -> Result<(), Error
     ensures unmade { HasCleanDisk (state S.Store tx.new.conn.now)
         → IfErr result
         (λ e. (schema : Schema) (table : Table) → MakesTable schema text.now table
-        → IsEmptyWith schema (state S.Store tx.old.conn.now).now → IsOther e) }
+        → (state S.Store tx.old.conn.now).now.schema ≡ schema → IsOther e) }
     ensures unindexed { HasCleanDisk (state S.Store tx.new.conn.now)
         → IfErr result
         (λ e. (schema : Schema) (at : ℕ) (table : Table) (index : Index)
         → MakesIndex schema text.now at table index
-        → IsEmptyWith schema (state S.Store tx.old.conn.now).now → IsOther e) }
+        → (state S.Store tx.old.conn.now).now.schema ≡ schema → IsOther e) }
     ensures comes { HasCleanDisk (state S.Store tx.new.conn.now)
         → OnOk result
         ((name : List ℕ) → MakesNamed text.now name
@@ -122,6 +122,8 @@ fn make_links<S: Alter>(tx: &mut Transaction<'_, S>) -> Result<(), Error>
     ensures linked { HasCleanDisk (state S.Store tx.new.conn.now)
         → (state S.Store tx.old.conn.now).now.schema ≡ old_schema
         → OnOk result ((state S.Store tx.new.conn.now).now.schema ≡ old_linked) }
+    ensures unlinked { HasCleanDisk (state S.Store tx.new.conn.now)
+        → (state S.Store tx.old.conn.now).now.schema ≡ old_schema → IfErr result IsOther }
     ensures comes { HasCleanDisk (state S.Store tx.new.conn.now)
         → OnOk result
         (Comes link_names link_ones (state S.Store tx.old.conn.now).now
@@ -164,6 +166,8 @@ fn make_uploads<S: Alter>(tx: &mut Transaction<'_, S>) -> Result<(), Error>
     ensures both { HasCleanDisk (state S.Store tx.new.conn.now)
         → (state S.Store tx.old.conn.now).now.schema ≡ old_linked
         → OnOk result ((state S.Store tx.new.conn.now).now.schema ≡ both_schema) }
+    ensures apart { HasCleanDisk (state S.Store tx.new.conn.now)
+        → (state S.Store tx.old.conn.now).now.schema ≡ old_linked → IfErr result IsOther }
     ensures comes { HasCleanDisk (state S.Store tx.new.conn.now)
         → OnOk result
         (Comes upload_names upload_ones (state S.Store tx.old.conn.now).now
@@ -234,6 +238,8 @@ pub fn make_tables_of_two<S: Alter>(tx: &mut Transaction<'_, S>) -> Result<(), E
     ensures both { HasCleanDisk (state S.Store tx.new.conn.now)
         → (state S.Store tx.old.conn.now).now.schema ≡ old_schema
         → OnOk result ((state S.Store tx.new.conn.now).now.schema ≡ both_schema) }
+    ensures unmade { HasCleanDisk (state S.Store tx.new.conn.now)
+        → (state S.Store tx.old.conn.now).now.schema ≡ old_schema → IfErr result IsOther }
     ensures comes { HasCleanDisk (state S.Store tx.new.conn.now)
         → OnOk result
         (Comes names_of_two tables_of_two (state S.Store tx.old.conn.now).now

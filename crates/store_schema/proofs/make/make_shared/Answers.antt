@@ -19,25 +19,25 @@ returns-clause-made g c clean none =
 
 pub returns-in_err-create-clause-unmade : goal.returns-in_err-create-clause-unmade
 returns-in_err-create-clause-unmade g c clean none =
-    if_passed _ c.from_residual.result c.in_err-create.field-0.0 c.from_residual.ensures.1 (c.in_err-create.ensures.unmade clean _ _ makes_version none)
+    if_passed _ c.from_residual.result c.in_err-create.field-0.0 c.from_residual.ensures.1 (c.in_err-create.ensures.unmade clean _ _ makes_version none.schema_is)
 
 pub returns-in_err-create-2-clause-unmade : goal.returns-in_err-create-2-clause-unmade
 returns-in_err-create-2-clause-unmade g c clean none =
     let one : HasCleanDisk (state g.S.Store c.create.new.tx.conn.now) = omega (arith, c.create-2.ensures.survives.clean) in
-    if_passed _ c.from_residual-in_err-create-2.result c.in_err-create-2.field-0.0 c.from_residual-in_err-create-2.ensures.1 (c.in_err-create-2.ensures.unmade clean _ _ makes_repos (c.in_ok-create.ensures.made one _ _ makes_version none))
+    if_passed _ c.from_residual-in_err-create-2.result c.in_err-create-2.field-0.0 c.from_residual-in_err-create-2.ensures.1 (c.in_err-create-2.ensures.unmade clean _ _ makes_repos (c.in_ok-create.ensures.made one _ _ makes_version none).schema_is)
 
 pub returns-in_err-create-3-clause-unmade : goal.returns-in_err-create-3-clause-unmade
 returns-in_err-create-3-clause-unmade g c clean none =
     let two : HasCleanDisk (state g.S.Store c.create-2.new.tx.conn.now) = omega (arith, c.create-3.ensures.survives.clean) in
     let one : HasCleanDisk (state g.S.Store c.create.new.tx.conn.now) = omega (arith, c.create-2.ensures.survives.clean) in
-    if_passed _ c.from_residual-in_err-create-3.result c.in_err-create-3.field-0.0 c.from_residual-in_err-create-3.ensures.1 (c.in_err-create-3.ensures.unmade clean _ _ makes_grants (c.in_ok-create-2.ensures.made two _ _ makes_repos (c.in_ok-create.ensures.made one _ _ makes_version none)))
+    if_passed _ c.from_residual-in_err-create-3.result c.in_err-create-3.field-0.0 c.from_residual-in_err-create-3.ensures.1 (c.in_err-create-3.ensures.unmade clean _ _ makes_grants (c.in_ok-create-2.ensures.made two _ _ makes_repos (c.in_ok-create.ensures.made one _ _ makes_version none)).schema_is)
 
 pub returns-clause-unmade : goal.returns-clause-unmade
 returns-clause-unmade g c clean none =
     let three : HasCleanDisk (state g.S.Store c.create-3.new.tx.conn.now) = omega (arith, c.create-4.ensures.survives.clean) in
     let two : HasCleanDisk (state g.S.Store c.create-2.new.tx.conn.now) = omega (arith, c.create-3.ensures.survives.clean) in
     let one : HasCleanDisk (state g.S.Store c.create.new.tx.conn.now) = omega (arith, c.create-2.ensures.survives.clean) in
-    then_unmade _ _ _ (state g.S.Store c.create-3.new.tx.conn.now).now c.create-4.result makes_tags (c.create-4.ensures.unmade clean) (c.in_ok-create-3.ensures.made three _ _ makes_grants (c.in_ok-create-2.ensures.made two _ _ makes_repos (c.in_ok-create.ensures.made one _ _ makes_version none)))
+    then_unmade _ _ _ (state g.S.Store c.create-3.new.tx.conn.now).now c.create-4.result makes_tags (c.create-4.ensures.unmade clean) (c.in_ok-create-3.ensures.made three _ _ makes_grants (c.in_ok-create-2.ensures.made two _ _ makes_repos (c.in_ok-create.ensures.made one _ _ makes_version none))).schema_is
 
 pub returns-clause-comes : goal.returns-clause-comes
 returns-clause-comes g c clean =
