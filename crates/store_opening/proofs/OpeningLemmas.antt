@@ -11,7 +11,7 @@ use Rattle.store_schema.specs.Schema.{version_table}
 use Rattle.store_schema.specs.Layout.{Stands, placed}
 use Rattle.store_statements.specs.Held.{IsSettled, HoldsTables, held}
 use Rattle.store_world.specs.Registry.{IsOfSchemaTwo}
-use Rattle.store_opening.specs.Opening.{IsIdle, HoldsRegistry, has_version_table}
+use Rattle.store_opening.specs.Opening.{IsIdle, KnowsVersion, HoldsRegistry, has_version_table}
 use Rattle.store_opening.specs.declared.opening.OpenFault.{OpenFault}
 use Rattle.store_opening.specs.declared.opening.OpenFault.TheVariants.{Memory, Storage, NotARegistry, Schema as Numbered}
 use Rattle.store_opening.specs.Asking.{IsFailing, IsWanting, IsWantingOr, IsTold, IsUnnumbered, NamesNotTwo, IsOfSchema, ShowsAlone}
@@ -60,12 +60,15 @@ all_pass : (rows : List Row) → filter (passes [] []) rows ≡ rows
 all_pass [] = refl
 all_pass (r ∷ rows) = ap (λ xs. r ∷ xs) (all_pass rows)
 
-pub shows_version : (old new : State) (r : Answer) → HoldsTables old.now → IfOk r (λ rows. Shown version_find [] old new rows.items)
+pub knows_version : (db : Database) → HoldsTables db → KnowsVersion db.schema
+knows_version db h = record { stands = h.known.version; find = h.known.version_texts.find }
+
+pub shows_version : (old new : State) (r : Answer) → KnowsVersion old.now.schema → IfOk r (λ rows. Shown version_find [] old new rows.items)
     → IfOk r (λ rows. IsPermutation (map {B = Row} (λ r. column r 1 ∷ []) (held old).version) rows.items)
 shows_version old new (Err e) h shown = tt
 shows_version old new (Ok rows) h shown =
     subst (λ (xs : List Row). IsPermutation (map {B = Row} (λ r. column r 1 ∷ []) xs) rows.items) (all_pass (held old).version)
-    (shows old.now.schema version_find _ (tree_of old.now.schema version_table) [] (col 1 1 ∷ []) [] old new rows.items refl h.known.version_texts.find h.known.version.stored shown)
+    (shows old.now.schema version_find _ (tree_of old.now.schema version_table) [] (col 1 1 ∷ []) [] old new rows.items refl h.find h.stands.stored shown)
 
 -- what the rows say that were answered, the table's say, and the other way round
 pub alone_in : (all rows : List Row) (n : ℤ) → IsPermutation all rows → ShowsAlone rows n → ShowsAlone all n
@@ -131,9 +134,9 @@ fails old new e q names means (inr h) =
     unshown old new h.0 _ e q names h.0.returning (subst IsPlain h.1.is means.plain).0
     (subst (λ r. command_of r ≡ Select q names) h.1.is (means_command old.now.schema version_find (Select q names) means)) h.2
 
-pub fails_understood : (old new : State) (r : Answer) → HoldsTables old.now → IfErr r (FailsToQuery version_find [] old new) → IfErr r IsFailing
+pub fails_understood : (old new : State) (r : Answer) → KnowsVersion old.now.schema → IfErr r (FailsToQuery version_find [] old new) → IfErr r IsFailing
 fails_understood old new (Ok rows) h failed = tt
-fails_understood old new (Err e) h failed = fails old new e _ _ h.known.version_texts.find failed
+fails_understood old new (Err e) h failed = fails old new e _ _ h.find failed
 
 -- ---- the schema has the table
 

@@ -14,7 +14,7 @@ use Rattle.sqlite_resolve.specs.Lowering.{Checked, and_then}
 use Rattle.sqlite_resolve.specs.Compile.{first, returning, meaning, planned, compiled, command, with_command}
 use Rattle.sqlite.specs.Listing.{understood, reads_listing, if_select, is_select, listing_schema}
 use Rattle.sqlite_resolve.specs.declared.error.CompileError.TheVariants.{NoSuchTable}
-use Rattle.std.specs.Prelude.{IfOk, IfErr, if◌then◌else◌}
+use Rattle.std.specs.Prelude.{IfOk, IfErr, OnOk, if◌then◌else◌}
 use Rattle.std.proofs.Common.{inl, inr}
 use Rattle.sqlite.specs.State.{State, IsUnchanged, Shown, ShowsRows, FailsToQuery, FailsToShow, IsNotRun, IsStatement}
 use Rattle.sqlite.specs.Clock.{timed}
@@ -92,6 +92,11 @@ unanswered old new e (inr h) = inl (fails_alone old new h.0 _ e h.0.returning (v
 answered : (old new : State) (rows : List Row) → Shown version_find [] old new rows → LeavesAsWas old new
 unfolding Shown
 answered old new rows h = inl (shows_alone old new h.0 _ rows h.0.returning (version_plain old.now.schema h.0 h.1.is) h.2)
+
+pub unchanged_asked : (old new : State) (r : Answer) → IfOk r (λ rows. Shown version_find [] old new rows.items) → OnOk r (IsUnchanged old new)
+unfolding Shown
+unchanged_asked old new (Ok rows) h = shows_alone old new h.0 _ rows.items h.0.returning (version_plain old.now.schema h.0 h.1.is) h.2
+unchanged_asked old new (Err e) h = tt
 
 pub leaves_asked : (old new : State) (r : Answer) → IfOk r (λ rows. Shown version_find [] old new rows.items) → IfErr r (FailsToQuery version_find [] old new) → LeavesAsWas old new
 leaves_asked old new (Ok rows) told failed = answered old new rows.items told

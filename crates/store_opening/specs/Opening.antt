@@ -8,8 +8,13 @@ use Rattle.sqlite_schema.specs.Names.{table_named}
 use Rattle.store_world.specs.Tables.{IsEmptyBeside}
 use Rattle.store_world.specs.Registry.{Agree, IsOfSchemaTwo}
 use Rattle.registry_model.specs.World.{no_world}
+use Rattle.sqlite.specs.Term.{col}
+use Rattle.store_schema.specs.Schema.{version_table}
+use Rattle.store_schema.specs.Layout.{Stands, Means}
+use Rattle.store_schema.specs.Commands.{selects}
 use Rattle.store_schema.specs.Beside.{Keeps}
 use Rattle.store_statements.specs.Known.{KnowsRegistry}
+use Rattle.store_statements.specs.VersionTexts.{version_find}
 use Rattle.store_statements.specs.Held.{HoldsTables, SettlesOn, tables_in, beside_in}
 use Rattle.store_statements.specs.Steps.{IsNew}
 
@@ -20,6 +25,12 @@ versions_in db = map {B = Row} (λ r. column r 1 ∷ []) (tables_in db).version
 -- one row says that the tables are of schema 2
 abbrev pub SaysTwo : Database → Type 0
 SaysTwo db = IsOfSchemaTwo (tables_in db).version
+
+-- the table stands, and the text that asks it for its rows means that
+pub record KnowsVersion (schema : Schema) : Type 0 where
+  pub stands : Stands schema version_table
+  pub find : Means schema version_find
+      (selects schema version_table [] (col 1 1 ∷ []) (codes "version" ∷ []))
 
 -- a registry's tables, of schema 2, which stand for a world
 pub record HoldsRegistry (db : Database) : Type 0 where

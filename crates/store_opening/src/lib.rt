@@ -5,4 +5,6 @@ mod making;
 mod opening;
 mod version;
 
+pub use making::fault_in_making;
 pub use opening::{OpenFault, fault_in_opening, take_up};
+pub use version::read_version;

@@ -19,7 +19,7 @@ use sqlite_resolve::CompileError;
 use store_schema::make_tables;
 
 /// Why tables are not made: a name that is taken is told apart.
-fn fault_in_making(error: Error) -> OpenFault
+pub fn fault_in_making(error: Error) -> OpenFault
     ensures unnumbered { IsUnnumbered result }
     ensures wanting { IsOther error → IsWanting result }
     ensures taken { IsTaking error → result ≡ OpenFault.NotARegistry }

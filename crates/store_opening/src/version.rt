@@ -5,8 +5,8 @@ ghost use Rattle.sqlite.specs.State.{HasCleanDisk, IsUnchanged};
 ghost use Rattle.sqlite.specs.Held.{state};
 ghost use Rattle.sqlite.specs.Order.{column};
 ghost use Rattle.store_statements.specs.Clauses.{Lasts};
-ghost use Rattle.store_statements.specs.Held.{HoldsTables, LeavesAsWas, held};
-ghost use Rattle.store_opening.specs.Opening.{versions_in};
+ghost use Rattle.store_statements.specs.Held.{LeavesAsWas, held};
+ghost use Rattle.store_opening.specs.Opening.{KnowsVersion, versions_in};
 ghost use Rattle.store_opening.specs.Asking.{IsWanting, IsWantingOr, IsFailing, IsUnnumbered, ShowsAlone, AnswersVersion, IsOfSchema};
 
 use crate::opening::OpenFault;
@@ -26,13 +26,13 @@ fn fault_in_reading(error: Error) -> OpenFault
 
 /// The versions that the tables say they are. Whatever they are, nothing is written.
 fn version_rows<S: Alter>(conn: &mut Connection<S>) -> Result<Vec<Row>, Error>
-    ensures shown { HasCleanDisk (state S.Store conn.new) → HoldsTables (state S.Store conn.old).now
+    ensures shown { HasCleanDisk (state S.Store conn.new) → KnowsVersion (state S.Store conn.old).now.schema
         → IfOk result
         (λ rows. IsPermutation (map (λ r. column r 1 ∷ []) (held (state S.Store conn.old)).version)
         rows.items) }
-    ensures same { HasCleanDisk (state S.Store conn.new) → HoldsTables (state S.Store conn.old).now
+    ensures same { HasCleanDisk (state S.Store conn.new)
         → OnOk result (IsUnchanged (state S.Store conn.old) (state S.Store conn.new)) }
-    ensures failing { HasCleanDisk (state S.Store conn.new) → HoldsTables (state S.Store conn.old).now
+    ensures failing { HasCleanDisk (state S.Store conn.new) → KnowsVersion (state S.Store conn.old).now.schema
         → IfErr result IsFailing }
     ensures left { HasCleanDisk (state S.Store conn.new)
         → LeavesAsWas (state S.Store conn.old) (state S.Store conn.new) }
@@ -60,13 +60,14 @@ fn version_in(rows: &[Row]) -> Result<i64, OpenFault>
     }
 }
 
-/// Which schema the tables are. `NotARegistry`: it is not one row that says so with a whole number.
-pub(crate) fn read_version<S: Alter>(conn: &mut Connection<S>) -> Result<i64, OpenFault>
-    ensures alone { HasCleanDisk (state S.Store conn.new) → HoldsTables (state S.Store conn.old).now
+/// Which schema the tables are. `NotARegistry`: no table says it, or not one row with a whole number. Nothing
+/// is written, whatever the database is.
+pub fn read_version<S: Alter>(conn: &mut Connection<S>) -> Result<i64, OpenFault>
+    ensures alone { HasCleanDisk (state S.Store conn.new) → KnowsVersion (state S.Store conn.old).now.schema
         → IfOk result (ShowsAlone (versions_in (state S.Store conn.old).now)) }
-    ensures same { HasCleanDisk (state S.Store conn.new) → HoldsTables (state S.Store conn.old).now
+    ensures same { HasCleanDisk (state S.Store conn.new)
         → OnOk result (IsUnchanged (state S.Store conn.old) (state S.Store conn.new)) }
-    ensures whole { HasCleanDisk (state S.Store conn.new) → HoldsTables (state S.Store conn.old).now
+    ensures whole { HasCleanDisk (state S.Store conn.new) → KnowsVersion (state S.Store conn.old).now.schema
         → (n : ℤ) → ShowsAlone (versions_in (state S.Store conn.old).now) n → IfErr result IsWanting }
     ensures none { IfErr result (IsWantingOr OpenFault.NotARegistry) }
     ensures left { HasCleanDisk (state S.Store conn.new)

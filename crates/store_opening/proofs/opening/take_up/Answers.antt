@@ -1,7 +1,7 @@
 use Rattle.sqlite.specs.Held.{state}
 use Rattle.store_statements.specs.Held.{held}
 use Rattle.store_opening.specs.Opening.{versions_in}
-use Rattle.store_opening.proofs.OpeningLemmas.{is_marked, settled, is_two, two_told, wanting_told, other_told, unsaid_told, told_as, never_two, names_none, on_two, on_err}
+use Rattle.store_opening.proofs.OpeningLemmas.{knows_version, is_marked, settled, is_two, two_told, wanting_told, other_told, unsaid_told, told_as, never_two, names_none, on_two, on_err}
 use Rattle.store_statements.proofs.SettledAfter.{stays_read}
 use Rattle.store_opening.proofs.VersionAsked.{back_left}
 use Rattle.store_opening.proofs.OpeningLemmas.{two_asked}
@@ -44,25 +44,25 @@ returns-then-not-is_marked-clause-unsaid g c clean h none =
 
 pub returns-clause-found : goal.returns-clause-found
 returns-clause-found g c clean idle h =
-    on_two c.read_version.result c.only_two.result _ _ c.only_two.ensures.two (c.read_version.ensures.same clean h.holds)
+    on_two c.read_version.result c.only_two.result _ _ c.only_two.ensures.two (c.read_version.ensures.same clean)
     (stays_read (state g.S.Store c.args.conn.now) (state g.S.Store c.read_version.new.conn) (settled (state g.S.Store c.args.conn.now) idle h))
 
 pub returns-clause-wanting : goal.returns-clause-wanting
 returns-clause-wanting g c clean h =
-    wanting_told (versions_in (state g.S.Store c.args.conn.now).now) c.read_version.result (c.read_version.ensures.alone clean h.holds) c.only_two.result c.only_two.ensures.other h.agree.version (c.read_version.ensures.whole clean h.holds)
+    wanting_told (versions_in (state g.S.Store c.args.conn.now).now) c.read_version.result (c.read_version.ensures.alone clean (knows_version (state g.S.Store c.args.conn.now).now h.holds)) c.only_two.result c.only_two.ensures.other h.agree.version (c.read_version.ensures.whole clean (knows_version (state g.S.Store c.args.conn.now).now h.holds))
 
 pub returns-clause-two : goal.returns-clause-two
 returns-clause-two g c clean h =
     is_two c.only_two.result (held (state g.S.Store c.args.conn.now)).version
-    (two_told (versions_in (state g.S.Store c.args.conn.now).now) c.read_version.result (c.read_version.ensures.alone clean h) c.only_two.result c.only_two.ensures.two)
+    (two_told (versions_in (state g.S.Store c.args.conn.now).now) c.read_version.result (c.read_version.ensures.alone clean (knows_version (state g.S.Store c.args.conn.now).now h)) c.only_two.result c.only_two.ensures.two)
 
 pub returns-clause-other : goal.returns-clause-other
 returns-clause-other g c clean h n alone not_two =
-    other_told (versions_in (state g.S.Store c.args.conn.now).now) c.read_version.result (c.read_version.ensures.alone clean h) c.only_two.result c.only_two.ensures.other n alone (c.read_version.ensures.whole clean h n alone)
+    other_told (versions_in (state g.S.Store c.args.conn.now).now) c.read_version.result (c.read_version.ensures.alone clean (knows_version (state g.S.Store c.args.conn.now).now h)) c.only_two.result c.only_two.ensures.other n alone (c.read_version.ensures.whole clean (knows_version (state g.S.Store c.args.conn.now).now h) n alone)
 
 pub returns-clause-unsaid : goal.returns-clause-unsaid
 returns-clause-unsaid g c clean h none =
-    unsaid_told (versions_in (state g.S.Store c.args.conn.now).now) c.read_version.result (c.read_version.ensures.alone clean h) c.only_two.result c.only_two.ensures.other none c.read_version.ensures.none
+    unsaid_told (versions_in (state g.S.Store c.args.conn.now).now) c.read_version.result (c.read_version.ensures.alone clean (knows_version (state g.S.Store c.args.conn.now).now h)) c.only_two.result c.only_two.ensures.other none c.read_version.ensures.none
 
 pub returns-clause-told : goal.returns-clause-told
 returns-clause-told g c clean = told_as (state g.S.Store c.args.conn.now) c.read_version.result c.only_two.result c.only_two.ensures.other (c.read_version.ensures.told clean) c.read_version.ensures.unnumbered

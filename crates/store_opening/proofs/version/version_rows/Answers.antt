@@ -3,14 +3,14 @@ use Rattle.sqlite.specs.Held.{state}
 use Rattle.store_schema.proofs.Selects.{leaves_all}
 use Rattle.store_statements.specs.VersionTexts.{version_find}
 use Rattle.store_opening.proofs.OpeningLemmas.{shows_version, fails_understood}
-use Rattle.store_opening.proofs.VersionAsked.{leaves_asked, answers_asked}
+use Rattle.store_opening.proofs.VersionAsked.{unchanged_asked, leaves_asked, answers_asked}
 use Rattle.store_opening.proofs.version.version_rows.Goals as goal
 
 pub returns-clause-shown : goal.returns-clause-shown
 returns-clause-shown g c clean h = shows_version (state g.S.Store c.args.conn.now) (state g.S.Store c.query_all.new.self) c.query_all.result h (c.query_all.ensures.ok clean)
 
 pub returns-clause-same : goal.returns-clause-same
-returns-clause-same g c clean h = leaves_all version_find [] (state g.S.Store c.args.conn.now) (state g.S.Store c.query_all.new.self) c.query_all.result h.known.version_texts.find.plain (c.query_all.ensures.ok clean)
+returns-clause-same g c clean = unchanged_asked (state g.S.Store c.args.conn.now) (state g.S.Store c.query_all.new.self) c.query_all.result (c.query_all.ensures.ok clean)
 
 pub returns-clause-failing : goal.returns-clause-failing
 returns-clause-failing g c clean h = fails_understood (state g.S.Store c.args.conn.now) (state g.S.Store c.query_all.new.self) c.query_all.result h (c.query_all.ensures.err clean)
