@@ -1,0 +1,3 @@
+pub mod OldFile
+pub mod Rewriting
+pub mod Migrating

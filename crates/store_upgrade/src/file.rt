@@ -1,0 +1,29 @@
+//! The migration of a file.
+ghost use Rattle.std.specs.Prelude.{IfErr};
+ghost use Rattle.store_upgrade.specs.Migrating.{NamesNeither};
+
+use crate::migration::migrate_open;
+use crate::rewrite::MovedRows;
+use sqlite::Connection;
+use store_moves::Watch;
+use store_opening::{OpenFault, fault_in_opening};
+
+/// `migrate_open` over the database file at the path, its log beside it, which is opened and closed again. A
+/// file that is no database is `Storage`.
+pub fn migrate<W: Watch>(
+    rt: &HostRuntime,
+    path: &str,
+    watch: &mut W,
+) -> Result<Option<MovedRows>, OpenFault>
+    ensures another { IfErr result NamesNeither }
+{
+    let mut conn = match Connection::open(rt, path) {
+        Ok(conn) => conn,
+        Err(error) => return Err(fault_in_opening(error)),
+    };
+    let moved = migrate_open(rt.alloc(), &mut conn, watch)?;
+    match conn.close() {
+        Ok(()) => Ok(moved),
+        Err(error) => Err(fault_in_opening(error)),
+    }
+}
