@@ -1,11 +1,13 @@
 //! Registries that lie in database files.
 ghost use Rattle.registry_orders.specs.Failures.{IsOfOpening};
 
+use crate::progress::Progress;
 use registry_orders::Failure;
 use registry_program::Opener;
 use registry_store::{OpenFault, Store, Written};
 use sqlite::{FileFrom, FileStore, Unknown};
 use std::marker::PhantomData;
+use store_upgrade::migrate;
 
 /// Files of which the same is supposed each time that they are opened.
 pub trait Supposed: Written {
@@ -56,6 +58,19 @@ impl<F: Supposed> Opener<Store<FileStore<FileFrom<F>>>> for Databases<'_, F> {
     fn open(&self, path: &str) -> Result<Store<FileStore<FileFrom<F>>>, Failure> {
         match Store::open_from(self.rt, path, F::new()) {
             Ok(store) => Ok(store),
+            Err(fault) => Err(of_opening(fault)),
+        }
+    }
+
+    fn migrate(&self, path: &str) -> Result<(), Failure> {
+        let mut progress = Progress::new(self.rt.stderr());
+        match migrate(self.rt, path, &mut progress) {
+            Ok(moved) => {
+                if let Some(moved) = moved {
+                    progress.finish(moved);
+                }
+                Ok(())
+            }
             Err(fault) => Err(of_opening(fault)),
         }
     }

@@ -7,6 +7,7 @@ mod file_tests;
 mod files;
 #[cfg(test)]
 mod loopback_tests;
+mod progress;
 #[cfg(test)]
 mod tests;
 #[cfg(test)]

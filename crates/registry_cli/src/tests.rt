@@ -99,6 +99,15 @@ impl Opener<MapKeeper> for Shelf {
             },
         }
     }
+
+    fn migrate(&self, path: &str) -> Result<(), Failure> {
+        match path {
+            "other" => Err(Failure::NotARegistry),
+            "newer" => Err(Failure::Schema(-7)),
+            "broken" => Err(Failure::StorageFailure),
+            _ => Ok(()),
+        }
+    }
 }
 
 /// The words of a command line, which stand between spaces.

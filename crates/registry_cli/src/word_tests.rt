@@ -32,7 +32,9 @@ const TOLD: [(u8, &[u8], &str); 12] = [
         sessions --db f --name team/app
         grant --db f --token=-x --name team/app --level 3
         revoke --db f --token t1 --name team/app
-        clear --db f",
+        clear --db f
+        migrate --db f
+        migrate --db old",
     ),
     (
         1,
@@ -87,9 +89,15 @@ const TOLD: [(u8, &[u8], &str); 12] = [
         3,
         b"registry: not a registry\n",
         "clear --db other
-        serve --db other --listen nowhere",
+        serve --db other --listen nowhere
+        migrate --db other",
     ),
-    (3, b"registry: storage failure\n", "usage --db broken"),
+    (
+        3,
+        b"registry: storage failure\n",
+        "usage --db broken
+        migrate --db broken",
+    ),
     (
         3,
         b"registry: schema 1 is not supported\n",
@@ -98,7 +106,8 @@ const TOLD: [(u8, &[u8], &str); 12] = [
     (
         3,
         b"registry: schema -7 is not supported\n",
-        "stdio --db newer",
+        "stdio --db newer
+        migrate --db newer",
     ),
     (
         4,
@@ -109,7 +118,7 @@ const TOLD: [(u8, &[u8], &str); 12] = [
 
 /// Numbers out of their range and options that are missing, which are told before a name that is none;
 /// and an unknown word.
-const UNREADABLE: [&str; 11] = [
+const UNREADABLE: [&str; 12] = [
     "grant --db f --token t1 --name A --level 4",
     "grant --db f --token t1 --name A --level 0",
     "repo --db f --name A --quota 9223372036854775808",
@@ -117,6 +126,7 @@ const UNREADABLE: [&str; 11] = [
     "repo --db f --name A",
     "repo --name A --quota 1",
     "usage",
+    "migrate",
     "serve --db f",
     "serve --db f --listen nowhere --connections 9223372036854775808",
     "",

@@ -81,7 +81,7 @@ repo_commands = over_quota (codes "repo") ∷ over_quota (codes "quota") ∷ ove
 
 abbrev pub other_commands : List Shape
 other_commands = grant ∷ over_token (codes "revoke") ∷ over_database (codes "clear")
-    ∷ over_database (codes "usage") ∷ []
+    ∷ over_database (codes "usage") ∷ over_database (codes "migrate") ∷ []
 
 abbrev pub with_subcommands : List Shape → App → App
 with_subcommands subs a = record { top = record a.top { is_leaf = false }; subs = a.subs ++ subs }

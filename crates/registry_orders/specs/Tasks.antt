@@ -3,7 +3,7 @@ use Rattle.std.specs.Prelude.{◌≡◌, List, [], Option, Some, None, codes}
 use Rattle.clap.specs.Words.{Row, first_of, one_of, subcommand_of}
 use Rattle.oci_names.specs.Text.{Text}
 use Rattle.registry_orders.specs.declared.line.Task.{Task}
-use Rattle.registry_orders.specs.declared.line.Task.TheVariants.{Memory, Stored, Server, Order}
+use Rattle.registry_orders.specs.declared.line.Task.TheVariants.{Memory, Stored, Server, Order, Migration}
 use Rattle.registry_orders.specs.CommandLine.{registry}
 use Rattle.registry_orders.specs.Options.{texts_of, IsNumberOf, SpellsSetup}
 use Rattle.registry_orders.specs.Orders.{HasValue, IsOrderIn}
@@ -25,6 +25,7 @@ IsTaskIn word options (Server path address connections) =
     × IsNumberOf (one_of (codes "connections") options) connections
 IsTaskIn word options (Order path order) =
     HasValue options (codes "db") path.now × IsOrderIn word options order
+IsTaskIn word options (Migration path) = (word ≡ codes "migrate") × HasValue options (codes "db") path.now
 
 -- the same of a subcommand that was found, with its options
 abbrev pub IsTaskOf : Option (Text × List Row) → Task → Type 0

@@ -39,6 +39,10 @@ pub enum Task<'a> {
         path: &'a str,
         order: Order,
     },
+    /// Take over the registry of schema 1 at a path.
+    Migration {
+        path: &'a str,
+    },
 }
 
 /// What the command line was answered.
@@ -230,10 +234,10 @@ fn with_other_commands<'a>(alloc: Global, command: Command<'a>) -> Result<Comman
     let command = with(command, over_token(alloc, "revoke", revoking))?;
     let clearing = "Free what no repository holds any more";
     let command = with(command, over_database(alloc, "clear", clearing))?;
-    with(
-        command,
-        over_database(alloc, "usage", "List what the repositories hold"),
-    )
+    let listing = "List what the repositories hold";
+    let command = with(command, over_database(alloc, "usage", listing))?;
+    let migrating = "Take over a database of schema 1, once";
+    with(command, over_database(alloc, "migrate", migrating))
 }
 
 /// The command line.
@@ -291,6 +295,14 @@ fn order_task<'a>(alloc: Global, word: &str, matches: &ArgMatches<'a>) -> Result
     Ok(Task::Order { path, order })
 }
 
+fn migration_task<'a>(matches: &ArgMatches<'a>) -> Result<Task<'a>, Failure>
+    ensures read { IfOk result (IsTaskIn (codes "migrate") (rows_of (found_of matches.now))) }
+    ensures refused { IfErr result IsOfWords }
+{
+    let path = text_given(matches, "db").ok_or(Failure::InvalidOptions)?;
+    Ok(Task::Migration { path })
+}
+
 /// The task of a subcommand, by its word and its options.
 fn task_of<'a>(alloc: Global, word: &str, matches: &ArgMatches<'a>) -> Result<Task<'a>, Failure>
     ensures read { IfOk result (IsTaskIn word.now (rows_of (found_of matches.now))) }
@@ -299,6 +311,7 @@ fn task_of<'a>(alloc: Global, word: &str, matches: &ArgMatches<'a>) -> Result<Ta
     match word {
         "stdio" => stdio_task(alloc, matches),
         "serve" => serve_task(matches),
+        "migrate" => migration_task(matches),
         _ => order_task(alloc, word, matches),
     }
 }

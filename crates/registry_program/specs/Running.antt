@@ -9,7 +9,7 @@ use Rattle.registry_orders.specs.declared.line.Task.TheVariants as task
 use Rattle.registry_orders.specs.declared.orders.Order.{Order}
 use Rattle.registry_orders.specs.Failures.{status_of, status_if, IsOfWords, IsOfOpening}
 use Rattle.registry_orders.specs.Tasks.{IsTask}
-use Rattle.registry_program.specs.Program.{Streams, GivesUp, ServesMemory, ServesStored, Tells}
+use Rattle.registry_program.specs.Program.{Streams, IsUntouched, GivesUp, ServesMemory, ServesStored, Tells}
 use Rattle.registry_orders.specs.Carrying.{Output, output, IsSilent, IsCarriedOut}
 use Rattle.registry_program.specs.Sockets.{ServesAddress}
 
@@ -38,8 +38,12 @@ abbrev pub RunsServer : Opened → ℕ → Output → Type 0
 RunsServer over status o =
     (result : Result (Unit {0}) Failure) × (status ≡ status_if result) × ServesAddress over result o
 
+-- the registry of schema 1 is taken over; or it is not opened
+abbrev pub EndsMigration : ℕ → Type 0
+EndsMigration status = (status ≡ 0) ⊎ ((f : Failure) × IsOfOpening f × (status ≡ status_of f))
+
 -- what a task comes to: a registry over memory that is set up so is served; or the one at the path is, by one
--- connection or over sockets, or is given the order
+-- connection or over sockets, or is given the order, or is taken over
 abbrev pub RunsTask : (Text → Opened) → Task → ℕ → Streams → Type 0
 RunsTask at (task.Memory setup) status e = ServesMemory setup status e
 RunsTask at (task.Stored path) status e = RunsStored (at path.now) status e
@@ -47,6 +51,7 @@ RunsTask at (task.Server path address connections) status e =
     (e.left' ≡ e.left) × RunsServer (at path.now) status (output_of e)
 RunsTask at (task.Order path order) status e =
     (e.left' ≡ e.left) × RunsOrder (at path.now) order status (output_of e)
+RunsTask at (task.Migration path) status e = IsUntouched e × EndsMigration status
 
 -- words are not read, and nothing is done; or something is told of them
 abbrev pub IsNotRead : ℕ → Streams → Type 0

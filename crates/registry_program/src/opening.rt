@@ -16,4 +16,9 @@ pub trait Opener<K: Keeper> {
         ensures opened { IfOk result (λ kept. K.is_honest kept → opens self.now path.now (K.state kept)) }
         ensures fresh { IfOk result (λ kept. (K.state kept).spent ≡ false) }
         ensures refused { IfErr result IsOfOpening };
+
+    /// Takes over the registry of schema 1 at a path, so that it can be opened; where it is of schema 2
+    /// already, nothing is done. An error is as above.
+    fn migrate(&self, path: &str) -> Result<(), Failure>
+        ensures refused { IfErr result IsOfOpening };
 }

@@ -1,7 +1,7 @@
 ghost use Rattle.std.specs.Prelude.{◌≡◌, ◌≢◌, ◌<◌, ◌≤◌, None, map};
 ghost use Rattle.registry_program.specs.Stored.{OverAt};
 ghost use Rattle.registry_program.specs.Program.{streams, IsUntouched, Tells};
-ghost use Rattle.registry_program.specs.Running.{RunsOrder, RunsStored, RunsServer, RunsWords};
+ghost use Rattle.registry_program.specs.Running.{RunsOrder, RunsStored, RunsServer, EndsMigration, RunsWords};
 ghost use Rattle.registry_orders.specs.Carrying.{output, IsSilent};
 
 use crate::opening::Opener;
@@ -123,6 +123,19 @@ fn run_server<
     }
 }
 
+/// Takes over the registry of schema 1 at a path.
+#[tactic(auto, using(crate::proofs::ExitStatuses::opening_read))]
+fn run_migration<K: Keeper, O: Opener<K>, E: Write>(opener: &O, path: &str, err: &mut E) -> u8
+    ensures runs { EndsMigration result }
+    ensures status { result ≤ 4 }
+    ensures read { result ≢ 2 }
+{
+    match opener.migrate(path) {
+        Ok(()) => 0,
+        Err(failure) => say(err, failure),
+    }
+}
+
 /// Does what the words behind the program's name say, with these ends for standard input, output
 /// and error, and an opener of databases, and gives the exit status: 0 done, 1 a refused command, 2
 /// the command line, 3 storage, schema or memory, 4 a socket, reading or writing failed. What is wrong
@@ -158,6 +171,7 @@ pub fn run_words<
             },
         ) => run_server(rt, opener, path, address, connections, out, err),
         Ok(Task::Order { path, order }) => run_order(alloc, opener, path, &order, out, err),
+        Ok(Task::Migration { path }) => run_migration::<K, O, E>(opener, path, err),
         Err(Told::Failed(failure)) => say(err, failure),
         Err(Told::Line(error)) => tell(alloc, &error, out, err),
     }

@@ -1,0 +1,43 @@
+//! How far a migration is, shown on a terminal.
+use std::io::{IsTerminal, Stderr, Write};
+use store_moves::{OldTable, Watch};
+use store_upgrade::MovedRows;
+
+/// One line on standard error, written over itself; nothing where that is no terminal.
+#[derive(Drop)]
+pub struct Progress {
+    err: Stderr,
+    shown: bool,
+}
+
+impl Progress {
+    pub fn new(err: Stderr) -> Progress {
+        let shown = err.is_terminal();
+        Progress { err, shown }
+    }
+
+    /// What was moved, in the line's place.
+    pub fn finish(&mut self, moved: MovedRows) {
+        if self.shown {
+            let _ = writeln!(
+                self.err,
+                "\rregistry: moved {} blobs, {} manifests, {} sessions\u{1b}[K",
+                moved.blobs, moved.manifests, moved.sessions
+            );
+        }
+    }
+}
+
+impl Watch for Progress {
+    fn moved(&mut self, table: OldTable, done: usize, of: usize) {
+        if !self.shown {
+            return;
+        }
+        let rows = match table {
+            OldTable::Blobs => "blobs",
+            OldTable::Manifests => "manifests",
+            OldTable::Sessions => "sessions",
+        };
+        let _ = write!(self.err, "\rregistry: {done} of {of} {rows}\u{1b}[K");
+    }
+}
