@@ -56,14 +56,14 @@ build:
 	mkdir -p build
 	cp crates/registry_cli/out/registry_cli build/registry
 
-# Each library after those that it stands on, so that independent ones are proved side by side. The longest row of
-# them, each waiting for the one before it, gets more processors, and the others give way to it.
-ROW := oci_names oci_manifest registry_model store_schema store_contents store_world store_statements store_writes \
-  registry_store
+# Each library after those that it stands on, so that independent ones are proved side by side. There are two long
+# rows of them, each waiting for the one before it; they get more processors, and the others give way to them.
+ROWS := oci_names oci_manifest registry_model registry_operations registry_service registry_http registry_program \
+  store_schema store_contents store_world store_statements store_writes registry_store
 define prove
 .PHONY: prove-$(1)
 prove-$(1): $(addprefix prove-,$(below_$(1)))
-	JOBS=$(if $(filter $(1),$(ROW)),4,2) $(if $(filter $(1),$(ROW)),,nice) check/prove.sh $(1) $(all_below_$(1))
+	JOBS=$(if $(filter $(1),$(ROWS)),4,2) $(if $(filter $(1),$(ROWS)),,nice) check/prove.sh $(1) $(all_below_$(1))
 endef
 $(foreach crate,$(CRATES),$(eval $(call prove,$(crate))))
 
