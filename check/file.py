@@ -6,7 +6,8 @@ sqlite3 reads the file: it is sound, its tables, keys and indexes are those of d
 bytes that it keeps are the bytes that were pushed. Then a server whose files may not grow past a limit
 is pushed a blob that is larger: the write that the system refuses is answered 500, and on the next
 connection the database is opened again, with everything that was there and nothing of that blob. Over
-standard input, and where an order is refused so, the program ends with status 3.
+standard input, and where an order is refused so, the program ends with status 3. Then a file of schema 1
+that sqlite3 made is taken over.
 Needs curl and sqlite3 (3.37 or newer, for STRICT); installs nothing.
 """
 import hashlib
@@ -238,6 +239,73 @@ def refuse_in_one_connection(db):
     say(rows == [["0", QUOTA, "0", "0", "0", "0", REPO]], "nothing came of either")
 
 
+OLD = """
+CREATE TABLE registry_schema (version INTEGER NOT NULL) STRICT;
+CREATE TABLE registry_repos (name TEXT NOT NULL PRIMARY KEY, quota INTEGER NOT NULL, last_session INTEGER NOT NULL) STRICT;
+CREATE TABLE registry_grants (token TEXT NOT NULL, repo TEXT NOT NULL REFERENCES registry_repos (name) ON DELETE CASCADE,
+  level INTEGER NOT NULL, PRIMARY KEY (token, repo)) STRICT;
+CREATE TABLE registry_tags (repo TEXT NOT NULL REFERENCES registry_repos (name) ON DELETE CASCADE, tag TEXT NOT NULL,
+  digest TEXT NOT NULL, PRIMARY KEY (repo, tag)) STRICT;
+CREATE TABLE registry_blobs (repo TEXT NOT NULL REFERENCES registry_repos (name) ON DELETE CASCADE, digest TEXT NOT NULL,
+  size INTEGER NOT NULL, bytes BLOB NOT NULL, PRIMARY KEY (repo, digest)) STRICT;
+CREATE TABLE registry_manifests (repo TEXT NOT NULL REFERENCES registry_repos (name) ON DELETE CASCADE, digest TEXT NOT NULL,
+  size INTEGER NOT NULL, kind INTEGER NOT NULL, subject TEXT, bytes BLOB NOT NULL, PRIMARY KEY (repo, digest)) STRICT;
+CREATE TABLE registry_sessions (repo TEXT NOT NULL REFERENCES registry_repos (name) ON DELETE CASCADE,
+  number INTEGER NOT NULL, size INTEGER NOT NULL, bytes BLOB NOT NULL, PRIMARY KEY (repo, number)) STRICT;
+CREATE INDEX registry_manifests_subject ON registry_manifests (repo, subject);
+INSERT INTO registry_schema VALUES (1);
+INSERT INTO registry_repos VALUES ('team/app', 1000, 2), ('other', 1000, 0);
+INSERT INTO registry_grants VALUES ('t1', 'team/app', 3);
+INSERT INTO registry_blobs VALUES ('team/app', '{abc}', 3, X'616263'), ('other', '{abc}', 3, X'616263');
+INSERT INTO registry_sessions VALUES ('team/app', 1, 3, X'68656c'), ('team/app', 2, 0, X'');
+""".format(abc=digest(b"abc"))
+
+
+def used(db):
+    ran = subprocess.run([REGISTRY, "usage", "--db", db], capture_output=True)
+    return {row[-1]: row[0] for row in (line.split() for line in ran.stdout.decode().splitlines()[1:])}
+
+
+def take_over_an_old_file(db):
+    """A file of schema 1 that sqlite3 made: two repositories with the blob `abc`, two upload sessions."""
+    subprocess.run(["sqlite3", db], input=OLD.encode(), check=True)
+    ran = subprocess.run([REGISTRY, "usage", "--db", db], capture_output=True)
+    say((ran.returncode, ran.stderr) == (3, b"registry: schema 1 is not supported\n"), "a file of schema 1 is refused")
+    for time_ in ("once", "a second time"):
+        ran = subprocess.run([REGISTRY, "migrate", "--db", db], capture_output=True)
+        say((ran.returncode, ran.stdout, ran.stderr) == (0, b"", b""), f"it is taken over {time_}, and nothing is printed")
+        counts = {
+            it: query(db, f"SELECT count(*) AS n FROM registry_{it}")[0]["n"]
+            for it in ("contents", "blob_links", "uploads", "pieces", "blobs", "manifests", "sessions")
+        }
+        wanted = {"contents": 2, "blob_links": 2, "uploads": 2, "pieces": 1, "blobs": 0, "manifests": 0, "sessions": 0}
+        say(counts == wanted, f"two contents, two links, two uploads, one piece, and no old row: {counts}")
+        say(query(db, "SELECT version FROM registry_schema") == [{"version": 2}], "the version is 2")
+        say(used(db) == {"team/app": "6", "other": "3"}, "team/app uses 6 bytes and other 3")
+    server = Server(db)
+    try:
+        at = f"/v2/{REPO}/blobs/uploads/"
+        status, _ = server.curl("PATCH", f"{at}1", b"lo", ["Content-Type: application/octet-stream"])
+        say(status == "202", f"upload session 1 goes on: {status}")
+        status, _ = server.curl("PUT", f"{at}1?digest={digest(b'hello')}", b"")
+        say(status == "201", f"and is the blob hello: {status}")
+        status, _ = server.curl("POST", at, b"")
+        say(status == "202", f"a session is opened: {status}")
+    finally:
+        server.end()
+    numbers = [row["number"] for row in query(db, "SELECT number FROM registry_uploads ORDER BY number")]
+    say(numbers == [2, 3], f"it is the third: {numbers}")
+    is_sound(db)
+
+
+def refuse_to_take_over(db):
+    """A database without registry_schema."""
+    subprocess.run(["sqlite3", db, "CREATE TABLE notes (text)"], check=True)
+    ran = subprocess.run([REGISTRY, "migrate", "--db", db], capture_output=True)
+    say((ran.returncode, ran.stderr) == (3, b"registry: not a registry\n"), "another program's database is not taken over")
+    say([row["name"] for row in query(db, "SELECT name FROM sqlite_schema")] == ["notes"], "and stays as it was")
+
+
 def main():
     lacking = [it for it in ("curl", "sqlite3") if shutil.which(it) is None]
     if lacking or not os.path.exists(REGISTRY):
@@ -247,6 +315,8 @@ def main():
         look_at_a_new_file(os.path.join(room, "new.db"))
         refuse_a_write(os.path.join(room, "full.db"))
         refuse_in_one_connection(os.path.join(room, "one.db"))
+        take_over_an_old_file(os.path.join(room, "old.db"))
+        refuse_to_take_over(os.path.join(room, "notes.db"))
     print(f"{say.wrong} wrong" if say.wrong else "the file is as it should be")
     return 1 if say.wrong else 0
 

@@ -9,7 +9,7 @@ use store_moves::Watch;
 use store_opening::{OpenFault, fault_in_opening};
 
 /// `migrate_open` over the database file at the path, its log beside it, which is opened and closed again. A
-/// file that is no database is `Storage`.
+/// file that is no database is `Storage`; so is one that was taken over and could not be closed.
 pub fn migrate<W: Watch>(
     rt: &HostRuntime,
     path: &str,
