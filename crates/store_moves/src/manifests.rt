@@ -167,8 +167,8 @@ fn move_listed<S: Alter, W: Watch>(
     Ok(done)
 }
 
-/// Moves the row of each manifest, with the bytes of one of them in memory at a time, and answers how many there
-/// were.
+/// Moves the row of each manifest, with the bytes of one of them in memory at a time, and answers how many
+/// there were.
 pub fn move_manifests<S: Alter, W: Watch>(
     alloc: Global,
     tx: &mut Transaction<'_, S>,
