@@ -175,7 +175,8 @@ fn move_listed<S: Alter, W: Watch>(
     keys: &[SessionKey],
     watch: &mut W,
 ) -> Result<usize, Fault>
-    ensures moved { MovesOn S.Store tx.old.conn.now tx.new.conn.now result (without_listed_sessions keys.now) }
+    ensures moved { MovesOn S.Store tx.old.conn.now tx.new.conn.now result
+        (without_listed_sessions keys.now) }
     ensures counted { IfOk result (λ n. n ≡ length keys.now) }
     ensures kept { KeepsUnderway S.Store tx.old.conn.now tx.new.conn.now }
     ensures same_reference { tx.new.conn.ghost_name ≡ tx.old.conn.ghost_name }

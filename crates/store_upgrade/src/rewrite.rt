@@ -82,7 +82,8 @@ pub(crate) fn rewrite<S: Alter, W: Watch>(
         → HoldsOldRegistry (state S.Store tx.old.conn.now).now
         → OnOk result
         (IsReady (state S.Store tx.new.conn.now)
-        × StandsFor (held (state S.Store tx.new.conn.now)) (old_world_in (state S.Store tx.old.conn.now).now)) }
+        × StandsFor (held (state S.Store tx.new.conn.now))
+        (old_world_in (state S.Store tx.old.conn.now).now)) }
     ensures counted { HasCleanDisk (state S.Store tx.new.conn.now)
         → HoldsOldRegistry (state S.Store tx.old.conn.now).now
         → IfOk result (λ m. m ≡ counts (olds_in (state S.Store tx.old.conn.now).now)) }
