@@ -94,7 +94,7 @@ check-rows:
 # Hostile memory, a hostile disk and kills, over the executables that `make test` leaves: python3 and rustc.
 KILLS = 100
 check-hostile:
-	python3 check/hostile.py --kills $(KILLS)
+	cd check && python3 -m hostile --kills $(KILLS)
 
 # Real clients through nginx, with the configuration of deploy/nginx (python3, nginx, openssl).
 check-clients:

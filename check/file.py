@@ -19,7 +19,8 @@ import socket
 import subprocess
 import sys
 import tempfile
-import time
+
+from old_file import TABLES as TABLES_OF_SCHEMA_1
 
 REGISTRY = os.path.abspath("build/registry")
 REPO = "team/app"
@@ -239,21 +240,7 @@ def refuse_in_one_connection(db):
     say(rows == [["0", QUOTA, "0", "0", "0", "0", REPO]], "nothing came of either")
 
 
-OLD = """
-CREATE TABLE registry_schema (version INTEGER NOT NULL) STRICT;
-CREATE TABLE registry_repos (name TEXT NOT NULL PRIMARY KEY, quota INTEGER NOT NULL, last_session INTEGER NOT NULL) STRICT;
-CREATE TABLE registry_grants (token TEXT NOT NULL, repo TEXT NOT NULL REFERENCES registry_repos (name) ON DELETE CASCADE,
-  level INTEGER NOT NULL, PRIMARY KEY (token, repo)) STRICT;
-CREATE TABLE registry_tags (repo TEXT NOT NULL REFERENCES registry_repos (name) ON DELETE CASCADE, tag TEXT NOT NULL,
-  digest TEXT NOT NULL, PRIMARY KEY (repo, tag)) STRICT;
-CREATE TABLE registry_blobs (repo TEXT NOT NULL REFERENCES registry_repos (name) ON DELETE CASCADE, digest TEXT NOT NULL,
-  size INTEGER NOT NULL, bytes BLOB NOT NULL, PRIMARY KEY (repo, digest)) STRICT;
-CREATE TABLE registry_manifests (repo TEXT NOT NULL REFERENCES registry_repos (name) ON DELETE CASCADE, digest TEXT NOT NULL,
-  size INTEGER NOT NULL, kind INTEGER NOT NULL, subject TEXT, bytes BLOB NOT NULL, PRIMARY KEY (repo, digest)) STRICT;
-CREATE TABLE registry_sessions (repo TEXT NOT NULL REFERENCES registry_repos (name) ON DELETE CASCADE,
-  number INTEGER NOT NULL, size INTEGER NOT NULL, bytes BLOB NOT NULL, PRIMARY KEY (repo, number)) STRICT;
-CREATE INDEX registry_manifests_subject ON registry_manifests (repo, subject);
-INSERT INTO registry_schema VALUES (1);
+OLD = TABLES_OF_SCHEMA_1 + """\
 INSERT INTO registry_repos VALUES ('team/app', 1000, 2), ('other', 1000, 0);
 INSERT INTO registry_grants VALUES ('t1', 'team/app', 3);
 INSERT INTO registry_blobs VALUES ('team/app', '{abc}', 3, X'616263'), ('other', '{abc}', 3, X'616263');

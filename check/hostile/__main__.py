@@ -1,0 +1,83 @@
+"""Memory that is refused, a disk that stops, a server that is killed, and a client that opens all it can.
+
+    python3 -m hostile memory|disk|kill|open [--kills N]    in check/: one of the four, or all where none is named
+
+The executables are the proved ones that `make build` and `make test` leave. refusing.rs, a library that is
+loaded before a program, lets one growth of memory fail, or the disk stop at one write; `rustc` compiles it.
+Nothing is installed. The status is 1 where something is wrong, and 3 where this cannot be run.
+
+*memory*: rows of the worked examples are played over both keepers with the Nth growth refused, for every N
+up to a run that meets no refusal: each answer is the row's, or says that memory was wanting and is then
+the row's when it is asked for again. Then each order of the administrator's over a file, and a file of schema 1
+that is taken over: it is done, or says `registry: out of memory`, changes nothing, and is done when it is given
+again. A server over a socket answers 503 and goes on.
+*disk*: each kind of write, over a file whose disk stops at the Nth write or sync, for every N up to a run
+without a stop. What is found afterwards is the world before the write or the one after it, and the one
+after it where the write was answered so. Then a service answers 500 and the program ends with status 3.
+A server one of whose writes fails answers 500, opens the file again and serves the next connection. Then the
+same writes with a system that stops at any place in them: of what was not synced nothing is left, or all, or a
+part, as it is drawn. A file of schema 1 that is taken over is such a write.
+*kill*: a server is killed at random moments of pushes, chunks, manifests, tags and deletions; all that was
+acknowledged is there, byte for byte, and sqlite3 finds the file sound.
+*open*: a client opens 1,000 upload sessions over a file; the next is refused, in this repository alone, until
+one ends; and where the numbers of sessions are used up none opens. A file that was taken over from schema 1 is
+asked the same as one that never was, by two teams together and by each alone.
+"""
+import concurrent.futures
+import os
+import subprocess
+import sys
+import tempfile
+
+from executables import EXAMPLES, REGISTRY
+from hostile.crashes import crash_in_writes
+from hostile.disk import fail_once_on_sockets, stop_in_writes
+from hostile.kills import kill_servers
+from hostile.memory import refuse_in_orders, refuse_in_rows, refuse_on_sockets
+from hostile.migration import look_beside_a_new_file, refuse_in_migration, stop_in_migration
+from hostile.refusing import Refusing
+from hostile.said import wrong
+from hostile.sessions import open_sessions
+
+# the status where a machine lacks what this needs
+CANNOT_RUN = 3
+
+
+def main():
+    parts = ["memory", "disk", "kill", "open"]
+    words = [it for it in sys.argv[1:] if it in parts] or parts
+    kills = int(sys.argv[sys.argv.index("--kills") + 1]) if "--kills" in sys.argv else 20
+    needed = [REGISTRY] + [EXAMPLES] * ("memory" in words)
+    lacking = [it for it in needed if not os.path.exists(it)]
+    if lacking:
+        print(f"check-hostile needs {', '.join(lacking)}", file=sys.stderr)
+        return 2
+    # in memory, where there is such a place: nothing here is about what a power failure leaves
+    with tempfile.TemporaryDirectory(dir="/dev/shm" if os.access("/dev/shm", os.W_OK) else None) as room:
+        try:
+            refusing = Refusing(room)
+        except (OSError, subprocess.CalledProcessError) as error:
+            print(f"check-hostile needs rustc, and a system that loads a library before a program: {error}", file=sys.stderr)
+            return CANNOT_RUN
+        if "memory" in words:
+            with concurrent.futures.ProcessPoolExecutor(os.cpu_count()) as pool:
+                refuse_in_rows(refusing, room, pool)
+                refuse_in_orders(refusing, room, pool)
+                refuse_in_migration(refusing, room, pool)
+            refuse_on_sockets(refusing, room)
+        if "disk" in words:
+            stop_in_writes(refusing, room)
+            fail_once_on_sockets(refusing, room)
+            crash_in_writes(refusing, room)
+            stop_in_migration(refusing, room)
+        if "kill" in words:
+            kill_servers(room, kills)
+        if "open" in words:
+            open_sessions(room)
+            look_beside_a_new_file(room)
+    print(f"{len(wrong)} wrong" if wrong else "nothing was lost, and nothing answered wrongly")
+    return 1 if wrong else 0
+
+
+if __name__ == "__main__":
+    sys.exit(main())

@@ -1,0 +1,75 @@
+"""A server over a file on loopback, and a client that asks one thing at a time."""
+import os
+import re
+import socket
+import subprocess
+
+from executables import REGISTRY
+from hostile.said import SECONDS
+from hostile.writes import ABC, push
+
+
+class Server:
+    def __init__(self, db, *words, **how):
+        with socket.socket() as it:
+            it.bind(("127.0.0.1", 0))
+            self.port = it.getsockname()[1]
+        words = [REGISTRY, "serve", "--db", db, "--listen", f"127.0.0.1:{self.port}", *words]
+        self.process = subprocess.Popen(words, stdout=subprocess.PIPE, **how)
+        if self.process.stdout.readline() != b"registry: listening\n":
+            raise OSError("the server does not listen")
+
+    def connect(self):
+        return socket.create_connection(("127.0.0.1", self.port), timeout=SECONDS)
+
+    def kill(self):
+        self.process.kill()
+        self.process.wait()
+        self.process.stdout.close()
+
+
+def answer(connection, text):
+    """The status, the fields and the body of the reply; None where the connection ends before it is whole."""
+    try:
+        connection.sendall(text)
+        had = b""
+        while b"\r\n\r\n" not in had:
+            more = connection.recv(65536)
+            if not more:
+                return None
+            had += more
+        head, body = had.split(b"\r\n\r\n", 1)
+        fields = {name.lower(): value for name, _, value in (line.partition(": ") for line in head.decode().split("\r\n")[1:])}
+        while len(body) < int(fields.get("content-length", 0)):
+            more = connection.recv(65536)
+            if not more:
+                return None
+            body += more
+        return int(head.split(b" ")[1]), fields, body
+    except OSError:
+        return None
+
+
+def pushes_on_sockets(refusing, db, growth=0, write=0):
+    """The statuses of two pushes on connections of their own, with this growth refused or this write failing, and
+    the numbers of growths and of writes."""
+    told, tell = os.pipe()
+    numbers = {"REFUSE_GROWTH": str(growth), "FAIL_WRITE": str(write), "TELL_COUNTS": str(tell)}
+    env = {"LD_PRELOAD": refusing.library, **numbers}
+    try:
+        quiet = {"stderr": subprocess.DEVNULL}
+        server, statuses = Server(db, "--connections", "2", env=env, pass_fds=[tell], **quiet), []
+    except OSError:
+        os.close(told)
+        raise
+    finally:
+        os.close(tell)
+    for _ in range(2):
+        with server.connect() as connection:
+            reply = answer(connection, push(ABC))
+            statuses.append(reply and reply[0])
+    server.process.wait(SECONDS)
+    server.kill()
+    with os.fdopen(told, "rb") as it:
+        counts = re.match(rb"growths=(\d+) writes=(\d+)", it.read())
+    return statuses, int(counts[1]), int(counts[2])
