@@ -103,7 +103,7 @@ const NUMBERS_USED_UP: &str = r#"202 t1 POST /v2/team/app/blobs/uploads/
 "#;
 
 /// No number of requests leads there: the keeper is told that all numbers but one were given. Over a file
-/// `check/hostile.py` does the same.
+/// `make check-hostile` does the same.
 #[test]
 fn session_numbers_are_used_up(rt: HostRuntime) -> Result<(), Fail> {
     let name = RepoName::parse(rt.alloc(), "team/app")?;

@@ -71,8 +71,7 @@ fn take_over<S: Alter, W: Watch>(
 /// A registry of schema 1 becomes one of schema 2, which stands for the same world, in one transaction; and
 /// `watch` is told how far it is. Answers how many rows were moved; `None` where it is of schema 2 already,
 /// and nothing is done. `Schema`: it is of another. `NotARegistry`: it says none, or a name that schema 2 has
-/// is taken. After a fault the tables are as before. The bytes of one row are read at a time; the pages that
-/// the transaction has changed are in memory until it is committed.
+/// is taken. After a fault the tables are as before. The bytes of one row at a time are in memory.
 pub fn migrate_open<S: Alter, W: Watch>(
     alloc: Global,
     conn: &mut Connection<S>,
