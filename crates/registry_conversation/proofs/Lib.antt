@@ -1,0 +1,5 @@
+pub mod PartLemmas
+pub mod HoldingLemmas
+pub mod SteppingLemmas
+pub mod EndLemmas
+pub mod LawLemmas
