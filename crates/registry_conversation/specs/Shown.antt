@@ -1,5 +1,5 @@
 -- A conversation as its contracts see it.
-use Rattle.std.specs.Prelude.{Bool, true, false, not, [], ◌++◌, ◌==◌, length}
+use Rattle.std.specs.Prelude.{ℕ, ◌+◌, Bool, true, false, not, [], ◌++◌, ◌==◌, length}
 use Rattle.oci_names.specs.Text.{Text}
 use Rattle.registry_conversation.specs.declared.phase.Phase.{Phase}
 use Rattle.registry_conversation.specs.declared.phase.Phase.TheVariants.{Head, Body, Ended}
@@ -49,3 +49,7 @@ wants_as true (Ended e) = Nothing
 -- room for what is to go out, then bytes, as long as there may be a further request
 abbrev pub wants_of : Shown → Wants
 wants_of c = wants_as (length c.going == 0) c.phase
+
+-- the bytes that came and are not answered, and those that are to go out
+abbrev pub held_len : Shown → ℕ
+held_len c = length c.taken + length c.unread + length c.going

@@ -1,4 +1,4 @@
-ghost use Rattle.std.specs.Prelude.{◌≡◌, ◌<◌, ◌≤◌, [], true, false, length, drop, IfOk, vec_len};
+ghost use Rattle.std.specs.Prelude.{◌≡◌, ◌<◌, ◌≤◌, [], true, false, length, drop, min, IfOk, vec_len};
 ghost use Rattle.std.specs.Bool.{MatchBool};
 ghost use Rattle.oci_names.specs.Text.{Text};
 
@@ -19,9 +19,13 @@ use std::alloc::{AllocError, Global};
 
 /// What has come of one connection and is not answered yet, and what is to go out on it (RFC 9112).
 ///
-/// It reads nothing and writes nothing itself. However its input is cut, each byte of a body is looked at
-/// once, and moved once at most; a head, the line of a chunk and a trailer are looked at again from their
-/// first byte when more has come, and are 16,384, 1,024 and 16,384 bytes at most.
+/// It reads nothing and writes nothing itself. However its input is cut, what was taken of a body is not
+/// looked at again; a head, the line of a chunk and a trailer are looked for again from their first byte
+/// when more has come, and are 16,384, 1,024 and 16,384 bytes at most. A reply is copied into what is to go
+/// out, once.
+///
+/// Where memory for what is to go out is wanting, it ends with `WriteFailed`: of the text in hand exactly the
+/// first `written` bytes are to go out, and a request whose reply it was took effect.
 #[derive(Drop)]
 pub struct Conversation {
     buffer: Buffer,
@@ -38,7 +42,7 @@ pub struct Conversation {
 }
 
 impl Conversation {
-    ghost use Rattle.registry_conversation.specs.Shown.{begun, with_finished, with_phase, with_going, listens, wants_of};
+    ghost use Rattle.registry_conversation.specs.Shown.{begun, with_finished, with_phase, with_going, listens, wants_of, held_len};
     ghost use Rattle.registry_http.specs.Reading.{Parses};
     ghost use Rattle.registry_conversation.specs.Showing.{shown};
     ghost use Rattle.registry_conversation.specs.Headings.{BeginsAt};
@@ -177,6 +181,33 @@ impl Conversation {
             Phase::Head => Wants::Bytes,
             Phase::Body(_) => Wants::Bytes,
             Phase::Ended(_) => Wants::Nothing,
+        }
+    }
+
+    /// How many bytes it holds: those that came and are not answered, and those that are to go out. More
+    /// than 18,446,744,073,709,551,615 count as so many.
+    pub fn held(&self) -> usize
+        ensures { result ≡ min (held_len (shown self.now)) usize.MAX }
+    {
+        let taken = self.buffer.before().len();
+        let unread = self.buffer.behind().len();
+        let going = self.out.len() - self.gone;
+        taken.saturating_add(unread).saturating_add(going)
+    }
+
+    /// Gives back room for bytes that come, where none are held, and for bytes that go out, where none are
+    /// to go; it is made anew as it is wanted.
+    pub fn give_back(&mut self, alloc: Global)
+        ensures { shown self.new ≡ shown self.old }
+    {
+        if self.gone == self.out.len() {
+            self.gone = 0;
+            self.out = Vec::new(alloc);
+        }
+        let untaken = self.buffer.before().is_empty();
+        let unheard = self.buffer.behind().is_empty();
+        if untaken && unheard {
+            self.buffer = Buffer::new(alloc);
         }
     }
 

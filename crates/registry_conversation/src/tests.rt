@@ -49,7 +49,7 @@ struct Talk {
     output: Vec<u8>,
 }
 
-fn talk(alloc: Global) -> Result<Talk, Fail> {
+fn new_talk(alloc: Global) -> Result<Talk, Fail> {
     Ok(Talk {
         conversation: Conversation::new(alloc)?,
         registry: setting(alloc)?,
@@ -119,10 +119,11 @@ fn is_cut_anywhere(
 ) -> Result<(), Fail> {
     for at in 0..input.len() + 1 {
         let (front, rest) = input.split_at(at);
-        let mut talk = talk(alloc)?;
+        let mut talk = new_talk(alloc)?;
         talk.conversation.receive(front);
         let _ = turns(alloc, &mut talk)?;
         assert!(rt; output.starts_with(talk.output.as_slice()));
+        talk.conversation.give_back(alloc);
         talk.conversation.receive(rest);
         talk.conversation.finish();
         let end = turns(alloc, &mut talk)?;
@@ -161,7 +162,7 @@ fn bytes_one_by_one(rt: HostRuntime) -> Result<(), Fail> {
     )?;
     let mut output = CONTINUE.to_string(alloc)?;
     output.push_str(replies(alloc)?.as_str())?;
-    let mut talk = talk(alloc)?;
+    let mut talk = new_talk(alloc)?;
     for byte in input.as_bytes() {
         talk.conversation.receive(&[*byte]);
         let _ = turns(alloc, &mut talk)?;
@@ -176,7 +177,7 @@ fn bytes_one_by_one(rt: HostRuntime) -> Result<(), Fail> {
 fn one_request_a_turn(rt: HostRuntime) -> Result<(), Fail> {
     let alloc = rt.alloc();
     let input = requests(alloc, "Content-Length: 5\r\n\r\nhello")?;
-    let mut talk = talk(alloc)?;
+    let mut talk = new_talk(alloc)?;
     talk.conversation.receive(input.as_bytes());
     let mut before = 0;
     for place in 0..3 {
@@ -194,7 +195,7 @@ fn one_request_a_turn(rt: HostRuntime) -> Result<(), Fail> {
 #[test]
 fn continue_before_the_body(rt: HostRuntime) -> Result<(), Fail> {
     let alloc = rt.alloc();
-    let mut talk = talk(alloc)?;
+    let mut talk = new_talk(alloc)?;
     let head = format!(in alloc;
         "POST /v2/team/app/blobs/uploads/?digest={HELLO} HTTP/1.1\r\n{FIELDS}\
           Expect: 100-continue\r\nContent-Length: 5\r\n\r\n"
@@ -219,7 +220,7 @@ fn continue_before_the_body(rt: HostRuntime) -> Result<(), Fail> {
 #[test]
 fn refusal_ends_it(rt: HostRuntime) -> Result<(), Fail> {
     let alloc = rt.alloc();
-    let mut talk = talk(alloc)?;
+    let mut talk = new_talk(alloc)?;
     talk.conversation.receive(
         b"POST / HTTP/1.1\r\nHost: r\r\nTransfer-Encoding: chunked\r\n\r\n3\r\nabcX",
     );
@@ -243,10 +244,13 @@ fn refusal_ends_it(rt: HostRuntime) -> Result<(), Fail> {
 #[test]
 fn input_ends_in_a_head(rt: HostRuntime) -> Result<(), Fail> {
     let alloc = rt.alloc();
-    let mut talk = talk(alloc)?;
+    let mut talk = new_talk(alloc)?;
     same(&rt, 0, talk.conversation.wants(), Wants::Bytes);
     talk.conversation.receive(b"GET /v2/ HT");
     same(&rt, 0, turn(alloc, &mut talk)?, Step::Waits);
+    same(&rt, 0, talk.conversation.held(), 11);
+    talk.conversation.give_back(alloc);
+    same(&rt, 0, talk.conversation.held(), 11);
     talk.conversation.finish();
     talk.conversation.receive(b"TP/1.1\r\nHost: r\r\n\r\n");
     same(&rt, 1, turn(alloc, &mut talk)?, Step::Ended(End::Cut));
