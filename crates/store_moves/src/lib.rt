@@ -6,8 +6,6 @@
 mod blobs;
 mod manifests;
 mod sessions;
-#[cfg(test)]
-mod tests;
 mod watch;
 
 pub use blobs::{move_blob, move_blobs};

@@ -2,7 +2,7 @@
 //! while it is taken over: what is found on opening them again is that registry, or the same of schema 2.
 
 use crate::migrate_open;
-use crate::worked::{OLD_ROWS, OLD_TABLES};
+use crate::worked::fill;
 use sqlite::{Connection, FileStore, Files, Options};
 use sqlite_disk::{Crash, Disk, Fuse, Memory};
 use std::alloc::Global;
@@ -85,8 +85,7 @@ fn old_files(alloc: Global) -> Result<Files<Memory>, Fail> {
     let Ok(mut conn) = Connection::open_files(alloc, Files { log, db }, Options::new(1)) else {
         return Err("the files are opened".into());
     };
-    conn.execute_batch(OLD_TABLES)?;
-    conn.execute_batch(OLD_ROWS)?;
+    fill(&mut conn)?;
     Ok(conn.into_store().close())
 }
 

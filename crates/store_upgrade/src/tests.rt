@@ -1,4 +1,4 @@
-use crate::worked::{OLD_ROWS, OLD_TABLES};
+use crate::worked::fill;
 use crate::{MovedRows, migrate_open};
 use sqlite::{Connection, MemStore};
 use std::alloc::Global;
@@ -9,8 +9,7 @@ use store_opening::OpenFault;
 /// A database of schema 1 in memory.
 fn old_registry(alloc: Global) -> Result<Connection<MemStore>, Fail> {
     let mut conn = Connection::open_in_memory(alloc)?;
-    conn.execute_batch(OLD_TABLES)?;
-    conn.execute_batch(OLD_ROWS)?;
+    fill(&mut conn)?;
     Ok(conn)
 }
 
@@ -34,15 +33,35 @@ impl Watch for Last {
     }
 }
 
-/// What each table has once it is schema 2.
-const COUNTS: [(&str, i64); 10] = [
+/// What the tables have once it is schema 2.
+const COUNTS: [(&str, i64); 17] = [
     ("SELECT COUNT(*) FROM registry_blobs", 0),
     ("SELECT COUNT(*) FROM registry_manifests", 0),
     ("SELECT COUNT(*) FROM registry_sessions", 0),
-    ("SELECT COUNT(*) FROM registry_contents", 3),
+    ("SELECT COUNT(*) FROM registry_contents", 4),
+    (
+        "SELECT COUNT(*) FROM registry_contents WHERE size = 3 AND bytes = X'616263'",
+        1,
+    ),
+    (
+        "SELECT COUNT(*) FROM registry_contents WHERE size = 3 AND bytes = X'68656c'",
+        1,
+    ),
+    ("SELECT COUNT(*) FROM registry_blob_links", 2),
     ("SELECT SUM(size) FROM registry_blob_links", 6),
-    ("SELECT SUM(size) FROM registry_manifest_links", 2),
+    ("SELECT COUNT(*) FROM registry_manifest_links", 2),
+    (
+        "SELECT SUM(size) FROM registry_manifest_links WHERE kind = 1 AND subject = \
+        'sha256:ba7816bf8f01cfea414140de5dae2223b00361a396177a9cb410ff61f20015ad'",
+        438,
+    ),
+    (
+        "SELECT COUNT(*) FROM registry_manifest_links WHERE size = 2 AND subject IS NULL",
+        1,
+    ),
     ("SELECT COUNT(*) FROM registry_uploads", 2),
+    ("SELECT size FROM registry_uploads WHERE number = 1", 3),
+    ("SELECT size FROM registry_uploads WHERE number = 2", 0),
     ("SELECT COUNT(*) FROM registry_pieces", 1),
     ("SELECT MAX(last_session) FROM registry_repos", 2),
     ("SELECT version FROM registry_schema", 2),
@@ -57,7 +76,7 @@ fn a_registry_is_taken_over_once(rt: HostRuntime) -> Result<(), Fail> {
     };
     let moved = MovedRows {
         blobs: 2,
-        manifests: 1,
+        manifests: 2,
         sessions: 2,
     };
     assert_eq!(rt;
@@ -65,7 +84,7 @@ fn a_registry_is_taken_over_once(rt: HostRuntime) -> Result<(), Fail> {
         Ok(Some(moved))
     );
     // Each row, and the end of each table.
-    assert_eq!(rt; told.times, 8);
+    assert_eq!(rt; told.times, 9);
     assert_eq!(rt; told.last, (OldTable::Sessions, 2, 2));
     for (sql, count) in COUNTS {
         assert_eq!(rt; number(&mut conn, sql)?, count);
