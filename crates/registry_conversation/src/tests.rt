@@ -26,18 +26,31 @@ fn same<T: PartialEq + Debug + Drop>(rt: &impl Abort, place: usize, found: T, wa
     assert_eq!(rt; found, wanted, "at {place}");
 }
 
-/// A registry of the repository `team/app`, on which `t1` has level 3.
-fn setting(alloc: Global) -> Result<Service<MapKeeper>, Fail> {
-    let mut registry = Service::new(MapKeeper::new(alloc));
+/// Makes the repository `team/app`.
+fn add(alloc: Global, registry: &mut Service<MapKeeper>) -> Result<(), Fail> {
     let name = RepoName::parse(alloc, "team/app")?;
-    let token = Token::parse(alloc, "t1")?;
     let quota = Quota::new(1000).ok_or("a quota")?;
     registry.admin(&AdminCommand::AddRepo { name: &name, quota })?;
+    Ok(())
+}
+
+/// Gives `t1` level 3 on it.
+fn grant(alloc: Global, registry: &mut Service<MapKeeper>) -> Result<(), Fail> {
+    let token = Token::parse(alloc, "t1")?;
+    let name = RepoName::parse(alloc, "team/app")?;
     registry.admin(&AdminCommand::Grant {
         token: &token,
         name: &name,
         level: Level::Delete,
     })?;
+    Ok(())
+}
+
+/// A registry of the repository `team/app`, on which `t1` has level 3.
+fn setting(alloc: Global) -> Result<Service<MapKeeper>, Fail> {
+    let mut registry = Service::new(MapKeeper::new(alloc));
+    add(alloc, &mut registry)?;
+    grant(alloc, &mut registry)?;
     Ok(registry)
 }
 
