@@ -2,7 +2,7 @@
 use Rattle.std.proofs.Common.{◌≡◌, ℕ, ◌⊎◌, inl, inr, List, Option}
 use Rattle.oci_names.specs.Text.{Text}
 use Rattle.registry_http.specs.Ending.{SendsRefusal}
-use Rattle.registry_http.specs.Serving.{Traffic, Answers, StopsForMemory, StopsAtWrite, InHand, replying, refusing, continuing, Serves, Gave}
+use Rattle.registry_http.specs.Serving.{Traffic, Answers, StopsForMemory, InHand, replying, refusing, continuing, Serves, Gave}
 use Rattle.registry_http.specs.Spelling.{Item}
 use Rattle.registry_http.specs.declared.ending.FramingRefusal.{FramingRefusal}
 use Rattle.registry_http.specs.declared.ending.FramingRefusal.TheVariants.{NoBufferMemory}

@@ -1,6 +1,6 @@
 -- Heads that were taken, and bytes that are held.
-use Rattle.std.proofs.Common.{◌≡◌, ℕ, ◌<◌, ◌≤◌, ◌⊎◌, inl, inr, List, [], ◌++◌, length, take, drop, map, refl, sym, ap, ◌∙◌, subst, append_assoc, append-nil, arith}
-use Rattle.std.proofs.lemmas.List.{take_at, drop_at}
+use Rattle.std.proofs.Common.{◌≡◌, ℕ, ◌⊎◌, inl, inr, List, [], ◌++◌, take, drop, map, refl, sym, ap, ◌∙◌, subst, append_assoc, append-nil, arith}
+use Rattle.std.proofs.lemmas.List.{take_at}
 use Rattle.httparse.specs.Grammar.{RequestHead, print_request, HasNoRequest}
 use Rattle.httparse.specs.Spans.{header_bytes}
 use Rattle.registry_http.specs.Fields.{closes_by}
@@ -10,10 +10,9 @@ use Rattle.httparse.proofs.GrammarLemmas.{request_unique}
 use Rattle.oci_names.specs.Text.{Text}
 use Rattle.registry_http.specs.Framing.{framing}
 use Rattle.registry_http.specs.Expecting.{text_before, IsBefore}
-use Rattle.registry_http.specs.Reading.{HeadIsRead, IsHeadAt, Parses}
-use Rattle.registry_http.specs.Spelling.{Item, IsRequest, print_item, closes, BeginsWithHead, HoldsNoHead, BodyIsCut, BodyIsRefused, IsCut, IsRefused}
+use Rattle.registry_http.specs.Reading.{HeadIsRead, IsHeadAt}
+use Rattle.registry_http.specs.Spelling.{Item, IsRequest, closes, HoldsNoHead, BodyIsCut, BodyIsRefused, IsCut, IsRefused}
 use Rattle.registry_http.specs.declared.ending.FramingRefusal.{FramingRefusal}
-use Rattle.registry_http.specs.declared.head.Parsed.TheVariants.{NotYet, Never}
 use Rattle.registry_http.proofs.RequestLemmas.{head_readable}
 use Rattle.registry_conversation.specs.declared.phase.Phase.{Phase}
 use Rattle.registry_conversation.specs.declared.phase.Phase.TheVariants.{Head, Body, Ended}
@@ -23,8 +22,6 @@ use Rattle.std.proofs.lemmas.List.Elements.{All-nil}
 use Rattle.registry_conversation.specs.declared.part.Part.TheVariants.{Length, Line}
 use Rattle.registry_conversation.specs.declared.heading.Heading.{Heading}
 use Rattle.registry_conversation.specs.Headings.{HeadIsThere, BeginsAt, IsTaken}
-use Rattle.registry_conversation.specs.Parts.{BodyIsWhole}
-use Rattle.registry_conversation.specs.Shown.{Shown}
 use Rattle.registry_conversation.specs.Holding.{HoldsAs, HoldsWhole}
 use Rattle.registry_conversation.proofs.PartLemmas.{on_tail, part_on}
 

@@ -1,9 +1,9 @@
 -- Any list of a conversation's calls.
-use Rattle.std.proofs.Common.{◌≡◌, ℕ, ◌<◌, ◌⊎◌, inl, inr, Bool, true, false, List, [], ◌∷◌, ◌++◌, length, take, drop, Option, Some, None, refl, sym, ap, ◌∙◌, subst, append_assoc, append-nil}
+use Rattle.std.proofs.Common.{◌≡◌, ℕ, inl, inr, Bool, true, false, List, [], ◌∷◌, ◌++◌, take, Some, refl, sym, ap, ◌∙◌, subst, append_assoc, append-nil}
 use Rattle.std.specs.Bool.{MatchBool}
 use Rattle.oci_names.specs.Text.{Text}
 use Rattle.registry_model.specs.Keeping.{State}
-use Rattle.registry_http.specs.Expecting.{text_before, IsBefore}
+use Rattle.registry_http.specs.Expecting.{IsBefore}
 use Rattle.registry_http.specs.ReplyText.{refusal_text}
 use Rattle.registry_http.specs.Serving.{reply_for, joined, Traffic, Serves}
 use Rattle.registry_http.specs.Spelling.{closes}
@@ -18,7 +18,7 @@ use Rattle.registry_conversation.specs.declared.phase.Step.{Step}
 use Rattle.registry_conversation.specs.declared.phase.Step.TheVariants as step
 use Rattle.registry_conversation.specs.Shown.{Shown, begun, listens, listens_as, with_more, with_finished, with_going}
 use Rattle.registry_conversation.specs.Holding.{HoldsAs, Holds}
-use Rattle.registry_conversation.specs.Stepping.{AnswersFirst, WaitsForMore, PutsPart, replying, refusing, continuing, EndsAs, ActsAs, Acts, Receives, LacksMemory}
+use Rattle.registry_conversation.specs.Stepping.{AnswersFirst, WaitsForMore, PutsPart, replying, refusing, continuing, EndsAs, ActsAs, Receives}
 use Rattle.registry_conversation.specs.Events.{Event, came, ended, acted, sent, Happens, Passes, heard_if, heard, went, traffic, ServedTo, SoFar, AccountsAs, Accounts}
 use Rattle.registry_conversation.proofs.EndLemmas.{off_end, off_refused, off_write, told}
 use Rattle.registry_conversation.proofs.HoldingLemmas.{said_there}

@@ -1,5 +1,5 @@
 -- What a turn comes to, from its parts.
-use Rattle.std.proofs.Common.{◌≡◌, ℕ, ◌<◌, ◌≤◌, ◌⊎◌, ◌==◌, inl, inr, Bool, true, false, List, [], ◌∷◌, ◌++◌, length, take, drop, Some, refl, sym, ap, ◌∙◌, subst, append-nil, append_assoc, arith}
+use Rattle.std.proofs.Common.{◌≡◌, ℕ, ◌<◌, ◌≤◌, ◌⊎◌, ◌==◌, inl, inr, Bool, true, false, [], ◌∷◌, ◌++◌, length, take, drop, Some, refl, sym, ap, ◌∙◌, subst, append-nil, append_assoc, arith}
 use Rattle.std.proofs.lemmas.Bool.Decides.{nat_tests}
 use Rattle.std.proofs.lemmas.List.{drop-append-le}
 use Rattle.std.specs.Bool.{MatchBool}
@@ -30,7 +30,7 @@ use Rattle.registry_conversation.specs.Headings.{BeginsAt}
 use Rattle.registry_conversation.specs.declared.heading.Heading.{Heading}
 use Rattle.registry_conversation.specs.declared.part.Part.{Part}
 use Rattle.registry_conversation.specs.Holding.{HoldsAs, Holds, HoldsWhole}
-use Rattle.registry_conversation.specs.Stepping.{IsRefusedThere, AnswersFirst, PutsPart, replying, refusing, EndsAs, ActsAs, Acts, Refuses, Receives, Waited, WaitsForMore}
+use Rattle.registry_conversation.specs.Stepping.{IsRefusedThere, AnswersFirst, PutsPart, replying, refusing, EndsAs, ActsAs, Acts, Refuses, Receives, Waited}
 use Rattle.registry_conversation.proofs.HoldingLemmas.{holds_on, before_there, refused_there, item_request, item_begins}
 
 -- ---- what is to go out grows

@@ -6,7 +6,6 @@ use Rattle.registry_http.specs.Chunks.{limit, BeginsWithLine, HasBadEnd, HasGood
 use Rattle.registry_http.specs.Spelling.{IsBody, BodyIsCut, BodyIsRefused}
 use Rattle.registry_http.specs.declared.framing.Framing.{Framing}
 use Rattle.registry_http.specs.declared.framing.Framing.TheVariants as framed
-use Rattle.registry_http.specs.declared.ending.FramingRefusal.{FramingRefusal}
 use Rattle.registry_conversation.specs.declared.part.Part.{Part}
 use Rattle.registry_conversation.specs.declared.part.Part.TheVariants.{Length, Line, Data, Trailer}
 use Rattle.registry_conversation.specs.declared.part.FoundEnd.{FoundEnd}

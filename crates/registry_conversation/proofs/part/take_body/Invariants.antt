@@ -1,4 +1,3 @@
-use Rattle.std.proofs.Common.{ℕ, ◌≡◌}
 use Rattle.oci_names.specs.Text.{Text}
 use Rattle.registry_http.specs.Buffering.{before, behind}
 use Rattle.registry_http.specs.declared.framing.Framing.{Framing}

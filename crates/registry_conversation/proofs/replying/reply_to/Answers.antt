@@ -1,6 +1,5 @@
-use Rattle.std.proofs.Common.{Bool, ◌≡◌, ◌<◌, ◌++◌, length, take, drop, ap, subst, ◌∙◌}
+use Rattle.std.proofs.Common.{Bool, ◌≡◌, ◌<◌, ◌++◌, length, take, ap, subst, ◌∙◌}
 use Rattle.oci_names.specs.Text.{Text}
-use Rattle.httparse.specs.Spans.{span_bytes}
 use Rattle.registry_model.specs.Answer.{answer_of}
 use Rattle.registry_model.specs.Doing.{Does}
 use Rattle.registry_model.specs.Heads.{is_head}

@@ -1,4 +1,4 @@
-use Rattle.std.proofs.Common.{sym, ap, ◌∙◌}
+use Rattle.std.proofs.Common.{sym, ◌∙◌}
 use Rattle.registry_conversation.specs.Showing.{shown}
 use Rattle.registry_conversation.proofs.SteppingLemmas.{held_at_head, empty_from, some_from, nothing_came, head_cut, head_never}
 use Rattle.registry_conversation.proofs.conversation.Conversation.begin.Goals as goal
