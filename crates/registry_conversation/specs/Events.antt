@@ -23,8 +23,8 @@ pub data Event : Type 0 where
   acted : Step → Event
   sent : Text → Event
 
--- what the call says of the conversation and of the service, whose keeper is honest: the clauses of `receive`,
--- `finish`, `answer_next` and `sent`
+-- what the call says of the conversation and of the service, whose keeper is honest: the clauses of
+-- `receive`, `finish`, `answer_next` and `sent`
 abbrev pub Happens : Event → Shown → State → Shown → State → Type 0
 Happens (came bytes) c s c' s' =
     (listens c ≡ false → c' ≡ c) × (listens c ≡ true → Receives bytes c c') × (s' ≡ s)

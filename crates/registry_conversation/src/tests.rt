@@ -158,7 +158,8 @@ fn chunks_cut_at_every_byte(rt: HostRuntime) -> Result<(), Fail> {
     let alloc = rt.alloc();
     let input = requests(
         alloc,
-        "Expect: 100-continue\r\nTransfer-Encoding: chunked\r\n\r\n2;a=b\r\nhe\r\n03\r\nllo\r\n0\r\nX: y\r\n\r\n",
+        "Expect: 100-continue\r\nTransfer-Encoding: chunked\r\n\r\n\
+          2;a=b\r\nhe\r\n03\r\nllo\r\n0\r\nX: y\r\n\r\n",
     )?;
     let mut output = CONTINUE.to_string(alloc)?;
     output.push_str(replies(alloc)?.as_str())?;
