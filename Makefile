@@ -50,7 +50,7 @@ demo:
 
 # Proves the program and everything below it, and leaves the executable as build/registry.
 build:
-	@echo 'Proves some 900 functions: an hour of a processor, on all there are, and up to 12 GB of memory.' >&2
+	@echo 'Proves some 1,100 functions: an hour of a processor, on all there are, and up to 12 GB of memory.' >&2
 	$(MAKE) --no-print-directory --jobs=$(PROCESSORS) $(addprefix prove-,$(all_below_registry_cli))
 	cd crates/registry_cli && rt run --jobs $(PROCESSORS) -- --version
 	mkdir -p build
@@ -58,8 +58,9 @@ build:
 
 # Each library after those that it stands on, so that independent ones are proved side by side. There are two long
 # rows of them, each waiting for the one before it; they get more processors, and the others give way to them.
-ROWS := oci_names oci_manifest registry_model registry_operations registry_service registry_http registry_program \
-  store_schema store_contents store_world store_statements store_writes registry_store
+ROWS := oci_names oci_manifest registry_model registry_operations registry_service registry_http \
+  registry_conversation registry_server registry_program registry_orders \
+  store_schema store_contents store_world store_statements store_old_rows store_moves store_upgrade store_writes registry_store
 define prove
 .PHONY: prove-$(1)
 prove-$(1): $(addprefix prove-,$(below_$(1)))

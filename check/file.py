@@ -7,12 +7,14 @@ bytes that it keeps are the bytes that were pushed. Then a server whose files ma
 is pushed a blob that is larger: the write that the system refuses is answered 500, and on the next
 connection the database is opened again, with everything that was there and nothing of that blob. Over
 standard input, and where an order is refused so, the program ends with status 3. Then a file of schema 1
-that sqlite3 made is taken over.
+that sqlite3 made is taken over. What is wrong with a path or an address is told, a new database is its
+owner's alone, a server says on which port it listens, and tokens are read from a file and from standard input.
 Needs curl and sqlite3 (3.37 or newer, for STRICT); installs nothing.
 """
 import hashlib
 import json
 import os
+import pty
 import resource
 import shutil
 import socket
@@ -289,8 +291,100 @@ def refuse_to_take_over(db):
     """A database without registry_schema."""
     subprocess.run(["sqlite3", db, "CREATE TABLE notes (text)"], check=True)
     ran = subprocess.run([REGISTRY, "migrate", "--db", db], capture_output=True)
-    say((ran.returncode, ran.stderr) == (3, b"registry: not a registry\n"), "another program's database is not taken over")
+    told = f"registry: not a registry\nregistry: {db}: a database, but no registry's\n".encode()
+    say((ran.returncode, ran.stderr) == (3, told), "another program's database is not taken over")
     say([row["name"] for row in query(db, "SELECT name FROM sqlite_schema")] == ["notes"], "and stays as it was")
+
+
+def is_told(words, status, lines, what, **how):
+    """The program ends so, with these lines on standard error and nothing on standard output."""
+    ran = subprocess.run([REGISTRY, *words], capture_output=True, **how)
+    found = (ran.returncode, ran.stdout, ran.stderr)
+    say(found == (status, b"", lines.encode()), what if found[2] == lines.encode() else f"{what}: {found}")
+
+
+def failed(at, why):
+    return f"registry: storage failure\nregistry: {at}: {why}\n"
+
+
+def tell_what_is_wrong(room):
+    """Behind a failure stands its cause and the path or the address."""
+    db = f"{room}/held.db"
+    server = Server(db)
+    try:
+        is_told(["usage", "--db", db], 3, failed(db, "in use by another process"), "a database that a server has")
+        why = f"registry: connection failure\nregistry: {server.at}: port in use\n"
+        is_told(["serve", "--db", f"{room}/other.db", "--listen", server.at], 4, why, "a port that a server has")
+    finally:
+        server.end()
+    is_told(["usage", "--db", f"{room}/no/file.db"], 3, failed(f"{room}/no/file.db", "no such folder"), "no folder")
+    is_told(["usage", "--db", room], 3, failed(room, "is a folder"), "a folder")
+    with open(f"{room}/text", "w", encoding="utf-8") as it:
+        it.write("This is no database.\n" * 300)
+    why = failed(f"{room}/text", "no database, but a file of another kind")
+    is_told(["usage", "--db", f"{room}/text"], 3, why, "a text")
+    why = "registry: connection failure\nregistry: nowhere: not an address\n"
+    is_told(["serve", "--db", f"{room}/other.db", "--listen", "nowhere"], 4, why, "no address")
+
+
+def tell_who_may_not(room):
+    """The same of rights, where this is root, which has them all, and can be nobody."""
+    if os.geteuid():
+        print("      (rights are looked at where root runs this)")
+        return
+    os.chmod(room, 0o711)
+    nobody, db = {"user": 65534, "group": 65534, "extra_groups": []}, f"{room}/held.db"
+    why = failed(f"{room}/mine.db", "no right to write")
+    is_told(["usage", "--db", f"{room}/mine.db"], 3, why, "a folder of another user", **nobody)
+    is_told(["usage", "--db", db], 3, failed(db, "no right to read"), "a database of another user", **nobody)
+    os.chmod(db, 0o644)
+    is_told(["usage", "--db", db], 3, failed(db, "no right to write"), "one that may be read alone", **nobody)
+
+
+def keep_to_itself(room):
+    """The files of a new database are their owner's alone, whatever the umask; a terminal is told of it."""
+    db = f"{room}/private.db"
+    ours, theirs = pty.openpty()
+    ran = subprocess.run([REGISTRY, "repo", "--db", db, "--name", REPO, "--quota", "1"], stderr=theirs, umask=0)
+    os.close(theirs)
+    with open(ours, "rb", buffering=0) as it:
+        told = it.read(1000).decode().replace("\r\n", "\n")
+    say(told == f"registry: {db} was not there: a new database is made\n", f"a new database is told: {told}")
+    modes = {it: os.stat(it).st_mode & 0o777 for it in (db, f"{db}-wal")}
+    say(ran.returncode == 0 and set(modes.values()) == {0o600}, f"and is private: {modes}")
+
+
+def take_tokens(room):
+    """Tokens from a file and from standard input, of which the first line alone is taken."""
+    db = f"{room}/private.db"
+    with open(f"{room}/token", "w", encoding="utf-8") as it:
+        it.write("t2\nt3\n")
+    grant = ["grant", "--db", db, "--name", REPO, "--level", "1"]
+    is_told([*grant, "--token-file", f"{room}/token"], 0, "", "a token in a file")
+    is_told([*grant, "--token", "-"], 0, "", "one on standard input", input=b"t4\nt5\n")
+    is_told([*grant, "--token=-"], 0, "", "and one without a line's end", input=b"t6")
+    tokens = [row["token"] for row in query(db, "SELECT token FROM registry_grants ORDER BY token")]
+    say(tokens == ["t2", "t4", "t6"], f"are granted their level: {tokens}")
+    why = f"registry: invalid options\nregistry: {room}/none: no such file\n"
+    is_told([*grant, "--token-file", f"{room}/none"], 2, why, "a file that is not there")
+    why = "registry: invalid token\nregistry: standard input: the first line is no token\n"
+    is_told([*grant, "--token", "-"], 2, why, "a line that is no token", input=b"a token\n")
+
+
+def serve_where_told(room):
+    """A server tells on standard error which port it took."""
+    words = [REGISTRY, "serve", "--db", f"{room}/private.db", "--listen", "127.0.0.1:0"]
+    process = subprocess.Popen(words, stdout=subprocess.PIPE, stderr=subprocess.PIPE)
+    try:
+        line = process.stderr.readline().decode()
+        before = f"registry: serving {room}/private.db (1 repository) on 127.0.0.1:"
+        say(line.startswith(before), f"a server says what it serves: {line}")
+        with socket.create_connection(("127.0.0.1", int(line[len(before) :]))) as it:
+            it.sendall(b"GET /v2/ HTTP/1.1\r\nHost: r\r\nConnection: close\r\n\r\n")
+            say(it.recv(12) == b"HTTP/1.1 401", "and the port answers")
+    finally:
+        process.kill()
+        process.wait()
 
 
 def main():
@@ -304,6 +398,11 @@ def main():
         refuse_in_one_connection(os.path.join(room, "one.db"))
         take_over_an_old_file(os.path.join(room, "old.db"))
         refuse_to_take_over(os.path.join(room, "notes.db"))
+        tell_what_is_wrong(room)
+        tell_who_may_not(room)
+        keep_to_itself(room)
+        serve_where_told(room)
+        take_tokens(room)
     print(f"{say.wrong} wrong" if say.wrong else "the file is as it should be")
     return 1 if say.wrong else 0
 

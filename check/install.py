@@ -116,7 +116,7 @@ def look_at_the_completion(room, told):
 
     say(offered("registry", "") == {*told, "--help", "--version"} - {""}, "the completion offers each command", str(offered("registry", "")))
     for name in filter(None, told):
-        wanted = set(re.findall(r"^ +(?:-[a-zA-Z], )?(--[a-z]+)", told[name], re.MULTILINE))
+        wanted = set(re.findall(r"^ +(?:-[a-zA-Z], )?(--[a-z-]+)", told[name], re.MULTILINE))
         say(offered("registry", name, "--") == wanted, f"and the options of {name}", str(offered("registry", name, "--")))
     say(offered("registry", "gr") == {"grant"}, "a word that is begun is ended")
 

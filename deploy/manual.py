@@ -96,19 +96,19 @@ def man(told):
 
 
 def long_options(options):
-    return [it for words, _ in options for it in re.findall(r"--[a-z]+", words)]
+    return [it for words, _ in options for it in re.findall(r"--[a-z-]+", words)]
 
 
 def completion(told):
-    valued = {it for command in told.commands for words, _ in command.options if "<" in words for it in re.findall(r"--[a-z]+", words)}
+    valued = {it for command in told.commands for words, _ in command.options if "<" in words for it in re.findall(r"--[a-z-]+", words)}
     names = " ".join(command.name for command in told.commands)
     yield "# Completion of `registry` for bash, made from its --help."
     yield "_registry()\n{"
     yield '  local word=${COMP_WORDS[COMP_CWORD]} before=${COMP_WORDS[COMP_CWORD - 1]} options=""\n  COMPREPLY=()'
     yield "  case $before in"
-    yield '    --db) compopt -o filenames; mapfile -t COMPREPLY < <(compgen -f -- "$word"); return ;;'
+    yield '    --db | --token-file) compopt -o filenames; mapfile -t COMPREPLY < <(compgen -f -- "$word"); return ;;'
     yield "    --level) options='1 2 3' ;;"
-    yield f"    {' | '.join(sorted(valued - {'--db', '--level'}))}) return ;;"
+    yield f"    {' | '.join(sorted(valued - {'--db', '--token-file', '--level'}))}) return ;;"
     yield "  esac"
     yield f"  if ((COMP_CWORD == 1)); then options='{names} {' '.join(long_options(told.options))}'; fi"
     yield '  if [ -z "$options" ]; then\n    case ${COMP_WORDS[1]} in'

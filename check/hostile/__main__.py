@@ -1,6 +1,6 @@
-"""Memory that is refused, a disk that stops, a server that is killed, and a client that opens all it can.
+"""Memory that is refused, a disk that stops, a server that is killed, a client that opens all it can, and many at once.
 
-    python3 -m hostile memory|disk|kill|open [--kills N]    in check/: one of the four, or all where none is named
+    python3 -m hostile memory|disk|kill|open|many [--kills N]    in check/: one of the five, or all where none is named
 
 The executables are the proved ones that `make build` and `make test` leave. refusing.rs, a library that is
 loaded before a program, lets one growth of memory fail, or the disk stop at one write; `rustc` compiles it.
@@ -22,6 +22,9 @@ acknowledged is there, byte for byte, and sqlite3 finds the file sound.
 *open*: a client opens 1,000 upload sessions over a file; the next is refused, in this repository alone, until
 one ends; and where the numbers of sessions are used up none opens. A file that was taken over from schema 1 is
 asked the same as one that never was, by two teams together and by each alone.
+*many*: clients that are idle, that stop in the middle of a head or a body, or that read nothing hold up nobody;
+requests of many connections, interleaved as drawn, are answered as alone; who is silent is closed in the end; and
+many large pushes at once take no more memory than they may.
 """
 import concurrent.futures
 import os
@@ -31,6 +34,7 @@ import tempfile
 
 from executables import EXAMPLES, REGISTRY
 from hostile.crashes import crash_in_writes
+from hostile.crowd import serve_many
 from hostile.disk import fail_once_on_sockets, stop_in_writes
 from hostile.kills import kill_servers
 from hostile.memory import refuse_in_orders, refuse_in_rows, refuse_on_sockets
@@ -44,7 +48,7 @@ CANNOT_RUN = 3
 
 
 def main():
-    parts = ["memory", "disk", "kill", "open"]
+    parts = ["memory", "disk", "kill", "open", "many"]
     words = [it for it in sys.argv[1:] if it in parts] or parts
     kills = int(sys.argv[sys.argv.index("--kills") + 1]) if "--kills" in sys.argv else 20
     needed = [REGISTRY] + [EXAMPLES] * ("memory" in words)
@@ -75,6 +79,8 @@ def main():
         if "open" in words:
             open_sessions(room)
             look_beside_a_new_file(room)
+        if "many" in words:
+            serve_many(room)
     print(f"{len(wrong)} wrong" if wrong else "nothing was lost, and nothing answered wrongly")
     return 1 if wrong else 0
 

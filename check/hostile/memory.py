@@ -146,7 +146,8 @@ def refuse_on_sockets(refusing, room):
         except OSError:
             break
         seen[tuple(statuses)] = seen.get(tuple(statuses), 0) + 1
-        if statuses not in ([201, 201], [503, 201], [201, 503]):
+        # a reply that there is no memory for is none, and its connection is closed
+        if statuses not in ([201, 201], [503, 201], [201, 503], [None, 201], [201, None]):
             bad.append(f"growth {n}: {statuses}")
-    told = f"200 growths refused to a server over a socket, answered {', '.join(f'{k}: {v}' for k, v in seen.items())}"
+    told = f"{sum(seen.values())} growths refused to a server over a socket, answered {', '.join(f'{k}: {v}' for k, v in seen.items())}"
     say(not bad and (503, 201) in seen, told, bad)

@@ -1,6 +1,6 @@
 //! What `clear` leaves of the contents of a store.
 
-use crate::keeping::{ABC, INDEX, INDEX_DIGEST, holds, is, is_sized, matches, open, put, same};
+use crate::asking::{ABC, INDEX, INDEX_DIGEST, holds, is, is_sized, matches, open, put, same};
 use oci_names::{Digest, RepoName};
 use registry_model::{Keeper, Quota};
 use registry_store::Store;

@@ -1,41 +1,19 @@
 //! Each call of a keeper, through the trait.
-ghost use Rattle.std.specs.Prelude.{◌<◌, ◌≡◌, true, Ok, Some};
-ghost use Rattle.oci_names.specs.Digest.{matches};
-
-use oci_manifest::{Kind, read_manifest};
-use oci_names::{Digest, Fault, RepoName, Tag, Token, Verdict};
+use crate::asking::{
+    ABC, INDEX, INDEX_DIGEST, REFERRER, counts, holds, is, is_sized, matches, open, put, same,
+};
+use oci_manifest::Kind;
+use oci_names::{Digest, RepoName, Tag, Token};
 use registry_maps::MapKeeper;
 use registry_model::{Keeper, Level, Quota, Usage};
 use registry_store::Store;
 use std::alloc::Global;
-use std::fmt::Debug;
 use std::process::Abort;
 use std::test::Fail;
-
-/// By `printf abc | sha256sum`.
-pub const ABC: &str = "sha256:ba7816bf8f01cfea414140de5dae2223b00361a396177a9cb410ff61f20015ad";
-
-pub const INDEX: &[u8] = b"{\"schemaVersion\":2,\"manifests\":[]}";
-
-/// By `sha256sum` of `INDEX`.
-pub const INDEX_DIGEST: &str =
-    "sha256:bc5857ac9458293d5111ab85c952172cd7f56bceb4e3014ddc4cafac8927b313";
-
-/// An index whose subject is `INDEX`.
-pub const REFERRER: &[u8] = b"{\"schemaVersion\":2,\"manifests\":[],\
-      \"subject\":{\"mediaType\":\"application/vnd.oci.image.index.v1+json\",\"digest\":\
-      \"sha256:bc5857ac9458293d5111ab85c952172cd7f56bceb4e3014ddc4cafac8927b313\",\"size\":34}}";
 
 /// By `sha256sum` of `REFERRER`.
 const REFERRER_DIGEST: &str =
     "sha256:7ec9cbd870d9e878442bd570a6262f63ab2db68eb8558c3704700539d914855b";
-
-pub fn is(found: &Option<Vec<u8>>, bytes: &[u8]) -> bool {
-    match found {
-        Some(found) => found.as_slice() == bytes,
-        None => false,
-    }
-}
 
 fn are_tags(found: &[Tag], texts: &[&str]) -> bool {
     found.len() == texts.len()
@@ -43,32 +21,6 @@ fn are_tags(found: &[Tag], texts: &[&str]) -> bool {
             .iter()
             .zip(texts)
             .all(|(tag, text)| tag.as_str() == *text)
-}
-
-/// Both are the same: what a comparison prints where it fails is proved here, and not at each.
-pub fn same<T: PartialEq + Debug + Drop>(rt: &impl Abort, found: T, wanted: T) {
-    assert_eq!(rt; found, wanted);
-}
-
-/// It is true, of what was asked before a call that wants it to be.
-pub fn holds(rt: &impl Abort, found: Result<bool, Fault>)
-    ensures { found ≡ Ok true }
-{
-    assert_eq!(rt; found, Ok(true));
-}
-
-/// It has this size.
-pub fn is_sized(rt: &impl Abort, found: Result<Option<u64>, Fault>, size: u64)
-    ensures { found ≡ Ok (Some size) }
-{
-    assert_eq!(rt; found, Ok(Some(size)));
-}
-
-/// It is this number.
-pub fn counts(rt: &impl Abort, found: Result<u64, Fault>, number: u64)
-    ensures { found ≡ Ok number }
-{
-    assert_eq!(rt; found, Ok(number));
 }
 
 /// Nothing is found in a repository that is not there.
@@ -155,53 +107,6 @@ fn keeps_sessions<K: Keeper>(
     same(rt, keeper.drop_sessions(name), Ok(()));
     counts(rt, keeper.sessions_open(name), 0);
     counts(rt, keeper.last_number(name), 2);
-    Ok(())
-}
-
-/// Opens a session where so many are open, and the last number is this one.
-pub fn open<K: Keeper>(
-    rt: &impl Abort,
-    keeper: &mut K,
-    name: &RepoName,
-    are_open: u64,
-    last: u64,
-) -> Result<u64, Fault>
-    requires few { are_open < 1000 }
-    requires below { last < 1000 }
-{
-    counts(rt, keeper.sessions_open(name), are_open);
-    counts(rt, keeper.last_number(name), last);
-    holds(rt, keeper.has_repo(name));
-    keeper.open_session(name)
-}
-
-/// The digest is that of the bytes.
-pub fn matches(rt: &impl Abort, digest: &Digest, bytes: &[u8])
-    ensures { matches digest.now bytes.now ≡ true }
-{
-    assert_eq!(rt; digest.verifies(bytes), Verdict::Matches);
-}
-
-/// Puts a manifest and sets a tag to it.
-pub fn put<K: Keeper>(
-    rt: &impl Abort,
-    alloc: Global,
-    keeper: &mut K,
-    name: &RepoName,
-    digest: &Digest,
-    bytes: &[u8],
-    tag: &str,
-) -> Result<(), Fail> {
-    let tag = Tag::parse(alloc, tag)?;
-    let manifest = read_manifest(alloc, bytes)?;
-    assert!(rt; bytes.len() <= 4_194_304);
-    matches(rt, digest, bytes);
-    holds(rt, keeper.has_repo(name));
-    same(
-        rt,
-        keeper.put_manifest(name, digest, bytes, &manifest, Some(&tag)),
-        Ok(()),
-    );
     Ok(())
 }
 

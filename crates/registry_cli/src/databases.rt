@@ -1,8 +1,10 @@
 //! Registries that lie in database files.
 ghost use Rattle.registry_orders.specs.Failures.{IsOfOpening};
 
+use crate::beginning::begin;
+use crate::looking::cause_at;
 use crate::progress::Progress;
-use registry_orders::Failure;
+use registry_orders::{Cause, Failure};
 use registry_program::Opener;
 use registry_store::{OpenFault, Store, Written};
 use sqlite::{FileFrom, FileStore, Unknown};
@@ -56,6 +58,7 @@ impl<F: Supposed> Opener<Store<FileStore<FileFrom<F>>>> for Databases<'_, F> {
     ghost opens = { λ _ _ s. MayOpen (image_at F.Start) s };
 
     fn open(&self, path: &str) -> Result<Store<FileStore<FileFrom<F>>>, Failure> {
+        begin(self.rt, path);
         match Store::open_from(self.rt, path, F::new()) {
             Ok(store) => Ok(store),
             Err(fault) => Err(of_opening(fault)),
@@ -63,6 +66,7 @@ impl<F: Supposed> Opener<Store<FileStore<FileFrom<F>>>> for Databases<'_, F> {
     }
 
     fn migrate(&self, path: &str) -> Result<(), Failure> {
+        begin(self.rt, path);
         let mut progress = Progress::new(self.rt.stderr());
         match migrate(self.rt, path, &mut progress) {
             Ok(moved) => {
@@ -72,6 +76,14 @@ impl<F: Supposed> Opener<Store<FileStore<FileFrom<F>>>> for Databases<'_, F> {
                 Ok(())
             }
             Err(fault) => Err(of_opening(fault)),
+        }
+    }
+
+    fn cause(&self, path: &str, failure: Failure) -> Option<Cause> {
+        match failure {
+            Failure::StorageFailure => cause_at(self.rt, path),
+            Failure::NotARegistry => Some(Cause::NoRegistry),
+            _ => None,
         }
     }
 }

@@ -17,7 +17,7 @@ fn run_on<F: Supposed>(rt: &HostRuntime, words: &[&str], input: &[u8]) -> Outcom
 }
 
 /// Runs an order, which writes nothing to standard output.
-fn order<F: Supposed>(
+pub(crate) fn order<F: Supposed>(
     test: &impl Abort,
     rt: &HostRuntime,
     words: &[&str],
@@ -158,15 +158,15 @@ fn number_in<F: Supposed>(rt: &HostRuntime, path: &str, query: &str) -> Result<i
 struct Foreign {
     path: &'static str,
     batch: &'static str,
-    /// What the program says of it.
-    line: &'static [u8],
+    /// What the program says of it on its first line.
+    line: &'static str,
     /// What the database answers, before and after.
     query: &'static str,
     number: i64,
     objects: i64,
 }
 
-const TAKEN: &[u8] = b"registry: not a registry\n";
+const TAKEN: &str = "registry: not a registry\n";
 
 const FOREIGN: [Foreign; 8] = [
     Foreign {
@@ -191,7 +191,7 @@ const FOREIGN: [Foreign; 8] = [
         path: "newer.db",
         batch: "CREATE TABLE registry_schema (version INTEGER NOT NULL) STRICT; \
             INSERT INTO registry_schema (version) VALUES (7)",
-        line: b"registry: schema 7 is not supported\n",
+        line: "registry: schema 7 is not supported\n",
         query: "SELECT version FROM registry_schema",
         number: 7,
         objects: 1,
@@ -200,7 +200,7 @@ const FOREIGN: [Foreign; 8] = [
         path: "older.db",
         batch: "CREATE TABLE registry_schema (version INTEGER NOT NULL) STRICT; \
             INSERT INTO registry_schema (version) VALUES (1)",
-        line: b"registry: schema 1 is not supported\n",
+        line: "registry: schema 1 is not supported\n",
         query: "SELECT version FROM registry_schema",
         number: 1,
         objects: 1,
@@ -243,6 +243,16 @@ const FOREIGN: [Foreign; 8] = [
     },
 ];
 
+/// What the program says of it.
+fn lines_of(rt: &HostRuntime, foreign: &Foreign) -> Result<String, Fail> {
+    let mut lines = String::from_str(rt.alloc(), foreign.line)?;
+    if foreign.line == TAKEN {
+        let path = foreign.path;
+        writeln!(lines, "registry: {path}: a database, but no registry's")?;
+    }
+    Ok(lines)
+}
+
 fn is_refused<F: Supposed>(
     test: &impl Abort,
     rt: &HostRuntime,
@@ -252,7 +262,8 @@ fn is_refused<F: Supposed>(
     write_by::<F>(rt, path, foreign.batch)?;
     let ran = run_on::<F>(rt, &["usage", "--db", path], b"");
     same_after(test, &[path], ran.status, 3);
-    same_after(test, &[path], ran.err.as_slice(), foreign.line);
+    let told = lines_of(rt, foreign)?;
+    same_after(test, &[path], ran.err.as_slice(), told.as_bytes());
     same(test, ran.out.len(), 0);
     let number = number_in::<F>(rt, path, foreign.query)?;
     same_after(test, &[path], number, foreign.number);
@@ -276,13 +287,14 @@ fn refuses_junk<F: Supposed>(test: &impl Abort, rt: &HostRuntime) -> Result<(), 
         junk.push_str("This is no database.")?;
     }
     fs::write(rt, "junk.db", junk.as_str())?;
-    let ran = run_on::<F>(rt, &["clear", "--db", "junk.db"], b"");
-    same(test, ran.status, 3);
-    same(
+    order::<F>(
         test,
-        ran.err.as_slice(),
-        b"registry: storage failure\n".as_slice(),
-    );
+        rt,
+        &["clear", "--db", "junk.db"],
+        3,
+        b"registry: storage failure\n\
+            registry: junk.db: no database, but a file of another kind\n",
+    )?;
     let left = fs::read_to_string(rt, "junk.db")?;
     same(test, left.as_str(), junk.as_str());
     Ok(())

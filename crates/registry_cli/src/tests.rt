@@ -5,7 +5,7 @@ use registry_http::{End, serve_connection};
 use registry_maps::MapKeeper;
 use registry_model::{Keeper, Level, Quota};
 use registry_orders::options::{name_of, token_of};
-use registry_orders::{Change, Failure, Order, carry_out};
+use registry_orders::{Cause, Change, Failure, Order, carry_out};
 use registry_program::{Entrance, Opener, run_words, serve, serve_one};
 use registry_service::Service;
 use std::alloc::{AllocError, Global};
@@ -106,6 +106,14 @@ impl Opener<MapKeeper> for Shelf {
             "newer" => Err(Failure::Schema(-7)),
             "broken" => Err(Failure::StorageFailure),
             _ => Ok(()),
+        }
+    }
+
+    fn cause(&self, path: &str, failure: Failure) -> Option<Cause> {
+        match failure {
+            Failure::StorageFailure if path == "broken" => Some(Cause::InUse),
+            Failure::NotARegistry => Some(Cause::NoRegistry),
+            _ => None,
         }
     }
 }

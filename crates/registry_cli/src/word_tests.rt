@@ -1,9 +1,11 @@
 //! What the words of a command line come to, over registries in memory.
 use crate::tests::{OVER_MEMORY, PUSH, REPLIES, USAGE, run, same, same_after};
+use registry_orders::read_token;
+use std::net::TcpListener;
 use std::test::Fail;
 
 /// Words that are served or answered: the words, what is read and what is written.
-const SERVED: [(&str, &[u8], &[u8]); 6] = [
+const SERVED: [(&str, &[u8], &[u8]); 5] = [
     (OVER_MEMORY, PUSH, REPLIES),
     (OVER_MEMORY, b"", b""),
     (
@@ -13,16 +15,11 @@ const SERVED: [(&str, &[u8], &[u8]); 6] = [
     ),
     ("stdio --db f", PUSH, REPLIES),
     ("usage --db f", b"", USAGE),
-    (
-        "serve --db f --listen 127.0.0.1:0 --connections 0",
-        b"",
-        b"registry: listening\n",
-    ),
 ];
 
-/// An exit status, the line on standard error, and command lines that come to them, with nothing on
+/// An exit status, the lines on standard error, and command lines that come to them, with nothing on
 /// standard output. Names are told before tokens, and both before a database is opened.
-const TOLD: [(u8, &[u8], &str); 12] = [
+const TOLD: [(u8, &[u8], &str); 14] = [
     (
         0,
         b"",
@@ -58,7 +55,9 @@ const TOLD: [(u8, &[u8], &str); 12] = [
     ),
     (
         2,
-        b"registry: invalid options\n",
+        b"registry: invalid options\n\
+            registry: stdio: wants --db PATH, or --memory with --repo NAME=QUOTA \
+            and --grant TOKEN=NAME=LEVEL\n",
         "stdio
         stdio --memory --repo team/app
         stdio --memory --repo a=
@@ -70,6 +69,20 @@ const TOLD: [(u8, &[u8], &str); 12] = [
         stdio --db f --memory
         stdio --db f --repo a=1
         stdio --db f --grant t=a=1",
+    ),
+    (
+        2,
+        b"registry: invalid options\n\
+            registry: grant: wants one of --token TOKEN and --token-file PATH\n",
+        "grant --db broken --name A --level 1
+        grant --db broken --token t1 --token-file t --name A --level 1",
+    ),
+    (
+        2,
+        b"registry: invalid options\n\
+            registry: revoke: wants one of --token TOKEN and --token-file PATH\n",
+        "revoke --db broken --name A
+        revoke --db broken --token - --token-file t --name A",
     ),
     (
         2,
@@ -87,14 +100,16 @@ const TOLD: [(u8, &[u8], &str); 12] = [
     ),
     (
         3,
-        b"registry: not a registry\n",
+        b"registry: not a registry\n\
+            registry: other: a database, but no registry's\n",
         "clear --db other
         serve --db other --listen nowhere
         migrate --db other",
     ),
     (
         3,
-        b"registry: storage failure\n",
+        b"registry: storage failure\n\
+            registry: broken: in use by another process\n",
         "usage --db broken
         migrate --db broken",
     ),
@@ -111,14 +126,15 @@ const TOLD: [(u8, &[u8], &str); 12] = [
     ),
     (
         4,
-        b"registry: connection failure\n",
+        b"registry: connection failure\n\
+            registry: nowhere: not an address\n",
         "serve --db f --listen nowhere",
     ),
 ];
 
 /// Numbers out of their range and options that are missing, which are told before a name that is none;
 /// and an unknown word.
-const UNREADABLE: [&str; 12] = [
+const UNREADABLE: [&str; 15] = [
     "grant --db f --token t1 --name A --level 4",
     "grant --db f --token t1 --name A --level 0",
     "repo --db f --name A --quota 9223372036854775808",
@@ -129,6 +145,9 @@ const UNREADABLE: [&str; 12] = [
     "migrate",
     "serve --db f",
     "serve --db f --listen nowhere --connections 9223372036854775808",
+    "serve --db f --listen nowhere --at-once 0",
+    "serve --db f --listen nowhere --buffer 134217727",
+    "serve --db f --listen nowhere --idle 0",
     "",
     "stdoi",
 ];
@@ -172,6 +191,134 @@ fn the_command_line_refuses_first(rt: HostRuntime) -> Result<(), Fail> {
         );
         same_after(&rt, &[words], ran.err.starts_with(b"registry: "), false);
     }
+    Ok(())
+}
+
+const NO_TOKEN: &[u8] =
+    b"registry: invalid token\nregistry: standard input: the first line is no token\n";
+
+/// Orders with a token on standard input: the words, what is read, the status and standard error.
+const BY_LINE: [(&str, &[u8], u8, &[u8]); 9] = [
+    (
+        "grant --db f --token - --name team/app --level 1",
+        b"t5\n",
+        0,
+        b"",
+    ),
+    ("revoke --db f --token - --name team/app", b"t1", 0, b""),
+    (
+        "revoke --db f --token=- --name team/app",
+        b"t1\nt9\n",
+        0,
+        b"",
+    ),
+    (
+        "revoke --db f --token - --name team/app",
+        b"t9\nt1\n",
+        1,
+        b"registry: no such grant\n",
+    ),
+    (
+        "revoke --db broken --token - --name a",
+        b"t,\n",
+        2,
+        NO_TOKEN,
+    ),
+    (
+        "revoke --db broken --token - --name a",
+        b"t1\r\n",
+        2,
+        NO_TOKEN,
+    ),
+    (
+        "revoke --db broken --token - --name a",
+        b"\nt1\n",
+        2,
+        NO_TOKEN,
+    ),
+    ("revoke --db broken --token - --name a", b"", 2, NO_TOKEN),
+    (
+        "grant --db broken --token - --name A --level 1",
+        b"t,\n",
+        2,
+        b"registry: invalid name\n",
+    ),
+];
+
+/// A token may be a line of standard input.
+#[test]
+fn tokens_are_read_from_standard_input(rt: HostRuntime) -> Result<(), Fail> {
+    for (words, input, status, lines) in BY_LINE {
+        let ran = run(&rt, words, input)?;
+        same_after(&rt, &[words], ran.status, status);
+        same_after(&rt, &[words], ran.err.as_slice(), lines);
+        same_after(&rt, &[words], ran.out.len(), 0);
+    }
+    Ok(())
+}
+
+/// Of what is read for a token, the line alone is taken.
+#[test]
+fn a_token_is_one_line(rt: HostRuntime) -> Result<(), Fail> {
+    let mut reader = b"t1\nrest\n".as_slice();
+    let token = read_token(rt.alloc(), &mut reader)?;
+    same(&rt, token.as_str(), "t1");
+    same(&rt, reader, b"rest\n".as_slice());
+    let mut long = vec![in rt.alloc(); b'a'; 201]?;
+    let mut reader = long.as_slice();
+    same(&rt, read_token(rt.alloc(), &mut reader).is_err(), true);
+    long[200] = b'\n';
+    let mut reader = long.as_slice();
+    let token = read_token(rt.alloc(), &mut reader)?;
+    same(&rt, token.as_str().len(), 200);
+    Ok(())
+}
+
+/// What is served, and on which port, is told on standard error.
+#[test]
+fn a_server_says_what_it_serves(rt: HostRuntime) -> Result<(), Fail> {
+    let ran = run(
+        &rt,
+        "serve --db f --listen 127.0.0.1:0 --connections 0",
+        b"",
+    )?;
+    same(&rt, ran.status, 0);
+    same(&rt, ran.out.as_slice(), b"registry: listening\n".as_slice());
+    let told = str::from_utf8(ran.err.as_slice())?;
+    let port = told
+        .strip_prefix("registry: serving f (1 repository) on 127.0.0.1:")
+        .ok_or("another line")?
+        .strip_suffix("\n")
+        .ok_or("another end")?;
+    let port: u16 = port.parse()?;
+    assert!(rt; port != 0);
+    Ok(())
+}
+
+/// An address that is taken is told with its port.
+#[test]
+fn a_port_in_use_is_told(rt: HostRuntime) -> Result<(), Fail> {
+    let taken = TcpListener::bind(&rt, "127.0.0.1:0")?;
+    let address = taken.local_addr()?;
+    let words = format!(in rt.alloc(); "serve --db f --listen {address}")?;
+    let line = format!(in rt.alloc();
+        "registry: connection failure\nregistry: {address}: port in use\n"
+    )?;
+    let ran = run(&rt, words.as_str(), b"")?;
+    same(&rt, ran.status, 4);
+    same(&rt, ran.err.as_slice(), line.as_bytes());
+    Ok(())
+}
+
+/// A usage line names the program, and its subcommand.
+#[test]
+fn usage_lines_name_the_program(rt: HostRuntime) -> Result<(), Fail> {
+    let help = run(&rt, "stdio --help", b"")?;
+    let shown = str::from_utf8(help.out.as_slice())?;
+    assert!(rt; shown.contains("Usage: registry stdio [OPTIONS]\n"));
+    let lacking = run(&rt, "serve --db f", b"")?;
+    let shown = str::from_utf8(lacking.err.as_slice())?;
+    assert!(rt; shown.contains("Usage: registry serve "));
     Ok(())
 }
 

@@ -3,6 +3,7 @@
 #![tactic(auto)]
 
 mod kept_manifest;
+mod levels;
 mod map_keeper;
 mod repository;
 

@@ -1,13 +1,13 @@
 //! The keeper over ordered maps.
-ghost use Rattle.std.specs.Prelude.{◌≡◌, ◌≤◌, true, IfOk};
-ghost use Rattle.std.specs.FinMap.{insert, remove};
+ghost use Rattle.std.specs.Prelude.{◌≡◌, ◌≤◌, IfOk};
 ghost use Rattle.registry_model.specs.World.{no_world, repo_at, update_repo};
 ghost use Rattle.registry_model.specs.Doing.{keeps};
 ghost use Rattle.registry_model.specs.Limits.{largest};
 ghost use Rattle.registry_model.specs.Lookups.{usages_of};
 ghost use Rattle.registry_model.specs.Keeping.{usages_shown};
-ghost use Rattle.registry_maps.specs.Maps.{levels_in, world_of, Makes, or_memory};
+ghost use Rattle.registry_maps.specs.Maps.{world_of, or_memory};
 
+use crate::levels::{set_level, take_level};
 use crate::repository::Repository;
 use oci_manifest::{Kind, Manifest};
 use oci_names::{Digest, Fault, RepoName, Tag, Token};
@@ -31,29 +31,6 @@ fn or_memory<T>(made: Result<T, AllocError>) -> Result<T, Fault>
         Ok(value) => Ok(value),
         Err(_) => Err(Fault::Memory),
     }
-}
-
-/// Sets the level on a repository.
-fn set_level(
-    levels: &mut BTreeMap<RepoName, Level>,
-    name: &RepoName,
-    level: Level,
-) -> Result<(), AllocError>
-    ensures { Makes result (insert (levels_in levels.old.entries) name.now level)
-        (levels_in levels.old.entries) (levels_in levels.new.entries) }
-{
-    let key = name.clone()?;
-    levels.insert(key, level)?;
-    Ok(())
-}
-
-/// Takes the level on a repository away; the other levels are to stay.
-fn take_level(levels: &mut BTreeMap<RepoName, Level>, name: &RepoName) -> bool
-    ensures stays { result ≡ true }
-    ensures taken { levels_in levels.new.entries ≡ remove (levels_in levels.old.entries) name.now }
-{
-    levels.remove(name);
-    true
 }
 
 impl MapKeeper {
@@ -285,6 +262,16 @@ impl Keeper for MapKeeper {
             Some(repository) => or_memory(repository.finish(alloc, number, digest, bytes)),
             None => Ok(()),
         }
+    }
+
+    /// Of bytes in memory nothing is known without reading them.
+    fn finish_known(
+        &mut self,
+        _repo: &RepoName,
+        _number: u64,
+        _digest: &Digest,
+    ) -> Result<bool, Fault> {
+        Ok(false)
     }
 
     fn mount(&mut self, from: &RepoName, to: &RepoName, digest: &Digest) -> Result<(), Fault> {

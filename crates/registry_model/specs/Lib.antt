@@ -22,6 +22,7 @@ pub mod Judging
 pub mod Heads
 pub mod Command
 pub mod Keeping
+pub mod Closing
 pub mod Doing
 pub mod Team
 pub mod Runs

@@ -7,6 +7,7 @@ ghost use Rattle.registry_model.specs.Lookups.{blob_at, blob_size_at, manifest_a
 ghost use Rattle.registry_model.specs.Command.{set_repo, drop_repo, grant, revoke, drop_sessions};
 ghost use Rattle.registry_model.specs.Ask.{text_in};
 ghost use Rattle.registry_model.specs.Keeping.{State, Reads, ReadsBy, Writes, WritesBy, Spends, bytes_in, manifest_shown, page_shown, entries_shown, usages_shown};
+ghost use Rattle.registry_model.specs.Closing.{session_matches, finish_as_is, WritesWhereSo};
 
 use crate::{Level, Quota, Usage};
 use oci_manifest::{Kind, Manifest};
@@ -247,6 +248,17 @@ pub trait Keeper {
         requires fits { length bytes.now ≤ largest_blob }
         ensures made { is_honest self.new
             → Writes result (finish (state self.old).world repo.now number digest.now bytes.now)
+            (state self.old) (state self.new) }
+        ensures spends { Spends result (state self.old) (state self.new) }
+        ensures honest { is_honest self.new → is_honest self.old };
+
+    /// As `finish`, of a session that has its whole bytes, where the keeper knows without reading them that
+    /// the digest is theirs; answers whether it did so. A keeper may always answer `false`: then nothing
+    /// has changed, and nothing is said of session, bytes or digest (`session` and `finish` go on).
+    fn finish_known(&mut self, repo: &RepoName, number: u64, digest: &Digest) -> Result<bool, Fault>
+        ensures made { is_honest self.new
+            → WritesWhereSo result (session_matches (state self.old).world repo.now number digest.now)
+            (finish_as_is (state self.old).world repo.now number digest.now)
             (state self.old) (state self.new) }
         ensures spends { Spends result (state self.old) (state self.new) }
         ensures honest { is_honest self.new → is_honest self.old };

@@ -1,5 +1,5 @@
 -- The end of an upload session in a repository that is there.
-use Rattle.std.proofs.Common.{◌≡◌, ◌∙◌, ℕ, ◌+◌, [], ◌∷◌, ◌++◌, length, Bool, true, false, cond, not, None, Some, refl, sym, ap, arith}
+use Rattle.std.proofs.Common.{◌≡◌, ◌∙◌, ℕ, ◌+◌, [], ◌∷◌, ◌++◌, length, Bool, true, false, cond, not, None, Some, Ok, refl, sym, ap, arith}
 use Rattle.std.specs.Prelude.{Option, nat_lt}
 use Rattle.std.specs.Option.{option_and_then, option_map_or}
 use Rattle.std.specs.FinMap.{get}
@@ -7,13 +7,16 @@ use Rattle.oci_names.specs.Text.{Text}
 use Rattle.oci_names.specs.Digest.{matches}
 use Rattle.registry_model.specs.declared.range.RangeVerdict.{RangeVerdict}
 use Rattle.registry_model.specs.declared.refusal.Refusal.TheVariants.{InvalidDigest, DigestMismatch, ContentTooLarge, QuotaExceeded}
-use Rattle.registry_model.specs.World.{World}
+use Rattle.std.proofs.lemmas.Bool.Decides.{nat_tests}
+use Rattle.registry_model.specs.World.{World, Repo}
 use Rattle.registry_model.specs.Limits.{largest_blob}
 use Rattle.registry_model.specs.Answer.{Answer}
 use Rattle.registry_model.specs.Decision.{refuses, tells, makes, within_quota}
 use Rattle.registry_model.specs.Blobs.{can_verify, created_blob}
 use Rattle.registry_model.specs.Sessions.{finished, range_checked, last_range_verdict, close_to, close_session}
-use Rattle.registry_model.specs.Lookups.{bytes_or_none}
+use Rattle.registry_model.specs.Keeping.{State}
+use Rattle.registry_model.specs.Closing.{session_matches, WritesWhereSo}
+use Rattle.registry_model.specs.Lookups.{bytes_or_none, session_at}
 use Rattle.registry_operations.specs.Quota.{grows_over, new_length, blob_grows_over}
 use Rattle.registry_operations.specs.Uploads.{upload_at, chunk_refusal, bytes_so_far, finish_with}
 use Rattle.registry_operations.specs.declared.uploads.Upload.{Upload}
@@ -56,6 +59,43 @@ module _ (w : World) (name : Text) (number size : ℕ) (f : Found w name number 
   -- a session with no bytes: the chunk is all
   pub none_so_far : (digest body : Text) → size ≡ 0 → finish_with f.repo name number digest (bytes_so_far f.repo number ++ body) ≡ finish_with f.repo name number digest body
   none_so_far digest body e = ap (λ t. finish_with f.repo name number digest (t ++ body)) (so_far ∙ no_bytes f.bytes (f.long ∙ e))
+
+-- ---- an end without the bytes
+
+-- a blob takes no more room than the bytes that it was
+no_growth : (r : Repo) (o : Option Text) (n : ℕ) → grows_over r (new_length o n) n ≡ false
+no_growth r None n = grind (arith, nat_tests)
+no_growth r (Some t) n = grind (arith, nat_tests)
+
+nothing_behind : (t body : Text) → length body ≡ 0 → t ++ body ≡ t
+nothing_behind t body e = ap (λ b. t ++ b) (no_bytes body e) ∙ go t
+  where
+    go : (t : Text) → t ++ [] ≡ t
+    go [] = refl
+    go (b ∷ bs) = ap (λ l. b ∷ l) (go bs)
+
+module _ (w : World) (name : Text) (number size : ℕ) (f : Found w name number size) (digest : Text) where
+  -- the bytes that it has are all
+  all_bytes : session_at w name number ≡ Some f.bytes
+  all_bytes = ap (λ o. option_and_then (λ r. get r.sessions number) o) f.at ∙ f.there
+
+  pub finish_unread : session_matches w name number digest ≡ true → (body : Text) → length body ≡ 0
+      → finish_with f.repo name number digest (bytes_so_far f.repo number ++ body) ≡ makes (created_blob name digest) (finished f.repo number digest (bytes_or_none (session_at w name number)))
+  finish_unread so body none =
+      let match : matches digest f.bytes ≡ true = sym (ap (λ o. option_map_or (λ b. matches digest b) o false) all_bytes) ∙ so in
+      ap (finish_with f.repo name number digest) (nothing_behind (bytes_so_far f.repo number) body none ∙ so_far w name number size f)
+      ∙ finishes w name number size f digest f.bytes match
+      ∙ ap (λ b. cond b (refuses QuotaExceeded) (makes (created_blob name digest) (finished f.repo number digest f.bytes))) (no_growth f.repo (get f.repo.blobs digest) (length f.bytes))
+      ∙ ap (λ o. makes (created_blob name digest) (finished f.repo number digest (bytes_or_none o))) (sym all_bytes)
+
+-- what a keeper tells that knew, or did not
+pub known : (b so : Bool) (made : World) (s s' : State) → b ≡ true → WritesWhereSo (Ok b) so made s s' → (so ≡ true) × (s' ≡ record { world = made; spent = false })
+known true so made s s' e h = h
+known false so made s s' e h = absurd cc
+
+pub unknown : (b so : Bool) (made : World) (s s' : State) → b ≡ false → WritesWhereSo (Ok b) so made s s' → s' ≡ s
+unknown true so made s s' e h = absurd cc
+unknown false so made s s' e h = h
 
 module _ (w : World) (name reference : Text) (u : Upload) (f : Found w name u.number u.size) (e : Some u ≡ upload_at w name reference) (range : Option Text) (body : Text) where
   closing : (digest : Text) → close_session f.repo name reference (Some digest) range body

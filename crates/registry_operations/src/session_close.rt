@@ -68,8 +68,41 @@ fn finish<K: Keeper>(
     Ok(created_blob(location, digest))
 }
 
-/// Ends an upload session with a last chunk that is not refused. The session's bytes are read once;
-/// where it has none the chunk is all, and is not copied.
+/// Ends an upload session with a last chunk that is not refused, from the session's bytes, which are read
+/// once.
+fn close_read<K: Keeper>(
+    keeper: &mut K,
+    alloc: Global,
+    name: &RepoName,
+    upload: Upload,
+    digest: Digest,
+    body: &[u8],
+) -> Result<Reply, Fault>
+    requires unspent { IsUnspent (K.state keeper.old) }
+    requires open { K.is_honest keeper.old → IsOpen (K.state keeper.old) name.now upload }
+    requires verified { is_verified digest ≡ true }
+    requires fits { upload.size + length body.now ≤ largest_blob }
+    ensures comes { K.is_honest keeper.new → Operates result name.now
+        (λ r. finish_with r name.now upload.number digest (bytes_so_far r upload.number ++ body.now))
+        (K.state keeper.old) (K.state keeper.new) }
+    ensures answers { Answers result }
+    ensures carries { Carries result }
+    ensures spends { Spends result (K.state keeper.old) (K.state keeper.new) }
+    ensures honest { K.is_honest keeper.new → K.is_honest keeper.old }
+{
+    let Some(mut bytes) = keeper.session(alloc, name, upload.number)? else {
+        return Ok(Reply::refusal(Refusal::UploadUnknown));
+    };
+    let Ok(()) = bytes.extend_from_slice(body) else {
+        return Err(Fault::Memory);
+    };
+    finish(keeper, alloc, name, upload, digest, bytes.as_slice())
+}
+
+/// Ends an upload session with a last chunk that is not refused. Where the session has no bytes the chunk is
+/// all, and is not copied. Where the chunk is empty, and the keeper knows unread that the digest is that of
+/// the session's bytes, none is read: the blob takes no more room than the session had, which no quota
+/// refuses.
 fn close_with<K: Keeper>(
     keeper: &mut K,
     alloc: Global,
@@ -93,13 +126,16 @@ fn close_with<K: Keeper>(
     if upload.size == 0 {
         return finish(keeper, alloc, name, upload, digest, body);
     }
-    let Some(mut bytes) = keeper.session(alloc, name, upload.number)? else {
-        return Ok(Reply::refusal(Refusal::UploadUnknown));
-    };
-    let Ok(()) = bytes.extend_from_slice(body) else {
+    if !body.is_empty() {
+        return close_read(keeper, alloc, name, upload, digest, body);
+    }
+    let Ok(location) = blob_location(alloc, name, &digest) else {
         return Err(Fault::Memory);
     };
-    finish(keeper, alloc, name, upload, digest, bytes.as_slice())
+    if keeper.finish_known(name, upload.number, &digest)? {
+        return Ok(created_blob(location, digest));
+    }
+    close_read(keeper, alloc, name, upload, digest, body)
 }
 
 /// PUT: ends an upload session, with a last chunk or none, and adds its bytes as a blob (OCI

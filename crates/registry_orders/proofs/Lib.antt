@@ -1,6 +1,8 @@
+pub mod CauseLemmas
 pub mod CommandLemmas
 pub mod GivenLemmas
 pub mod OrderStatuses
 pub mod SettingLemmas
 pub mod SplittingLemmas
 pub mod TableLemmas
+pub mod TokenLemmas

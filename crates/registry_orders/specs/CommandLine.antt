@@ -35,7 +35,10 @@ abbrev pub name : Rule
 name = required (option (codes "name"))
 
 abbrev pub token : Rule
-token = required (option (codes "token"))
+token = option (codes "token")
+
+abbrev pub token_file : Rule
+token_file = option (codes "token-file")
 
 abbrev pub quota : Rule
 quota = within 0 most (required (option (codes "quota")))
@@ -46,15 +49,29 @@ level = within 1 3 (required (option (codes "level")))
 abbrev pub listen : Rule
 listen = required (option (codes "listen"))
 
+-- an option that is not given has this value
+abbrev pub with_default : Text → Rule → Rule
+with_default value r = record r { defaults = value ∷ [] }
+
 abbrev pub connections : Rule
-connections =
-    record (within 0 most (option (codes "connections"))) { defaults = codes "9223372036854775807" ∷ [] }
+connections = with_default (codes "9223372036854775807") (within 0 most (option (codes "connections")))
+
+abbrev pub at_once : Rule
+at_once = with_default (codes "256") (within 1 65536 (option (codes "at-once")))
+
+-- at least the largest request and the largest reply
+abbrev pub buffer : Rule
+buffer = with_default (codes "536870912") (within 134217728 most (option (codes "buffer")))
+
+abbrev pub idle : Rule
+idle = with_default (codes "60") (within 1 86400 (option (codes "idle")))
 
 abbrev pub subcommand : Text → List Rule → Shape
 subcommand word options = record (new_shape word) { rules = options }
 
 abbrev pub serve : Shape
-serve = subcommand (codes "serve") (required db ∷ listen ∷ connections ∷ [])
+serve = subcommand (codes "serve")
+    (required db ∷ listen ∷ connections ∷ at_once ∷ buffer ∷ idle ∷ [])
 
 abbrev pub stdio : Shape
 stdio = subcommand (codes "stdio")
@@ -70,10 +87,10 @@ abbrev pub over_quota : Text → Shape
 over_quota word = subcommand word (required db ∷ name ∷ quota ∷ [])
 
 abbrev pub over_token : Text → Shape
-over_token word = subcommand word (required db ∷ token ∷ name ∷ [])
+over_token word = subcommand word (required db ∷ token ∷ token_file ∷ name ∷ [])
 
 abbrev pub grant : Shape
-grant = subcommand (codes "grant") (required db ∷ token ∷ name ∷ level ∷ [])
+grant = subcommand (codes "grant") (required db ∷ token ∷ token_file ∷ name ∷ level ∷ [])
 
 abbrev pub repo_commands : List Shape
 repo_commands = over_quota (codes "repo") ∷ over_quota (codes "quota") ∷ over_repo (codes "drop")

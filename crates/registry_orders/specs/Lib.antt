@@ -2,10 +2,13 @@ pub mod CommandLine
 pub mod Failures
 pub mod Levels
 pub mod Options
+pub mod Limits
 pub mod Splitting
 pub mod Setting
 pub mod Reading
 pub mod Table
+pub mod Causes
+pub mod Tokens
 pub mod Orders
 pub mod Tasks
 pub mod Carrying

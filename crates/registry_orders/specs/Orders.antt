@@ -1,5 +1,5 @@
 -- What the administrator orders of a registry over a database (profile).
-use Rattle.std.specs.Prelude.{◌≡◌, List, Some, Result, Ok, Err, codes}
+use Rattle.std.specs.Prelude.{◌≡◌, ◌≢◌, List, Some, None, Result, Ok, Err, codes}
 use Rattle.clap.specs.Words.{Row, first_of, one_of}
 use Rattle.oci_names.specs.Text.{Text}
 use Rattle.registry_model.specs.declared.admin.AdminCommand.{AdminCommand}
@@ -10,6 +10,8 @@ use Rattle.registry_model.specs.Doing.{CarriesOut}
 use Rattle.registry_orders.specs.declared.failure.Failure.{Failure}
 use Rattle.registry_orders.specs.declared.orders.Change.{Change}
 use Rattle.registry_orders.specs.declared.orders.Change.TheVariants.{AddRepo, SetQuota, DropRepo, DropSessions, Grant, Revoke, Clear}
+use Rattle.registry_orders.specs.declared.orders.TokenChange.{TokenChange}
+use Rattle.registry_orders.specs.declared.orders.TokenChange.TheVariants as but_token
 use Rattle.registry_orders.specs.declared.orders.Order.{Order}
 use Rattle.registry_orders.specs.declared.orders.Order.TheVariants as order
 use Rattle.registry_orders.specs.Failures.{failure_of}
@@ -30,6 +32,12 @@ IsCommandOf _ _ = ⊥
 abbrev pub HasValue : List Row → Text → Text → Type 0
 HasValue options name text = first_of name options ≡ Some text
 
+-- the token is on the command line, where `-` stands for standard input
+abbrev pub HasToken : List Row → Text → Type 0
+HasToken options token =
+    HasValue options (codes "token") token × (token ≢ codes "-")
+    × (first_of (codes "token-file") options ≡ None)
+
 -- the word of the subcommand, and the options that it was given, say what the change is
 abbrev pub IsChangeIn : Text → List Row → Change → Type 0
 IsChangeIn word options (AddRepo name quota) =
@@ -41,11 +49,23 @@ IsChangeIn word options (SetQuota name quota) =
 IsChangeIn word options (DropRepo name) = (word ≡ codes "drop") × HasValue options (codes "name") name
 IsChangeIn word options (DropSessions name) = (word ≡ codes "sessions") × HasValue options (codes "name") name
 IsChangeIn word options (Grant token name level) =
-    (word ≡ codes "grant") × HasValue options (codes "name") name × HasValue options (codes "token") token
+    (word ≡ codes "grant") × HasValue options (codes "name") name × HasToken options token
     × IsLevelOf (one_of (codes "level") options) level
 IsChangeIn word options (Revoke token name) =
-    (word ≡ codes "revoke") × HasValue options (codes "name") name × HasValue options (codes "token") token
+    (word ≡ codes "revoke") × HasValue options (codes "name") name × HasToken options token
 IsChangeIn word options Clear = word ≡ codes "clear"
+
+-- the same of a change but for its token
+abbrev pub IsTokenChangeIn : Text → List Row → TokenChange → Type 0
+IsTokenChangeIn word options (but_token.Grant name level) =
+    (word ≡ codes "grant") × HasValue options (codes "name") name
+    × IsLevelOf (one_of (codes "level") options) level
+IsTokenChangeIn word options (but_token.Revoke name) =
+    (word ≡ codes "revoke") × HasValue options (codes "name") name
+
+abbrev pub change_with : TokenChange → Text → Change
+change_with (but_token.Grant name level) token = Grant token name level
+change_with (but_token.Revoke name) token = Revoke token name
 
 abbrev pub IsOrderIn : Text → List Row → Order → Type 0
 IsOrderIn word options (order.Change change) = IsChangeIn word options change

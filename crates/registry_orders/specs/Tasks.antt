@@ -3,10 +3,12 @@ use Rattle.std.specs.Prelude.{◌≡◌, List, [], Option, Some, None, codes}
 use Rattle.clap.specs.Words.{Row, first_of, one_of, subcommand_of}
 use Rattle.oci_names.specs.Text.{Text}
 use Rattle.registry_orders.specs.declared.line.Task.{Task}
-use Rattle.registry_orders.specs.declared.line.Task.TheVariants.{Memory, Stored, Server, Order, Migration}
+use Rattle.registry_orders.specs.declared.line.Task.TheVariants.{Memory, Stored, Server, Order, TokenOrder, Migration}
 use Rattle.registry_orders.specs.CommandLine.{registry}
+use Rattle.registry_orders.specs.Limits.{AreLimitsIn}
 use Rattle.registry_orders.specs.Options.{texts_of, IsNumberOf, SpellsSetup}
-use Rattle.registry_orders.specs.Orders.{HasValue, IsOrderIn}
+use Rattle.registry_orders.specs.Orders.{HasValue, IsOrderIn, IsTokenChangeIn}
+use Rattle.registry_orders.specs.Tokens.{IsTokenFrom}
 
 abbrev pub HasFlag : List Row → Text → Type 0
 HasFlag options flag = one_of flag options ≡ Some (codes "true")
@@ -19,12 +21,14 @@ IsTaskIn word options (Memory setup) =
 IsTaskIn word options (Stored path) =
     (word ≡ codes "stdio") × ¬ (HasFlag options (codes "memory")) × HasValue options (codes "db") path.now
     × (texts_of (codes "repo") options ≡ []) × (texts_of (codes "grant") options ≡ [])
-IsTaskIn word options (Server path address connections) =
+IsTaskIn word options (Server path address connections limits) =
     (word ≡ codes "serve") × HasValue options (codes "db") path.now
     × HasValue options (codes "listen") address.now
-    × IsNumberOf (one_of (codes "connections") options) connections
+    × IsNumberOf (one_of (codes "connections") options) connections × AreLimitsIn options limits
 IsTaskIn word options (Order path order) =
     HasValue options (codes "db") path.now × IsOrderIn word options order
+IsTaskIn word options (TokenOrder path source change) =
+    HasValue options (codes "db") path.now × IsTokenFrom options source × IsTokenChangeIn word options change
 IsTaskIn word options (Migration path) = (word ≡ codes "migrate") × HasValue options (codes "db") path.now
 
 -- the same of a subcommand that was found, with its options

@@ -8,10 +8,13 @@ ghost use Rattle.registry_orders.specs.Tasks.{IsTask, IsTaskIn};
 
 use crate::failure::Failure;
 use crate::given::{is_given, number_given, text_given, texts_given};
+use crate::limits::{Limits, at_once, buffer, idle, limits_given};
 use crate::options::Setup;
-use crate::orders::{Order, read_order};
+use crate::orders::{Order, TokenChange, read_order, read_token_change};
+use crate::tokens::{TokenSource, token_source};
+use crate::unread::{Told, told_of};
 use clap::builder::ValueParser;
-use clap::{Arg, ArgAction, ArgMatches, Command, Error};
+use clap::{Arg, ArgAction, ArgMatches, Command};
 use registry_model::LARGEST_QUOTA;
 use std::alloc::{AllocError, Global};
 use std::convert::AsStr;
@@ -28,28 +31,28 @@ pub enum Task<'a> {
     Stored {
         path: &'a str,
     },
-    /// Serve an address over the registry at a path, so many connections.
+    /// Serve an address over the registry at a path, so many connections, within these limits.
     Server {
         path: &'a str,
         address: &'a str,
         connections: u64,
+        limits: Limits,
     },
     /// Carry out an order over the registry at a path.
     Order {
         path: &'a str,
         order: Order,
     },
+    /// Carry out a change with a token that is read elsewhere, over the registry at a path.
+    TokenOrder {
+        path: &'a str,
+        source: TokenSource<'a>,
+        change: TokenChange,
+    },
     /// Take over the registry of schema 1 at a path.
     Migration {
         path: &'a str,
     },
-}
-
-/// What the command line was answered.
-#[derive(Drop)]
-pub enum Told {
-    Failed(Failure),
-    Line(Error),
 }
 
 /// An option with one value.
@@ -78,8 +81,16 @@ fn name<'a>(alloc: Global) -> Arg<'a>
 fn token<'a>(alloc: Global) -> Arg<'a>
     ensures { HasRule spec.token result }
 {
-    let help = "The token; one that begins with - is written --token=-x";
-    option(alloc, "token", "TOKEN", help).required(true)
+    let help =
+        "The token, or - for a line of standard input; another that begins with - as --token=-x";
+    option(alloc, "token", "TOKEN", help)
+}
+
+fn token_file<'a>(alloc: Global) -> Arg<'a>
+    ensures { HasRule spec.token_file result }
+{
+    let help = "A file, the first line of which is the token";
+    option(alloc, "token-file", "PATH", help)
 }
 
 fn quota<'a>(alloc: Global) -> Arg<'a>
@@ -151,10 +162,13 @@ fn serve<'a>(alloc: Global) -> Result<Command<'a>, AllocError>
     ensures { IfOk result (IsSub spec.serve) }
 {
     Command::new(alloc, "serve")
-        .about("Serve connections, one after the other")
+        .about("Serve connections")
         .arg(database(alloc).required(true))?
         .arg(address(alloc))?
-        .arg(connections(alloc))
+        .arg(connections(alloc))?
+        .arg(at_once(alloc))?
+        .arg(buffer(alloc))?
+        .arg(idle(alloc))
 }
 
 /// A subcommand over a database.
@@ -190,6 +204,7 @@ fn over_token<'a>(alloc: Global, word: &'a str, about: &'a str) -> Result<Comman
 {
     over_database(alloc, word, about)?
         .arg(token(alloc))?
+        .arg(token_file(alloc))?
         .arg(name(alloc))
 }
 
@@ -245,6 +260,7 @@ fn command<'a>(alloc: Global) -> Result<Command<'a>, AllocError>
     ensures { IfOk result (IsApp spec.registry) }
 {
     let command = Command::new(alloc, "registry")
+        .bin_name("registry")?
         .about("An OCI artifact registry")
         .version("0.1.0")
         .no_binary_name(true)
@@ -279,10 +295,12 @@ fn serve_task<'a>(matches: &ArgMatches<'a>) -> Result<Task<'a>, Failure>
     let path = text_given(matches, "db").ok_or(Failure::InvalidOptions)?;
     let address = text_given(matches, "listen").ok_or(Failure::InvalidOptions)?;
     let connections = number_given(matches, "connections")?;
+    let limits = limits_given(matches)?;
     Ok(Task::Server {
         path,
         address,
         connections,
+        limits,
     })
 }
 
@@ -293,6 +311,23 @@ fn order_task<'a>(alloc: Global, word: &str, matches: &ArgMatches<'a>) -> Result
     let path = text_given(matches, "db").ok_or(Failure::InvalidOptions)?;
     let order = read_order(alloc, word, matches)?;
     Ok(Task::Order { path, order })
+}
+
+/// A change with a token, which is on the command line or is read elsewhere.
+fn token_task<'a>(alloc: Global, word: &str, matches: &ArgMatches<'a>) -> Result<Task<'a>, Failure>
+    ensures read { IfOk result (IsTaskIn word.now (rows_of (found_of matches.now))) }
+    ensures refused { IfErr result IsOfWords }
+{
+    let Some(source) = token_source(matches)? else {
+        return order_task(alloc, word, matches);
+    };
+    let path = text_given(matches, "db").ok_or(Failure::InvalidOptions)?;
+    let change = read_token_change(alloc, word, matches)?;
+    Ok(Task::TokenOrder {
+        path,
+        source,
+        change,
+    })
 }
 
 fn migration_task<'a>(matches: &ArgMatches<'a>) -> Result<Task<'a>, Failure>
@@ -312,6 +347,7 @@ fn task_of<'a>(alloc: Global, word: &str, matches: &ArgMatches<'a>) -> Result<Ta
         "stdio" => stdio_task(alloc, matches),
         "serve" => serve_task(matches),
         "migrate" => migration_task(matches),
+        "grant" | "revoke" => token_task(alloc, word, matches),
         _ => order_task(alloc, word, matches),
     }
 }
@@ -333,7 +369,7 @@ pub fn read_words<'a, S: AsStr>(alloc: Global, words: &'a [S]) -> Result<Task<'a
     match matches.subcommand() {
         Some((word, matches)) => match task_of(alloc, word, matches) {
             Ok(task) => Ok(task),
-            Err(failure) => Err(Told::Failed(failure)),
+            Err(failure) => Err(told_of(word, failure)),
         },
         None => Err(Told::Failed(Failure::InvalidOptions)),
     }

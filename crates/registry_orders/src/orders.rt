@@ -2,7 +2,8 @@ ghost use Rattle.std.specs.Prelude.{◌≡◌, Some, IfOk, IfErr, codes};
 ghost use Rattle.clap.specs.Words.{found_of, rows_of, one_of};
 ghost use Rattle.registry_orders.specs.Failures.{IsOfWords};
 ghost use Rattle.registry_orders.specs.Options.{IsNumberOf, IsLevelOf};
-ghost use Rattle.registry_orders.specs.Orders.{HasValue, IsCommandOf, IsChangeIn, IsOrderIn};
+ghost use Rattle.registry_orders.specs.Orders.{HasValue, HasToken, IsCommandOf, IsChangeIn, IsTokenChangeIn, IsOrderIn};
+ghost use Rattle.registry_orders.specs.Orders.{change_with};
 
 use crate::failure::Failure;
 use crate::given::{number_given, text_given};
@@ -56,6 +57,27 @@ pub enum Order {
     Usage,
 }
 
+/// A change but for its token.
+#[derive(Drop)]
+pub enum TokenChange {
+    /// Gives a token a level on a repository.
+    Grant { name: RepoName, level: Level },
+    /// Takes a token's level on a repository away.
+    Revoke { name: RepoName },
+}
+
+impl TokenChange {
+    /// The change with its token.
+    pub fn with(self, token: Token) -> Change
+        ensures { result ≡ change_with self token }
+    {
+        match self {
+            TokenChange::Grant { name, level } => Change::Grant { token, name, level },
+            TokenChange::Revoke { name } => Change::Revoke { token, name },
+        }
+    }
+}
+
 impl Change {
     /// The command that says the same.
     pub fn command(&self) -> AdminCommand<'_>
@@ -94,15 +116,17 @@ fn name_in(alloc: Global, matches: &ArgMatches) -> Result<RepoName, Failure>
     }
 }
 
-/// The value of `--token`.
+/// The value of `--token`, which is the token itself.
 fn token_in(alloc: Global, matches: &ArgMatches) -> Result<Token, Failure>
-    ensures found { IfOk result (λ token. HasValue (rows_of (found_of matches.now)) (codes "token") token) }
+    ensures found { IfOk result (HasToken (rows_of (found_of matches.now))) }
     ensures refused { IfErr result IsOfWords }
 {
-    match text_given(matches, "token") {
-        Some(text) => token_of(alloc, text),
-        None => Err(Failure::InvalidOptions),
+    let text = text_given(matches, "token").ok_or(Failure::InvalidOptions)?;
+    let file = text_given(matches, "token-file");
+    if file.is_some() || text == "-" {
+        return Err(Failure::InvalidOptions);
     }
+    token_of(alloc, text)
 }
 
 /// The value of `--quota`, in bytes.
@@ -145,23 +169,35 @@ fn change_of_repo(alloc: Global, word: &str, matches: &ArgMatches) -> Result<Cha
     }
 }
 
+/// Reads a change but for its token, as `read_order` does.
+pub fn read_token_change(
+    alloc: Global,
+    word: &str,
+    matches: &ArgMatches,
+) -> Result<TokenChange, Failure>
+    ensures read { IfOk result (IsTokenChangeIn word.now (rows_of (found_of matches.now))) }
+    ensures refused { IfErr result IsOfWords }
+{
+    let name = name_in(alloc, matches)?;
+    match word {
+        "grant" => Ok(TokenChange::Grant {
+            name,
+            level: level_in(matches)?,
+        }),
+        "revoke" => Ok(TokenChange::Revoke { name }),
+        _ => Err(Failure::InvalidOptions),
+    }
+}
+
 /// The change of a subcommand that names a token and a repository. An invalid name is told before an
 /// invalid token.
 fn change_of_grant(alloc: Global, word: &str, matches: &ArgMatches) -> Result<Change, Failure>
     ensures read { IfOk result (IsChangeIn word.now (rows_of (found_of matches.now))) }
     ensures refused { IfErr result IsOfWords }
 {
-    let name = name_in(alloc, matches)?;
+    let change = read_token_change(alloc, word, matches)?;
     let token = token_in(alloc, matches)?;
-    match word {
-        "grant" => Ok(Change::Grant {
-            token,
-            name,
-            level: level_in(matches)?,
-        }),
-        "revoke" => Ok(Change::Revoke { token, name }),
-        _ => Err(Failure::InvalidOptions),
-    }
+    Ok(change.with(token))
 }
 
 /// Reads what a subcommand of the administrator orders: its word, and the values of its options. A

@@ -1,2 +1,4 @@
 pub mod ExitStatuses
 pub mod SinceOpened
+pub mod TokenOrders
+pub mod TogetherLemmas

@@ -2,4 +2,5 @@ pub mod Failures
 pub mod Program
 pub mod Stored
 pub mod Sockets
+pub mod Together
 pub mod Running

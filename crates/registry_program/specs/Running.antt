@@ -1,17 +1,25 @@
 -- What words come to. Here `over P` is that P is told of a registry that was opened, from its first state to
 -- its last, and `at path` is the same of the registry at a path.
-use Rattle.std.specs.Prelude.{◌≡◌, ◌≢◌, ℕ, ◌⊎◌, List, Result}
+use Rattle.std.specs.Prelude.{◌≡◌, ◌≢◌, ℕ, ◌⊎◌, ⊤, List, Result}
 use Rattle.oci_names.specs.Text.{Text}
 use Rattle.registry_model.specs.Keeping.{State}
 use Rattle.registry_orders.specs.declared.failure.Failure.{Failure}
+use Rattle.registry_orders.specs.declared.limits.Limits.{Limits}
 use Rattle.registry_orders.specs.declared.line.Task.{Task}
 use Rattle.registry_orders.specs.declared.line.Task.TheVariants as task
 use Rattle.registry_orders.specs.declared.orders.Order.{Order}
+use Rattle.registry_orders.specs.declared.orders.Order.TheVariants.{Change}
+use Rattle.registry_orders.specs.declared.orders.TokenChange.{TokenChange}
+use Rattle.registry_orders.specs.declared.tokens.TokenSource.{TokenSource}
+use Rattle.registry_orders.specs.declared.tokens.TokenSource.TheVariants.{Input, File}
+use Rattle.registry_orders.specs.Orders.{change_with}
+use Rattle.registry_orders.specs.Tokens.{IsFirstLine}
 use Rattle.registry_orders.specs.Failures.{status_of, status_if, IsOfWords, IsOfOpening}
 use Rattle.registry_orders.specs.Tasks.{IsTask}
 use Rattle.registry_program.specs.Program.{Streams, IsUntouched, GivesUp, ServesMemory, ServesStored, Tells}
 use Rattle.registry_orders.specs.Carrying.{Output, output, IsSilent, IsCarriedOut}
 use Rattle.registry_program.specs.Sockets.{ServesAddress}
+use Rattle.registry_program.specs.Together.{serves_within}
 
 -- what is said of a registry that was opened, from its first state to its last
 abbrev pub Opened : Type 1
@@ -28,15 +36,39 @@ IsNotOpened status o = (f : Failure) × IsOfOpening f × (status ≡ status_of f
 abbrev pub RunsOrder : Opened → Order → ℕ → Output → Type 0
 RunsOrder over order status o = IsNotOpened status o ⊎ over (λ s s'. IsCarriedOut s order status o s')
 
+-- the order that a change is with some token
+abbrev pub RunsByFile : Opened → TokenChange → ℕ → Output → Type 0
+RunsByFile over change status o =
+    (token : Text) × RunsOrder over (Change (change_with change token)) status o
+
+-- the same with the token that is the first line of standard input, of which no more is read
+abbrev pub RunsByInput : Opened → TokenChange → ℕ → Streams → Type 0
+RunsByInput over change status e = (token : Text) × IsFirstLine e.left e.left' token
+    × RunsOrder over (Change (change_with change token)) status (output_of e)
+
+abbrev pub RunsTokenOrder : Opened → TokenSource → TokenChange → ℕ → Streams → Type 0
+RunsTokenOrder over Input change status e = RunsByInput over change status e
+RunsTokenOrder over (File path) change status e =
+    (e.left' ≡ e.left) × RunsByFile over change status (output_of e)
+
+-- what was read is no token, or nothing could be read; no registry is opened
+abbrev pub IsWithoutToken : ℕ → Output → Type 0
+IsWithoutToken status o = (f : Failure) × IsOfWords f × (status ≡ status_of f) × IsSilent o
+
+abbrev pub LacksTokenOf : TokenSource → ℕ → Streams → Type 0
+LacksTokenOf Input status e = IsWithoutToken status (output_of e)
+LacksTokenOf (File path) status e = (e.left' ≡ e.left) × IsWithoutToken status (output_of e)
+
 -- one connection over a registry that is opened
 abbrev pub RunsStored : Opened → ℕ → Streams → Type 0
 RunsStored over status e =
     (IsNotOpened status (output_of e) × (e.left' ≡ e.left)) ⊎ over (ServesStored status e)
 
 -- connections over sockets, over a registry that is opened
-abbrev pub RunsServer : Opened → ℕ → Output → Type 0
-RunsServer over status o =
-    (result : Result (Unit {0}) Failure) × (status ≡ status_if result) × ServesAddress over result o
+abbrev pub RunsServer : Limits → Opened → ℕ → Output → Type 0
+RunsServer limits over status o =
+    (result : Result (Unit {0}) Failure) × (status ≡ status_if result)
+    × ServesAddress (serves_within limits) over result o
 
 -- the registry of schema 1 is taken over; or it is not opened
 abbrev pub EndsMigration : ℕ → Type 0
@@ -47,17 +79,38 @@ EndsMigration status = (status ≡ 0) ⊎ ((f : Failure) × IsOfOpening f × (st
 abbrev pub RunsTask : (Text → Opened) → Task → ℕ → Streams → Type 0
 RunsTask at (task.Memory setup) status e = ServesMemory setup status e
 RunsTask at (task.Stored path) status e = RunsStored (at path.now) status e
-RunsTask at (task.Server path address connections) status e =
-    (e.left' ≡ e.left) × RunsServer (at path.now) status (output_of e)
+RunsTask at (task.Server path address connections limits) status e =
+    (e.left' ≡ e.left) × RunsServer limits (at path.now) status (output_of e)
 RunsTask at (task.Order path order) status e =
     (e.left' ≡ e.left) × RunsOrder (at path.now) order status (output_of e)
+RunsTask at (task.TokenOrder path source change) status e =
+    RunsTokenOrder (at path.now) source change status e
 RunsTask at (task.Migration path) status e = IsUntouched e × EndsMigration status
 
 -- words are not read, and nothing is done; or something is told of them
 abbrev pub IsNotRead : ℕ → Streams → Type 0
 IsNotRead status e = ((f : Failure) × IsOfWords f × GivesUp f status e) ⊎ Tells status e
 
--- what words come to: the task that they spell is done, and then the status is not 2; or they are not read
+-- the task wants a token, and there is none
+abbrev pub LacksToken : Task → ℕ → Streams → Type 0
+LacksToken (task.TokenOrder path source change) status e = LacksTokenOf source status e
+LacksToken _ status e = ⊥
+
+-- what words come to: the task that they spell is done, and then the status is not 2; or it wants a token,
+-- and there is none; or they are not read
 abbrev pub RunsWords : (Text → Opened) → List Text → ℕ → Streams → Type 0
 RunsWords at words status e =
-    ((task : Task) × IsTask words task × (status ≢ 2) × RunsTask at task status e) ⊎ IsNotRead status e
+    ((task : Task) × IsTask words task × (status ≢ 2) × RunsTask at task status e)
+    ⊎ (((task : Task) × IsTask words task × LacksToken task status e) ⊎ IsNotRead status e)
+
+-- the words take a line of standard input for a token
+abbrev pub IsByInput : Task → Type 0
+IsByInput (task.TokenOrder path Input change) = ⊤
+IsByInput _ = ⊥
+
+abbrev pub TakesLine : List Text → Type 0
+TakesLine words = (task : Task) × IsTask words task × IsByInput task
+
+-- nothing was read or written, but for the line that the words take
+abbrev pub IsSparedFor : List Text → Streams → Type 0
+IsSparedFor words e = IsUntouched e ⊎ (TakesLine words × IsSilent (output_of e))

@@ -47,6 +47,7 @@ greeting = codes "registry: listening" ++ newline
 
 -- All connections were served, those since the registry was last opened from a state in which it may be
 -- found; or the registry was not opened again, or a socket or writing failed.
-abbrev pub ServesAddress : ((State → State → Type 0) → Type 0) → Result (Unit {0}) Failure → Output → Type 0
-ServesAddress over (Ok v) o = Appends o.held o.held' greeting × over ServesSome
-ServesAddress over (Err f) o = IsOfServing f
+abbrev pub ServesAddress : (State → State → Type 0) → ((State → State → Type 0) → Type 0)
+    → Result (Unit {0}) Failure → Output → Type 0
+ServesAddress Says over (Ok v) o = Appends o.held o.held' greeting × over Says
+ServesAddress Says over (Err f) o = IsOfServing f

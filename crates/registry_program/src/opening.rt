@@ -3,7 +3,7 @@ ghost use Rattle.registry_model.specs.Keeping.{State};
 ghost use Rattle.registry_orders.specs.Failures.{IsOfOpening};
 
 use registry_model::Keeper;
-use registry_orders::Failure;
+use registry_orders::{Cause, Failure};
 
 /// What opens registries over databases; `K` is the keeper that an opening gives.
 pub trait Opener<K: Keeper> {
@@ -21,4 +21,8 @@ pub trait Opener<K: Keeper> {
     /// already, nothing is done. An error is as above.
     fn migrate(&self, path: &str) -> Result<(), Failure>
         ensures refused { IfErr result IsOfOpening };
+
+    /// What is wrong with the path of a registry that failed, as far as it can be seen there afterwards,
+    /// while it is not open. It is for a message alone.
+    fn cause(&self, path: &str, failure: Failure) -> Option<Cause>;
 }

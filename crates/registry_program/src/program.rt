@@ -1,22 +1,33 @@
 ghost use Rattle.std.specs.Prelude.{◌≡◌, ◌≢◌, ◌<◌, ◌≤◌, None, map};
-ghost use Rattle.registry_program.specs.Stored.{OverAt};
-ghost use Rattle.registry_program.specs.Program.{streams, IsUntouched, Tells};
-ghost use Rattle.registry_program.specs.Running.{RunsOrder, RunsStored, RunsServer, EndsMigration, RunsWords};
+ghost use Rattle.registry_program.specs.Stored.{Over, OverAt};
+ghost use Rattle.registry_program.specs.Sockets.{ServesAddress};
+ghost use Rattle.registry_program.specs.Together.{serves_within};
+ghost use Rattle.registry_program.specs.Program.{streams, Tells};
+ghost use Rattle.registry_program.specs.Running.{RunsOrder, RunsStored, RunsServer, EndsMigration, RunsWords, IsSparedFor};
 ghost use Rattle.registry_orders.specs.Carrying.{output, IsSilent};
 
+use crate::crowd::Crowd;
+use crate::gathering::serve_together;
+use crate::listening::{cause_of_binding, introduce};
 use crate::opening::Opener;
 use crate::sockets::serve;
 use crate::stdio::{serve_from, serve_memory};
+use crate::tokens::run_token_order;
 use clap::Error;
 use clap::error::ErrorKind;
 use registry_model::Keeper;
+use registry_orders::cause::{explain, say_at};
 use registry_orders::failure::say;
-use registry_orders::line::{Task, Told, read_words};
-use registry_orders::{Failure, Order, carry_out};
+use registry_orders::line::{Task, read_words};
+use registry_orders::unread::Told;
+use registry_orders::{Ended, Failure, Limits, Order, carry_out};
 use std::alloc::Global;
 use std::convert::AsStr;
+use std::io;
 use std::io::{Read, Write};
 use std::net::{Net, TcpListener, TcpStream};
+use std::rt::Files;
+use std::time::Clock;
 
 /// Answers a command line that is a mistake, or that asks for help or the version.
 fn tell<W: Write, E: Write>(alloc: Global, error: &Error, out: &mut W, err: &mut E) -> u8
@@ -39,9 +50,33 @@ fn tell<W: Write, E: Write>(alloc: Global, error: &Error, out: &mut W, err: &mut
     }
 }
 
+/// Lets go of a keeper, whose files are closed so.
+fn close<K: Keeper + Drop>(_keeper: K) {}
+
+/// Closes what an order or a connection was for, and where its storage has failed, says on a line behind
+/// that, where it can be seen, what is wrong with the path.
+fn end_at<K: Keeper + Drop, O: Opener<K>, E: Write>(
+    opener: &O,
+    path: &str,
+    ended: Ended<K>,
+    err: &mut E,
+) -> u8
+    ensures { result ≡ ended.status }
+{
+    let status = ended.status;
+    let failed = ended.keeper.spent() && status == Failure::StorageFailure.status();
+    close(ended.keeper);
+    if failed {
+        if let Some(cause) = opener.cause(path, Failure::StorageFailure) {
+            let _ = explain(err, path, cause);
+        }
+    }
+    status
+}
+
 /// Opens the registry at a path, and carries an order out over it.
 #[tactic(auto, using(crate::proofs::ExitStatuses::opening_read))]
-fn run_order<K: Keeper + Drop, O: Opener<K>, W: Write, E: Write>(
+pub(crate) fn run_order<K: Keeper + Drop, O: Opener<K>, W: Write, E: Write>(
     alloc: Global,
     opener: &O,
     path: &str,
@@ -59,9 +94,9 @@ fn run_order<K: Keeper + Drop, O: Opener<K>, W: Write, E: Write>(
     match opener.open(path) {
         Ok(kept) => {
             let ended = carry_out(alloc, kept, order, out, err);
-            ended.status
+            end_at(opener, path, ended, err)
         }
-        Err(failure) => say(err, failure),
+        Err(failure) => say_at(err, failure, path, opener.cause(path, failure)),
     }
 }
 
@@ -83,43 +118,122 @@ fn run_stored<K: Keeper + Drop, O: Opener<K>, R: Read, W: Write, E: Write>(
     match opener.open(path) {
         Ok(kept) => {
             let ended = serve_from(alloc, kept, reader, out, err);
-            ended.status
+            end_at(opener, path, ended, err)
         }
-        Err(failure) => say(err, failure),
+        Err(failure) => say_at(err, failure, path, opener.cause(path, failure)),
     }
 }
 
-/// Opens the registry at a path, binds the address, and serves so many connections.
+/// Serves so many connections that are taken at a listener, one after the other or together.
+fn serve_taken<T: Clock + Net, K: Keeper + Drop, O: Opener<K>, W: Write>(
+    rt: &T,
+    alloc: Global,
+    opener: &O,
+    path: &str,
+    kept: K,
+    listener: TcpListener,
+    connections: u64,
+    limits: Limits,
+    out: &mut W,
+) -> Result<(), Failure>
+    requires opened { K.is_honest kept → O.opens opener.now path.now (K.state kept) }
+    ensures { ServesAddress (serves_within limits) (Over K.is_honest K.state (O.opens opener.now path.now))
+        result (output (W.contents out.old) (W.contents out.new)) }
+{
+    if limits.at_once == 1 {
+        let mut listener = listener;
+        return serve(alloc, opener, path, kept, &mut listener, connections, out);
+    }
+    let at_once = limits.at_once as usize;
+    match Crowd::new(alloc, rt, rt, listener, limits, connections) {
+        Ok(mut crowd) => serve_together(alloc, opener, path, kept, &mut crowd, at_once, out),
+        Err(error) => match error.kind() {
+            io::ErrorKind::OutOfMemory => Err(Failure::OutOfMemory),
+            _ => Err(Failure::ConnectionFailure),
+        },
+    }
+}
+
+/// Says what is served, and serves so many connections that are taken there.
+fn serve_bound<T: AllocGlobal + Clock + Net, K: Keeper + Drop, O: Opener<K>, W: Write, E: Write>(
+    rt: &T,
+    opener: &O,
+    path: &str,
+    kept: K,
+    listener: TcpListener,
+    connections: u64,
+    limits: Limits,
+    out: &mut W,
+    err: &mut E,
+) -> Result<(), Failure>
+    requires opened { K.is_honest kept → O.opens opener.now path.now (K.state kept) }
+    ensures { ServesAddress (serves_within limits) (Over K.is_honest K.state (O.opens opener.now path.now))
+        result (output (W.contents out.old) (W.contents out.new)) }
+{
+    let alloc = rt.alloc();
+    let mut kept = kept;
+    match introduce(alloc, &mut kept, &listener, path, err) {
+        Ok(()) => serve_taken(
+            rt,
+            alloc,
+            opener,
+            path,
+            kept,
+            listener,
+            connections,
+            limits,
+            out,
+        ),
+        Err(failure) => Err(failure),
+    }
+}
+
+/// Opens the registry at a path, binds the address, says what is served, and serves so many connections.
 fn run_server<
-    T: AllocGlobal + Net<Listener = TcpListener, Stream = TcpStream>,
+    T: AllocGlobal + Clock + Net<Listener = TcpListener, Stream = TcpStream>,
     K: Keeper + Drop,
     O: Opener<K>,
     W: Write,
     E: Write,
->(rt: &T, opener: &O, path: &str, address: &str, connections: u64, out: &mut W, err: &mut E) -> u8
-    ensures runs { RunsServer (OverAt K.is_honest K.state (O.opens opener.now) path.now) result
+>(
+    rt: &T,
+    opener: &O,
+    path: &str,
+    address: &str,
+    connections: u64,
+    limits: Limits,
+    out: &mut W,
+    err: &mut E,
+) -> u8
+    ensures runs { RunsServer limits (OverAt K.is_honest K.state (O.opens opener.now) path.now) result
         (output (W.contents out.old) (W.contents out.new)) }
     ensures failed { 0 < result → 3 ≤ result }
     ensures status { result ≤ 4 }
 {
     let kept = match opener.open(path) {
         Ok(kept) => kept,
-        Err(failure) => return say(err, failure),
+        Err(failure) => return say_at(err, failure, path, opener.cause(path, failure)),
     };
-    let Ok(mut listener) = TcpListener::bind(rt, address) else {
-        return say(err, Failure::ConnectionFailure);
+    let listener = match TcpListener::bind(rt, address) {
+        Ok(listener) => listener,
+        Err(error) => {
+            let cause = cause_of_binding(error.kind());
+            return say_at(err, Failure::ConnectionFailure, address, cause);
+        }
     };
-    match serve(
-        rt.alloc(),
+    match serve_bound(
+        rt,
         opener,
         path,
         kept,
-        &mut listener,
+        listener,
         connections,
+        limits,
         out,
+        err,
     ) {
         Ok(()) => 0,
-        Err(failure) => say(err, failure),
+        Err(failure) => say_at(err, failure, path, opener.cause(path, failure)),
     }
 }
 
@@ -132,16 +246,17 @@ fn run_migration<K: Keeper, O: Opener<K>, E: Write>(opener: &O, path: &str, err:
 {
     match opener.migrate(path) {
         Ok(()) => 0,
-        Err(failure) => say(err, failure),
+        Err(failure) => say_at(err, failure, path, opener.cause(path, failure)),
     }
 }
 
 /// Does what the words behind the program's name say, with these ends for standard input, output
 /// and error, and an opener of databases, and gives the exit status: 0 done, 1 a refused command, 2
 /// the command line, 3 storage, schema or memory, 4 a socket, reading or writing failed. What is wrong
-/// with the words is told before a database is opened.
+/// with the words is told before a database is opened. With status 1 or 2 nothing was read or written, but
+/// for the line of standard input that the words take for a token.
 pub fn run_words<
-    T: AllocGlobal + Net<Listener = TcpListener, Stream = TcpStream>,
+    T: AllocGlobal + Clock + Files + Net<Listener = TcpListener, Stream = TcpStream>,
     K: Keeper + Drop,
     O: Opener<K>,
     S: AsStr,
@@ -154,7 +269,7 @@ pub fn run_words<
         (streams (R.remaining reader.old) (R.remaining reader.new)
         (W.contents out.old) (W.contents out.new)) }
     ensures refused { 0 < result → result < 3
-        → IsUntouched
+        → IsSparedFor (map S.text words.now)
         (streams (R.remaining reader.old) (R.remaining reader.new)
         (W.contents out.old) (W.contents out.new)) }
     ensures status { result ≤ 4 }
@@ -168,11 +283,22 @@ pub fn run_words<
                 path,
                 address,
                 connections,
+                limits,
             },
-        ) => run_server(rt, opener, path, address, connections, out, err),
+        ) => run_server(rt, opener, path, address, connections, limits, out, err),
         Ok(Task::Order { path, order }) => run_order(alloc, opener, path, &order, out, err),
+        Ok(
+            Task::TokenOrder {
+                path,
+                source,
+                change,
+            },
+        ) => run_token_order(rt, alloc, opener, path, source, change, reader, out, err),
         Ok(Task::Migration { path }) => run_migration::<K, O, E>(opener, path, err),
         Err(Told::Failed(failure)) => say(err, failure),
+        Err(Told::Options { word, cause }) => {
+            say_at(err, Failure::InvalidOptions, word, Some(cause))
+        }
         Err(Told::Line(error)) => tell(alloc, &error, out, err),
     }
 }

@@ -60,7 +60,7 @@ pub fn serve_one<K: Keeper>(
 fn close<K: Keeper + Drop>(_service: Service<K>) {}
 
 /// The service, or another over the registry that is opened again where this one is spent.
-fn resume<K: Keeper + Drop, O: Opener<K>>(
+pub(crate) fn resume<K: Keeper + Drop, O: Opener<K>>(
     opener: &O,
     path: &str,
     service: Service<K>,
@@ -80,7 +80,8 @@ fn resume<K: Keeper + Drop, O: Opener<K>>(
     }
 }
 
-fn announce<W: Write>(out: &mut W) -> Result<(), Failure>
+/// Says on standard output that connections are taken.
+pub(crate) fn announce<W: Write>(out: &mut W) -> Result<(), Failure>
     ensures written { OnOk result (Appends (W.contents out.old) (W.contents out.new) greeting) }
     ensures fails { IfErr result (λ failure. failure ≡ Failure.ConnectionFailure) }
 {
@@ -131,7 +132,7 @@ pub fn serve<K: Keeper + Drop, O: Opener<K>, D: Entrance, W: Write>(
     out: &mut W,
 ) -> Result<(), Failure>
     requires opened { K.is_honest kept → O.opens opener.now path.now (K.state kept) }
-    ensures { ServesAddress (Over K.is_honest K.state (O.opens opener.now path.now)) result
+    ensures { ServesAddress ServesSome (Over K.is_honest K.state (O.opens opener.now path.now)) result
         (output (W.contents out.old) (W.contents out.new)) }
 {
     match announce(out) {

@@ -10,6 +10,7 @@ ghost use Rattle.registry_store.specs.Kept.{shown};
 
 use crate::fault_noting::note_fault;
 use crate::store::Store;
+use crate::{counted_blobs, counted_manifests, counted_repos, counted_sessions};
 use oci_manifest::{Kind, Manifest};
 use oci_names::{Digest, Fault, RepoName, Tag, Token};
 use registry_model::{Keeper, Level, Quota, Usage};
@@ -141,7 +142,10 @@ impl<S: Alter> Keeper for Store<S> {
     }
 
     fn usage(&mut self, repo: &RepoName) -> Result<Usage, Fault> {
-        unless_spent!(self, store_reads::usage(self.alloc, &mut self.conn, repo))
+        unless_spent!(
+            self,
+            counted_repos::usage(self.alloc, &mut self.conn, &mut self.known, repo)
+        )
     }
 
     fn usages(&mut self, alloc: Global) -> Result<Vec<(RepoName, Usage)>, Fault> {
@@ -151,18 +155,35 @@ impl<S: Alter> Keeper for Store<S> {
     fn put_blob(&mut self, repo: &RepoName, digest: &Digest, bytes: &[u8]) -> Result<(), Fault> {
         unless_spent!(
             self,
-            store_writes::put_blob(self.alloc, &mut self.conn, repo, digest, bytes)
+            counted_blobs::put_blob(
+                self.alloc,
+                &mut self.conn,
+                &mut self.known,
+                repo,
+                digest,
+                bytes
+            )
         )
     }
 
     fn open_session(&mut self, repo: &RepoName) -> Result<u64, Fault> {
-        unless_spent!(self, store_writes::open_session(&mut self.conn, repo))
+        unless_spent!(
+            self,
+            counted_sessions::open_session(&mut self.conn, &mut self.known, repo)
+        )
     }
 
     fn append(&mut self, repo: &RepoName, number: u64, bytes: &[u8]) -> Result<(), Fault> {
         unless_spent!(
             self,
-            store_writes::append(self.alloc, &mut self.conn, repo, number, bytes)
+            counted_sessions::append(
+                self.alloc,
+                &mut self.conn,
+                &mut self.known,
+                repo,
+                number,
+                bytes
+            )
         )
     }
 
@@ -175,12 +196,42 @@ impl<S: Alter> Keeper for Store<S> {
     ) -> Result<(), Fault> {
         unless_spent!(
             self,
-            store_writes::finish(self.alloc, &mut self.conn, repo, number, digest, bytes)
+            counted_sessions::finish(
+                self.alloc,
+                &mut self.conn,
+                &mut self.known,
+                repo,
+                number,
+                digest,
+                bytes
+            )
+        )
+    }
+
+    fn finish_known(
+        &mut self,
+        repo: &RepoName,
+        number: u64,
+        digest: &Digest,
+    ) -> Result<bool, Fault> {
+        unless_spent!(
+            self,
+            counted_sessions::finish_known(
+                self.alloc,
+                &mut self.conn,
+                &mut self.known,
+                repo,
+                number,
+                digest
+            )
         )
     }
 
     fn mount(&mut self, from: &RepoName, to: &RepoName, digest: &Digest) -> Result<(), Fault> {
-        unless_spent!(self, store_writes::mount(&mut self.conn, from, to, digest))
+        unless_spent!(
+            self,
+            counted_blobs::mount(&mut self.conn, &mut self.known, from, to, digest)
+        )
     }
 
     fn put_manifest(
@@ -193,9 +244,10 @@ impl<S: Alter> Keeper for Store<S> {
     ) -> Result<(), Fault> {
         unless_spent!(
             self,
-            store_writes::put_manifest(
+            counted_manifests::put_manifest(
                 self.alloc,
                 &mut self.conn,
+                &mut self.known,
                 repo,
                 digest,
                 bytes,
@@ -208,27 +260,36 @@ impl<S: Alter> Keeper for Store<S> {
     fn delete_blob(&mut self, repo: &RepoName, digest: &Digest) -> Result<(), Fault> {
         unless_spent!(
             self,
-            store_writes::delete_blob(&mut self.conn, repo, digest)
+            counted_blobs::delete_blob(&mut self.conn, &mut self.known, repo, digest)
         )
     }
 
     fn delete_manifest(&mut self, repo: &RepoName, digest: &Digest) -> Result<(), Fault> {
         unless_spent!(
             self,
-            store_writes::delete_manifest(&mut self.conn, repo, digest)
+            counted_manifests::delete_manifest(&mut self.conn, &mut self.known, repo, digest)
         )
     }
 
     fn delete_tag(&mut self, repo: &RepoName, tag: &Tag) -> Result<(), Fault> {
-        unless_spent!(self, store_writes::delete_tag(&mut self.conn, repo, tag))
+        unless_spent!(
+            self,
+            counted_manifests::delete_tag(&mut self.conn, &mut self.known, repo, tag)
+        )
     }
 
     fn set_repo(&mut self, name: &RepoName, quota: Quota) -> Result<(), Fault> {
-        unless_spent!(self, store_writes::set_repo(&mut self.conn, name, quota))
+        unless_spent!(
+            self,
+            counted_repos::set_repo(&mut self.conn, &mut self.known, name, quota)
+        )
     }
 
     fn drop_repo(&mut self, name: &RepoName) -> Result<(), Fault> {
-        unless_spent!(self, store_writes::drop_repo(&mut self.conn, name))
+        unless_spent!(
+            self,
+            counted_repos::drop_repo(&mut self.conn, &mut self.known, name)
+        )
     }
 
     fn grant(&mut self, token: &Token, name: &RepoName, level: Level) -> Result<(), Fault> {
@@ -243,7 +304,10 @@ impl<S: Alter> Keeper for Store<S> {
     }
 
     fn drop_sessions(&mut self, name: &RepoName) -> Result<(), Fault> {
-        unless_spent!(self, store_writes::drop_sessions(&mut self.conn, name))
+        unless_spent!(
+            self,
+            counted_sessions::drop_sessions(&mut self.conn, &mut self.known, name)
+        )
     }
 
     /// Frees each content that no blob, manifest or upload session names: exactly the others stay, and the

@@ -13,19 +13,21 @@ ghost use Rattle.store_opening.specs.Opening.{IsIdle, HoldsRegistry};
 ghost use Rattle.store_opening.specs.Asking.{IsWanting, IsTold, NamesNotTwo};
 ghost use Rattle.registry_store.specs.Opening.{IsOurs, OpensOn};
 
+use crate::known_usages::KnownUsages;
 use crate::written::Written;
 use sqlite::{Alter, Connection, FileFrom, FileStore, MemStore};
 use std::alloc::Global;
 use std::marker::Model;
 use store_opening::{OpenFault, fault_in_opening, take_up};
 
-/// Keeps a registry's world in the tables of a database. Once the storage has failed it is spent, and
-/// answers `Fault::Storage` alone.
+/// Keeps a registry's world in the tables of a database, and knows besides what some of its repositories
+/// hold. Once the storage has failed it is spent, and answers `Fault::Storage` alone.
 #[derive(Drop)]
 pub struct Store<S: Alter> {
     pub(crate) alloc: Global,
     pub(crate) conn: Connection<S>,
     pub(crate) spent: bool,
+    pub(crate) known: KnownUsages,
 }
 
 impl<S: Alter> Model for Store<S> {
@@ -33,7 +35,8 @@ impl<S: Alter> Model for Store<S> {
     ghost use Rattle.sqlite.specs.State.{HasCleanDisk};
     ghost use Rattle.sqlite.specs.Held.{state};
     ghost use Rattle.registry_store.specs.Kept.{Kept, kept_code};
-    ghost use Rattle.store_statements.specs.Held.{IsSettled};
+    ghost use Rattle.registry_store.specs.Usages.{Knows};
+    ghost use Rattle.store_statements.specs.Held.{IsSettled, world_in};
 
     ghost Value = { Kept S };
 
@@ -42,7 +45,7 @@ impl<S: Alter> Model for Store<S> {
     ghost view = { λ s. record { conn = s.conn; spent = s.spent } };
 
     ghost invariant = { λ s. s.spent ≡ false → HasCleanDisk (state S.Store s.conn)
-        → IsSettled (state S.Store s.conn) };
+        → IsSettled (state S.Store s.conn) × Knows s.known (world_in (state S.Store s.conn)) };
 }
 
 impl Store<MemStore> {
@@ -98,6 +101,7 @@ impl<S: Alter + Drop> Store<S> {
                 alloc,
                 conn,
                 spent: false,
+                known: KnownUsages::new(alloc),
             }),
             Err(fault) => Err((fault, conn)),
         }

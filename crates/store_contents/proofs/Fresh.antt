@@ -16,6 +16,7 @@ texts_known : KnowsTexts fresh_schema contents_stand
 unfolding understood everything same_name contents_stand
 texts_known = record {
   find = record { is = refl; plain = (refl, refl); unlisted = refl };
+  hash = record { is = refl; plain = (refl, refl); unlisted = refl };
   add = record { is = refl; plain = (refl, refl); unlisted = refl };
   read = record { is = refl; plain = (refl, refl); unlisted = refl };
   list = record { is = refl; plain = (refl, refl); unlisted = refl };

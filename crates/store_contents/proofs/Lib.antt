@@ -1,6 +1,7 @@
 pub mod Fresh
 pub mod InsideLemmas
 pub mod SearchLemmas
+pub mod HashLemmas
 pub mod AddLemmas
 pub mod RemoveLemmas
 pub mod ReadLemmas

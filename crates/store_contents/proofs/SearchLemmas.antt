@@ -28,7 +28,7 @@ use Rattle.store_contents.specs.Search.{has_sha256, found_columns, is_blob, show
 
 -- ---- by the digest
 
-chosen-sha256 : (sha256 : List ℕ) (rows : List Row) → AreContentRows rows → chosen (Text sha256 ∷ []) find_terms rows ≡ filter (has_sha256 sha256) rows
+pub chosen-sha256 : (sha256 : List ℕ) (rows : List Row) → AreContentRows rows → chosen (Text sha256 ∷ []) find_terms rows ≡ filter (has_sha256 sha256) rows
 chosen-sha256 sha256 rows h = filter_same _ _ rows (all_weaker IsContentRow _ (λ r it. one_test _ _ (is_text (column r 2) _ sha256 it.sha256)) rows h)
 
 pub candidates_shown : (old new : State) (sha256 : List ℕ) (r : Answer) → HoldsContents old.now → IfOk r (λ rows. Shown find_text (Text sha256 ∷ []) old new rows.items)

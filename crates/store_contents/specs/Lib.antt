@@ -1,4 +1,5 @@
 pub mod Texts
 pub mod Contents
 pub mod Search
+pub mod Hashed
 pub mod Linked

@@ -15,6 +15,9 @@ use Rattle.store_schema.specs.Commands.{selects, deletes}
 abbrev pub find_text : List ℕ
 find_text = codes "SELECT id, bytes FROM registry_contents WHERE sha256 = ?1"
 
+abbrev pub hash_text : List ℕ
+hash_text = codes "SELECT id FROM registry_contents WHERE sha256 = ?1"
+
 abbrev pub add_text : List ℕ
 add_text = codes "INSERT INTO registry_contents (sha256, size, bytes) VALUES (?1, ?2, ?3)"
 
@@ -39,6 +42,8 @@ add_terms = lit Null ∷ lit Null ∷ col 0 0 ∷ col 0 1 ∷ col 0 2 ∷ []
 pub record KnowsTexts (schema : Schema) (stands : Stands schema contents_table) : Type 0 where
   pub find : Means schema find_text
       (selects schema contents_table find_terms (col 1 0 ∷ col 1 4 ∷ []) (codes "id" ∷ codes "bytes" ∷ []))
+  pub hash : Means schema hash_text
+      (selects schema contents_table find_terms (col 1 0 ∷ []) (codes "id" ∷ []))
   pub add : Means schema add_text (Insert stands.at (Values add_terms 5))
   pub read : Means schema read_text
       (selects schema contents_table by_id (col 1 4 ∷ []) (codes "bytes" ∷ []))

@@ -5,6 +5,7 @@
 mod add;
 mod content_id;
 mod fault;
+mod hashed;
 mod keep;
 pub mod laws;
 mod listing;
@@ -14,6 +15,7 @@ mod search;
 
 pub use content_id::ContentId;
 pub use fault::fault_of;
+pub use hashed::is_hashed;
 pub use keep::{find_or_add, find_or_add_hashed};
 pub use listing::unlinked;
 pub use read::{bytes_of, read_bytes};

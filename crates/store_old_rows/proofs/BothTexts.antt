@@ -107,6 +107,7 @@ pub content_texts : KnowsTexts both_schema contents_stand
 unfolding understood everything same_name contents_stand
 content_texts = record {
   find = record { is = refl; plain = (refl, refl); unlisted = refl };
+  hash = record { is = refl; plain = (refl, refl); unlisted = refl };
   add = record { is = refl; plain = (refl, refl); unlisted = refl };
   read = record { is = refl; plain = (refl, refl); unlisted = refl };
   list = record { is = refl; plain = (refl, refl); unlisted = refl };

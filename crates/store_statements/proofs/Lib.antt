@@ -24,3 +24,4 @@ pub mod ManifestReads
 pub mod InOrder
 pub mod PageRows
 pub mod ContentRows
+pub mod ContentDigests

@@ -12,5 +12,6 @@ pub mod Clauses
 pub mod Steps
 pub mod Shown
 pub mod ManifestShown
+pub mod ContentShown
 pub mod TagPages
 pub mod Drops

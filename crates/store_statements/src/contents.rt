@@ -3,14 +3,16 @@ ghost use Rattle.std.specs.Prelude.{◌≡◌, true, IfOk};
 ghost use Rattle.sqlite.specs.State.{HasCleanDisk};
 ghost use Rattle.sqlite.specs.Held.{state};
 ghost use Rattle.oci_names.specs.Digest.{matches};
-ghost use Rattle.store_statements.specs.Clauses.{KeepsInside, LastsUncommitted};
+ghost use Rattle.store_statements.specs.Clauses.{Finds, KeepsInside, Lasts, LastsUncommitted, Settled, Stays};
+ghost use Rattle.store_statements.specs.ContentShown.{has_sha256_digest};
 ghost use Rattle.store_statements.specs.Held.{IsReady, held};
 ghost use Rattle.store_statements.specs.Steps.{ContentKept};
 
+use crate::open_check::checked_fault;
 use oci_names::Fault;
-use sqlite::{Alter, Transaction};
+use sqlite::{Alter, Connection, Transaction};
 use std::alloc::Global;
-use store_contents::{ContentId, find_or_add, find_or_add_hashed};
+use store_contents::{ContentId, find_or_add, find_or_add_hashed, is_hashed};
 
 /// The content that has the bytes: it was there, or it is added.
 pub fn keep<S: Alter>(
@@ -50,5 +52,27 @@ pub fn keep_matching<S: Alter>(
     match digest.strip_prefix("sha256:") {
         Some(sha256) => find_or_add_hashed(tx, sha256, bytes),
         None => find_or_add(alloc, tx, bytes),
+    }
+}
+
+/// Whether the content's bytes have the digest, of one of sha256; of any other `false`, as where there is no
+/// such content. No bytes are read.
+pub fn has_digest<S: Alter>(
+    conn: &mut Connection<S>,
+    content: ContentId,
+    digest: &str,
+) -> Result<bool, Fault>
+    requires { Settled S.Store conn.old }
+    ensures found { Finds S.Store conn.old conn.new result
+        (λ t has. has ≡ has_sha256_digest (t.contents content.id) digest.now) }
+    ensures settled { Stays S.Store conn.old conn.new result }
+    ensures survives { Lasts S.Store conn.old conn.new }
+{
+    match digest.strip_prefix("sha256:") {
+        Some(sha256) => match is_hashed(conn, content, sha256) {
+            Ok(found) => Ok(found),
+            Err(fault) => Err(checked_fault(conn, fault)),
+        },
+        None => Ok(false),
     }
 }

@@ -8,5 +8,6 @@ pub mod RowCounts
 pub mod ContentSteps
 pub mod ManifestPuts
 pub mod SessionWrites
+pub mod KnownEnds
 pub mod ContentNaming
 pub mod ContentsFreed

@@ -7,7 +7,8 @@ use Rattle.registry_orders.proofs.line.command.Goals as goal
 
 pub returns : goal.returns
 returns c =
-    let named = ap app_of_fields c.about.ensures ∙ c.new.ensures.app in
+    let called = ap app_of_fields c.in_ok-bin_name.ensures.0 ∙ c.new.ensures.app in
+    let named = ap app_of_fields c.about.ensures ∙ called in
     let versioned = ap app_of_fields c.version.ensures ∙ ap (on_top (λ (s : Shape). record s { has_version = true })) named in
     let bare = ap app_of_fields c.no_binary_name.ensures ∙ ap (on_top (λ (s : Shape). record s { no_binary_name = true })) versioned in
     let wanting = ap app_of_fields c.subcommand_required.ensures ∙ ap (on_top (λ (s : Shape). record s { subcommand_required = true })) bare in

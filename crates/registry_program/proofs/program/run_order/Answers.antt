@@ -4,7 +4,8 @@ use Rattle.registry_program.proofs.program.run_order.Goals as goal
 pub returns-in-Ok-clause-runs : goal.returns-in-Ok-clause-runs
 returns-in-Ok-clause-runs g c =
     let carried = c.carry_out-ended in
-    inr (record {
+    rw c.end_at.ensures
+    (inr (record {
       last = carried.result.keeper;
       says = λ honest. (g.K.Keeper.state c.in-Ok.kept, c.in-Ok.ensures.opened (carried.ensures.honest honest), carried.ensures.carries honest);
-    })
+    }))

@@ -4,7 +4,8 @@ use Rattle.registry_program.proofs.program.run_stored.Goals as goal
 pub returns-in-Ok-clause-runs : goal.returns-in-Ok-clause-runs
 returns-in-Ok-clause-runs g c =
     let served = c.serve_from-ended in
-    inr (record {
+    rw c.end_at.ensures
+    (inr (record {
       last = served.result.keeper;
       says = λ honest. (g.K.Keeper.state c.in-Ok.kept, c.in-Ok.ensures.opened (served.ensures.honest honest), served.ensures.serves honest);
-    })
+    }))

@@ -4,10 +4,12 @@ use Rattle.registry_store.proofs.KeeperAnswers.{write_told, written, unfailed}
 use Rattle.registry_store.proofs.keeper.StoreKeeper.delete_blob.Goals as goal
 
 pub delete_blob-answer-requires : goal.delete_blob-answer-requires
-delete_blob-answer-requires g c = record { settled = λ clean. c.self.invariant c.if-self.false clean }
+delete_blob-answer-requires g c = record { settled = λ clean. (c.self.invariant c.if-self.false clean).0; known = λ clean. (c.self.invariant c.if-self.false clean).1 }
 
 pub invariant_of-self : goal.invariant_of-self
-invariant_of-self g c unspent clean = written c.delete_blob-answer.result (state g.S.Store c.self.inside.conn) (state g.S.Store c.delete_blob-answer.new.conn) _ (unfailed _ _ _ c.note_fault.ensures.noted unspent) (c.delete_blob-answer.ensures.made clean) (c.delete_blob-answer.ensures.memory clean)
+invariant_of-self g c unspent clean =
+    let sound = unfailed _ _ _ c.note_fault.ensures.noted unspent in
+    (written c.delete_blob-answer.result (state g.S.Store c.self.inside.conn) (state g.S.Store c.delete_blob-answer.new.conn) _ sound (c.delete_blob-answer.ensures.made clean) (c.delete_blob-answer.ensures.memory clean), c.delete_blob-answer.ensures.known clean sound)
 
 pub returns-clause-made : goal.returns-clause-made
 returns-clause-made g c clean = write_told g.S.Store c.self.inside.conn c.args.self.now c.self.inside.spent c.self.view_is c.delete_blob-answer.new.conn (λ w. delete_blob w c.args.repo.now c.args.digest.now) c.note_fault.result c.delete_blob-answer.result c.note_fault.new.spent c.if-self.false c.note_fault.ensures.same c.note_fault.ensures.noted (c.delete_blob-answer.ensures.made clean) (c.delete_blob-answer.ensures.memory clean)

@@ -4,10 +4,12 @@ use Rattle.registry_store.proofs.KeeperAnswers.{write_told, written, unfailed}
 use Rattle.registry_store.proofs.keeper.StoreKeeper.drop_sessions.Goals as goal
 
 pub drop_sessions-answer-requires : goal.drop_sessions-answer-requires
-drop_sessions-answer-requires g c = record { settled = λ clean. c.self.invariant c.if-self.false clean }
+drop_sessions-answer-requires g c = record { settled = λ clean. (c.self.invariant c.if-self.false clean).0; known = λ clean. (c.self.invariant c.if-self.false clean).1 }
 
 pub invariant_of-self : goal.invariant_of-self
-invariant_of-self g c unspent clean = written c.drop_sessions-answer.result (state g.S.Store c.self.inside.conn) (state g.S.Store c.drop_sessions-answer.new.conn) _ (unfailed _ _ _ c.note_fault.ensures.noted unspent) (c.drop_sessions-answer.ensures.made clean) (c.drop_sessions-answer.ensures.memory clean)
+invariant_of-self g c unspent clean =
+    let sound = unfailed _ _ _ c.note_fault.ensures.noted unspent in
+    (written c.drop_sessions-answer.result (state g.S.Store c.self.inside.conn) (state g.S.Store c.drop_sessions-answer.new.conn) _ sound (c.drop_sessions-answer.ensures.made clean) (c.drop_sessions-answer.ensures.memory clean), c.drop_sessions-answer.ensures.known clean sound)
 
 pub returns-clause-made : goal.returns-clause-made
 returns-clause-made g c clean = write_told g.S.Store c.self.inside.conn c.args.self.now c.self.inside.spent c.self.view_is c.drop_sessions-answer.new.conn (λ w. drop_sessions w c.args.name.now) c.note_fault.result c.drop_sessions-answer.result c.note_fault.new.spent c.if-self.false c.note_fault.ensures.same c.note_fault.ensures.noted (c.drop_sessions-answer.ensures.made clean) (c.drop_sessions-answer.ensures.memory clean)

@@ -3,4 +3,4 @@ use Rattle.registry_store.specs.Kept.{Kept}
 use Rattle.registry_store.proofs.store.Store.into_connection.Goals as goal
 
 pub returns-clause-settled : goal.returns-clause-settled
-returns-clause-settled g c unspent clean = c.self.invariant (ap (λ (k : Kept g.row.S.Denot). k.spent) c.self.view_is ∙ unspent) clean
+returns-clause-settled g c unspent clean = (c.self.invariant (ap (λ (k : Kept g.row.S.Denot). k.spent) c.self.view_is ∙ unspent) clean).0

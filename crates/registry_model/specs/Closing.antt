@@ -1,0 +1,29 @@
+-- An upload session that ends with the bytes that it has, where a keeper knows without reading them what their
+-- digest is.
+use Rattle.std.specs.Prelude.{◌≡◌, ℕ, Bool, true, false, Result, Ok, Err, ⊤}
+use Rattle.std.specs.Option.{option_map_or}
+use Rattle.oci_names.specs.Text.{Text}
+use Rattle.oci_names.specs.Digest.{matches}
+use Rattle.oci_names.specs.declared.fault.Fault.{Fault}
+use Rattle.oci_names.specs.declared.fault.Fault.TheVariants.{Memory, Storage}
+use Rattle.registry_model.specs.World.{World}
+use Rattle.registry_model.specs.Lookups.{session_at, bytes_or_none, finish}
+use Rattle.registry_model.specs.Keeping.{State}
+
+-- the session is open, and its bytes match the digest
+abbrev pub session_matches : World → Text → ℕ → Text → Bool
+session_matches w name number digest =
+    option_map_or (λ bytes. matches digest bytes) (session_at w name number) false
+
+-- the session ends, and the bytes that it has are a blob
+abbrev pub finish_as_is : World → Text → ℕ → Text → World
+finish_as_is w name number digest =
+    finish w name number digest (bytes_or_none (session_at w name number))
+
+-- a write that is made only where this is so, to the world w; an answer that it was not made says nothing of
+-- whether it is so, and nothing changes then
+abbrev pub WritesWhereSo : Result Bool Fault → Bool → World → State → State → Type 0
+WritesWhereSo (Ok true) so w s s' = (so ≡ true) × (s' ≡ record { world = w; spent = false })
+WritesWhereSo (Ok false) so w s s' = s' ≡ s
+WritesWhereSo (Err Memory) so w s s' = s' ≡ s
+WritesWhereSo (Err Storage) so w s s' = ⊤

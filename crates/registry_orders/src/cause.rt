@@ -1,0 +1,151 @@
+//! The second line on standard error: a place, and what is wrong there.
+ghost use Rattle.std.specs.Prelude.{◌≡◌, Option, OnOk};
+ghost use Rattle.std.specs.Io.KnownBytes.{Appends};
+ghost use Rattle.oci_names.specs.Text.{Text};
+ghost use Rattle.registry_orders.specs.declared.cause.Cause.{Cause};
+ghost use Rattle.registry_orders.specs.Failures.{status_of};
+ghost use Rattle.registry_orders.specs.Causes.{words_of, line_of, line_if, lines_of, IsAtMostOneLine};
+
+use crate::failure::Failure;
+use std::io::Write;
+use std::{fmt, io};
+
+/// What is wrong with a place: the path of a database, an address, or a subcommand.
+#[derive(Clone, Copy)]
+pub enum Cause {
+    InUse,
+    NoFolder,
+    IsFolder,
+    /// SQLite takes the path for something else.
+    NoFileName,
+    /// It is a link that leads nowhere, a device, or a file of several names.
+    NoPlainFile,
+    NoRightToRead,
+    NoRightToWrite,
+    ReadOnly,
+    /// It is a file of another kind.
+    NoDatabase,
+    /// What another program left beside it has to be played back first.
+    Journal,
+    DiskFull,
+    /// The database a database, but no registry's.
+    NoRegistry,
+    PortInUse,
+    NoAddress,
+    NoHost,
+    /// No address of this machine.
+    Elsewhere,
+    NoRightToPort,
+    /// The options of `stdio` do not go together.
+    StdioOptions,
+    /// A token is given twice, or not at all.
+    TokenOptions,
+    NoFile,
+    Unreadable,
+    /// The first line that was read is no token.
+    NoToken,
+}
+
+impl Cause {
+    /// What is said of it.
+    pub fn words(self) -> &'static str
+        ensures { result.now ≡ words_of self }
+    {
+        match self {
+            Cause::InUse => "in use by another process",
+            Cause::NoFolder => "no such folder",
+            Cause::IsFolder => "is a folder",
+            Cause::NoFileName => "not the name of a file",
+            Cause::NoPlainFile => "is a link, a device or a file of several names",
+            Cause::NoRightToRead => "no right to read",
+            Cause::NoRightToWrite => "no right to write",
+            Cause::ReadOnly => "on a file system that is read-only",
+            Cause::NoDatabase => "no database, but a file of another kind",
+            Cause::Journal => "has a rollback journal beside it, which sqlite3 has to play back",
+            Cause::DiskFull => "the disk is full",
+            Cause::NoRegistry => "a database, but no registry's",
+            Cause::PortInUse => "port in use",
+            Cause::NoAddress => "not an address",
+            Cause::NoHost => "no address is known for this name",
+            Cause::Elsewhere => "not an address of this machine",
+            Cause::NoRightToPort => "no right to the port",
+            Cause::StdioOptions => {
+                "wants --db PATH, or --memory with --repo NAME=QUOTA and --grant TOKEN=NAME=LEVEL"
+            }
+            Cause::TokenOptions => "wants one of --token TOKEN and --token-file PATH",
+            Cause::NoFile => "no such file",
+            Cause::Unreadable => "cannot be read",
+            Cause::NoToken => "the first line is no token",
+        }
+    }
+}
+
+/// The line of a cause, without its end.
+#[derive(Drop)]
+struct Reason<'a> {
+    place: &'a str,
+    cause: Cause,
+}
+
+impl<'a> fmt::Display for Reason<'a> {
+    ghost use Rattle.std.specs.Prelude.{Some};
+    ghost use Rattle.registry_orders.specs.Causes.{reason_of};
+
+    ghost output = { λ r. Some (reason_of r.place.now r.cause) };
+
+    fn fmt<W: fmt::Write>(&self, f: &mut fmt::Formatter<W>) -> fmt::Result {
+        let place = self.place;
+        let words = self.cause.words();
+        write!(f, "registry: {place}: {words}")
+    }
+}
+
+/// Says `registry: PLACE: CAUSE`. Nothing is said of a place that has a line's end in it.
+pub fn explain<E: Write>(err: &mut E, place: &str, cause: Cause) -> io::Result<()>
+    ensures { OnOk result (Appends (E.contents err.old) (E.contents err.new) (line_of place.now cause)) }
+{
+    if place.as_bytes().contains(&b'\n') {
+        return Ok(());
+    }
+    let reason = Reason { place, cause };
+    writeln!(err, "{reason}")
+}
+
+/// The same, where a cause is known.
+fn explain_if<E: Write>(err: &mut E, place: &str, cause: Option<Cause>) -> io::Result<()>
+    ensures { OnOk result (Appends (E.contents err.old) (E.contents err.new) (line_if place.now cause)) }
+{
+    match cause {
+        Some(cause) => explain(err, place, cause),
+        None => Ok(()),
+    }
+}
+
+/// Says what failed, and on a line behind it, where that is known, what is wrong with a place.
+pub fn tell_at<E: Write>(
+    err: &mut E,
+    failure: Failure,
+    place: &str,
+    cause: Option<Cause>,
+) -> io::Result<()>
+    ensures { OnOk result (Appends (E.contents err.old) (E.contents err.new)
+        (lines_of failure place.now cause)) }
+{
+    match writeln!(err, "{failure}") {
+        Ok(()) => explain_if(err, place, cause),
+        Err(error) => Err(error),
+    }
+}
+
+/// Says what failed, as `tell_at` does, and gives the exit status.
+pub fn say_at<E: Write>(err: &mut E, failure: Failure, place: &str, cause: Option<Cause>) -> u8
+    ensures { result ≡ status_of failure }
+{
+    let _ = tell_at(err, failure, place, cause);
+    failure.status()
+}
+
+/// What stands behind the line of a failure is nothing, or one line.
+pub fn a_cause_takes_one_line()
+    ensures { (place : Text) (cause : Option Cause) → IsAtMostOneLine (line_if place cause) }
+{}

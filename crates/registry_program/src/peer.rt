@@ -1,0 +1,255 @@
+//! One of many sockets, and what is known of it without asking it again.
+ghost use Rattle.std.specs.Prelude.{◌≡◌, ◌≤◌, length, IfSome};
+ghost use Rattle.registry_server.specs.Open.{outgoing_of};
+ghost use Rattle.registry_server.specs.Showing.{connected};
+ghost use Rattle.registry_server.specs.Events.{Carries};
+
+use mio::event::Event;
+use mio::net::TcpStream;
+use registry_conversation::Wants;
+use registry_server::{Connections, Turn};
+use std::alloc::Global;
+use std::io::{ErrorKind, Read, Write};
+use std::time::Duration;
+
+/// So many bytes that moved are a sign of life.
+const SIGN_OF_LIFE: usize = 65_536;
+
+/// So often a socket is written to, before others have their turn.
+const WRITES: usize = 16;
+
+/// After so many seconds of rest room is given back.
+const REST: u64 = 1;
+
+/// A socket, and the number of its connection.
+#[derive(Drop)]
+pub struct Peer {
+    pub number: u64,
+    stream: TcpStream,
+    /// More may be there to be read.
+    pub readable: bool,
+    /// More may be taken.
+    pub writable: bool,
+    /// It has closed its end, so that the input's end is there to be read.
+    closed: bool,
+    /// It failed.
+    pub failed: bool,
+    /// Its connection may keep room that holds nothing.
+    keeps_room: bool,
+    /// What its connection waits for, and how many bytes it holds of requests and of replies.
+    pub wants: Option<Wants>,
+    pub coming: usize,
+    pub going: usize,
+    /// When there was a sign of life last, and how many bytes moved since.
+    pub since: Duration,
+    moved: usize,
+}
+
+impl Peer {
+    pub fn new(number: u64, stream: TcpStream, now: Duration) -> Peer {
+        Peer {
+            number,
+            stream,
+            readable: true,
+            writable: true,
+            closed: false,
+            failed: false,
+            keeps_room: false,
+            wants: Some(Wants::Bytes),
+            coming: 0,
+            going: 0,
+            since: now,
+            moved: 0,
+        }
+    }
+
+    /// It is to be read.
+    pub fn speaks(&self) -> bool {
+        self.readable && !self.failed && self.wants == Some(Wants::Bytes)
+    }
+
+    /// It is to be written to.
+    pub fn listens(&self) -> bool {
+        self.writable && !self.failed && self.going > 0
+    }
+
+    /// It is between two requests.
+    pub fn rests(&self) -> bool {
+        self.coming == 0 && self.going == 0
+    }
+
+    /// All is said, or it failed.
+    pub fn ended(&self) -> bool {
+        self.failed || self.wants == Some(Wants::Nothing)
+    }
+
+    /// Nothing was heard from it or taken by it for so long.
+    pub fn silent(&self, now: Duration) -> Duration {
+        now.saturating_sub(self.since)
+    }
+
+    /// A sign of life.
+    pub fn lives(&mut self, now: Duration) {
+        self.moved = 0;
+        self.since = now;
+    }
+
+    fn moves(&mut self, count: usize, now: Duration) {
+        self.moved = self.moved.saturating_add(count);
+        if self.moved >= SIGN_OF_LIFE {
+            self.lives(now);
+        }
+    }
+
+    /// Notes what it was found ready for.
+    pub fn note(&mut self, event: &Event) {
+        let failed = event.is_error();
+        let closed = event.is_read_closed();
+        self.closed = self.closed || closed || failed;
+        self.readable = self.readable || self.closed || event.is_readable();
+        self.writable = self.writable || failed || event.is_writable() || event.is_write_closed();
+    }
+
+    /// Looks at what its connection holds and waits for.
+    pub fn look(&mut self, connections: &Connections) {
+        self.going = connections.outgoing(self.number).len();
+        let held = connections.held(self.number);
+        self.coming = held.saturating_sub(self.going);
+        self.wants = connections.wants(self.number);
+    }
+
+    /// Bytes came, as many as there was room for or fewer.
+    fn heard(&mut self, count: usize, whole: bool, now: Duration) {
+        self.moves(count, now);
+        // Fewer were all; the end of the input is told with an event.
+        self.readable = self.closed || whole;
+        self.keeps_room = true;
+    }
+
+    fn read_failed(&mut self, kind: ErrorKind) {
+        match kind {
+            ErrorKind::WouldBlock => self.readable = false,
+            ErrorKind::Interrupted => {}
+            _ => self.failed = true,
+        }
+    }
+
+    fn write_failed(&mut self, kind: ErrorKind)
+        ensures { self.new.number ≡ self.old.number }
+    {
+        match kind {
+            ErrorKind::WouldBlock => self.writable = false,
+            ErrorKind::Interrupted => {}
+            _ => self.failed = true,
+        }
+    }
+
+    /// Reads once, at most as many bytes as there is room.
+    fn read_once(&mut self, connections: &mut Connections, room: &mut [u8], now: Duration)
+        ensures { Carries (connected connections.old) (connected connections.new) }
+    {
+        match self.stream.read(room) {
+            Ok(0) => {
+                self.readable = false;
+                let _ = connections.finish(self.number);
+            }
+            Ok(count) => {
+                let count = count.min(room.len());
+                let _ = connections.receive(self.number, &room[..count]);
+                self.heard(count, count == room.len(), now);
+            }
+            Err(error) => self.read_failed(error.kind()),
+        }
+    }
+
+    /// Reads once, if it may.
+    pub fn hear_if(
+        &mut self,
+        may: bool,
+        connections: &mut Connections,
+        room: &mut [u8],
+        now: Duration,
+    )
+        ensures { Carries (connected connections.old) (connected connections.new) }
+    {
+        if may {
+            self.read_once(connections, room, now);
+            self.look(connections);
+        }
+    }
+
+    /// Writes once; answers how many bytes went.
+    fn write_once(&mut self, connections: &Connections) -> Option<usize>
+        ensures bound { IfSome result (λ count. count
+            ≤ length (outgoing_of self.old.number (connected connections.now).slots)) }
+        ensures number { self.new.number ≡ self.old.number }
+    {
+        let going = connections.outgoing(self.number);
+        if going.is_empty() {
+            return None;
+        }
+        match self.stream.write(going) {
+            Ok(0) => {
+                self.failed = true;
+                None
+            }
+            Ok(count) => Some(count.min(going.len())),
+            Err(error) => {
+                self.write_failed(error.kind());
+                None
+            }
+        }
+    }
+
+    /// Writes what is to go out, as far as it is taken, but not for ever.
+    fn write_out(&mut self, connections: &mut Connections, now: Duration)
+        ensures { Carries (connected connections.old) (connected connections.new) }
+    {
+        for _ in 0..WRITES {
+            let Some(count) = self.write_once(connections) else {
+                return;
+            };
+            let _ = connections.sent(self.number, count);
+            self.moves(count, now);
+        }
+    }
+
+    /// The same, and looks whether all went, which is a sign of life.
+    fn tell(&mut self, connections: &mut Connections, now: Duration)
+        ensures { Carries (connected connections.old) (connected connections.new) }
+    {
+        self.write_out(connections, now);
+        self.look(connections);
+        if self.going == 0 {
+            self.lives(now);
+        }
+    }
+
+    /// The same, if it is to be written to.
+    pub fn tell_if(&mut self, takes: bool, connections: &mut Connections, now: Duration)
+        ensures { Carries (connected connections.old) (connected connections.new) }
+    {
+        if takes {
+            self.tell(connections, now);
+        }
+    }
+
+    /// Sends what came of a turn, if it was its own.
+    pub fn tell_of(&mut self, turn: &Turn, connections: &mut Connections, now: Duration)
+        ensures { Carries (connected connections.old) (connected connections.new) }
+    {
+        if self.number == turn.number {
+            self.tell(connections, now);
+        }
+    }
+
+    /// Where it rests for some time, gives back the room that its connection keeps.
+    pub fn rest(&mut self, alloc: Global, connections: &mut Connections, now: Duration)
+        ensures { connected connections.new ≡ connected connections.old }
+    {
+        if self.keeps_room && self.rests() && self.silent(now) >= Duration::from_secs(REST) {
+            self.keeps_room = false;
+            connections.give_back(alloc, self.number);
+        }
+    }
+}

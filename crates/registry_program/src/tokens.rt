@@ -1,0 +1,151 @@
+//! Orders whose token is read from a file or from standard input.
+ghost use Rattle.std.specs.Prelude.{◌≡◌, ◌≢◌, ◌<◌, ◌≤◌, ◌⊎◌, IfErr};
+ghost use Rattle.registry_orders.specs.Failures.{IsOfWords};
+ghost use Rattle.registry_orders.specs.Carrying.{IsSilent, output};
+ghost use Rattle.registry_program.specs.Stored.{OverAt};
+ghost use Rattle.registry_program.specs.Program.{streams};
+ghost use Rattle.registry_program.specs.Running.{RunsByInput, RunsByFile, RunsTokenOrder};
+ghost use Rattle.registry_program.specs.Running.{IsWithoutToken, LacksTokenOf};
+
+use crate::opening::Opener;
+use crate::program::run_order;
+use oci_names::Token;
+use registry_model::Keeper;
+use registry_orders::cause::say_at;
+use registry_orders::{Cause, Failure, Order, TokenChange, TokenSource, read_token};
+use std::alloc::Global;
+use std::fs;
+use std::io::{ErrorKind, Read, Write};
+use std::rt::Files;
+
+/// Why there is no token.
+#[derive(Clone, Copy)]
+struct NoToken {
+    failure: Failure,
+    cause: Option<Cause>,
+}
+
+/// Why what was read is no token.
+fn no_token(failure: Failure) -> NoToken
+    ensures { result.failure ≡ failure }
+{
+    let cause = match failure {
+        Failure::InvalidToken => Some(Cause::NoToken),
+        Failure::InvalidOptions => Some(Cause::Unreadable),
+        _ => None,
+    };
+    NoToken { failure, cause }
+}
+
+fn cause_of_file(kind: ErrorKind) -> Cause {
+    match kind {
+        ErrorKind::NotFound | ErrorKind::NotADirectory => Cause::NoFile,
+        ErrorKind::PermissionDenied => Cause::NoRightToRead,
+        _ => Cause::Unreadable,
+    }
+}
+
+/// The token that is the first line of the file at a path.
+fn token_in_file<T: Files>(rt: &T, alloc: Global, path: &str) -> Result<Token, NoToken>
+    ensures { IfErr result (λ none. IsOfWords none.failure) }
+{
+    let mut file = match fs::open(rt, path) {
+        Ok(file) => file,
+        Err(error) => {
+            return Err(NoToken {
+                failure: Failure::InvalidOptions,
+                cause: Some(cause_of_file(error.kind())),
+            });
+        }
+    };
+    match read_token(alloc, &mut file) {
+        Ok(token) => Ok(token),
+        Err(failure) => Err(no_token(failure)),
+    }
+}
+
+/// Carries out an order, the token of which is the first line of standard input.
+fn run_by_input<K: Keeper + Drop, O: Opener<K>, R: Read, W: Write, E: Write>(
+    alloc: Global,
+    opener: &O,
+    path: &str,
+    change: TokenChange,
+    reader: &mut R,
+    out: &mut W,
+    err: &mut E,
+) -> u8
+    ensures runs { ((result ≢ 2)
+        × RunsByInput (OverAt K.is_honest K.state (O.opens opener.now) path.now) change result
+        (streams (R.remaining reader.old) (R.remaining reader.new)
+        (W.contents out.old) (W.contents out.new)))
+        ⊎ IsWithoutToken result (output (W.contents out.old) (W.contents out.new)) }
+    ensures silent { 0 < result → result < 4
+        → IsSilent (output (W.contents out.old) (W.contents out.new)) }
+    ensures status { result ≤ 4 }
+{
+    match read_token(alloc, reader) {
+        Ok(token) => {
+            let order = Order::Change(change.with(token));
+            run_order(alloc, opener, path, &order, out, err)
+        }
+        Err(failure) => say_at(err, failure, "standard input", no_token(failure).cause),
+    }
+}
+
+/// Carries out an order, the token of which is the first line of a file.
+fn run_by_file<T: Files, K: Keeper + Drop, O: Opener<K>, W: Write, E: Write>(
+    rt: &T,
+    alloc: Global,
+    opener: &O,
+    path: &str,
+    file: &str,
+    change: TokenChange,
+    out: &mut W,
+    err: &mut E,
+) -> u8
+    ensures runs { ((result ≢ 2)
+        × RunsByFile (OverAt K.is_honest K.state (O.opens opener.now) path.now) change result
+        (output (W.contents out.old) (W.contents out.new)))
+        ⊎ IsWithoutToken result (output (W.contents out.old) (W.contents out.new)) }
+    ensures silent { 0 < result → result < 4
+        → IsSilent (output (W.contents out.old) (W.contents out.new)) }
+    ensures status { result ≤ 4 }
+{
+    match token_in_file(rt, alloc, file) {
+        Ok(token) => {
+            let order = Order::Change(change.with(token));
+            run_order(alloc, opener, path, &order, out, err)
+        }
+        Err(none) => say_at(err, none.failure, file, none.cause),
+    }
+}
+
+/// Reads the token that an order lacks, and carries the order out over the registry at a path. Without a
+/// token no registry is opened.
+pub fn run_token_order<T: Files, K: Keeper + Drop, O: Opener<K>, R: Read, W: Write, E: Write>(
+    rt: &T,
+    alloc: Global,
+    opener: &O,
+    path: &str,
+    source: TokenSource,
+    change: TokenChange,
+    reader: &mut R,
+    out: &mut W,
+    err: &mut E,
+) -> u8
+    ensures runs { ((result ≢ 2)
+        × RunsTokenOrder (OverAt K.is_honest K.state (O.opens opener.now) path.now) source.entry change result
+        (streams (R.remaining reader.old) (R.remaining reader.new)
+        (W.contents out.old) (W.contents out.new)))
+        ⊎ LacksTokenOf source.entry result
+        (streams (R.remaining reader.old) (R.remaining reader.new)
+        (W.contents out.old) (W.contents out.new)) }
+    ensures silent { 0 < result → result < 4
+        → IsSilent (output (W.contents out.old) (W.contents out.new)) }
+    ensures status { result ≤ 4 }
+{
+    match source {
+        TokenSource::Input => run_by_input(alloc, opener, path, change, reader, out, err),
+        TokenSource::File(file) => run_by_file(rt, alloc, opener, path, file, change, out, err),
+    }
+}

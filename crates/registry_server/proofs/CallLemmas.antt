@@ -1,0 +1,123 @@
+-- From the clause of each call to its event, and of calls one after the other.
+use Rattle.std.proofs.Common.{◌≡◌, ℕ, ◌≤◌, Bool, true, false, List, [], ◌∷◌, ◌++◌, length, take, drop, refl, sym, ap, subst, ◌∙◌}
+use Rattle.std.proofs.lemmas.List.{length-take-le, take-append-drop}
+use Rattle.oci_names.specs.Text.{Text}
+use Rattle.registry_model.specs.Keeping.{State}
+use Rattle.registry_conversation.specs.declared.phase.Step.{Step}
+use Rattle.registry_conversation.specs.Shown.{Shown}
+use Rattle.registry_conversation.specs.Events.{came, ended, acted, sent, Happens as Does}
+use Rattle.registry_server.specs.Open.{Slot, Open, Opens, Changes, Closes, TakesTurn, IfOpen, with_slots, hears, sends, Hears, Finishes, Sends}
+use Rattle.registry_server.specs.Events.{Event, comes, on, goes, Happens, Passes, Leads, Carries}
+
+-- ---- none, one, and one behind the other
+
+pub leads_none : (u : Open) (s : State) → Leads u s u s
+leads_none u s = ([], (refl, refl))
+
+leads_one : (e : Event) (u : Open) (s : State) (u' : Open) (s' : State) → Happens e u s u' s' → Leads u s u' s'
+leads_one e u s u' s' h = (e ∷ [], (u', s', h, (refl, refl)))
+
+passes_then : (es fs : List Event) (u : Open) (s : State) (v : Open) (t : State) (w : Open) (r : State)
+    → Passes es u s v t → Passes fs v t w r → Passes (es ++ fs) u s w r
+passes_then [] fs u s v t w r x y =
+    subst (λ (k : State). Passes fs u k w r) x.1 (subst (λ (a : Open). Passes fs a t w r) x.0 y)
+passes_then (e ∷ es) fs u s v t w r x y = (x.0, x.1, x.2, passes_then es fs x.0 x.1 v t w r x.3 y)
+
+pub leads_then : (u : Open) (s : State) (v : Open) (t : State) (w : Open) (r : State) → Leads u s v t → Leads v t w r → Leads u s w r
+leads_then u s v t w r x y = (x.0 ++ y.0, passes_then x.0 y.0 u s v t w r x.1 y.1)
+
+pub carries_none : (u : Open) → Carries u u
+carries_none u s = leads_none u s
+
+pub carries_then : (u v w : Open) → Carries u v → Carries v w → Carries u w
+carries_then u v w x y s = leads_then u s v s w s (x s) (y s)
+
+pub carries_same : (u u' : Open) → u' ≡ u → Carries u u'
+carries_same u u' e = subst (Carries u) (sym e) (carries_none u)
+
+-- ---- the calls
+
+changes_as : {n : ℕ} {P Q : Shown → Shown → Type 0} {stirs : Slot → Bool} {xs ys : List Slot} → ((c c' : Shown) → P c c' → Q c c')
+    → Changes n P stirs xs ys → Changes n Q stirs xs ys
+changes_as f y = record {
+  front = y.front;
+  slot = y.slot;
+  back = y.back;
+  conversation = y.conversation;
+  was = y.was;
+  numbered = y.numbered;
+  is = y.is;
+  changes = f y.slot.conversation y.conversation y.changes;
+  only = y.only;
+}
+
+of_open : (there : Bool) (n : ℕ) (P : List Slot → List Slot → Type 0) (u u' : Open)
+    → ((s : State) → P u.slots u'.slots → u' ≡ with_slots u u'.slots → Leads u s u' s) → IfOpen there n P u u' → Carries u u'
+of_open true n P u u' f x = λ s. f s x.0 x.1
+of_open false n P u u' f x = carries_same u u' x.1
+
+pub of_opened : (n : ℕ) (u u' : Open) → Opens n u u' → Carries u u'
+of_opened n u u' x s = leads_one (comes n) u s u' s (x, refl)
+
+pub of_received : (there : Bool) (n : ℕ) (bytes : Text) (u u' : Open) → IfOpen there n (Changes n (Hears bytes) hears) u u' → Carries u u'
+of_received there n bytes u u' =
+    of_open there n (Changes n (Hears bytes) hears) u u'
+    (λ s x e. leads_one (on n (came bytes)) u s u' s (changes_as {Q = λ c c'. Does (came bytes) c s c' s} (λ c c' h. (h.0, h.1, refl)) x, e))
+
+pub of_finished : (there : Bool) (n : ℕ) (u u' : Open) → IfOpen there n (Changes n Finishes hears) u u' → Carries u u'
+of_finished there n u u' =
+    of_open there n (Changes n Finishes hears) u u'
+    (λ s x e. leads_one (on n ended) u s u' s (changes_as {Q = λ c c'. Does ended c s c' s} (λ c c' h. (h, refl)) x, e))
+
+-- the bytes that went out
+went_of : (count : ℕ) (s : State) (c c' : Shown) → Sends count c c' → Does (sent (take count c.going)) c s c' s
+went_of count s c c' h =
+    let e : c'.going ≡ drop count c.going = ap (λ (x : Shown). x.going) h.1 in (
+      sym (take-append-drop count c.going) ∙ ap (λ (rest : Text). take count c.going ++ rest) (sym e),
+      h.1 ∙ ap (λ (text : Text). record c { going = text }) (sym e),
+      refl,
+    )
+
+sent_one : (n count : ℕ) (s : State) (xs ys : List Slot) → (y : Changes n (Sends count) (sends count) xs ys)
+    → Changes n (λ c c'. Does (sent (take count y.slot.conversation.going)) c s c' s) (sends (length (take count y.slot.conversation.going))) xs ys
+sent_one n count s xs ys y =
+    let size : length (take count y.slot.conversation.going) ≡ count = length-take-le count y.slot.conversation.going y.changes.0 in
+    record {
+      front = y.front;
+      slot = y.slot;
+      back = y.back;
+      conversation = y.conversation;
+      was = y.was;
+      numbered = y.numbered;
+      is = y.is ∙ ap (λ (k : ℕ). y.front ++ record { number = n; conversation = y.conversation; stirred = sends k y.slot } ∷ y.back) (sym size);
+      changes = went_of count s y.slot.conversation y.conversation y.changes;
+      only = y.only;
+    }
+
+pub of_sent : (there : Bool) (n count : ℕ) (u u' : Open) → IfOpen there n (Changes n (Sends count) (sends count)) u u' → Carries u u'
+of_sent there n count u u' =
+    of_open there n (Changes n (Sends count) (sends count)) u u'
+    (λ s x e. leads_one (on n (sent (take count x.slot.conversation.going))) u s u' s (sent_one n count s u.slots u'.slots x, e))
+
+pub of_closed : (there : Bool) (n : ℕ) (u u' : Open) → IfOpen there n (Closes n) u u' → Carries u u'
+of_closed there n u u' = of_open there n (Closes n) u u' (λ s x e. leads_one (goes n) u s u' s (x, e, refl))
+
+pub of_turn : {honest : Type 0} (n : ℕ) (found : Step) (u : Open) (s : State) (u' : Open) (s' : State)
+    → TakesTurn n found (λ c c'. honest → Does (acted found) c s c' s') u.slots u'.slots → u' ≡ with_slots u u'.slots → honest → Leads u s u' s'
+of_turn {honest} n found u s u' s' y e h =
+    leads_one (on n (acted found)) u s u' s' (
+      record {
+        front = y.front;
+        slot = y.slot;
+        back = y.back;
+        conversation = y.conversation;
+        was = y.was;
+        waiting = y.waiting;
+        stirred = y.stirred;
+        numbered = y.numbered;
+        is = y.is;
+        changes = y.changes h;
+        only = y.only;
+      },
+      e,
+    )

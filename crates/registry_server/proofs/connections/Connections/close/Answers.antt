@@ -1,0 +1,23 @@
+use Rattle.std.proofs.Common.{true, refl}
+use Rattle.registry_server.proofs.PlaceLemmas.{found_on, closes, closed_numbers}
+use Rattle.registry_server.proofs.CallLemmas.{carries_none, of_closed}
+use Rattle.registry_server.proofs.connections.Connections.close.Goals as goal
+
+pub invariant_of-self : goal.invariant_of-self
+invariant_of-self c = record {
+  numbered = closed_numbers c.args.self.now.next c.args.number c.in-Some.at c.args.self.now.connections.items c.remove.new.self.items
+      (found_on c.args.number c.in-Some.at c.deref.result.now c.args.self.now.connections.items c.deref.ensures.value c.in-Some.ensures.found) c.args.self.now.numbered c.remove.ensures.items;
+}
+
+pub returns-in-Some-clause-closes : goal.returns-in-Some-clause-closes
+returns-in-Some-clause-closes c = (
+  closes c.args.self.now.next c.args.number c.in-Some.at c.args.self.now.connections.items c.remove.new.self.items
+      (found_on c.args.number c.in-Some.at c.deref.result.now c.args.self.now.connections.items c.deref.ensures.value c.in-Some.ensures.found) c.args.self.now.numbered c.remove.ensures.items,
+  refl,
+)
+
+pub returns-in-Some-clause-leads : goal.returns-in-Some-clause-leads
+returns-in-Some-clause-leads c = of_closed true c.args.number _ _ (returns-in-Some-clause-closes c)
+
+pub returns-in-None-clause-leads : goal.returns-in-None-clause-leads
+returns-in-None-clause-leads c = carries_none _

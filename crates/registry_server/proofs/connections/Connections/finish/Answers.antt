@@ -1,0 +1,24 @@
+use Rattle.std.proofs.Common.{true, refl, ap}
+use Rattle.registry_server.specs.Open.{Slot, Finishes, hears}
+use Rattle.registry_server.proofs.PlaceLemmas.{found_on, changed, changed_numbers}
+use Rattle.registry_server.proofs.CallLemmas.{carries_none, of_finished}
+use Rattle.registry_server.proofs.connections.Connections.finish.Goals as goal
+
+pub invariant_of-self : goal.invariant_of-self
+invariant_of-self c = record {
+  numbered = changed_numbers c.args.self.now.next c.args.number c.in-Some.at c.args.self.now.connections.items c.index_mut.result.now c.finish.new.self
+      c.index_mut.ensures.value (found_on c.args.number c.in-Some.at c.deref.result.now c.args.self.now.connections.items c.deref.ensures.value c.in-Some.ensures.found) (ap (λ (s : Slot). s.number) c.finish.ensures.1) c.args.self.now.numbered;
+}
+
+pub returns-in-Some-clause-finishes : goal.returns-in-Some-clause-finishes
+returns-in-Some-clause-finishes c = (
+  changed c.args.number c.in-Some.at (Finishes) hears c.args.self.now.connections.items c.index_mut.result.now c.finish.new.self
+      c.index_mut.ensures.value (found_on c.args.number c.in-Some.at c.deref.result.now c.args.self.now.connections.items c.deref.ensures.value c.in-Some.ensures.found) c.finish.ensures,
+  refl,
+)
+
+pub returns-in-Some-clause-leads : goal.returns-in-Some-clause-leads
+returns-in-Some-clause-leads c = of_finished true c.args.number _ _ (returns-in-Some-clause-finishes c)
+
+pub returns-in-None-clause-leads : goal.returns-in-None-clause-leads
+returns-in-None-clause-leads c = carries_none _

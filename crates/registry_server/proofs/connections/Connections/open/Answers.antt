@@ -1,0 +1,18 @@
+use Rattle.std.proofs.Common.{false, arith}
+use Rattle.registry_server.proofs.PlaceLemmas.{came_numbers, opens}
+use Rattle.registry_server.proofs.CallLemmas.{of_opened}
+use Rattle.registry_server.proofs.connections.Connections.open.Goals as goal
+
+pub invariant_of-self-2 : goal.invariant_of-self-2
+invariant_of-self-2 c = record {
+  numbered = came_numbers c.args.self.now.connections.items c.push.new.self.items _ c.args.self.now.next c.in-Ok-push.ensures.items
+      (λ i. record { number = c.args.self.now.next; conversation = c.in-Ok.ensures i; stirred = false }) c.args.self.now.numbered;
+}
+
+pub returns-clause-opens : goal.returns-clause-opens
+returns-clause-opens c =
+    opens c.args.self.now.most c.args.self.now.next c.args.self.now.connections.items c.push.new.self.items _ (omega (arith, c.len.ensures, c.if-len-self.false)) c.args.self.now.numbered c.in-Ok-push.ensures.items
+    (λ i. record { number = c.args.self.now.next; conversation = c.in-Ok.ensures i; stirred = false })
+
+pub returns-clause-leads : goal.returns-clause-leads
+returns-clause-leads c = of_opened c.args.self.now.next _ _ (returns-clause-opens c)

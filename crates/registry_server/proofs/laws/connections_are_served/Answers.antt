@@ -1,0 +1,5 @@
+use Rattle.registry_server.proofs.LedgerLemmas.{all_are_served}
+use Rattle.registry_server.proofs.laws.connections_are_served.Goals as goal
+
+pub returns : goal.returns
+returns c = all_are_served

@@ -1,0 +1,98 @@
+-- What any list of calls comes to, over all connections and one service.
+use Rattle.std.specs.Prelude.{◌≡◌, ℕ, ◌==◌, if◌then◌else◌, List, [], ◌∷◌, ◌++◌, length, map, IfSome}
+use Rattle.registry_model.specs.Keeping.{State}
+use Rattle.registry_model.specs.Runs.{Outcome, told, Takes, TakesAll, RunSays}
+use Rattle.registry_model.specs.Team.{Step, asks}
+use Rattle.registry_http.specs.Asking.{ask_in}
+use Rattle.registry_conversation.specs.Shown.{Shown}
+use Rattle.registry_conversation.specs.Events.{Event as Call, came, ended, acted, sent, Happens as Does, heard, went}
+use Rattle.registry_server.specs.Open.{Open, conversation_of, Opens, Changes, Closes, TakesTurn, with_slots, hears, sends}
+use Rattle.registry_server.specs.Accounts.{Replied, Accounts}
+
+-- ---- events
+
+-- a connection came, a call for one that is open (of `turn`, the one that took it), one is gone, or somebody
+-- else had the service take a step
+pub data Event : Type 0 where
+  comes : ℕ → Event
+  on : ℕ → Call → Event
+  goes : ℕ → Event
+  elsewhere : Step → Outcome → Event
+
+-- what a call for one connection says: the clauses of `receive`, `finish`, `turn` and `sent`
+abbrev pub HappensOn : ℕ → Call → Open → State → Open → State → Type 0
+HappensOn n (came bytes) u s u' s' =
+    Changes n (λ c c'. Does (came bytes) c s c' s') hears u.slots u'.slots
+HappensOn n ended u s u' s' = Changes n (λ c c'. Does ended c s c' s') hears u.slots u'.slots
+HappensOn n (acted found) u s u' s' =
+    TakesTurn n found (λ c c'. Does (acted found) c s c' s') u.slots u'.slots
+HappensOn n (sent text) u s u' s' =
+    Changes n (λ c c'. Does (sent text) c s c' s') (sends (length text)) u.slots u'.slots
+
+-- what an event says of the connections and of the service, whose keeper is honest
+abbrev pub Happens : Event → Open → State → Open → State → Type 0
+Happens (comes n) u s u' s' = Opens n u u' × (s' ≡ s)
+Happens (on n call) u s u' s' = HappensOn n call u s u' s' × (u' ≡ with_slots u u'.slots)
+Happens (goes n) u s u' s' = Closes n u.slots u'.slots × (u' ≡ with_slots u u'.slots) × (s' ≡ s)
+Happens (elsewhere step outcome) u s u' s' = (u' ≡ u) × Takes s step outcome s'
+
+-- the events, one after the other; nobody touches the service but as they say
+abbrev pub Passes : List Event → Open → State → Open → State → Type 0
+Passes [] u s u' s' = (u' ≡ u) × (s' ≡ s)
+Passes (e ∷ events) u s u' s' =
+    (mid : Open) × (t : State) × Happens e u s mid t × Passes events mid t u' s'
+
+-- some events lead from these connections and this state to those
+abbrev pub Leads : Open → State → Open → State → Type 0
+Leads u s u' s' = (events : List Event) × Passes events u s u' s'
+
+-- some events that leave the service as it is, in whatever state
+abbrev pub Carries : Open → Open → Type 0
+Carries u u' = (s : State) → Leads u s u' s
+
+-- the calls for one connection, in their order
+abbrev pub calls_of : ℕ → List Event → List Call
+calls_of n [] = []
+calls_of n (on m call ∷ events) = if m == n then call ∷ calls_of n events else calls_of n events
+calls_of n (comes m ∷ events) = calls_of n events
+calls_of n (goes m ∷ events) = calls_of n events
+calls_of n (elsewhere step outcome ∷ events) = calls_of n events
+
+-- ---- what they come to
+
+-- what the service did: it answered a request of a connection, or took somebody else's step
+pub data Entry : Type 0 where
+  replied : ℕ → Replied → Entry
+  took : Step → Outcome → Entry
+
+abbrev pub step_of : Entry → Step
+step_of (replied n r) = asks (ask_in r.item.head r.item.body)
+step_of (took step outcome) = step
+
+abbrev pub outcome_of : Entry → Outcome
+outcome_of (replied n r) = told r.answer
+outcome_of (took step outcome) = outcome
+
+-- the requests of one connection that were answered, in their order
+abbrev pub replies_of : ℕ → List Entry → List Replied
+replies_of n [] = []
+replies_of n (replied m r ∷ ledger) = if m == n then r ∷ replies_of n ledger else replies_of n ledger
+replies_of n (took step outcome ∷ ledger) = replies_of n ledger
+
+-- of one connection, its calls and the requests of it that were answered: where its conversation stands, or
+-- stood when it was gone, they are those that all bytes which came begin with, and all bytes that went out
+-- and are still to go out are their texts
+pub record Explains (calls : List Call) (replies : List Replied) (n : ℕ) (u : Open) : Type 0 where
+  pub conversation : Shown
+  pub there : IfSome (conversation_of n u.slots) (λ c. c ≡ conversation)
+  pub accounts : Accounts (heard calls) (went calls ++ conversation.going) replies conversation
+
+-- one ledger of all that the service did, in the order in which it took effect, explains its states and every
+-- connection
+pub record OneLedger (events : List Event) (s s' : State) (u : Open) : Type 0 where
+  pub ledger : List Entry
+  -- each entry is taken in the state that those before it left
+  pub takes : TakesAll s (map step_of ledger) (map outcome_of ledger) s'
+  -- so the laws of a run hold of it, of all connections together: among them isolation
+  pub says : RunSays s (map step_of ledger) (map outcome_of ledger) s'
+  pub connections : (n : ℕ) → Explains (calls_of n events) (replies_of n ledger) n u

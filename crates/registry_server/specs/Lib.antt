@@ -1,0 +1,6 @@
+pub mod Open
+pub mod Slots
+pub mod Showing
+pub mod Accounts
+pub mod Events
+pub mod Turns

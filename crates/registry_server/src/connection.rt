@@ -1,0 +1,112 @@
+ghost use Rattle.std.specs.Prelude.{◌≡◌, ◌<◌, ◌≤◌, false, length, None, IfSome, IfNone, All};
+ghost use Rattle.registry_server.specs.Open.{FoundAt, StirredAt, conversation_of};
+ghost use Rattle.registry_server.specs.Slots.{slots_of, IsMoved};
+
+use crate::turn::Turn;
+use registry_conversation::{Conversation, Step};
+use registry_model::Keeper;
+use registry_service::Service;
+use std::alloc::Global;
+
+/// An open connection.
+#[derive(Drop)]
+pub struct Connection {
+    pub number: u64,
+    pub conversation: Conversation,
+    /// Nothing is to go out on it, and something came for it that it was not asked about yet, or its last
+    /// reply has gone out.
+    pub stirred: bool,
+}
+
+impl Connection {
+    ghost use Rattle.registry_conversation.specs.Events.{Happens, acted};
+    ghost use Rattle.registry_conversation.specs.Showing.{shown};
+    ghost use Rattle.registry_server.specs.Open.{Becomes, Hears, Finishes, Sends, hears, sends, goes_on};
+    ghost use Rattle.registry_server.specs.Slots.{slot_of};
+
+    /// These bytes came on it.
+    pub fn receive(&mut self, bytes: &[u8])
+        ensures { Becomes (Hears bytes.now) (hears (slot_of self.old)) (slot_of self.old)
+            (slot_of self.new) }
+    {
+        let heard = self.conversation.listens() && self.conversation.outgoing().is_empty();
+        self.conversation.receive(bytes);
+        self.stirred = heard || self.stirred;
+    }
+
+    /// Its input has ended.
+    pub fn finish(&mut self)
+        ensures { Becomes Finishes (hears (slot_of self.old)) (slot_of self.old) (slot_of self.new) }
+    {
+        let heard = self.conversation.listens() && self.conversation.outgoing().is_empty();
+        self.conversation.finish();
+        self.stirred = heard || self.stirred;
+    }
+
+    /// So many of its bytes that were to go out went.
+    pub fn sent(&mut self, count: usize)
+        requires { count ≤ length (slot_of self.old).conversation.going }
+        ensures { Becomes (Sends count) (sends count (slot_of self.old)) (slot_of self.old)
+            (slot_of self.new) }
+    {
+        self.conversation.sent(count);
+        self.stirred = self.conversation.outgoing().is_empty() || self.stirred;
+    }
+
+    /// Gives back the room that holds nothing.
+    pub fn give_back(&mut self, alloc: Global)
+        ensures { slot_of self.new ≡ slot_of self.old }
+    {
+        self.conversation.give_back(alloc);
+    }
+
+    /// It takes a turn. Where it answered a request, it is to be looked at again once nothing is to go out.
+    pub fn answer_next<K: Keeper>(&mut self, alloc: Global, service: &mut Service<K>) -> Turn
+        ensures honest { K.is_honest service.new → K.is_honest service.old }
+        ensures number { result.number ≡ self.old.number }
+        ensures acts { Becomes (λ c c'. K.is_honest service.new
+            → Happens (acted result.step) c (K.state service.old) c' (K.state service.new))
+            (goes_on result.step (slot_of self.new).conversation) (slot_of self.old) (slot_of self.new) }
+    {
+        let step = self.conversation.answer_next(alloc, service);
+        self.stirred = matches!(step, Step::Answered) && self.conversation.outgoing().is_empty();
+        Turn {
+            number: self.number,
+            step,
+        }
+    }
+}
+
+/// Where the connection of this number stands.
+pub fn find(connections: &[Connection], number: u64) -> Option<usize>
+    ensures found { IfSome result (λ at. FoundAt number at (slots_of connections.now)) }
+    ensures none { IfNone result (conversation_of number (slots_of connections.now) ≡ None) }
+{
+    for (i, connection) in connections.iter().enumerate() {
+        if connection.number == number {
+            return Some(i);
+        }
+    }
+    None
+}
+
+/// Where the first connection stands that is to be looked at.
+pub fn find_stirred(connections: &[Connection]) -> Option<usize>
+    ensures found { IfSome result (λ at. StirredAt at (slots_of connections.now)) }
+    ensures none { IfNone result (All (λ s. s.stirred ≡ false) (slots_of connections.now)) }
+{
+    for (i, connection) in connections.iter().enumerate() {
+        if connection.stirred {
+            return Some(i);
+        }
+    }
+    None
+}
+
+/// Puts a connection behind all others.
+pub fn to_back(connections: &mut [Connection], at: usize)
+    requires { at < length connections.old }
+    ensures { IsMoved at connections.old connections.new }
+{
+    connections[at..].rotate_left(1);
+}

@@ -1,0 +1,199 @@
+ghost use Rattle.std.specs.Prelude.{◌≡◌, true, false, ◌≤◌, length, option_map, All, IfOk, IfErr, IfSome, IfNone};
+ghost use Rattle.registry_server.specs.Open.{are_numbered};
+ghost use Rattle.registry_server.specs.Slots.{slots_of};
+
+use crate::connection::{Connection, find, find_stirred, to_back};
+use crate::refusal::Refusal;
+use crate::turn::Turn;
+use registry_conversation::{Conversation, Wants};
+use registry_model::Keeper;
+use registry_service::Service;
+use std::alloc::Global;
+
+/// The conversations of many connections, each under a number of its own.
+///
+/// It reads nothing and writes nothing itself, and it takes no turn but when it is asked to. A call for a
+/// number that is not open does nothing, and says so.
+#[derive(Drop)]
+pub struct Connections {
+    /// In the order in which they take their turns.
+    connections: Vec<Connection>,
+    /// The number of the connection that comes next.
+    next: u64,
+    /// How many may be open at once.
+    most: usize,
+    ghost numbered: { are_numbered next (slots_of connections.items) ≡ true },
+}
+
+impl Connections {
+    ghost use Rattle.registry_conversation.specs.Shown.{wants_of};
+    ghost use Rattle.registry_conversation.specs.Events.{Happens, acted};
+    ghost use Rattle.registry_server.specs.Open.{none, conversation_of, outgoing_of, held_of, Opens, Refuses, Changes, Closes, TakesTurn, IfOpen, with_slots, hears, sends, Hears, Finishes, Sends};
+    ghost use Rattle.registry_server.specs.Events.{Leads, Carries};
+    ghost use Rattle.registry_server.specs.Showing.{connected};
+
+    /// No connection; at most `at_once` may be open at once.
+    pub fn new(alloc: Global, at_once: usize) -> Connections
+        ensures { connected result ≡ none at_once }
+    {
+        Connections {
+            connections: Vec::new(alloc),
+            next: 0,
+            most: at_once,
+        }
+    }
+
+    /// A connection came. Answers its number, which no connection had before. Where it is refused nothing
+    /// has changed.
+    pub fn open(&mut self, alloc: Global) -> Result<u64, Refusal>
+        ensures opens { IfOk result (λ number. Opens number (connected self.old) (connected self.new)) }
+        ensures refuses { IfErr result (λ refusal. Refuses refusal (connected self.old)
+            × (connected self.new ≡ connected self.old)) }
+        ensures leads { Carries (connected self.old) (connected self.new) }
+    {
+        if self.connections.len() >= self.most {
+            return Err(Refusal::Full);
+        }
+        if self.next == u64::MAX {
+            return Err(Refusal::NoNumber);
+        }
+        let Ok(conversation) = Conversation::new(alloc) else {
+            return Err(Refusal::Memory);
+        };
+        let number = self.next;
+        let connection = Connection {
+            number,
+            conversation,
+            stirred: false,
+        };
+        let Ok(()) = self.connections.push(connection) else {
+            return Err(Refusal::Memory);
+        };
+        self.next = number + 1;
+        Ok(number)
+    }
+
+    /// These bytes came on a connection, as `Conversation::receive` takes them. Says whether it is open.
+    pub fn receive(&mut self, number: u64, bytes: &[u8]) -> bool
+        ensures hears { IfOpen result number (Changes number (Hears bytes.now) hears)
+            (connected self.old) (connected self.new) }
+        ensures leads { Carries (connected self.old) (connected self.new) }
+    {
+        match find(&self.connections, number) {
+            Some(at) => {
+                self.connections[at].receive(bytes);
+                true
+            }
+            None => false,
+        }
+    }
+
+    /// A connection's input has ended. Says whether it is open.
+    pub fn finish(&mut self, number: u64) -> bool
+        ensures finishes { IfOpen result number (Changes number Finishes hears)
+            (connected self.old) (connected self.new) }
+        ensures leads { Carries (connected self.old) (connected self.new) }
+    {
+        match find(&self.connections, number) {
+            Some(at) => {
+                self.connections[at].finish();
+                true
+            }
+            None => false,
+        }
+    }
+
+    /// The bytes that are to go out on a connection; none where it is not open.
+    pub fn outgoing(&self, number: u64) -> &[u8]
+        ensures { result.now ≡ outgoing_of number (connected self.now).slots }
+    {
+        match find(&self.connections, number) {
+            Some(at) => self.connections[at].conversation.outgoing(),
+            None => &[],
+        }
+    }
+
+    /// So many of the bytes that were to go out on a connection went. Says whether it is open.
+    pub fn sent(&mut self, number: u64, count: usize) -> bool
+        requires { count ≤ length (outgoing_of number (connected self.old).slots) }
+        ensures sends { IfOpen result number (Changes number (Sends count) (sends count))
+            (connected self.old) (connected self.new) }
+        ensures leads { Carries (connected self.old) (connected self.new) }
+    {
+        match find(&self.connections, number) {
+            Some(at) => {
+                self.connections[at].sent(count);
+                true
+            }
+            None => false,
+        }
+    }
+
+    /// What a connection waits for, once it has no turn to take; `None` where it is not open.
+    pub fn wants(&self, number: u64) -> Option<Wants>
+        ensures { result ≡ option_map wants_of (conversation_of number (connected self.now).slots) }
+    {
+        match find(&self.connections, number) {
+            Some(at) => Some(self.connections[at].conversation.wants()),
+            None => None,
+        }
+    }
+
+    /// How many bytes a connection holds, as `Conversation::held` has it; 0 where it is not open.
+    pub fn held(&self, number: u64) -> usize
+        ensures { result ≡ held_of number (connected self.now).slots }
+    {
+        match find(&self.connections, number) {
+            Some(at) => self.connections[at].conversation.held(),
+            None => 0,
+        }
+    }
+
+    /// Gives back the room of a connection that holds nothing, as `Conversation::give_back` does.
+    pub fn give_back(&mut self, alloc: Global, number: u64)
+        ensures { connected self.new ≡ connected self.old }
+    {
+        if let Some(at) = find(&self.connections, number) {
+            self.connections[at].give_back(alloc);
+        }
+    }
+
+    /// A connection is gone: what was held of it is let go, and nothing of it is answered any more. Says
+    /// whether it was open.
+    pub fn close(&mut self, number: u64) -> bool
+        ensures closes { IfOpen result number (Closes number) (connected self.old) (connected self.new) }
+        ensures leads { Carries (connected self.old) (connected self.new) }
+    {
+        match find(&self.connections, number) {
+            Some(at) => {
+                self.connections.remove(at);
+                true
+            }
+            None => false,
+        }
+    }
+
+    /// One connection takes one turn, as `Conversation::answer_next` does: the first that is to be looked
+    /// at, which goes behind all others. None takes one where nothing came for any that it has not
+    /// answered yet.
+    ///
+    /// A connection that waited for more bytes is not looked at again before something comes for it, and
+    /// one that answered not before its reply has gone out: so none holds more than one reply.
+    pub fn turn<K: Keeper>(&mut self, alloc: Global, service: &mut Service<K>) -> Option<Turn>
+        ensures honest { K.is_honest service.new → K.is_honest service.old }
+        ensures takes { IfSome result (λ turn. TakesTurn turn.number turn.step
+            (λ c c'. K.is_honest service.new
+            → Happens (acted turn.step) c (K.state service.old) c' (K.state service.new))
+            (connected self.old).slots (connected self.new).slots
+            × (connected self.new ≡ with_slots (connected self.old) (connected self.new).slots)) }
+        ensures idle { IfNone result ((connected self.new ≡ connected self.old) × (service.new ≡ service.old)
+            × All (λ s. s.stirred ≡ false) (connected self.old).slots) }
+        ensures leads { K.is_honest service.new → Leads (connected self.old) (K.state service.old)
+            (connected self.new) (K.state service.new) }
+    {
+        let at = find_stirred(&self.connections)?;
+        let turn = self.connections[at].answer_next(alloc, service);
+        to_back(&mut self.connections, at);
+        Some(turn)
+    }
+}

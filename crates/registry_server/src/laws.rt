@@ -1,0 +1,28 @@
+//! What any list of calls comes to, over all connections.
+
+ghost use Rattle.std.specs.Prelude.{◌≢◌, ℕ, List};
+ghost use Rattle.registry_model.specs.Keeping.{State};
+ghost use Rattle.registry_server.specs.Open.{Open, none};
+ghost use Rattle.registry_server.specs.Events.{Event, Passes, OneLedger};
+ghost use Rattle.registry_server.specs.Turns.{IsStirred, HasTurn, TurnsTwice};
+
+/// Whatever calls the connections get, in whatever order, from none on, and whatever steps others have the
+/// service take between them: there is one list of all that the service did, in the order in which it took
+/// effect. Its states are the run of that list. Of each connection the requests in it are those that all
+/// bytes which came on it begin with, in their order; and all bytes that went out on it and are still to go
+/// out are the texts of the replies to them, and what was said of the next request or the end's text. So the
+/// laws of a run hold of all connections together: a team is told, on all its connections, what it would be
+/// told alone.
+pub fn connections_are_served()
+    ensures { (events : List Event) (most : ℕ) (s : State) (u : Open) (s' : State)
+        → Passes events (none most) s u s' → OneLedger events s s' u }
+{}
+
+/// Between two turns of a connection each other one that was to be looked at before the first takes one, or
+/// it is gone: none is served twice while another waits.
+pub fn none_takes_two_turns_before_another()
+    ensures { (events : List Event) (most : ℕ) (s : State) (u : Open) (t : State)
+        → Passes events (none most) s u t
+        → (n m : ℕ) (between : List Event) (u' : Open) (t' : State) → m ≢ n → IsStirred m u.slots
+        → TurnsTwice n between u t u' t' → HasTurn m between }
+{}

@@ -1,0 +1,66 @@
+-- What a write tells that is made only where something is so.
+use Rattle.std.proofs.Common.{◌≡◌, ℕ, Bool, true, false, true≢false, None, Some, Ok, Err, Result, IfOk, sym, subst, refl}
+use Rattle.std.specs.Prelude.{◌||◌, Option, is_some}
+use Rattle.std.specs.Option.{option_map_or}
+use Rattle.sqlite_trees.specs.declared.store.Store.{Ghosts}
+use Rattle.sqlite.specs.State as sqlite
+use Rattle.sqlite.specs.Held.{Held, state}
+use Rattle.oci_names.specs.Text.{Text}
+use Rattle.oci_names.specs.Digest.{matches}
+use Rattle.oci_names.specs.declared.fault.Fault.{Fault}
+use Rattle.oci_names.specs.declared.fault.Fault.TheVariants.{Memory, Storage}
+use Rattle.registry_model.specs.World.{World}
+use Rattle.registry_model.specs.Keeping.{State}
+use Rattle.registry_model.specs.Closing.{WritesWhereSo, session_matches}
+use Rattle.registry_model.specs.Lookups.{session_at}
+use Rattle.store_statements.specs.Held.{IsSettled, StaysSettled, SettlesOn, is_storage, world_in}
+use Rattle.store_statements.proofs.SettledAfter.{stays_then}
+use Rattle.store_writes.specs.Whole.{DoneWhereSo}
+use Rattle.registry_store.specs.Kept.{Kept}
+use Rattle.registry_store.proofs.Foretold.{earlier}
+use Rattle.registry_store.proofs.KeeperStates.{found, wrote, stood}
+
+-- the store is settled, whether it was made or not
+pub settled_whether : (answer : Result Bool Fault) (old new : sqlite.State) (so : World → Bool) (change : World → World) → is_storage answer ≡ false → IfOk answer (λ done. DoneWhereSo done old new so change) → (answer ≡ Err Memory → StaysSettled old new) → IsSettled new
+settled_whether (Ok true) old new so change sound made stays = made.1.0
+settled_whether (Ok false) old new so change sound made stays = made.0
+settled_whether (Err Memory) old new so change sound made stays = (stays refl).0
+settled_whether (Err Storage) old new so change sound made stays = absurd (true≢false sound)
+
+-- a look-up before it changes nothing of that
+pub whether_then : (v done : Bool) (old mid new : sqlite.State) (so : World → Bool) (change : World → World) → v ≡ done → StaysSettled old mid → DoneWhereSo v mid new so change → DoneWhereSo done old new so change
+whether_then true done old mid new so change is stays made = subst (λ b. DoneWhereSo b old new so change) is (earlier (λ w. (so w ≡ true) × SettlesOn new (change w)) old mid stays.1 made)
+whether_then false done old mid new so change is stays made = subst (λ b. DoneWhereSo b old new so change) is (stays_then old mid new stays made)
+
+-- it was made of a session that is open
+pub was_open : (w : World) (name : Text) (number : ℕ) (digest : Text) → session_matches w name number digest ≡ true → is_some (session_at w name number) ≡ true
+was_open w name number digest = by (session_at w name number)
+  where
+    by : (o : Option Text) → option_map_or (λ bytes. matches digest bytes) o false ≡ true → is_some o ≡ true
+    by None so = so
+    by (Some bytes) so = refl
+
+module _ {S : Type 0} (g : Ghosts S) (conn : Held S) (old : Kept S) (spent : Bool) (is : ◌≡◌ {A = Kept S} (record { conn = conn; spent = spent }) old) (new : Held S) where
+  abbrev before : State
+  before = record { world = world_in (state g old.conn); spent = old.spent }
+
+  abbrev after : Bool → State
+  after later = record { world = world_in (state g new); spent = later }
+
+  whether : (so : World → Bool) (change : World → World) (answer : Result Bool Fault) (later : Bool) → spent ≡ false → later ≡ (is_storage answer || spent)
+      → IfOk answer (λ done. DoneWhereSo done (state g conn) (state g new) so change) → (answer ≡ Err Memory → StaysSettled (state g conn) (state g new))
+      → WritesWhereSo answer (so (world_in (state g old.conn))) (change (world_in (state g old.conn))) before (after later)
+  whether so change (Ok true) later unspent notes made stays = (
+    sym (found g conn old spent is so true (sym made.0)),
+    subst (λ b. ◌≡◌ {A = State} (after b) (record { world = change (world_in (state g old.conn)); spent = false })) (sym notes) (wrote g conn old spent is new change unspent made.1.1),
+  )
+  whether so change (Ok false) later unspent notes made stays = subst (λ b. ◌≡◌ {A = State} (after b) before) (sym notes) (stood g conn old spent is new made.1)
+  whether so change (Err Memory) later unspent notes made stays = subst (λ b. ◌≡◌ {A = State} (after b) before) (sym notes) (stood g conn old spent is new (stays refl).1)
+  whether so change (Err Storage) later unspent notes made stays = tt
+
+  -- it was made where this was so, or nothing changed
+  pub whether_told : (so : World → Bool) (change : World → World) (r answer : Result Bool Fault) (later : Bool) → spent ≡ false → r ≡ answer → later ≡ (is_storage answer || spent)
+      → IfOk answer (λ done. DoneWhereSo done (state g conn) (state g new) so change) → (answer ≡ Err Memory → StaysSettled (state g conn) (state g new))
+      → WritesWhereSo r (so (world_in (state g old.conn))) (change (world_in (state g old.conn))) before (after later)
+  whether_told so change r answer later unspent same notes made stays =
+      subst (λ x. WritesWhereSo x (so (world_in (state g old.conn))) (change (world_in (state g old.conn))) before (after later)) (sym same) (whether so change answer later unspent notes made stays)

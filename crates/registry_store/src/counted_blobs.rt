@@ -1,0 +1,92 @@
+//! Blobs that come and go, with what is known of usages.
+ghost use Rattle.std.specs.Prelude.{◌≡◌, ◌≤◌, true, length};
+ghost use Rattle.oci_names.specs.Digest.{matches};
+ghost use Rattle.registry_model.specs.Limits.{largest_blob};
+ghost use Rattle.registry_model.specs.World.{has_repo};
+ghost use Rattle.registry_model.specs.Lookups.{put_blob, mount, delete_blob};
+ghost use Rattle.store_statements.specs.Clauses.{Lasts, MakesWorld, Settled, StaysOnMemory, WorldHas};
+ghost use Rattle.registry_store.specs.Usages.{IsKnown, StaysKnown};
+
+use crate::change_lookups::{mount_change, or_untold, put_change};
+use crate::known_usages::KnownUsages;
+use oci_names::{Digest, Fault, RepoName};
+use sqlite::{Alter, Connection};
+use std::alloc::Global;
+
+/// Puts a blob in; a digest that is there keeps its bytes.
+pub(crate) fn put_blob<S: Alter>(
+    alloc: Global,
+    conn: &mut Connection<S>,
+    known: &mut KnownUsages,
+    repo: &RepoName,
+    digest: &Digest,
+    bytes: &[u8],
+) -> Result<(), Fault>
+    requires settled { Settled S.Store conn.old }
+    requires known { IsKnown S.Store conn.old known.old }
+    requires there { WorldHas S.Store conn.old (λ w. has_repo w repo.now ≡ true) }
+    requires matching { matches digest.now bytes.now ≡ true }
+    requires fits { length bytes.now ≤ largest_blob }
+    ensures made { MakesWorld S.Store conn.old conn.new result
+        (λ w. put_blob w repo.now digest.now bytes.now) }
+    ensures memory { StaysOnMemory S.Store conn.old conn.new result }
+    ensures survives { Lasts S.Store conn.old conn.new }
+    ensures known { StaysKnown S.Store conn.new known.new result }
+{
+    let Ok(change) = or_untold(put_change(conn, repo, digest, bytes)) else {
+        return Err(Fault::Storage);
+    };
+    match store_writes::put_blob(alloc, conn, repo, digest, bytes) {
+        Ok(()) => {
+            known.follow(repo, change);
+            Ok(())
+        }
+        Err(fault) => Err(fault),
+    }
+}
+
+/// Adds a blob that another repository has, or the same one.
+pub(crate) fn mount<S: Alter>(
+    conn: &mut Connection<S>,
+    known: &mut KnownUsages,
+    from: &RepoName,
+    to: &RepoName,
+    digest: &Digest,
+) -> Result<(), Fault>
+    requires settled { Settled S.Store conn.old }
+    requires known { IsKnown S.Store conn.old known.old }
+    requires there { WorldHas S.Store conn.old (λ w. has_repo w to.now ≡ true) }
+    ensures made { MakesWorld S.Store conn.old conn.new result (λ w. mount w from.now to.now digest.now) }
+    ensures memory { StaysOnMemory S.Store conn.old conn.new result }
+    ensures survives { Lasts S.Store conn.old conn.new }
+    ensures known { StaysKnown S.Store conn.new known.new result }
+{
+    let Ok(change) = or_untold(mount_change(conn, from, to, digest)) else {
+        return Err(Fault::Storage);
+    };
+    match store_writes::mount(conn, from, to, digest) {
+        Ok(()) => {
+            known.follow(to, change);
+            Ok(())
+        }
+        Err(fault) => Err(fault),
+    }
+}
+
+/// Takes a blob away, and forgets what was known of its repository.
+pub(crate) fn delete_blob<S: Alter>(
+    conn: &mut Connection<S>,
+    known: &mut KnownUsages,
+    repo: &RepoName,
+    digest: &Digest,
+) -> Result<(), Fault>
+    requires settled { Settled S.Store conn.old }
+    requires known { IsKnown S.Store conn.old known.old }
+    ensures made { MakesWorld S.Store conn.old conn.new result (λ w. delete_blob w repo.now digest.now) }
+    ensures memory { StaysOnMemory S.Store conn.old conn.new result }
+    ensures survives { Lasts S.Store conn.old conn.new }
+    ensures known { StaysKnown S.Store conn.new known.new result }
+{
+    known.forget(repo);
+    store_writes::delete_blob(conn, repo, digest)
+}

@@ -1,0 +1,88 @@
+//! Manifests and tags that come and go, with what is known of usages.
+ghost use Rattle.std.specs.Prelude.{◌≡◌, ◌≤◌, true, length, Ok};
+ghost use Rattle.oci_names.specs.Digest.{matches};
+ghost use Rattle.oci_manifest.specs.Manifest.{shown, manifest_in};
+ghost use Rattle.registry_model.specs.Ask.{text_in};
+ghost use Rattle.registry_model.specs.Limits.{largest_manifest};
+ghost use Rattle.registry_model.specs.World.{has_repo};
+ghost use Rattle.registry_model.specs.Lookups.{put_manifest, delete_manifest, delete_tag};
+ghost use Rattle.store_statements.specs.Clauses.{Lasts, MakesWorld, Settled, StaysOnMemory, WorldHas};
+ghost use Rattle.registry_store.specs.Usages.{IsKnown, StaysKnown};
+
+use crate::change_lookups::{manifest_change, or_untold};
+use crate::known_usages::KnownUsages;
+use oci_manifest::Manifest;
+use oci_names::{Digest, Fault, RepoName, Tag};
+use sqlite::{Alter, Connection};
+use std::alloc::Global;
+
+/// Adds a manifest, where the repository has not its digest, and sets the tag to it, if one is given.
+pub(crate) fn put_manifest<S: Alter>(
+    alloc: Global,
+    conn: &mut Connection<S>,
+    known: &mut KnownUsages,
+    repo: &RepoName,
+    digest: &Digest,
+    bytes: &[u8],
+    manifest: &Manifest,
+    tag: Option<&Tag>,
+) -> Result<(), Fault>
+    requires settled { Settled S.Store conn.old }
+    requires known { IsKnown S.Store conn.old known.old }
+    requires there { WorldHas S.Store conn.old (λ w. has_repo w repo.now ≡ true) }
+    requires matching { matches digest.now bytes.now ≡ true }
+    requires reads { manifest_in bytes.now ≡ Ok (shown manifest.now) }
+    requires fits { length bytes.now ≤ largest_manifest }
+    ensures made { MakesWorld S.Store conn.old conn.new result
+        (λ w. put_manifest w repo.now digest.now bytes.now (text_in tag.entry)) }
+    ensures memory { StaysOnMemory S.Store conn.old conn.new result }
+    ensures survives { Lasts S.Store conn.old conn.new }
+    ensures known { StaysKnown S.Store conn.new known.new result }
+{
+    let Ok(change) = or_untold(manifest_change(alloc, conn, repo, digest, bytes, tag)) else {
+        return Err(Fault::Storage);
+    };
+    match store_writes::put_manifest(alloc, conn, repo, digest, bytes, manifest, tag) {
+        Ok(()) => {
+            known.follow(repo, change);
+            Ok(())
+        }
+        Err(fault) => Err(fault),
+    }
+}
+
+/// Takes a manifest away, with each tag that names it, and forgets what was known of its repository.
+pub(crate) fn delete_manifest<S: Alter>(
+    conn: &mut Connection<S>,
+    known: &mut KnownUsages,
+    repo: &RepoName,
+    digest: &Digest,
+) -> Result<(), Fault>
+    requires settled { Settled S.Store conn.old }
+    requires known { IsKnown S.Store conn.old known.old }
+    ensures made { MakesWorld S.Store conn.old conn.new result (λ w. delete_manifest w repo.now digest.now) }
+    ensures memory { StaysOnMemory S.Store conn.old conn.new result }
+    ensures survives { Lasts S.Store conn.old conn.new }
+    ensures known { StaysKnown S.Store conn.new known.new result }
+{
+    known.forget(repo);
+    store_writes::delete_manifest(conn, repo, digest)
+}
+
+/// Takes a tag away, and forgets what was known of its repository.
+pub(crate) fn delete_tag<S: Alter>(
+    conn: &mut Connection<S>,
+    known: &mut KnownUsages,
+    repo: &RepoName,
+    tag: &Tag,
+) -> Result<(), Fault>
+    requires settled { Settled S.Store conn.old }
+    requires known { IsKnown S.Store conn.old known.old }
+    ensures made { MakesWorld S.Store conn.old conn.new result (λ w. delete_tag w repo.now tag.now) }
+    ensures memory { StaysOnMemory S.Store conn.old conn.new result }
+    ensures survives { Lasts S.Store conn.old conn.new }
+    ensures known { StaysKnown S.Store conn.new known.new result }
+{
+    known.forget(repo);
+    store_writes::delete_tag(conn, repo, tag)
+}

@@ -1,0 +1,168 @@
+//! Upload sessions that come and go, with what is known of usages.
+ghost use Rattle.std.specs.Prelude.{◌≡◌, ◌≤◌, ◌<◌, ◌+◌, true, length, is_some, IfOk};
+ghost use Rattle.sqlite.specs.State.{HasCleanDisk};
+ghost use Rattle.sqlite.specs.Held.{state};
+ghost use Rattle.oci_names.specs.Digest.{matches};
+ghost use Rattle.registry_model.specs.Limits.{largest, largest_blob};
+ghost use Rattle.registry_model.specs.World.{has_repo};
+ghost use Rattle.registry_model.specs.Lookups.{session_at, bytes_or_none, last_number_at, open_session, append, finish};
+ghost use Rattle.registry_model.specs.Closing.{session_matches, finish_as_is};
+ghost use Rattle.registry_model.specs.Command.{drop_sessions};
+ghost use Rattle.store_statements.specs.Held.{SettlesOn, world_in};
+ghost use Rattle.store_statements.specs.Clauses.{Lasts, MakesWorld, Settled, StaysOnMemory, WorldHas};
+ghost use Rattle.store_writes.specs.Whole.{DoneWhereSo};
+ghost use Rattle.registry_store.specs.Usages.{IsKnown, StaysKnown};
+
+use crate::change_lookups::{finish_change, known_finish_change, or_untold};
+use crate::known_usages::KnownUsages;
+use crate::usage_change::{Change, NO_CHANGE};
+use oci_names::{Digest, Fault, RepoName};
+use sqlite::{Alter, Connection};
+use std::alloc::Global;
+
+/// Opens an empty session under the number behind the repository's last, and answers it.
+pub(crate) fn open_session<S: Alter>(
+    conn: &mut Connection<S>,
+    known: &mut KnownUsages,
+    repo: &RepoName,
+) -> Result<u64, Fault>
+    requires settled { Settled S.Store conn.old }
+    requires known { IsKnown S.Store conn.old known.old }
+    requires there { WorldHas S.Store conn.old (λ w. has_repo w repo.now ≡ true) }
+    requires below { WorldHas S.Store conn.old (λ w. last_number_at w repo.now < largest) }
+    ensures made { HasCleanDisk (state S.Store conn.new)
+        → IfOk result
+        (λ n. (n ≡ last_number_at (world_in (state S.Store conn.old)) repo.now + 1) × SettlesOn
+        (state S.Store conn.new) (open_session (world_in (state S.Store conn.old)) repo.now)) }
+    ensures memory { StaysOnMemory S.Store conn.old conn.new result }
+    ensures survives { Lasts S.Store conn.old conn.new }
+    ensures known { StaysKnown S.Store conn.new known.new result }
+{
+    match store_writes::open_session(conn, repo) {
+        Ok(number) => {
+            let opened = Change {
+                opened: 1,
+                ..NO_CHANGE
+            };
+            known.follow(repo, Some(opened));
+            Ok(number)
+        }
+        Err(fault) => Err(fault),
+    }
+}
+
+/// Puts bytes behind those of an open session; none that it has are touched.
+pub(crate) fn append<S: Alter>(
+    alloc: Global,
+    conn: &mut Connection<S>,
+    known: &mut KnownUsages,
+    repo: &RepoName,
+    number: u64,
+    bytes: &[u8],
+) -> Result<(), Fault>
+    requires settled { Settled S.Store conn.old }
+    requires known { IsKnown S.Store conn.old known.old }
+    requires is_open { WorldHas S.Store conn.old (λ w. is_some (session_at w repo.now number) ≡ true) }
+    requires fits { WorldHas S.Store conn.old
+        (λ w. length (bytes_or_none (session_at w repo.now number)) + length bytes.now ≤ largest_blob) }
+    ensures made { MakesWorld S.Store conn.old conn.new result (λ w. append w repo.now number bytes.now) }
+    ensures memory { StaysOnMemory S.Store conn.old conn.new result }
+    ensures survives { Lasts S.Store conn.old conn.new }
+    ensures known { StaysKnown S.Store conn.new known.new result }
+{
+    match store_writes::append(alloc, conn, repo, number, bytes) {
+        Ok(()) => {
+            let longer = Change {
+                added: bytes.len() as u64,
+                ..NO_CHANGE
+            };
+            known.follow(repo, Some(longer));
+            Ok(())
+        }
+        Err(fault) => Err(fault),
+    }
+}
+
+/// Ends an open session and puts its whole bytes in as a blob; a digest that is there keeps its bytes.
+pub(crate) fn finish<S: Alter>(
+    alloc: Global,
+    conn: &mut Connection<S>,
+    known: &mut KnownUsages,
+    repo: &RepoName,
+    number: u64,
+    digest: &Digest,
+    bytes: &[u8],
+) -> Result<(), Fault>
+    requires settled { Settled S.Store conn.old }
+    requires known { IsKnown S.Store conn.old known.old }
+    requires is_open { WorldHas S.Store conn.old (λ w. is_some (session_at w repo.now number) ≡ true) }
+    requires matching { matches digest.now bytes.now ≡ true }
+    requires fits { length bytes.now ≤ largest_blob }
+    ensures made { MakesWorld S.Store conn.old conn.new result
+        (λ w. finish w repo.now number digest.now bytes.now) }
+    ensures memory { StaysOnMemory S.Store conn.old conn.new result }
+    ensures survives { Lasts S.Store conn.old conn.new }
+    ensures known { StaysKnown S.Store conn.new known.new result }
+{
+    let Ok(change) = or_untold(finish_change(conn, repo, number, digest, bytes)) else {
+        return Err(Fault::Storage);
+    };
+    match store_writes::finish(alloc, conn, repo, number, digest, bytes) {
+        Ok(()) => {
+            known.follow(repo, change);
+            Ok(())
+        }
+        Err(fault) => Err(fault),
+    }
+}
+
+/// Ends an open session whose bytes are known to match the digest, and they are a blob; a digest that is
+/// there keeps its bytes. Answers whether it did so; where it did not, nothing has changed.
+pub(crate) fn finish_known<S: Alter>(
+    alloc: Global,
+    conn: &mut Connection<S>,
+    known: &mut KnownUsages,
+    repo: &RepoName,
+    number: u64,
+    digest: &Digest,
+) -> Result<bool, Fault>
+    requires settled { Settled S.Store conn.old }
+    requires known { IsKnown S.Store conn.old known.old }
+    ensures made { HasCleanDisk (state S.Store conn.new)
+        → IfOk result
+        (λ done. DoneWhereSo done (state S.Store conn.old) (state S.Store conn.new)
+        (λ w. session_matches w repo.now number digest.now)
+        (λ w. finish_as_is w repo.now number digest.now)) }
+    ensures memory { StaysOnMemory S.Store conn.old conn.new result }
+    ensures survives { Lasts S.Store conn.old conn.new }
+    ensures known { StaysKnown S.Store conn.new known.new result }
+{
+    let Ok(change) = or_untold(known_finish_change(conn, repo, number, digest)) else {
+        return Err(Fault::Storage);
+    };
+    match store_writes::finish_known(alloc, conn, repo, number, digest) {
+        Ok(true) => {
+            known.follow(repo, change);
+            Ok(true)
+        }
+        Ok(false) => Ok(false),
+        Err(fault) => Err(fault),
+    }
+}
+
+/// Ends every open session of a repository, and forgets what was known of it.
+pub(crate) fn drop_sessions<S: Alter>(
+    conn: &mut Connection<S>,
+    known: &mut KnownUsages,
+    repo: &RepoName,
+) -> Result<(), Fault>
+    requires settled { Settled S.Store conn.old }
+    requires known { IsKnown S.Store conn.old known.old }
+    ensures made { MakesWorld S.Store conn.old conn.new result (λ w. drop_sessions w repo.now) }
+    ensures memory { StaysOnMemory S.Store conn.old conn.new result }
+    ensures survives { Lasts S.Store conn.old conn.new }
+    ensures known { StaysKnown S.Store conn.new known.new result }
+{
+    known.forget(repo);
+    store_writes::drop_sessions(conn, repo)
+}
