@@ -1,6 +1,5 @@
 //! The changes of a keeper, made by the commands and requests that make them, and what stands before them.
 
-use keeper_tests::asking::{ABC, INDEX, INDEX_DIGEST, REFERRER};
 use oci_names::{RepoName, Token};
 use registry_model::{
     AdminCommand, AdminFault, Keeper, Level, Query, Quota, Request, Route, Status, Verb,
@@ -8,6 +7,20 @@ use registry_model::{
 use registry_service::Service;
 use std::alloc::Global;
 use std::test::Fail;
+
+/// By `printf abc | sha256sum`.
+pub const ABC: &str = "sha256:ba7816bf8f01cfea414140de5dae2223b00361a396177a9cb410ff61f20015ad";
+
+pub const INDEX: &[u8] = b"{\"schemaVersion\":2,\"manifests\":[]}";
+
+/// By `sha256sum` of `INDEX`.
+pub const INDEX_DIGEST: &str =
+    "sha256:bc5857ac9458293d5111ab85c952172cd7f56bceb4e3014ddc4cafac8927b313";
+
+/// An index whose subject is `INDEX`.
+pub const REFERRER: &[u8] = b"{\"schemaVersion\":2,\"manifests\":[],\
+      \"subject\":{\"mediaType\":\"application/vnd.oci.image.index.v1+json\",\"digest\":\
+      \"sha256:bc5857ac9458293d5111ab85c952172cd7f56bceb4e3014ddc4cafac8927b313\",\"size\":34}}";
 
 /// By `printf hello | sha256sum`.
 const HELLO: &str = "sha256:2cf24dba5fb0a30e26e83b2ac5b9e29e1b161e5c1fa7425e73043362938b9824";

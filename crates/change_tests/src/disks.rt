@@ -1,8 +1,9 @@
 //! A store over two new files in memory, either of which stops at one of its calls and stays so; and what is
 //! left of them.
 
+use crate::rows::rows_of;
 use registry_store::Store;
-use sqlite::{Alter, Connection, FileStore, Files, Options};
+use sqlite::{Connection, FileStore, Files, Options};
 use sqlite_disk::{Crash, Disk, Fuse, Memory};
 use std::alloc::Global;
 use std::test::Fail;
@@ -72,30 +73,6 @@ impl Left {
         rows_of(alloc, &mut conn)
     }
 }
-
-/// All rows of a registry's tables.
-pub fn rows_of<S: Alter>(alloc: Global, conn: &mut Connection<S>) -> Result<String, Fail> {
-    let mut text = String::new(alloc);
-    for query in TABLES {
-        for row in conn.query_all(query, &[])? {
-            text.push_str(format!(in alloc; "{row:?}\n")?.as_str())?;
-        }
-    }
-    Ok(text)
-}
-
-/// The rows of each table, by its key.
-const TABLES: [&str; 9] = [
-    "SELECT * FROM registry_schema",
-    "SELECT * FROM registry_repos ORDER BY name",
-    "SELECT * FROM registry_grants ORDER BY token, repo",
-    "SELECT * FROM registry_tags ORDER BY repo, tag",
-    "SELECT * FROM registry_contents ORDER BY id",
-    "SELECT * FROM registry_blob_links ORDER BY repo, digest",
-    "SELECT * FROM registry_manifest_links ORDER BY repo, digest",
-    "SELECT * FROM registry_uploads ORDER BY repo, number",
-    "SELECT * FROM registry_pieces ORDER BY repo, number, start",
-];
 
 /// A file of these bytes.
 fn memory(alloc: Global, bytes: &[u8]) -> Result<Memory, Fail> {

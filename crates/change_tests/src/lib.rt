@@ -1,14 +1,10 @@
-//! Tests of a keeper's changes, asked for by requests and commands: what is left where the files stop, what
-//! repositories are told to hold after each, and sessions that end without their bytes.
+//! The changes of a keeper, asked for by requests and commands, with what is left in the tables after them; and
+//! tests of them over files that stop.
 #![tactic(auto)]
 
-#[cfg(test)]
-mod changes;
-#[cfg(test)]
-mod closing;
+pub mod changes;
 #[cfg(test)]
 mod disks;
+pub mod rows;
 #[cfg(test)]
 mod stops;
-#[cfg(test)]
-mod usages;

@@ -1,9 +1,8 @@
 //! Each change of a keeper over files that stop: what is found on opening again is what was there before the
 //! change or what is there after it, and the latter where the change was answered so.
 
-use crate::changes::{CHANGES, Change, Told, admit, fill};
+use crate::changes::{ABC, CHANGES, Change, Told, admit, fill};
 use crate::disks::{Left, Stopped, Stopping, open_new};
-use keeper_tests::asking::{ABC, same};
 use oci_names::{Digest, RepoName, Tag, Token};
 use registry_model::{Keeper, Quota};
 use registry_service::Service;
@@ -58,7 +57,7 @@ fn is_spent<K: Keeper>(
 ) -> Result<(), Fail> {
     assert!(rt; registry.spent());
     for change in CHANGES {
-        same(rt, change.make(alloc, registry)?, Told::Lost);
+        assert_eq!(rt; change.make(alloc, registry)?, Told::Lost);
     }
     Ok(())
 }
@@ -183,10 +182,9 @@ fn the_log_stops(rt: HostRuntime) -> Result<(), Fail> {
 
 #[test]
 fn the_database_file_stops(rt: HostRuntime) -> Result<(), Fail> {
-    same(
-        &rt,
+    assert_eq!(rt;
         all_stops(&rt, rt.alloc(), Stopped::Database)?.len(),
-        CHANGES.len(),
+        CHANGES.len()
     );
     Ok(())
 }

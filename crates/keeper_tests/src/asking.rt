@@ -10,20 +10,6 @@ use std::fmt::Debug;
 use std::process::Abort;
 use std::test::Fail;
 
-/// By `printf abc | sha256sum`.
-pub const ABC: &str = "sha256:ba7816bf8f01cfea414140de5dae2223b00361a396177a9cb410ff61f20015ad";
-
-pub const INDEX: &[u8] = b"{\"schemaVersion\":2,\"manifests\":[]}";
-
-/// By `sha256sum` of `INDEX`.
-pub const INDEX_DIGEST: &str =
-    "sha256:bc5857ac9458293d5111ab85c952172cd7f56bceb4e3014ddc4cafac8927b313";
-
-/// An index whose subject is `INDEX`.
-pub const REFERRER: &[u8] = b"{\"schemaVersion\":2,\"manifests\":[],\
-      \"subject\":{\"mediaType\":\"application/vnd.oci.image.index.v1+json\",\"digest\":\
-      \"sha256:bc5857ac9458293d5111ab85c952172cd7f56bceb4e3014ddc4cafac8927b313\",\"size\":34}}";
-
 /// The bytes were found.
 pub fn is(found: &Option<Vec<u8>>, bytes: &[u8]) -> bool {
     match found {

@@ -1,12 +1,14 @@
 //! Tests of a keeper's calls, over ordered maps and over tables: what each keeps, what `clear` leaves, that
-//! equal bytes are kept once; and single calls against values of other tools.
-//!
-//! The tests above rely on `asking`.
+//! equal bytes are kept once, what repositories are told to hold after each change, and sessions that end
+//! without their bytes; and single calls against values of other tools.
 #![tactic(auto)]
 
-pub mod asking;
+#[cfg(test)]
+mod asking;
 #[cfg(test)]
 mod clearing;
+#[cfg(test)]
+mod closing;
 #[cfg(test)]
 mod contents;
 #[cfg(test)]
@@ -15,3 +17,5 @@ mod keeping;
 mod model;
 #[cfg(test)]
 mod referrers;
+#[cfg(test)]
+mod usages;

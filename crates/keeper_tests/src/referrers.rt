@@ -1,6 +1,6 @@
 //! The text of an index of referrers.
 
-use crate::asking::ABC;
+use change_tests::changes::ABC;
 use oci_manifest::{Kind, Referrer, referrers_text};
 use oci_names::Digest;
 use std::collections::BTreeMap;

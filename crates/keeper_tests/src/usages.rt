@@ -1,8 +1,8 @@
 //! What repositories are told to hold, asked after each of many changes: over tables, which know it from
 //! before, as over maps, which count it anew.
 
-use crate::changes::{Change, admit, fill};
-use keeper_tests::asking::{ABC, holds, matches, same};
+use crate::asking::{holds, matches, same};
+use change_tests::changes::{ABC, Change, admit, fill};
 use oci_names::{Digest, RepoName};
 use registry_maps::MapKeeper;
 use registry_model::{Keeper, Quota, Usage};

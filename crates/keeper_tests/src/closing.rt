@@ -1,9 +1,9 @@
 //! Upload sessions that end with the bytes that they have, where the tables tell their digest; and those that
 //! do not.
 
-use crate::changes::{Told, admit, asked, query};
-use crate::disks::rows_of;
-use keeper_tests::asking::{ABC, holds, is, is_sized, matches, open, same};
+use crate::asking::{holds, is, is_sized, matches, open, same};
+use change_tests::changes::{ABC, Told, admit, asked, query};
+use change_tests::rows::rows_of;
 use oci_names::{Digest, Fault, RepoName};
 use registry_maps::MapKeeper;
 use registry_model::{Keeper, Quota, Route, Verb};
