@@ -1,31 +1,15 @@
--- Connections that are served together, from none on.
-use Rattle.std.proofs.Common.{◌≡◌, ◌≢◌, ℕ, Bool, Result, Ok, Err, sym, subst, eq-eqb}
+-- What is said of an address, by how many connections may be there at once.
+use Rattle.std.proofs.Common.{◌≡◌, ◌≢◌, Bool, Result, Ok, Err, sym, subst, eq-eqb}
 use Rattle.std.specs.Bool.{MatchBool}
 use Rattle.std.proofs.lemmas.Bool.{ne_eqb}
 use Rattle.registry_model.specs.Keeping.{State}
-use Rattle.registry_server.specs.Open.{Open, none}
-use Rattle.registry_server.specs.Events.{Leads}
-use Rattle.registry_server.proofs.LedgerLemmas.{all_are_served}
-use Rattle.registry_server.proofs.CallLemmas.{leads_none}
 use Rattle.registry_orders.specs.declared.limits.Limits.{Limits}
 use Rattle.registry_orders.specs.declared.failure.Failure.{Failure}
 use Rattle.registry_orders.specs.Carrying.{Output}
+use Rattle.registry_loop.specs.Together.{ServesTogether}
 use Rattle.registry_program.specs.Stored.{Over}
 use Rattle.registry_program.specs.Sockets.{ServesSome, ServesAddress}
-use Rattle.registry_program.specs.Together.{ServesTogether, serves_within}
-
-pub together_from : (at_once : ℕ) (s : State) (u : Open) (s' : State) → Leads (none at_once) s u s' → ServesTogether at_once s s'
-together_from at_once s u s' x = record {
-  events = x.0;
-  last = u;
-  passes = x.1;
-  ledger = all_are_served x.0 at_once s u s' x.1;
-}
-
-pub together_none : (at_once : ℕ) (s : State) → ServesTogether at_once s s
-together_none at_once s = together_from at_once s (none at_once) s (leads_none (none at_once) s)
-
--- ---- what is said of an address
+use Rattle.registry_program.specs.Together.{serves_within}
 
 pub serves_as : {K : Type 0} (is_honest : K → Type 0) (state : K → State) (opens : State → Type 0) (S S' : State → State → Type 0)
     → ((s s' : State) → S s s' → S' s s') → (r : Result (Unit {0}) Failure) (o : Output)

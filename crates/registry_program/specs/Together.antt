@@ -1,19 +1,10 @@
--- Connections that are served together (profile).
-use Rattle.std.specs.Prelude.{ℕ, ◌==◌, List}
+-- Connections at an address, one after the other or together (profile).
+use Rattle.std.specs.Prelude.{◌==◌}
 use Rattle.std.specs.Bool.{MatchBool}
 use Rattle.registry_model.specs.Keeping.{State}
 use Rattle.registry_orders.specs.declared.limits.Limits.{Limits}
-use Rattle.registry_server.specs.Open.{Open, none}
-use Rattle.registry_server.specs.Events.{Event, Passes, OneLedger}
+use Rattle.registry_loop.specs.Together.{ServesTogether}
 use Rattle.registry_program.specs.Sockets.{ServesSome}
-
--- some connections were served, at most so many at once: calls of them led from the one state to the other,
--- and one ledger of all that the service did explains the states and every connection
-pub record ServesTogether (at_once : ℕ) (s s' : State) : Type 0 where
-  pub events : List Event
-  pub last : Open
-  pub passes : Passes events (none at_once) s last s'
-  pub ledger : OneLedger events s s' last
 
 -- with one at once they are served one after the other
 abbrev pub serves_within : Limits → State → State → Type 0

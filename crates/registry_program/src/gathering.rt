@@ -1,35 +1,19 @@
 //! Connections that are served together, over a registry that is opened again where its storage fails.
-ghost use Rattle.std.specs.Prelude.{◌≡◌, true, false, OnOk, IfOk, IfErr};
+ghost use Rattle.std.specs.Prelude.{OnOk, IfErr};
 ghost use Rattle.registry_orders.specs.Carrying.{output};
 ghost use Rattle.registry_program.specs.Stored.{Over};
 ghost use Rattle.registry_program.specs.Sockets.{ServesAddress};
-ghost use Rattle.registry_program.specs.Together.{ServesTogether};
+ghost use Rattle.registry_loop.specs.Together.{ServesTogether};
 ghost use Rattle.registry_orders.specs.Failures.{IsOfServing};
 
 use crate::opening::Opener;
 use crate::sockets::{announce, resume};
+use registry_loop::Gathering;
 use registry_model::Keeper;
 use registry_orders::Failure;
 use registry_service::Service;
 use std::alloc::Global;
-use std::io;
 use std::io::Write;
-
-/// Those whose connections are served together.
-pub trait Gathering {
-    /// Serves those who come, at most so many at once, until all have come and gone, or the service is spent:
-    /// then everybody goes, and the answer is `false`. An error is that nobody can come.
-    fn serve_all<K: Keeper>(
-        &mut self,
-        alloc: Global,
-        service: &mut Service<K>,
-        at_once: usize,
-    ) -> io::Result<bool>
-        ensures honest { K.is_honest service.new → K.is_honest service.old }
-        ensures serves { K.is_honest service.new
-            → ServesTogether at_once (K.state service.old) (K.state service.new) }
-        ensures spent { IfOk result (λ over. over ≡ false → (K.state service.new).spent ≡ true) };
-}
 
 /// Serves them over the registry that was opened at the path, which is opened again where its storage fails.
 fn serve_gathered<K: Keeper + Drop, O: Opener<K>, G: Gathering>(

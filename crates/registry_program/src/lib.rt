@@ -4,23 +4,16 @@
 //! standard input, output and error, and with an opener of the registries that lie in databases.
 #![tactic(auto)]
 
-pub mod crowd;
 pub mod gathering;
 pub mod listening;
 pub mod opening;
-pub mod peer;
-mod peers;
 pub mod program;
 pub mod sockets;
 pub mod stdio;
 pub mod tokens;
 
-pub use crowd::Crowd;
-pub use gathering::{Gathering, serve_together};
+pub use gathering::serve_together;
 pub use opening::Opener;
 pub use program::run_words;
 pub use sockets::{Entrance, connections_are_private, serve, serve_one};
 pub use stdio::{serve_from, serve_memory, serve_stdio};
-
-#[cfg(test)]
-mod tests;

@@ -6,7 +6,6 @@ ghost use Rattle.registry_program.specs.Program.{streams, Tells};
 ghost use Rattle.registry_program.specs.Running.{RunsOrder, RunsStored, RunsServer, EndsMigration, RunsWords, IsSparedFor};
 ghost use Rattle.registry_orders.specs.Carrying.{output, IsSilent};
 
-use crate::crowd::Crowd;
 use crate::gathering::serve_together;
 use crate::listening::{cause_of_binding, introduce};
 use crate::opening::Opener;
@@ -15,6 +14,7 @@ use crate::stdio::{serve_from, serve_memory};
 use crate::tokens::run_token_order;
 use clap::Error;
 use clap::error::ErrorKind;
+use registry_loop::Crowd;
 use registry_model::Keeper;
 use registry_orders::cause::{explain, say_at};
 use registry_orders::failure::say;

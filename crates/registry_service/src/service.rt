@@ -4,11 +4,13 @@ ghost use Rattle.registry_model.specs.declared.refusal.Refusal.TheVariants.{Toke
 ghost use Rattle.registry_model.specs.Answer.{answer_of, refused};
 ghost use Rattle.registry_model.specs.Ask.{ask_of};
 ghost use Rattle.registry_model.specs.Doing.{Does, SpendsAs, CarriesOut, course_of_answer, course_of_result};
+ghost use Rattle.registry_model.specs.Keeping.{ReadsBy, Spends, usages_shown};
+ghost use Rattle.registry_model.specs.Lookups.{usages_of};
 
 use crate::admin_commands::apply_command;
 use crate::judging::judge;
-use oci_names::Fault;
-use registry_model::{AdminCommand, AdminFault, Keeper, Reply, Request};
+use oci_names::{Fault, RepoName};
+use registry_model::{AdminCommand, AdminFault, Keeper, Reply, Request, Usage};
 use std::alloc::Global;
 use std::marker::Model;
 
@@ -68,6 +70,17 @@ impl<K: Keeper> Service<K> {
             Err(Fault::Memory) => Reply::busy(),
             Err(Fault::Storage) => Reply::failed(),
         }
+    }
+
+    /// What each repository holds and may hold, in byte order of names, as `Keeper::usages` tells it.
+    pub fn usages(&mut self, alloc: Global) -> Result<Vec<(RepoName, Usage)>, Fault>
+        ensures found { K.is_honest self.new
+            → ReadsBy usages_shown result (usages_of (K.state self.old).world)
+            (K.state self.old) (K.state self.new) }
+        ensures spends { Spends result (K.state self.old) (K.state self.new) }
+        ensures honest { K.is_honest self.new → K.is_honest self.old }
+    {
+        self.keeper.usages(alloc)
     }
 
     /// Carries out one command.

@@ -1,4 +1,4 @@
-use Rattle.registry_program.proofs.TogetherLemmas.{together_none}
+use Rattle.registry_loop.proofs.TogetherLemmas.{together_none}
 use Rattle.registry_program.proofs.gathering.serve_gathered.Goals as goal
 
 pub returns-in-Ok-true-clause-served : goal.returns-in-Ok-true-clause-served

@@ -1,0 +1,24 @@
+//! Connections that are served together.
+ghost use Rattle.std.specs.Prelude.{◌≡◌, true, false, IfOk};
+ghost use Rattle.registry_loop.specs.Together.{ServesTogether};
+
+use registry_model::Keeper;
+use registry_service::Service;
+use std::alloc::Global;
+use std::io;
+
+/// Those whose connections are served together.
+pub trait Gathering {
+    /// Serves those who come, at most so many at once, until all have come and gone, or the service is spent:
+    /// then everybody goes, and the answer is `false`. An error is that nobody can come.
+    fn serve_all<K: Keeper>(
+        &mut self,
+        alloc: Global,
+        service: &mut Service<K>,
+        at_once: usize,
+    ) -> io::Result<bool>
+        ensures honest { K.is_honest service.new → K.is_honest service.old }
+        ensures serves { K.is_honest service.new
+            → ServesTogether at_once (K.state service.old) (K.state service.new) }
+        ensures spent { IfOk result (λ over. over ≡ false → (K.state service.new).spent ≡ true) };
+}

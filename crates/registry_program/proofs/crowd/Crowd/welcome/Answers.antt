@@ -1,5 +1,0 @@
-use Rattle.registry_server.proofs.CallLemmas.{carries_then}
-use Rattle.registry_program.proofs.crowd.Crowd.welcome.Goals as goal
-
-pub returns-then-not-kept : goal.returns-then-not-kept
-returns-then-not-kept g c = carries_then _ _ _ c.open.ensures.leads c.close.ensures.leads
