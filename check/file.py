@@ -303,6 +303,9 @@ def is_told(words, status, lines, what, **how):
     say(found == (status, b"", lines.encode()), what if found[2] == lines.encode() else f"{what}: {found}")
 
 
+IN_USE = "in use by another process; a server that holds it takes orders by --orders"
+
+
 def failed(at, why):
     return f"registry: storage failure\nregistry: {at}: {why}\n"
 
@@ -312,7 +315,7 @@ def tell_what_is_wrong(room):
     db = f"{room}/held.db"
     server = Server(db)
     try:
-        is_told(["usage", "--db", db], 3, failed(db, "in use by another process"), "a database that a server has")
+        is_told(["usage", "--db", db], 3, failed(db, IN_USE), "a database that a server has")
         why = f"registry: connection failure\nregistry: {server.at}: port in use\n"
         is_told(["serve", "--db", f"{room}/other.db", "--listen", server.at], 4, why, "a port that a server has")
     finally:
@@ -325,6 +328,11 @@ def tell_what_is_wrong(room):
     is_told(["usage", "--db", f"{room}/text"], 3, why, "a text")
     why = "registry: connection failure\nregistry: nowhere: not an address\n"
     is_told(["serve", "--db", f"{room}/other.db", "--listen", "nowhere"], 4, why, "no address")
+    why = f"registry: connection failure\nregistry: {room}/none: no server takes orders here\n"
+    is_told(["usage", "--orders", f"{room}/none"], 4, why, "no server that takes orders")
+    why = f"registry: connection failure\nregistry: {room}/text: is no socket\n"
+    words = ["serve", "--db", f"{room}/other.db", "--listen", "127.0.0.1:0", "--orders", f"{room}/text"]
+    is_told(words, 4, why, "a file in the place of a socket")
 
 
 def tell_who_may_not(room):

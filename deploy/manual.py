@@ -31,16 +31,17 @@ The database of the service
 .BR firkhen ;
 the log
 .I registry.db-wal
-beside it is part of it. One process has them open at a time, so the service is stopped for a command:
+beside it is part of it. One process has them open at a time.
+.TP
+.I /run/firkhen/orders.sock
+Where the service takes orders from its own user:
 .IP
 .EX
-systemctl stop firkhen
-runuser \\-u firkhen \\-\\- registry usage \\-\\-db /var/lib/firkhen/registry.db
-systemctl start firkhen
+runuser \\-u firkhen \\-\\- registry usage \\-\\-orders /run/firkhen/orders.sock
 .EE
 .TP
 .I /etc/default/firkhen
-The address on which the service listens.
+The address on which the service listens, where it takes orders, and further words for it.
 .TP
 .IR /etc/nginx/sites-available/firkhen ", " /etc/nginx/firkhen
 A server of nginx to put in front of it.
@@ -106,9 +107,9 @@ def completion(told):
     yield "_registry()\n{"
     yield '  local word=${COMP_WORDS[COMP_CWORD]} before=${COMP_WORDS[COMP_CWORD - 1]} options=""\n  COMPREPLY=()'
     yield "  case $before in"
-    yield '    --db | --token-file) compopt -o filenames; mapfile -t COMPREPLY < <(compgen -f -- "$word"); return ;;'
+    yield '    --db | --orders | --token-file) compopt -o filenames; mapfile -t COMPREPLY < <(compgen -f -- "$word"); return ;;'
     yield "    --level) options='1 2 3' ;;"
-    yield f"    {' | '.join(sorted(valued - {'--db', '--token-file', '--level'}))}) return ;;"
+    yield f"    {' | '.join(sorted(valued - {'--db', '--orders', '--token-file', '--level'}))}) return ;;"
     yield "  esac"
     yield f"  if ((COMP_CWORD == 1)); then options='{names} {' '.join(long_options(told.options))}'; fi"
     yield '  if [ -z "$options" ]; then\n    case ${COMP_WORDS[1]} in'

@@ -4,6 +4,7 @@ ghost use Rattle.registry_orders.specs.Failures.{IsOfOpening};
 use crate::beginning::begin;
 use crate::looking::cause_at;
 use crate::progress::Progress;
+use registry_model::Keeper;
 use registry_orders::{Cause, Failure};
 use registry_program::Opener;
 use registry_store::{OpenFault, Store, Written};
@@ -62,6 +63,12 @@ impl<F: Supposed> Opener<Store<FileStore<FileFrom<F>>>> for Databases<'_, F> {
         match Store::open_from(self.rt, path, F::new()) {
             Ok(store) => Ok(store),
             Err(fault) => Err(of_opening(fault)),
+        }
+    }
+
+    fn close(&self, kept: Store<FileStore<FileFrom<F>>>) {
+        if !kept.spent() {
+            let _ = kept.into_connection().close();
         }
     }
 

@@ -10,6 +10,8 @@ mod looking;
 #[cfg(test)]
 mod loopback_tests;
 #[cfg(test)]
+mod order_tests;
+#[cfg(test)]
 mod path_tests;
 mod progress;
 #[cfg(test)]

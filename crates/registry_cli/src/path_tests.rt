@@ -41,7 +41,8 @@ fn tells_what_is_wrong<F: Supposed>(test: &impl Abort, rt: &HostRuntime) -> Resu
         &["usage", "--db", "held.db"],
         3,
         b"registry: storage failure\n\
-            registry: held.db: in use by another process\n",
+            registry: held.db: in use by another process; \
+            a server that holds it takes orders by --orders\n",
     )?;
     match held.close() {
         Ok(()) => Ok(()),

@@ -100,6 +100,8 @@ impl Opener<MapKeeper> for Shelf {
         }
     }
 
+    fn close(&self, _kept: MapKeeper) {}
+
     fn migrate(&self, path: &str) -> Result<(), Failure> {
         match path {
             "other" => Err(Failure::NotARegistry),

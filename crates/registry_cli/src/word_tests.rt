@@ -19,7 +19,7 @@ const SERVED: [(&str, &[u8], &[u8]); 5] = [
 
 /// An exit status, the lines on standard error, and command lines that come to them, with nothing on
 /// standard output. Names are told before tokens, and both before a database is opened.
-const TOLD: [(u8, &[u8], &str); 14] = [
+const TOLD: [(u8, &[u8], &str); 20] = [
     (
         0,
         b"",
@@ -86,8 +86,38 @@ const TOLD: [(u8, &[u8], &str); 14] = [
     ),
     (
         2,
+        b"registry: invalid options\n\
+            registry: usage: wants one of --db PATH and --orders PATH\n",
+        "usage
+        usage --db broken --orders nowhere",
+    ),
+    (
+        2,
+        b"registry: invalid options\n\
+            registry: repo: wants one of --db PATH and --orders PATH\n",
+        "repo --name A --quota 1
+        repo --db broken --orders nowhere --name A --quota 1",
+    ),
+    (
+        2,
+        b"registry: invalid options\n\
+            registry: grant: wants one of --db PATH and --orders PATH\n",
+        "grant --token t1 --token-file t --name A --level 1
+        grant --db broken --orders nowhere --name A --level 1
+        grant --db broken --orders nowhere --token t, --name a --level 1",
+    ),
+    (
+        2,
+        b"registry: invalid options\n\
+            registry: serve: --orders and --log want --at-once of 2 or more\n",
+        "serve --db broken --listen nowhere --at-once 1 --orders f
+        serve --db broken --listen nowhere --at-once 1 --log",
+    ),
+    (
+        2,
         b"registry: invalid name\n",
         "stdio --memory --repo a=1 --grant t,=A=3
+        drop --orders nowhere --name A
         grant --db broken --token t, --name A --level 1
         drop --db broken --name A",
     ),
@@ -95,6 +125,7 @@ const TOLD: [(u8, &[u8], &str); 14] = [
         2,
         b"registry: invalid token\n",
         "stdio --memory --repo a=1 --grant t,=a=3
+        grant --orders nowhere --token t, --name a --level 1
         grant --db broken --token t, --name a --level 1
         revoke --db broken --token t, --name a",
     ),
@@ -109,7 +140,8 @@ const TOLD: [(u8, &[u8], &str); 14] = [
     (
         3,
         b"registry: storage failure\n\
-            registry: broken: in use by another process\n",
+            registry: broken: in use by another process; \
+            a server that holds it takes orders by --orders\n",
         "usage --db broken
         migrate --db broken",
     ),
@@ -128,7 +160,24 @@ const TOLD: [(u8, &[u8], &str); 14] = [
         4,
         b"registry: connection failure\n\
             registry: nowhere: not an address\n",
-        "serve --db f --listen nowhere",
+        "serve --db f --listen nowhere
+        serve --db f --listen nowhere --orders nowhere/orders",
+    ),
+    (
+        4,
+        b"registry: connection failure\n\
+            registry: nowhere: no server takes orders here\n",
+        "repo --orders nowhere --name team/lib --quota 1000
+        drop --orders nowhere --name team/app
+        grant --orders nowhere --token t1 --name team/app --level 3
+        revoke --orders nowhere --token t1 --name team/app
+        usage --orders nowhere",
+    ),
+    (
+        4,
+        b"registry: connection failure\n\
+            registry: nowhere/orders: no such folder\n",
+        "serve --db f --listen 127.0.0.1:0 --orders nowhere/orders",
     ),
 ];
 
@@ -140,9 +189,9 @@ const UNREADABLE: [&str; 15] = [
     "repo --db f --name A --quota 9223372036854775808",
     "repo --db f --name A --quota many",
     "repo --db f --name A",
-    "repo --name A --quota 1",
-    "usage",
+    "repo --orders f --name A",
     "migrate",
+    "migrate --orders f",
     "serve --db f",
     "serve --db f --listen nowhere --connections 9223372036854775808",
     "serve --db f --listen nowhere --at-once 0",
@@ -198,7 +247,7 @@ const NO_TOKEN: &[u8] =
     b"registry: invalid token\nregistry: standard input: the first line is no token\n";
 
 /// Orders with a token on standard input: the words, what is read, the status and standard error.
-const BY_LINE: [(&str, &[u8], u8, &[u8]); 9] = [
+const BY_LINE: [(&str, &[u8], u8, &[u8]); 11] = [
     (
         "grant --db f --token - --name team/app --level 1",
         b"t5\n",
@@ -242,6 +291,19 @@ const BY_LINE: [(&str, &[u8], u8, &[u8]); 9] = [
         b"t,\n",
         2,
         b"registry: invalid name\n",
+    ),
+    (
+        "revoke --orders nowhere --token - --name a",
+        b"t,\n",
+        2,
+        NO_TOKEN,
+    ),
+    (
+        "revoke --orders nowhere --token - --name a",
+        b"t1\n",
+        4,
+        b"registry: connection failure\n\
+            registry: nowhere: no server takes orders here\n",
     ),
 ];
 
@@ -316,6 +378,9 @@ fn usage_lines_name_the_program(rt: HostRuntime) -> Result<(), Fail> {
     let help = run(&rt, "stdio --help", b"")?;
     let shown = str::from_utf8(help.out.as_slice())?;
     assert!(rt; shown.contains("Usage: registry stdio [OPTIONS]\n"));
+    let help = run(&rt, "usage --help", b"")?;
+    let shown = str::from_utf8(help.out.as_slice())?;
+    assert!(rt; shown.contains("Usage: registry usage [OPTIONS]\n"));
     let lacking = run(&rt, "serve --db f", b"")?;
     let shown = str::from_utf8(lacking.err.as_slice())?;
     assert!(rt; shown.contains("Usage: registry serve "));

@@ -2,6 +2,7 @@ ghost use Rattle.std.specs.Prelude.{◌≡◌, ◌<◌, ◌≤◌, [], true, fal
 ghost use Rattle.std.specs.Bool.{MatchBool};
 ghost use Rattle.oci_names.specs.Text.{Text};
 
+use crate::exchange::Exchange;
 use crate::heading::{FoundHead, Heading, find_head};
 use crate::part::{Part, Taken, take_body};
 use crate::phase::{Phase, Step, Wants};
@@ -37,6 +38,8 @@ pub struct Conversation {
     /// What is to go out, behind what went out of it.
     out: Vec<u8>,
     gone: usize,
+    /// What a log tells of the request in hand.
+    exchange: Exchange,
     ghost room: { vec_len fields ≡ 8192 },
     ghost within: { gone ≤ vec_len out },
 }
@@ -61,6 +64,7 @@ impl Conversation {
             finished: false,
             out: Vec::new(alloc),
             gone: 0,
+            exchange: Exchange::new(alloc),
         })
     }
 
@@ -184,6 +188,11 @@ impl Conversation {
         }
     }
 
+    /// The request in hand, or else the one that was answered last, as a log tells it.
+    pub fn exchange(&self) -> &Exchange {
+        &self.exchange
+    }
+
     /// How many bytes it holds: those that came and are not answered, and those that are to go out. More
     /// than 18,446,744,073,709,551,615 count as so many.
     pub fn held(&self) -> usize
@@ -261,6 +270,8 @@ impl Conversation {
             Parsed::Never => return self.refuse(FramingRefusal::UnreadableHead),
         };
         let taken = self.buffer.before();
+        self.exchange
+            .note_body(taken.len().saturating_sub(spans.len));
         match reply_to(alloc, service, taken, &self.fields, &spans, &mut self.out) {
             Ok(closing) => {
                 self.close_if(closing);
@@ -313,6 +324,7 @@ impl Conversation {
                 written: fault.written,
             }),
         }
+        self.exchange.note_head(self.buffer.behind());
         self.buffer.pass(heading.len);
         match heading.framing {
             Framing::Length(count) => self.go_on(alloc, service, Part::Length(count)),
@@ -341,7 +353,10 @@ impl Conversation {
                     self.wait(End::Cut)
                 }
             }
-            FoundHead::Never => self.refuse(FramingRefusal::UnreadableHead),
+            FoundHead::Never => {
+                self.exchange.forget();
+                self.refuse(FramingRefusal::UnreadableHead)
+            }
         }
     }
 

@@ -5,6 +5,7 @@
 #![tactic(auto)]
 
 pub mod conversation;
+pub mod exchange;
 pub mod heading;
 pub mod laws;
 pub mod part;
@@ -12,6 +13,7 @@ pub mod phase;
 pub mod replying;
 
 pub use conversation::Conversation;
+pub use exchange::Exchange;
 pub use phase::{Phase, Step, Wants};
 
 #[cfg(test)]

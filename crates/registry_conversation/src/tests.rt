@@ -205,6 +205,27 @@ fn one_request_a_turn(rt: HostRuntime) -> Result<(), Fail> {
     Ok(())
 }
 
+/// Of three requests that came at once a log is told each in its turn, and no query.
+#[test]
+fn a_log_is_told_each_request(rt: HostRuntime) -> Result<(), Fail> {
+    let alloc = rt.alloc();
+    let input = requests(alloc, "Content-Length: 5\r\n\r\nhello")?;
+    let mut talk = new_talk(alloc)?;
+    talk.conversation.receive(input.as_bytes());
+    for (method, path, came) in [
+        ("POST", "uploads/", 5),
+        ("GET", HELLO, 0),
+        ("HEAD", HELLO, 0),
+    ] {
+        let line = format!(in alloc; "{method} /v2/team/app/blobs/{path}")?;
+        same(&rt, came, turn(alloc, &mut talk)?, Step::Answered);
+        let exchange = talk.conversation.exchange();
+        same(&rt, came, exchange.line(), line.as_bytes());
+        same(&rt, came, exchange.came(), came);
+    }
+    Ok(())
+}
+
 /// A client that waits is told so once, before its body came.
 #[test]
 fn continue_before_the_body(rt: HostRuntime) -> Result<(), Fail> {

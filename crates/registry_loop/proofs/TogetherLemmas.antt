@@ -1,11 +1,14 @@
 -- Connections that are served together, from none on.
-use Rattle.std.proofs.Common.{ℕ}
+use Rattle.std.proofs.Common.{◌≡◌, ℕ, [], ◌∷◌, inl, inr, refl, sym, subst}
 use Rattle.registry_model.specs.Keeping.{State}
+use Rattle.registry_model.specs.Team.{orders}
+use Rattle.registry_model.specs.Runs.{did}
 use Rattle.registry_server.specs.Open.{Open, none}
-use Rattle.registry_server.specs.Events.{Leads}
+use Rattle.registry_server.specs.Events.{Leads, elsewhere}
 use Rattle.registry_server.proofs.LedgerLemmas.{all_are_served}
-use Rattle.registry_server.proofs.CallLemmas.{leads_none}
-use Rattle.registry_loop.specs.Together.{ServesTogether}
+use Rattle.registry_server.proofs.CallLemmas.{leads_none, leads_then}
+use Rattle.order_messages.specs.Answering.{IsOneStep}
+use Rattle.registry_loop.specs.Together.{ServesTogether, LeadsBeside}
 
 pub together_from : (at_once : ℕ) (s : State) (u : Open) (s' : State) → Leads (none at_once) s u s' → ServesTogether at_once s s'
 together_from at_once s u s' x = record {
@@ -17,3 +20,15 @@ together_from at_once s u s' x = record {
 
 pub together_none : (at_once : ℕ) (s : State) → ServesTogether at_once s s
 together_none at_once s = together_from at_once s (none at_once) s (leads_none (none at_once) s)
+
+-- ---- orders, which leave all connections as they are
+
+pub beside_none : (s : State) → LeadsBeside s s
+beside_none s u = leads_none u s
+
+pub beside_then : (s t r : State) → LeadsBeside s t → LeadsBeside t r → LeadsBeside s r
+beside_then s t r x y u = leads_then u s u t u r (x u) (y u)
+
+pub beside_step : (s s' : State) → IsOneStep s s' → LeadsBeside s s'
+beside_step s s' (inl e) u = subst (Leads u s u) (sym e) (leads_none u s)
+beside_step s s' (inr x) u = (elsewhere (orders x.0) (did x.1) ∷ [], (u, s', (refl, x.2), (refl, refl)))

@@ -2,20 +2,22 @@
 ghost use Rattle.std.specs.Prelude.{◌≡◌};
 ghost use Rattle.registry_server.specs.Events.{Carries, Leads};
 ghost use Rattle.registry_server.specs.Showing.{connected};
+ghost use Rattle.registry_loop.specs.Together.{LeadsBeside};
 
+use crate::callers::Callers;
 use crate::gathering::Gathering;
+use crate::log::Log;
 use crate::peer::Peer;
-use crate::peers::{coming, going, is_any_ready, is_large, leaves, may_speak, note, oldest};
-use mio::net::{TcpListener, TcpStream};
+use crate::peers::{coming, going, is_any_ready, is_large, leaves, may_speak, note};
+use mio::net::TcpListener;
 use mio::{Events, Interest, Poll, Token};
-use registry_http::FramingRefusal;
-use registry_http::reply_text::write_refusal;
 use registry_model::Keeper;
 use registry_orders::Limits;
 use registry_server::{Connections, Turn};
 use registry_service::Service;
 use std::alloc::Global;
-use std::io::ErrorKind;
+use std::io::Write;
+use std::os::unix::net::UnixListener;
 use std::time::{Clock, Duration};
 use std::{io, net};
 
@@ -26,48 +28,61 @@ const LISTENER: Token = Token(usize::MAX);
 const ROOM: usize = 65_536;
 
 /// How many events are taken at once, and how many connections.
-const EVENTS: usize = 256;
+pub(crate) const EVENTS: usize = 256;
 
 /// How many seconds it is waited at most, so that silence is noticed.
 const WAIT: u64 = 1;
 
-/// A listener, and the sockets that were taken there.
+/// Where connections are taken, and where orders are, if they are.
 #[derive(Drop)]
-pub struct Crowd<'a, T: Clock> {
-    clock: &'a T,
-    poll: Poll,
-    events: Events,
-    listener: TcpListener,
-    limits: Limits,
-    /// So many connections are still to be taken.
-    left: u64,
-    /// One may wait to be taken.
-    knocks: bool,
-    /// Some connection may have a turn to take.
-    pending: bool,
-    peers: Vec<Peer>,
-    room: Vec<u8>,
-    now: Duration,
+pub struct Doors {
+    pub listener: net::TcpListener,
+    pub orders: Option<UnixListener>,
 }
 
-impl<'a, T: Clock> Crowd<'a, T> {
+/// A listener, and the sockets that were taken there; and those who give orders.
+#[derive(Drop)]
+pub struct Crowd<'a, T: Clock, E: Write> {
+    pub(crate) clock: &'a T,
+    pub(crate) log: Log<'a, E>,
+    pub(crate) poll: Poll,
+    events: Events,
+    pub(crate) listener: TcpListener,
+    limits: Limits,
+    /// So many connections are still to be taken.
+    pub(crate) left: u64,
+    /// One may wait to be taken.
+    pub(crate) knocks: bool,
+    /// Some connection may have a turn to take.
+    pending: bool,
+    pub(crate) peers: Vec<Peer>,
+    callers: Callers,
+    room: Vec<u8>,
+    pub(crate) now: Duration,
+}
+
+impl<'a, T: Clock, E: Write> Crowd<'a, T, E> {
     /// Nobody but those who come to the listener, of whom so many are taken. An error is that of the system,
     /// or want of memory.
     pub fn new<N: net::Net>(
         alloc: Global,
         net: &N,
         clock: &'a T,
-        listener: net::TcpListener,
+        log: Log<'a, E>,
+        doors: Doors,
         limits: Limits,
         connections: u64,
-    ) -> io::Result<Crowd<'a, T>> {
+    ) -> io::Result<Crowd<'a, T, E>> {
+        let Doors { listener, orders } = doors;
         listener.set_nonblocking(true)?;
         let mut listener = TcpListener::from_std(listener);
         let poll = Poll::new(net)?;
         poll.registry()
             .register(&mut listener, LISTENER, Interest::READABLE)?;
+        let callers = Callers::new(alloc, poll.registry(), orders)?;
         Ok(Crowd {
             clock,
+            log,
             poll,
             events: Events::with_capacity(alloc, EVENTS)?,
             listener,
@@ -76,6 +91,7 @@ impl<'a, T: Clock> Crowd<'a, T> {
             knocks: true,
             pending: false,
             peers: Vec::new(alloc),
+            callers,
             room: vec![in alloc; 0; ROOM]?,
             now: Duration::ZERO,
         })
@@ -89,14 +105,16 @@ impl<'a, T: Clock> Crowd<'a, T> {
     /// Whether something is to be done before anything happens.
     fn busy(&self) -> bool {
         let half = self.half();
-        (self.pending && going(&self.peers) < half) || is_any_ready(&self.peers, half)
+        (self.pending && going(&self.peers) < half)
+            || is_any_ready(&self.peers, half)
+            || self.callers.is_any_ready()
     }
 
     /// Waits until something happens, and notes what.
     fn wait(&mut self) -> io::Result<()> {
         let limit = if self.busy() {
             Some(Duration::ZERO)
-        } else if self.peers.is_empty() && !self.knocks {
+        } else if self.peers.is_empty() && !self.knocks && self.callers.is_quiet() {
             None
         } else {
             Some(Duration::from_secs(WAIT))
@@ -109,118 +127,20 @@ impl<'a, T: Clock> Crowd<'a, T> {
             if event.token() == LISTENER {
                 self.knocks = true;
             }
+            self.callers.note(event);
             note(&mut self.peers, event);
         }
         Ok(())
     }
 
     /// Lets one connection go.
-    fn dismiss(&mut self, connections: &mut Connections, at: usize)
+    pub(crate) fn dismiss(&mut self, connections: &mut Connections, at: usize)
         ensures { Carries (connected connections.old) (connected connections.new) }
     {
         if at < self.peers.len() {
             let peer = self.peers.remove(at);
             let _ = connections.close(peer.number);
         }
-    }
-
-    /// Whether one more may be taken. Where there is no room, the one goes that has rested longest.
-    fn has_room(&mut self, connections: &mut Connections, at_once: usize) -> bool
-        ensures { Carries (connected connections.old) (connected connections.new) }
-    {
-        if self.peers.len() < at_once {
-            return true;
-        }
-        match oldest(&self.peers, self.now) {
-            Some(at) => {
-                self.dismiss(connections, at);
-                self.peers.len() < at_once
-            }
-            None => false,
-        }
-    }
-
-    /// Takes a connection that came. Where memory is wanting for it, it is told so and closed, as where the
-    /// system refuses it.
-    fn welcome(&mut self, alloc: Global, connections: &mut Connections, stream: TcpStream)
-        ensures { Carries (connected connections.old) (connected connections.new) }
-    {
-        let mut stream = stream;
-        let _ = stream.set_nodelay(true);
-        let Ok(number) = connections.open(alloc) else {
-            let _ = write_refusal(FramingRefusal::NoBufferMemory, &mut stream);
-            return;
-        };
-        let interest = Interest::READABLE | Interest::WRITABLE;
-        let token = Token(number as usize);
-        let registered = self.poll.registry().register(&mut stream, token, interest);
-        let kept = match registered {
-            Ok(()) => self.peers.push(Peer::new(number, stream, self.now)).is_ok(),
-            Err(_) => false,
-        };
-        if !kept {
-            let _ = connections.close(number);
-        }
-    }
-
-    /// Takes the next one that came, and says whether another may be there. An error is that none can be
-    /// taken, and nobody is there.
-    fn accept_next(&mut self, alloc: Global, connections: &mut Connections) -> io::Result<bool>
-        ensures { Carries (connected connections.old) (connected connections.new) }
-    {
-        match self.listener.accept() {
-            Ok((stream, _)) => {
-                self.left = self.left.saturating_sub(1);
-                self.welcome(alloc, connections, stream);
-                Ok(true)
-            }
-            Err(error) => match error.kind() {
-                ErrorKind::WouldBlock => {
-                    self.knocks = false;
-                    Ok(false)
-                }
-                ErrorKind::ConnectionAborted | ErrorKind::Interrupted => Ok(true),
-                _ if self.peers.is_empty() => Err(error),
-                _ => Ok(false),
-            },
-        }
-    }
-
-    /// The same, if one may be taken.
-    fn accept_one(
-        &mut self,
-        alloc: Global,
-        connections: &mut Connections,
-        at_once: usize,
-    ) -> io::Result<bool>
-        ensures { Carries (connected connections.old) (connected connections.new) }
-    {
-        if !self.knocks || self.left == 0 {
-            return Ok(false);
-        }
-        if self.has_room(connections, at_once) {
-            self.accept_next(alloc, connections)
-        } else {
-            Ok(false)
-        }
-    }
-
-    /// Takes those who came, as far as they may be taken.
-    fn accept_all(
-        &mut self,
-        alloc: Global,
-        connections: &mut Connections,
-        at_once: usize,
-    ) -> io::Result<()>
-        ensures { Carries (connected connections.old) (connected connections.new) }
-    {
-        for _ in 0..EVENTS {
-            let more = self.accept_one(alloc, connections, at_once)?;
-            if !more {
-                return Ok(());
-            }
-        }
-        Ok(())
     }
 
     /// Reads each that may be read, once.
@@ -274,8 +194,11 @@ impl<'a, T: Clock> Crowd<'a, T> {
         if service.spent() || going(&self.peers) >= self.half() {
             return false;
         }
+        let clock = self.clock;
+        let began = clock.monotonic().unwrap_or(self.now);
         match connections.turn(alloc, service) {
             Some(turn) => {
+                self.log.say_turn(alloc, clock, connections, &turn, began);
                 self.tell_of(connections, turn);
                 true
             }
@@ -350,12 +273,25 @@ impl<'a, T: Clock> Crowd<'a, T> {
         ensures { Carries (connected connections.old) (connected connections.new) }
     {
         self.tell_all(connections);
+        self.callers.leave(self.now);
         for _ in 0..self.peers.len() {
             self.dismiss(connections, 0);
         }
     }
 
-    /// One round: takes those who came, reads, has requests answered, writes, and lets go.
+    /// Carries out the orders that are there, between two requests.
+    fn take_orders<K: Keeper>(&mut self, alloc: Global, service: &mut Service<K>)
+        ensures honest { K.is_honest service.new → K.is_honest service.old }
+        ensures leads { K.is_honest service.new
+            → LeadsBeside (K.state service.old) (K.state service.new) }
+    {
+        let now = self.now;
+        let registry = self.poll.registry();
+        self.callers.attend(alloc, registry, service, now);
+    }
+
+    /// One round: takes those who came, reads, has requests answered and orders carried out, writes, and lets
+    /// go.
     fn serve_round<K: Keeper>(
         &mut self,
         alloc: Global,
@@ -371,13 +307,14 @@ impl<'a, T: Clock> Crowd<'a, T> {
         self.accept_all(alloc, connections, at_once)?;
         self.hear_all(connections);
         self.answer_all(alloc, connections, service);
+        self.take_orders(alloc, service);
         self.tell_all(connections);
         self.dismiss_all(alloc, connections);
         Ok(())
     }
 }
 
-impl<'a, T: Clock> Gathering for Crowd<'a, T> {
+impl<'a, T: Clock, E: Write> Gathering for Crowd<'a, T, E> {
     fn serve_all<K: Keeper>(
         &mut self,
         alloc: Global,
@@ -391,6 +328,7 @@ impl<'a, T: Clock> Gathering for Crowd<'a, T> {
                 return Ok(false);
             }
             if self.left == 0 && self.peers.is_empty() {
+                self.callers.leave(self.now);
                 return Ok(true);
             }
             self.serve_round(alloc, &mut connections, service, at_once)?;

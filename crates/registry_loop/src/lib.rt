@@ -4,13 +4,18 @@
 //! every connection. Which socket is read or written when, no contract says.
 #![tactic(auto)]
 
+pub mod caller;
+pub mod callers;
 pub mod crowd;
 pub mod gathering;
+pub mod log;
 pub mod peer;
 mod peers;
+mod taking;
 
-pub use crowd::Crowd;
+pub use crowd::{Crowd, Doors};
 pub use gathering::Gathering;
+pub use log::Log;
 
 #[cfg(test)]
 mod tests;

@@ -1,13 +1,14 @@
 //! Sockets on loopback that are served together, over a registry in memory.
-use crate::{Crowd, Gathering};
+use crate::{Crowd, Doors, Gathering, Log};
 use oci_names::{RepoName, Token};
 use registry_maps::MapKeeper;
-use registry_model::{AdminCommand, Level, Quota};
+use registry_model::{AdminCommand, Keeper, Level, Quota};
 use registry_orders::Limits;
 use registry_service::Service;
 use std::alloc::Global;
 use std::io::{Read, Write};
 use std::net::{Shutdown, TcpListener, TcpStream};
+use std::os::unix::net::{UnixListener, UnixStream};
 use std::test::Fail;
 
 const HELD: &[u8] = b"GET /v2/ HTTP/1.1\r\nHost: r\r\nAuthorization: Bearer t1\r\n\r\n";
@@ -51,8 +52,40 @@ fn told(alloc: Global, client: &mut TcpStream) -> Result<Vec<u8>, Fail> {
     Ok(replies)
 }
 
+/// Serves so many connections, at most two at once, and those who give orders; what was said of them.
+fn served(
+    rt: &HostRuntime,
+    doors: Doors,
+    service: &mut Service<MapKeeper>,
+    connections: u64,
+) -> Result<String, Fail> {
+    let limits = Limits {
+        at_once: 2,
+        buffer: 134_217_728,
+        idle: 60,
+    };
+    let mut said = Vec::new(rt.alloc());
+    let log = Log::new(&mut said, true);
+    let mut crowd = Crowd::new(rt.alloc(), rt, rt, log, doors, limits, connections)?;
+    let whole = crowd.serve_all(rt.alloc(), service, 2)?;
+    drop(crowd);
+    if !whole {
+        return Err("all were served".into());
+    }
+    Ok(str::from_utf8(&said)?.to_owned(rt.alloc())?)
+}
+
+/// A line of a log for a request of the base: the time, a number, and the bytes of the reply.
+fn is_of_base(line: &str) -> bool {
+    let time = line.as_bytes();
+    time.get(10) == Some(&b'T')
+        && time.get(19) == Some(&b'Z')
+        && (line.contains(" GET /v2/ 200 0 72 ") || line.contains(" GET /v2/ 200 0 91 "))
+        && !line.contains("t1")
+}
+
 /// Three clients, of which two may be there at once: one that sends two requests, one that stops in a head
-/// and ends its input, and one that ends its input behind a request.
+/// and ends its input, and one that ends its input behind a request. Each request is said, and no token.
 #[test]
 fn three_clients_are_served_two_at_once(rt: HostRuntime) -> Result<(), Fail> {
     let alloc = rt.alloc();
@@ -68,21 +101,71 @@ fn three_clients_are_served_two_at_once(rt: HostRuntime) -> Result<(), Fail> {
     second.shutdown(Shutdown::Write)?;
     third.write_all(HELD)?;
     third.shutdown(Shutdown::Write)?;
-    let limits = Limits {
-        at_once: 2,
-        buffer: 134_217_728,
-        idle: 60,
-    };
     let mut service = Service::new(MapKeeper::new(alloc));
     add(alloc, &mut service)?;
     grant(alloc, &mut service)?;
-    let mut crowd = Crowd::new(alloc, &rt, &rt, listener, limits, 3)?;
-    assert!(rt; crowd.serve_all(alloc, &mut service, 2)?);
+    let doors = Doors {
+        listener,
+        orders: None,
+    };
+    let said = served(&rt, doors, &mut service, 3)?;
     let mut both = Vec::new(alloc);
     both.extend_from_slice(HELD_REPLY)?;
     both.extend_from_slice(CLOSING_REPLY)?;
     assert_eq!(rt; told(alloc, &mut first)?.as_slice(), both.as_slice());
     assert_eq!(rt; told(alloc, &mut second)?.as_slice(), HELD_REPLY);
     assert_eq!(rt; told(alloc, &mut third)?.as_slice(), HELD_REPLY);
+    assert_eq!(rt; said.lines().count(), 4);
+    assert!(rt; said.lines().all(is_of_base));
+    Ok(())
+}
+
+/// Gives one order at the socket of this path, and does not wait for its answer.
+fn ordered(rt: &HostRuntime, path: &str, line: &[u8]) -> Result<UnixStream, Fail> {
+    let mut caller = UnixStream::connect(rt, path)?;
+    caller.write_all(line)?;
+    Ok(caller)
+}
+
+/// What an order was answered.
+fn answered(alloc: Global, caller: &mut UnixStream) -> Result<String, Fail> {
+    let mut answer = Vec::new(alloc);
+    caller.read_to_end(&mut answer)?;
+    Ok(str::from_utf8(&answer)?.to_owned(alloc)?)
+}
+
+/// Two orders, one that is none, and two that are cut, while a connection is there.
+#[test]
+fn orders_are_carried_out_beside_connections(rt: HostRuntime) -> Result<(), Fail> {
+    let alloc = rt.alloc();
+    let orders = UnixListener::bind(&rt, "orders.sock")?;
+    let mut first = ordered(&rt, "orders.sock", b"repo team/app 1000\n")?;
+    let mut second = ordered(&rt, "orders.sock", b"grant team/app 1 t1\n")?;
+    let mut third = ordered(&rt, "orders.sock", b"grant team/app 4 t2\n")?;
+    let fourth = ordered(&rt, "orders.sock", b"drop team/app")?;
+    fourth.shutdown(Shutdown::Write)?;
+    let listener = TcpListener::bind(&rt, "127.0.0.1:0")?;
+    let mut client = TcpStream::connect(&rt, listener.local_addr()?)?;
+    let doors = Doors {
+        listener,
+        orders: Some(orders),
+    };
+    let mut service = Service::new(MapKeeper::new(alloc));
+    let late = ordered(&rt, "orders.sock", b"usa")?;
+    client.write_all(HALF)?;
+    client.shutdown(Shutdown::Write)?;
+    let said = served(&rt, doors, &mut service, 1)?;
+    assert_eq!(rt; answered(alloc, &mut first)?.as_str(), "0\n");
+    assert_eq!(rt; answered(alloc, &mut second)?.as_str(), "0\n");
+    assert_eq!(rt;
+        answered(alloc, &mut third)?.as_str(),
+        "2\nregistry: invalid options\n"
+    );
+    drop(late);
+    assert_eq!(rt; said.as_str(), "");
+    let token = Token::parse(alloc, "t1")?;
+    let name = RepoName::parse(alloc, "team/app")?;
+    let mut keeper = service.into_keeper();
+    assert_eq!(rt; keeper.level(&token, &name), Ok(Some(Level::Pull)));
     Ok(())
 }

@@ -1,12 +1,12 @@
 -- What a failure is told by: its own line, and at most one behind it.
 use Rattle.std.proofs.Common.{◌≡◌, ◌∙◌, Bool, true, false, Option, None, Some, [], ◌++◌, inl, inr, refl, ap}
-use Rattle.std.specs.Prelude.{◌⊎◌, ◌==◌, ◌||◌, codes, if◌then◌else◌}
+use Rattle.std.specs.Prelude.{◌==◌, ◌||◌, codes, if◌then◌else◌}
 use Rattle.std.proofs.lemmas.List.Folds.{list_any-append}
 use Rattle.oci_names.specs.Text.{Text}
 use Rattle.registry_orders.specs.declared.cause.Cause.{Cause}
-use Rattle.registry_orders.specs.declared.cause.Cause.TheVariants.{InUse, NoFolder, IsFolder, NoFileName, NoPlainFile, NoRightToRead, NoRightToWrite, ReadOnly, NoDatabase, Journal, DiskFull, NoRegistry, PortInUse, NoAddress, NoHost, Elsewhere, NoRightToPort, StdioOptions, TokenOptions, NoFile, Unreadable, NoToken}
+use Rattle.registry_orders.specs.declared.cause.Cause.TheVariants.{InUse, NoFolder, IsFolder, NoFileName, NoPlainFile, NoRightToRead, NoRightToWrite, ReadOnly, NoDatabase, Journal, DiskFull, NoRegistry, PortInUse, NoAddress, NoHost, Elsewhere, NoRightToPort, StdioOptions, TokenOptions, PlaceOptions, TogetherOptions, NoFile, Unreadable, NoToken, NoServer, ServerThere, NoSocket}
 use Rattle.registry_orders.specs.Table.{newline}
-use Rattle.registry_orders.specs.Causes.{words_of, reason_of, has_line_end, line_of, line_if, IsAtMostOneLine}
+use Rattle.registry_orders.specs.Causes.{words_of, reason_of, has_line_end, line_if, IsAtMostOneLine}
 
 words_end_nowhere : (cause : Cause) → has_line_end (words_of cause) ≡ false
 words_end_nowhere InUse = refl
@@ -28,9 +28,14 @@ words_end_nowhere Elsewhere = refl
 words_end_nowhere NoRightToPort = refl
 words_end_nowhere StdioOptions = refl
 words_end_nowhere TokenOptions = refl
+words_end_nowhere PlaceOptions = refl
+words_end_nowhere TogetherOptions = refl
 words_end_nowhere NoFile = refl
 words_end_nowhere Unreadable = refl
 words_end_nowhere NoToken = refl
+words_end_nowhere NoServer = refl
+words_end_nowhere ServerThere = refl
+words_end_nowhere NoSocket = refl
 
 neither_ends : (x y : Text) → has_line_end x ≡ false → has_line_end y ≡ false → has_line_end (x ++ y) ≡ false
 neither_ends x y first second = list_any-append (λ b. b == 10) x y ∙ ap (λ (t : Bool). t || has_line_end y) first ∙ second

@@ -1,7 +1,7 @@
 -- A token's bytes, one by one, and a change with its token.
-use Rattle.std.proofs.Common.{◌≡◌, ◌≢◌, ◌≤◌, ℕ, zero, suc, Option, None, Some, List, [], ◌∷◌, ◌++◌, length, take, get_or, arith, refl, inl, inr, subst, append-nil}
+use Rattle.std.proofs.Common.{◌≡◌, ◌≢◌, ◌≤◌, ℕ, zero, suc, Option, List, [], ◌∷◌, length, take, get_or, arith, refl, inl, inr, subst, append-nil}
 use Rattle.std.specs.Io.KnownBytes.{Consumes, IsAtEnd}
-use Rattle.std.proofs.KnownBytes.{Consumes-nil, Consumes-trans}
+use Rattle.std.proofs.KnownBytes.{Consumes-trans}
 use Rattle.clap.specs.Words.{Row}
 use Rattle.oci_names.specs.Text.{Text}
 use Rattle.registry_orders.specs.declared.orders.TokenChange.{TokenChange}

@@ -3,13 +3,13 @@ use Rattle.std.specs.Prelude.{◌≡◌, ◌⊎◌, ◌==◌, Bool, false, Optio
 use Rattle.std.specs.List.{list_any}
 use Rattle.oci_names.specs.Text.{Text}
 use Rattle.registry_orders.specs.declared.cause.Cause.{Cause}
-use Rattle.registry_orders.specs.declared.cause.Cause.TheVariants.{InUse, NoFolder, IsFolder, NoFileName, NoPlainFile, NoRightToRead, NoRightToWrite, ReadOnly, NoDatabase, Journal, DiskFull, NoRegistry, PortInUse, NoAddress, NoHost, Elsewhere, NoRightToPort, StdioOptions, TokenOptions, NoFile, Unreadable, NoToken}
+use Rattle.registry_orders.specs.declared.cause.Cause.TheVariants.{InUse, NoFolder, IsFolder, NoFileName, NoPlainFile, NoRightToRead, NoRightToWrite, ReadOnly, NoDatabase, Journal, DiskFull, NoRegistry, PortInUse, NoAddress, NoHost, Elsewhere, NoRightToPort, StdioOptions, TokenOptions, PlaceOptions, TogetherOptions, NoFile, Unreadable, NoToken, NoServer, ServerThere, NoSocket}
 use Rattle.registry_orders.specs.declared.failure.Failure.{Failure}
 use Rattle.registry_orders.specs.Failures.{text_of}
 use Rattle.registry_orders.specs.Table.{newline}
 
 abbrev pub words_of : Cause → Text
-words_of InUse = codes "in use by another process"
+words_of InUse = codes "in use by another process; a server that holds it takes orders by --orders"
 words_of NoFolder = codes "no such folder"
 words_of IsFolder = codes "is a folder"
 words_of NoFileName = codes "not the name of a file"
@@ -29,9 +29,14 @@ words_of NoRightToPort = codes "no right to the port"
 words_of StdioOptions =
     codes "wants --db PATH, or --memory with --repo NAME=QUOTA and --grant TOKEN=NAME=LEVEL"
 words_of TokenOptions = codes "wants one of --token TOKEN and --token-file PATH"
+words_of PlaceOptions = codes "wants one of --db PATH and --orders PATH"
+words_of TogetherOptions = codes "--orders and --log want --at-once of 2 or more"
 words_of NoFile = codes "no such file"
 words_of Unreadable = codes "cannot be read"
 words_of NoToken = codes "the first line is no token"
+words_of NoServer = codes "no server takes orders here"
+words_of ServerThere = codes "another server takes orders here"
+words_of NoSocket = codes "is no socket"
 
 -- `registry: PLACE: CAUSE`
 abbrev pub reason_of : Text → Cause → Text

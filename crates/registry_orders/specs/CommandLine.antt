@@ -31,6 +31,9 @@ most = 9223372036854775807
 abbrev pub db : Rule
 db = option (codes "db")
 
+abbrev pub orders : Rule
+orders = option (codes "orders")
+
 abbrev pub name : Rule
 name = required (option (codes "name"))
 
@@ -71,34 +74,38 @@ subcommand word options = record (new_shape word) { rules = options }
 
 abbrev pub serve : Shape
 serve = subcommand (codes "serve")
-    (required db ∷ listen ∷ connections ∷ at_once ∷ buffer ∷ idle ∷ [])
+    (required db ∷ listen ∷ connections ∷ at_once ∷ buffer ∷ idle ∷ orders ∷ flag (codes "log") ∷ [])
 
 abbrev pub stdio : Shape
 stdio = subcommand (codes "stdio")
     (db ∷ flag (codes "memory") ∷ repeated (codes "repo") ∷ repeated (codes "grant") ∷ [])
 
-abbrev pub over_database : Text → Shape
-over_database word = subcommand word (required db ∷ [])
+abbrev pub migrate : Shape
+migrate = subcommand (codes "migrate") (required db ∷ [])
+
+-- an order wants one of `--db` and `--orders`
+abbrev pub ordering : Text → Shape
+ordering word = subcommand word (db ∷ orders ∷ [])
 
 abbrev pub over_repo : Text → Shape
-over_repo word = subcommand word (required db ∷ name ∷ [])
+over_repo word = subcommand word (db ∷ orders ∷ name ∷ [])
 
 abbrev pub over_quota : Text → Shape
-over_quota word = subcommand word (required db ∷ name ∷ quota ∷ [])
+over_quota word = subcommand word (db ∷ orders ∷ name ∷ quota ∷ [])
 
 abbrev pub over_token : Text → Shape
-over_token word = subcommand word (required db ∷ token ∷ token_file ∷ name ∷ [])
+over_token word = subcommand word (db ∷ orders ∷ token ∷ token_file ∷ name ∷ [])
 
 abbrev pub grant : Shape
-grant = subcommand (codes "grant") (required db ∷ token ∷ token_file ∷ name ∷ level ∷ [])
+grant = subcommand (codes "grant") (db ∷ orders ∷ token ∷ token_file ∷ name ∷ level ∷ [])
 
 abbrev pub repo_commands : List Shape
 repo_commands = over_quota (codes "repo") ∷ over_quota (codes "quota") ∷ over_repo (codes "drop")
     ∷ over_repo (codes "sessions") ∷ []
 
 abbrev pub other_commands : List Shape
-other_commands = grant ∷ over_token (codes "revoke") ∷ over_database (codes "clear")
-    ∷ over_database (codes "usage") ∷ over_database (codes "migrate") ∷ []
+other_commands = grant ∷ over_token (codes "revoke") ∷ ordering (codes "clear") ∷ ordering (codes "usage")
+    ∷ migrate ∷ []
 
 abbrev pub with_subcommands : List Shape → App → App
 with_subcommands subs a = record { top = record a.top { is_leaf = false }; subs = a.subs ++ subs }

@@ -10,5 +10,6 @@ pub mod Table
 pub mod Causes
 pub mod Tokens
 pub mod Orders
+pub mod Places
 pub mod Tasks
 pub mod Carrying

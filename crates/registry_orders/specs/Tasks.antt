@@ -1,17 +1,26 @@
 -- What the words of a command line ask for (profile).
-use Rattle.std.specs.Prelude.{◌≡◌, List, [], Option, Some, None, codes}
+use Rattle.std.specs.Prelude.{◌≡◌, ◌↔◌, ℕ, Bool, true, false, List, [], Option, Some, None, codes, option_map}
+use Rattle.std.specs.Borrow.{Bor}
 use Rattle.clap.specs.Words.{Row, first_of, one_of, subcommand_of}
 use Rattle.oci_names.specs.Text.{Text}
-use Rattle.registry_orders.specs.declared.line.Task.{Task}
-use Rattle.registry_orders.specs.declared.line.Task.TheVariants.{Memory, Stored, Server, Order, TokenOrder, Migration}
+use Rattle.registry_orders.specs.declared.tasks.Task.{Task}
+use Rattle.registry_orders.specs.declared.tasks.Task.TheVariants.{Memory, Stored, Server, Order, TokenOrder, Migration}
 use Rattle.registry_orders.specs.CommandLine.{registry}
 use Rattle.registry_orders.specs.Limits.{AreLimitsIn}
 use Rattle.registry_orders.specs.Options.{texts_of, IsNumberOf, SpellsSetup}
 use Rattle.registry_orders.specs.Orders.{HasValue, IsOrderIn, IsTokenChangeIn}
+use Rattle.registry_orders.specs.Places.{IsPlaceIn}
 use Rattle.registry_orders.specs.Tokens.{IsTokenFrom}
 
 abbrev pub HasFlag : List Row → Text → Type 0
 HasFlag options flag = one_of flag options ≡ Some (codes "true")
+
+-- where a server takes orders, and whether it says each request; with one connection at once there is neither
+abbrev pub IsBesideIn : List Row → ℕ → Option (Bor Text) → Bool → Type 0
+IsBesideIn options at_once orders log =
+    (option_map (λ path. path.now) orders ≡ first_of (codes "orders") options)
+    × ((log ≡ true) ↔ HasFlag options (codes "log"))
+    × (at_once ≡ 1 → (orders ≡ None) × (log ≡ false))
 
 -- the word of the subcommand, and the options that it was given, say what the task is
 abbrev pub IsTaskIn : Text → List Row → Task → Type 0
@@ -21,14 +30,14 @@ IsTaskIn word options (Memory setup) =
 IsTaskIn word options (Stored path) =
     (word ≡ codes "stdio") × ¬ (HasFlag options (codes "memory")) × HasValue options (codes "db") path.now
     × (texts_of (codes "repo") options ≡ []) × (texts_of (codes "grant") options ≡ [])
-IsTaskIn word options (Server path address connections limits) =
+IsTaskIn word options (Server path address connections limits orders log) =
     (word ≡ codes "serve") × HasValue options (codes "db") path.now
     × HasValue options (codes "listen") address.now
     × IsNumberOf (one_of (codes "connections") options) connections × AreLimitsIn options limits
-IsTaskIn word options (Order path order) =
-    HasValue options (codes "db") path.now × IsOrderIn word options order
-IsTaskIn word options (TokenOrder path source change) =
-    HasValue options (codes "db") path.now × IsTokenFrom options source × IsTokenChangeIn word options change
+    × IsBesideIn options limits.at_once orders log
+IsTaskIn word options (Order place order) = IsPlaceIn options place × IsOrderIn word options order
+IsTaskIn word options (TokenOrder place source change) =
+    IsPlaceIn options place × IsTokenFrom options source × IsTokenChangeIn word options change
 IsTaskIn word options (Migration path) = (word ≡ codes "migrate") × HasValue options (codes "db") path.now
 
 -- the same of a subcommand that was found, with its options

@@ -38,52 +38,42 @@ fn make_change<K: Keeper>(service: &mut Service<K>, change: &Change) -> Result<(
 /// Writes what each repository holds and may hold.
 fn show_usage<K: Keeper, W: Write>(
     alloc: Global,
-    keeper: &mut K,
+    service: &mut Service<K>,
     out: &mut W,
 ) -> Result<(), Failure>
-    ensures honest { K.is_honest keeper.new → K.is_honest keeper.old }
-    ensures shows { K.is_honest keeper.new
-        → Shows (K.state keeper.old) result
-        (output (W.contents out.old) (W.contents out.new)) (K.state keeper.new) }
+    ensures honest { K.is_honest service.new → K.is_honest service.old }
+    ensures shows { K.is_honest service.new
+        → Shows (K.state service.old) result
+        (output (W.contents out.old) (W.contents out.new)) (K.state service.new) }
     ensures silent { IsSilentUnlessBroken result (output (W.contents out.old) (W.contents out.new)) }
     ensures told { IfErr result IsOfOrder }
 {
-    match keeper.usages(alloc) {
+    match service.usages(alloc) {
         Ok(usages) => write_table(out, usages.as_slice()),
         Err(Fault::Memory) => Err(Failure::OutOfMemory),
         Err(Fault::Storage) => Err(Failure::StorageFailure),
     }
 }
 
-/// A keeper that an order was carried out over, and what came of it.
-#[derive(Drop)]
-struct Carried<K: Keeper> {
-    keeper: K,
-    result: Result<(), Failure>,
-}
-
-fn carry<K: Keeper, W: Write>(alloc: Global, keeper: K, order: &Order, out: &mut W) -> Carried<K>
-    ensures honest { K.is_honest result.keeper → K.is_honest keeper }
-    ensures carries { K.is_honest result.keeper
-        → CarriesOrder (K.state keeper) order.now result.result
-        (output (W.contents out.old) (W.contents out.new)) (K.state result.keeper) }
-    ensures silent { IsSilentUnlessBroken result.result (output (W.contents out.old) (W.contents out.new)) }
-    ensures told { IfErr result.result IsOfOrder }
+/// Carries out an order over a service that goes on. An order that is refused changes nothing, nor does
+/// one for which memory is wanting. `ConnectionFailure` where `out` takes the table of `Order::Usage` not
+/// whole; nothing else is written.
+pub fn carry_over<K: Keeper, W: Write>(
+    alloc: Global,
+    service: &mut Service<K>,
+    order: &Order,
+    out: &mut W,
+) -> Result<(), Failure>
+    ensures honest { K.is_honest service.new → K.is_honest service.old }
+    ensures carries { K.is_honest service.new
+        → CarriesOrder (K.state service.old) order.now result
+        (output (W.contents out.old) (W.contents out.new)) (K.state service.new) }
+    ensures silent { IsSilentUnlessBroken result (output (W.contents out.old) (W.contents out.new)) }
+    ensures told { IfErr result IsOfOrder }
 {
     match order {
-        Order::Change(change) => {
-            let mut service = Service::new(keeper);
-            let result = make_change(&mut service, change);
-            Carried {
-                keeper: service.into_keeper(),
-                result,
-            }
-        }
-        Order::Usage => {
-            let mut keeper = keeper;
-            let result = show_usage(alloc, &mut keeper, out);
-            Carried { keeper, result }
-        }
+        Order::Change(change) => make_change(service, change),
+        Order::Usage => show_usage(alloc, service, out),
     }
 }
 
@@ -108,13 +98,13 @@ pub fn carry_out<K: Keeper, W: Write, E: Write>(
     ensures status { result.status ≤ 4 }
     ensures read { result.status ≢ 2 }
 {
-    let carried = carry(alloc, keeper, order, out);
-    let status = match carried.result {
+    let mut service = Service::new(keeper);
+    let status = match carry_over(alloc, &mut service, order, out) {
         Ok(()) => 0,
         Err(failure) => say(err, failure),
     };
     Ended {
-        keeper: carried.keeper,
+        keeper: service.into_keeper(),
         status,
     }
 }

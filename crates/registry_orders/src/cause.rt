@@ -10,7 +10,7 @@ use crate::failure::Failure;
 use std::io::Write;
 use std::{fmt, io};
 
-/// What is wrong with a place: the path of a database, an address, or a subcommand.
+/// What is wrong with a place: the path of a database or a socket, an address, or a subcommand.
 #[derive(Clone, Copy)]
 pub enum Cause {
     InUse,
@@ -40,10 +40,20 @@ pub enum Cause {
     StdioOptions,
     /// A token is given twice, or not at all.
     TokenOptions,
+    /// The place of an order is given twice, or not at all.
+    PlaceOptions,
+    /// What is served one after the other is asked for what only many at once can have.
+    TogetherOptions,
     NoFile,
     Unreadable,
     /// The first line that was read is no token.
     NoToken,
+    /// Nobody listens at the path for orders.
+    NoServer,
+    /// A server that lives takes orders at the path.
+    ServerThere,
+    /// Something else than a socket is at the path.
+    NoSocket,
 }
 
 impl Cause {
@@ -52,7 +62,9 @@ impl Cause {
         ensures { result.now ≡ words_of self }
     {
         match self {
-            Cause::InUse => "in use by another process",
+            Cause::InUse => {
+                "in use by another process; a server that holds it takes orders by --orders"
+            }
             Cause::NoFolder => "no such folder",
             Cause::IsFolder => "is a folder",
             Cause::NoFileName => "not the name of a file",
@@ -73,9 +85,14 @@ impl Cause {
                 "wants --db PATH, or --memory with --repo NAME=QUOTA and --grant TOKEN=NAME=LEVEL"
             }
             Cause::TokenOptions => "wants one of --token TOKEN and --token-file PATH",
+            Cause::PlaceOptions => "wants one of --db PATH and --orders PATH",
+            Cause::TogetherOptions => "--orders and --log want --at-once of 2 or more",
             Cause::NoFile => "no such file",
             Cause::Unreadable => "cannot be read",
             Cause::NoToken => "the first line is no token",
+            Cause::NoServer => "no server takes orders here",
+            Cause::ServerThere => "another server takes orders here",
+            Cause::NoSocket => "is no socket",
         }
     }
 }

@@ -1,59 +1,23 @@
+//! The words of a command line, read by its grammar.
 ghost use Rattle.std.specs.Prelude.{◌≡◌, ◌∷◌, [], true, IfErr, IfOk, codes, map};
-ghost use Rattle.clap.specs.Words.{App, Shape, found_of, rows_of};
+ghost use Rattle.clap.specs.Words.{App, Shape};
 ghost use Rattle.registry_orders.specs.CommandLine as spec;
 ghost use Rattle.registry_orders.specs.CommandLine.{HasRule, IsApp, IsSub};
-ghost use Rattle.registry_orders.specs.Failures.{IsOfWords};
 ghost use Rattle.registry_orders.specs.Reading.{IsToldOfWords};
-ghost use Rattle.registry_orders.specs.Tasks.{IsTask, IsTaskIn};
+ghost use Rattle.registry_orders.specs.Tasks.{IsTask};
 
 use crate::failure::Failure;
-use crate::given::{is_given, number_given, text_given, texts_given};
-use crate::limits::{Limits, at_once, buffer, idle, limits_given};
-use crate::options::Setup;
-use crate::orders::{Order, TokenChange, read_order, read_token_change};
-use crate::tokens::{TokenSource, token_source};
+use crate::limits::{at_once, buffer, idle};
+use crate::tasks::{Task, task_of};
 use crate::unread::{Told, told_of};
 use clap::builder::ValueParser;
-use clap::{Arg, ArgAction, ArgMatches, Command};
+use clap::{Arg, ArgAction, Command};
 use registry_model::LARGEST_QUOTA;
 use std::alloc::{AllocError, Global};
 use std::convert::AsStr;
 
 /// The most connections that can be asked for.
 const MOST_CONNECTIONS: u64 = 9_223_372_036_854_775_807;
-
-/// What there is to do.
-#[derive(Drop)]
-pub enum Task<'a> {
-    /// Serve standard input over a registry in memory.
-    Memory(Setup),
-    /// Serve standard input over the registry at a path.
-    Stored {
-        path: &'a str,
-    },
-    /// Serve an address over the registry at a path, so many connections, within these limits.
-    Server {
-        path: &'a str,
-        address: &'a str,
-        connections: u64,
-        limits: Limits,
-    },
-    /// Carry out an order over the registry at a path.
-    Order {
-        path: &'a str,
-        order: Order,
-    },
-    /// Carry out a change with a token that is read elsewhere, over the registry at a path.
-    TokenOrder {
-        path: &'a str,
-        source: TokenSource<'a>,
-        change: TokenChange,
-    },
-    /// Take over the registry of schema 1 at a path.
-    Migration {
-        path: &'a str,
-    },
-}
 
 /// An option with one value.
 fn option<'a>(alloc: Global, word: &'a str, value: &'a str, help: &'a str) -> Arg<'a>
@@ -66,10 +30,26 @@ fn option<'a>(alloc: Global, word: &'a str, value: &'a str, help: &'a str) -> Ar
         .help(help)
 }
 
+/// An option that is given or not.
+fn flag<'a>(alloc: Global, word: &'a str, help: &'a str) -> Arg<'a>
+    ensures { HasRule (spec.flag word.entry.now) result }
+{
+    Arg::new(alloc, word)
+        .long(word)
+        .action(ArgAction::SetTrue)
+        .help(help)
+}
+
 fn database<'a>(alloc: Global) -> Arg<'a>
     ensures { HasRule spec.db result }
 {
     option(alloc, "db", "PATH", "The database file")
+}
+
+fn orders<'a>(alloc: Global, help: &'a str) -> Arg<'a>
+    ensures { HasRule spec.orders result }
+{
+    option(alloc, "orders", "PATH", help)
 }
 
 fn name<'a>(alloc: Global) -> Arg<'a>
@@ -110,15 +90,6 @@ fn level<'a>(alloc: Global) -> Arg<'a>
         .value_parser(ValueParser::unsigned(1, 3))
 }
 
-fn memory<'a>(alloc: Global) -> Arg<'a>
-    ensures { HasRule (spec.flag (codes "memory")) result }
-{
-    Arg::new(alloc, "memory")
-        .long("memory")
-        .action(ArgAction::SetTrue)
-        .help("Keep everything in memory")
-}
-
 fn repos<'a>(alloc: Global) -> Arg<'a>
     ensures { HasRule (spec.repeated (codes "repo")) result }
 {
@@ -139,7 +110,7 @@ fn stdio<'a>(alloc: Global) -> Result<Command<'a>, AllocError>
     Command::new(alloc, "stdio")
         .about("Serve standard input as one connection")
         .arg(database(alloc))?
-        .arg(memory(alloc))?
+        .arg(flag(alloc, "memory", "Keep everything in memory"))?
         .arg(repos(alloc))?
         .arg(grants(alloc))
 }
@@ -168,27 +139,34 @@ fn serve<'a>(alloc: Global) -> Result<Command<'a>, AllocError>
         .arg(connections(alloc))?
         .arg(at_once(alloc))?
         .arg(buffer(alloc))?
-        .arg(idle(alloc))
+        .arg(idle(alloc))?
+        .arg(orders(alloc, "Take orders at this socket"))?
+        .arg(flag(alloc, "log", "Say each request on standard error"))
 }
 
-/// A subcommand over a database.
-fn over_database<'a>(
-    alloc: Global,
-    word: &'a str,
-    about: &'a str,
-) -> Result<Command<'a>, AllocError>
-    ensures { IfOk result (IsSub (spec.over_database word.entry.now)) }
+fn migrate<'a>(alloc: Global) -> Result<Command<'a>, AllocError>
+    ensures { IfOk result (IsSub spec.migrate) }
 {
-    Command::new(alloc, word)
-        .about(about)
+    Command::new(alloc, "migrate")
+        .about("Take over a database of schema 1, once")
         .arg(database(alloc).required(true))
 }
 
-/// A subcommand over a repository of a database.
+/// A subcommand that orders something, of a database or of the server that holds it.
+fn ordering<'a>(alloc: Global, word: &'a str, about: &'a str) -> Result<Command<'a>, AllocError>
+    ensures { IfOk result (IsSub (spec.ordering word.entry.now)) }
+{
+    Command::new(alloc, word)
+        .about(about)
+        .arg(database(alloc))?
+        .arg(orders(alloc, "The socket of a server that holds it"))
+}
+
+/// One over a repository.
 fn over_repo<'a>(alloc: Global, word: &'a str, about: &'a str) -> Result<Command<'a>, AllocError>
     ensures { IfOk result (IsSub (spec.over_repo word.entry.now)) }
 {
-    over_database(alloc, word, about)?.arg(name(alloc))
+    ordering(alloc, word, about)?.arg(name(alloc))
 }
 
 /// One that sets the repository's quota.
@@ -198,11 +176,11 @@ fn over_quota<'a>(alloc: Global, word: &'a str, about: &'a str) -> Result<Comman
     over_repo(alloc, word, about)?.arg(quota(alloc))
 }
 
-/// A subcommand over a token and a repository.
+/// One over a token and a repository.
 fn over_token<'a>(alloc: Global, word: &'a str, about: &'a str) -> Result<Command<'a>, AllocError>
     ensures { IfOk result (IsSub (spec.over_token word.entry.now)) }
 {
-    over_database(alloc, word, about)?
+    ordering(alloc, word, about)?
         .arg(token(alloc))?
         .arg(token_file(alloc))?
         .arg(name(alloc))
@@ -248,11 +226,10 @@ fn with_other_commands<'a>(alloc: Global, command: Command<'a>) -> Result<Comman
     let revoking = "Take a token's level on a repository away";
     let command = with(command, over_token(alloc, "revoke", revoking))?;
     let clearing = "Free what no repository holds any more";
-    let command = with(command, over_database(alloc, "clear", clearing))?;
+    let command = with(command, ordering(alloc, "clear", clearing))?;
     let listing = "List what the repositories hold";
-    let command = with(command, over_database(alloc, "usage", listing))?;
-    let migrating = "Take over a database of schema 1, once";
-    with(command, over_database(alloc, "migrate", migrating))
+    let command = with(command, ordering(alloc, "usage", listing))?;
+    with(command, migrate(alloc))
 }
 
 /// The command line.
@@ -270,91 +247,10 @@ fn command<'a>(alloc: Global) -> Result<Command<'a>, AllocError>
     with_other_commands(alloc, with_repo_commands(alloc, command)?)
 }
 
-/// What `registry stdio` is to serve: a database, or a registry in memory, which alone is set up here.
-fn stdio_task<'a>(alloc: Global, matches: &ArgMatches<'a>) -> Result<Task<'a>, Failure>
-    ensures read { IfOk result (IsTaskIn (codes "stdio") (rows_of (found_of matches.now))) }
-    ensures refused { IfErr result IsOfWords }
-{
-    let repos = texts_given(matches, "repo").unwrap_or(&[]);
-    let grants = texts_given(matches, "grant").unwrap_or(&[]);
-    let memory = is_given(matches, "memory");
-    match text_given(matches, "db") {
-        Some(path) if !memory && repos.is_empty() && grants.is_empty() => Ok(Task::Stored { path }),
-        None if memory => {
-            let setup = Setup::read(alloc, repos, grants)?;
-            Ok(Task::Memory(setup))
-        }
-        _ => Err(Failure::InvalidOptions),
-    }
-}
-
-fn serve_task<'a>(matches: &ArgMatches<'a>) -> Result<Task<'a>, Failure>
-    ensures read { IfOk result (IsTaskIn (codes "serve") (rows_of (found_of matches.now))) }
-    ensures refused { IfErr result IsOfWords }
-{
-    let path = text_given(matches, "db").ok_or(Failure::InvalidOptions)?;
-    let address = text_given(matches, "listen").ok_or(Failure::InvalidOptions)?;
-    let connections = number_given(matches, "connections")?;
-    let limits = limits_given(matches)?;
-    Ok(Task::Server {
-        path,
-        address,
-        connections,
-        limits,
-    })
-}
-
-fn order_task<'a>(alloc: Global, word: &str, matches: &ArgMatches<'a>) -> Result<Task<'a>, Failure>
-    ensures read { IfOk result (IsTaskIn word.now (rows_of (found_of matches.now))) }
-    ensures refused { IfErr result IsOfWords }
-{
-    let path = text_given(matches, "db").ok_or(Failure::InvalidOptions)?;
-    let order = read_order(alloc, word, matches)?;
-    Ok(Task::Order { path, order })
-}
-
-/// A change with a token, which is on the command line or is read elsewhere.
-fn token_task<'a>(alloc: Global, word: &str, matches: &ArgMatches<'a>) -> Result<Task<'a>, Failure>
-    ensures read { IfOk result (IsTaskIn word.now (rows_of (found_of matches.now))) }
-    ensures refused { IfErr result IsOfWords }
-{
-    let Some(source) = token_source(matches)? else {
-        return order_task(alloc, word, matches);
-    };
-    let path = text_given(matches, "db").ok_or(Failure::InvalidOptions)?;
-    let change = read_token_change(alloc, word, matches)?;
-    Ok(Task::TokenOrder {
-        path,
-        source,
-        change,
-    })
-}
-
-fn migration_task<'a>(matches: &ArgMatches<'a>) -> Result<Task<'a>, Failure>
-    ensures read { IfOk result (IsTaskIn (codes "migrate") (rows_of (found_of matches.now))) }
-    ensures refused { IfErr result IsOfWords }
-{
-    let path = text_given(matches, "db").ok_or(Failure::InvalidOptions)?;
-    Ok(Task::Migration { path })
-}
-
-/// The task of a subcommand, by its word and its options.
-fn task_of<'a>(alloc: Global, word: &str, matches: &ArgMatches<'a>) -> Result<Task<'a>, Failure>
-    ensures read { IfOk result (IsTaskIn word.now (rows_of (found_of matches.now))) }
-    ensures refused { IfErr result IsOfWords }
-{
-    match word {
-        "stdio" => stdio_task(alloc, matches),
-        "serve" => serve_task(matches),
-        "migrate" => migration_task(matches),
-        "grant" | "revoke" => token_task(alloc, word, matches),
-        _ => order_task(alloc, word, matches),
-    }
-}
-
 /// Reads the words: what `clap` refuses is told first, then options that do not go together or do not
-/// split, then a name, then a token that is none. No database is opened here.
-pub fn read_words<'a, S: AsStr>(alloc: Global, words: &'a [S]) -> Result<Task<'a>, Told>
+/// split, of which the place of an order is told before its token, then a name, then a token that is none.
+/// No database is opened here, and no server is asked.
+pub fn read_words<'a, S: AsStr>(alloc: Global, words: &'a [S]) -> Result<Task<'a>, Told<'a>>
     ensures read { IfOk result (IsTask (map S.text words.entry.now)) }
     ensures refused { IfErr result IsToldOfWords }
 {
@@ -369,7 +265,7 @@ pub fn read_words<'a, S: AsStr>(alloc: Global, words: &'a [S]) -> Result<Task<'a
     match matches.subcommand() {
         Some((word, matches)) => match task_of(alloc, word, matches) {
             Ok(task) => Ok(task),
-            Err(failure) => Err(told_of(word, failure)),
+            Err(failure) => Err(told_of(word, matches, failure)),
         },
         None => Err(Told::Failed(Failure::InvalidOptions)),
     }

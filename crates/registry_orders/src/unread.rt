@@ -4,37 +4,40 @@ ghost use Rattle.registry_orders.specs.Reading.{IsToldOfWords};
 
 use crate::cause::Cause;
 use crate::failure::Failure;
-use clap::Error;
+use crate::place::place_given;
+use clap::{ArgMatches, Error};
 
 /// What the command line was answered.
 #[derive(Drop)]
-pub enum Told {
+pub enum Told<'a> {
     Failed(Failure),
     /// The options of a subcommand do not go together; the cause says which it wants.
-    Options { word: &'static str, cause: Cause },
+    Options { word: &'a str, cause: Cause },
     Line(Error),
 }
 
+/// Which options a subcommand wants that got others. Where both the place and the token of an order are a
+/// mistake, the place is told.
+fn wanted(word: &str, matches: &ArgMatches) -> Option<Cause> {
+    match word {
+        "stdio" => Some(Cause::StdioOptions),
+        "serve" => Some(Cause::TogetherOptions),
+        "migrate" => None,
+        _ if place_given(matches).is_err() => Some(Cause::PlaceOptions),
+        "grant" | "revoke" => Some(Cause::TokenOptions),
+        _ => None,
+    }
+}
+
 /// How it is told that the words of a subcommand are not read.
-pub fn told_of(word: &str, failure: Failure) -> Told
+pub fn told_of<'a>(word: &'a str, matches: &ArgMatches, failure: Failure) -> Told<'a>
     ensures { IsOfWords failure → IsToldOfWords result }
 {
     if failure != Failure::InvalidOptions {
         return Told::Failed(failure);
     }
-    match word {
-        "stdio" => Told::Options {
-            word: "stdio",
-            cause: Cause::StdioOptions,
-        },
-        "grant" => Told::Options {
-            word: "grant",
-            cause: Cause::TokenOptions,
-        },
-        "revoke" => Told::Options {
-            word: "revoke",
-            cause: Cause::TokenOptions,
-        },
-        _ => Told::Failed(failure),
+    match wanted(word, matches) {
+        Some(cause) => Told::Options { word, cause },
+        None => Told::Failed(failure),
     }
 }

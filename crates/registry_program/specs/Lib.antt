@@ -3,4 +3,5 @@ pub mod Program
 pub mod Stored
 pub mod Sockets
 pub mod Together
+pub mod Sending
 pub mod Running

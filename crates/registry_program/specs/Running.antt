@@ -5,11 +5,13 @@ use Rattle.oci_names.specs.Text.{Text}
 use Rattle.registry_model.specs.Keeping.{State}
 use Rattle.registry_orders.specs.declared.failure.Failure.{Failure}
 use Rattle.registry_orders.specs.declared.limits.Limits.{Limits}
-use Rattle.registry_orders.specs.declared.line.Task.{Task}
-use Rattle.registry_orders.specs.declared.line.Task.TheVariants as task
+use Rattle.registry_orders.specs.declared.tasks.Task.{Task}
+use Rattle.registry_orders.specs.declared.tasks.Task.TheVariants as task
 use Rattle.registry_orders.specs.declared.orders.Order.{Order}
 use Rattle.registry_orders.specs.declared.orders.Order.TheVariants.{Change}
 use Rattle.registry_orders.specs.declared.orders.TokenChange.{TokenChange}
+use Rattle.registry_orders.specs.declared.place.Place.{Place}
+use Rattle.registry_orders.specs.declared.place.Place.TheVariants.{Database, Server}
 use Rattle.registry_orders.specs.declared.tokens.TokenSource.{TokenSource}
 use Rattle.registry_orders.specs.declared.tokens.TokenSource.TheVariants.{Input, File}
 use Rattle.registry_orders.specs.Orders.{change_with}
@@ -18,6 +20,7 @@ use Rattle.registry_orders.specs.Failures.{status_of, status_if, IsOfWords, IsOf
 use Rattle.registry_orders.specs.Tasks.{IsTask}
 use Rattle.registry_program.specs.Program.{Streams, IsUntouched, GivesUp, ServesMemory, ServesStored, Tells}
 use Rattle.registry_orders.specs.Carrying.{Output, output, IsSilent, IsCarriedOut}
+use Rattle.registry_program.specs.Sending.{IsSent}
 use Rattle.registry_program.specs.Sockets.{ServesAddress}
 use Rattle.registry_program.specs.Together.{serves_within}
 
@@ -36,22 +39,27 @@ IsNotOpened status o = (f : Failure) × IsOfOpening f × (status ≡ status_of f
 abbrev pub RunsOrder : Opened → Order → ℕ → Output → Type 0
 RunsOrder over order status o = IsNotOpened status o ⊎ over (λ s s'. IsCarriedOut s order status o s')
 
+-- the order at its place: over the registry that is opened there, or sent to the server that holds it
+abbrev pub RunsAt : (Text → Opened) → Place → Order → ℕ → Output → Type 0
+RunsAt at (Database path) order status o = RunsOrder (at path.now) order status o
+RunsAt at (Server path) order status o = IsSent status o
+
 -- the order that a change is with some token
-abbrev pub RunsByFile : Opened → TokenChange → ℕ → Output → Type 0
-RunsByFile over change status o =
-    (token : Text) × RunsOrder over (Change (change_with change token)) status o
+abbrev pub RunsByFile : (Text → Opened) → Place → TokenChange → ℕ → Output → Type 0
+RunsByFile at place change status o =
+    (token : Text) × RunsAt at place (Change (change_with change token)) status o
 
 -- the same with the token that is the first line of standard input, of which no more is read
-abbrev pub RunsByInput : Opened → TokenChange → ℕ → Streams → Type 0
-RunsByInput over change status e = (token : Text) × IsFirstLine e.left e.left' token
-    × RunsOrder over (Change (change_with change token)) status (output_of e)
+abbrev pub RunsByInput : (Text → Opened) → Place → TokenChange → ℕ → Streams → Type 0
+RunsByInput at place change status e = (token : Text) × IsFirstLine e.left e.left' token
+    × RunsAt at place (Change (change_with change token)) status (output_of e)
 
-abbrev pub RunsTokenOrder : Opened → TokenSource → TokenChange → ℕ → Streams → Type 0
-RunsTokenOrder over Input change status e = RunsByInput over change status e
-RunsTokenOrder over (File path) change status e =
-    (e.left' ≡ e.left) × RunsByFile over change status (output_of e)
+abbrev pub RunsTokenOrder : (Text → Opened) → Place → TokenSource → TokenChange → ℕ → Streams → Type 0
+RunsTokenOrder at place Input change status e = RunsByInput at place change status e
+RunsTokenOrder at place (File path) change status e =
+    (e.left' ≡ e.left) × RunsByFile at place change status (output_of e)
 
--- what was read is no token, or nothing could be read; no registry is opened
+-- what was read is no token, or nothing could be read; no registry is opened, and nothing is sent
 abbrev pub IsWithoutToken : ℕ → Output → Type 0
 IsWithoutToken status o = (f : Failure) × IsOfWords f × (status ≡ status_of f) × IsSilent o
 
@@ -75,16 +83,16 @@ abbrev pub EndsMigration : ℕ → Type 0
 EndsMigration status = (status ≡ 0) ⊎ ((f : Failure) × IsOfOpening f × (status ≡ status_of f))
 
 -- what a task comes to: a registry over memory that is set up so is served; or the one at the path is, by one
--- connection or over sockets, or is given the order, or is taken over
+-- connection or over sockets, or is taken over; or an order is carried out or sent
 abbrev pub RunsTask : (Text → Opened) → Task → ℕ → Streams → Type 0
 RunsTask at (task.Memory setup) status e = ServesMemory setup status e
 RunsTask at (task.Stored path) status e = RunsStored (at path.now) status e
-RunsTask at (task.Server path address connections limits) status e =
+RunsTask at (task.Server path address connections limits orders log) status e =
     (e.left' ≡ e.left) × RunsServer limits (at path.now) status (output_of e)
-RunsTask at (task.Order path order) status e =
-    (e.left' ≡ e.left) × RunsOrder (at path.now) order status (output_of e)
-RunsTask at (task.TokenOrder path source change) status e =
-    RunsTokenOrder (at path.now) source change status e
+RunsTask at (task.Order place order) status e =
+    (e.left' ≡ e.left) × RunsAt at place order status (output_of e)
+RunsTask at (task.TokenOrder place source change) status e =
+    RunsTokenOrder at place source change status e
 RunsTask at (task.Migration path) status e = IsUntouched e × EndsMigration status
 
 -- words are not read, and nothing is done; or something is told of them
@@ -93,7 +101,7 @@ IsNotRead status e = ((f : Failure) × IsOfWords f × GivesUp f status e) ⊎ Te
 
 -- the task wants a token, and there is none
 abbrev pub LacksToken : Task → ℕ → Streams → Type 0
-LacksToken (task.TokenOrder path source change) status e = LacksTokenOf source status e
+LacksToken (task.TokenOrder place source change) status e = LacksTokenOf source status e
 LacksToken _ status e = ⊥
 
 -- what words come to: the task that they spell is done, and then the status is not 2; or it wants a token,
@@ -105,7 +113,7 @@ RunsWords at words status e =
 
 -- the words take a line of standard input for a token
 abbrev pub IsByInput : Task → Type 0
-IsByInput (task.TokenOrder path Input change) = ⊤
+IsByInput (task.TokenOrder place Input change) = ⊤
 IsByInput _ = ⊥
 
 abbrev pub TakesLine : List Text → Type 0

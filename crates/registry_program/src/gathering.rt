@@ -32,7 +32,10 @@ fn serve_gathered<K: Keeper + Drop, O: Opener<K>, G: Gathering>(
     let mut service = Service::new(kept);
     for _ in 0..u64::MAX {
         match gathering.serve_all(alloc, &mut service, at_once) {
-            Ok(true) => return Ok(()),
+            Ok(true) => {
+                opener.close(service.into_keeper());
+                return Ok(());
+            }
             Ok(false) => service = resume(opener, path, service)?,
             Err(_) => return Err(Failure::ConnectionFailure),
         }

@@ -7,13 +7,17 @@
 pub mod gathering;
 pub mod listening;
 pub mod opening;
+pub mod order_socket;
 pub mod program;
+pub mod sending;
 pub mod sockets;
 pub mod stdio;
 pub mod tokens;
 
 pub use gathering::serve_together;
 pub use opening::Opener;
+pub use order_socket::listen_for_orders;
 pub use program::run_words;
+pub use sending::send_order;
 pub use sockets::{Entrance, connections_are_private, serve, serve_one};
 pub use stdio::{serve_from, serve_memory, serve_stdio};

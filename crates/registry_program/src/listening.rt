@@ -1,13 +1,58 @@
-//! What is said of an address: what is served there, or why it is not to be had.
+//! Where a server listens, and what is said of an address: what is served there, or why it is not to be had.
 ghost use Rattle.std.specs.Prelude.{◌≡◌, OnOk, IfErr};
 ghost use Rattle.registry_orders.specs.Failures.{IsOfServing};
 
+use crate::order_socket::listen_for_orders;
 use oci_names::Fault;
 use registry_model::Keeper;
 use registry_orders::{Cause, Failure};
 use std::alloc::Global;
 use std::io::{ErrorKind, Write};
-use std::net::TcpListener;
+use std::net::{Net, TcpListener, TcpStream};
+use std::os::unix::net::UnixListener;
+use std::rt::Files;
+
+/// Where a server takes connections, and where orders, if anywhere.
+#[derive(Drop)]
+pub(crate) struct Listeners {
+    pub(crate) connections: TcpListener,
+    pub(crate) orders: Option<UnixListener>,
+}
+
+/// The place at which a server cannot listen, and why, as far as it can be seen.
+#[derive(Clone, Copy)]
+pub(crate) struct NotBound<'a> {
+    pub(crate) place: &'a str,
+    pub(crate) cause: Option<Cause>,
+}
+
+/// Listens at an address for connections, and then for orders at the path of a socket, if one is given.
+pub(crate) fn listen<'a, T: AllocGlobal + Files + Net<Listener = TcpListener, Stream = TcpStream>>(
+    rt: &T,
+    address: &'a str,
+    orders: Option<&'a str>,
+) -> Result<Listeners, NotBound<'a>> {
+    let connections = match TcpListener::bind(rt, address) {
+        Ok(listener) => listener,
+        Err(error) => {
+            return Err(NotBound {
+                place: address,
+                cause: cause_of_binding(error.kind()),
+            });
+        }
+    };
+    let orders = match orders {
+        Some(place) => match listen_for_orders(rt, rt.alloc(), place) {
+            Ok(listener) => Some(listener),
+            Err(cause) => return Err(NotBound { place, cause }),
+        },
+        None => None,
+    };
+    Ok(Listeners {
+        connections,
+        orders,
+    })
+}
 
 /// Why an address is not listened on, where the kind of the error tells.
 pub fn cause_of_binding(kind: ErrorKind) -> Option<Cause> {

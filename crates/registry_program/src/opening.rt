@@ -17,6 +17,10 @@ pub trait Opener<K: Keeper> {
         ensures fresh { IfOk result (λ kept. (K.state kept).spent ≡ false) }
         ensures refused { IfErr result IsOfOpening };
 
+    /// Lets go of a registry. What was written is copied into its database first, so that one file holds all;
+    /// where that fails, the log beside the file has it, as where a program is killed.
+    fn close(&self, kept: K);
+
     /// Takes over the registry of schema 1 at a path, so that it can be opened; where it is of schema 2
     /// already, nothing is done. An error is as above.
     fn migrate(&self, path: &str) -> Result<(), Failure>

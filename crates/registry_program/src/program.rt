@@ -3,24 +3,27 @@ ghost use Rattle.registry_program.specs.Stored.{Over, OverAt};
 ghost use Rattle.registry_program.specs.Sockets.{ServesAddress};
 ghost use Rattle.registry_program.specs.Together.{serves_within};
 ghost use Rattle.registry_program.specs.Program.{streams, Tells};
-ghost use Rattle.registry_program.specs.Running.{RunsOrder, RunsStored, RunsServer, EndsMigration, RunsWords, IsSparedFor};
+ghost use Rattle.registry_program.specs.Running.{RunsOrder, RunsAt, RunsStored, RunsServer, EndsMigration};
+ghost use Rattle.registry_program.specs.Running.{RunsWords, IsSparedFor};
 ghost use Rattle.registry_orders.specs.Carrying.{output, IsSilent};
 
 use crate::gathering::serve_together;
-use crate::listening::{cause_of_binding, introduce};
+use crate::listening::{Listeners, introduce, listen};
 use crate::opening::Opener;
+use crate::order_socket::stop_orders;
+use crate::sending::send_order;
 use crate::sockets::serve;
 use crate::stdio::{serve_from, serve_memory};
 use crate::tokens::run_token_order;
 use clap::Error;
 use clap::error::ErrorKind;
-use registry_loop::Crowd;
+use registry_loop::{Crowd, Doors, Log};
 use registry_model::Keeper;
 use registry_orders::cause::{explain, say_at};
 use registry_orders::failure::say;
-use registry_orders::line::{Task, read_words};
+use registry_orders::line::read_words;
 use registry_orders::unread::Told;
-use registry_orders::{Ended, Failure, Limits, Order, carry_out};
+use registry_orders::{Ended, Failure, Limits, Order, Place, Task, carry_out};
 use std::alloc::Global;
 use std::convert::AsStr;
 use std::io;
@@ -50,9 +53,6 @@ fn tell<W: Write, E: Write>(alloc: Global, error: &Error, out: &mut W, err: &mut
     }
 }
 
-/// Lets go of a keeper, whose files are closed so.
-fn close<K: Keeper + Drop>(_keeper: K) {}
-
 /// Closes what an order or a connection was for, and where its storage has failed, says on a line behind
 /// that, where it can be seen, what is wrong with the path.
 fn end_at<K: Keeper + Drop, O: Opener<K>, E: Write>(
@@ -65,7 +65,7 @@ fn end_at<K: Keeper + Drop, O: Opener<K>, E: Write>(
 {
     let status = ended.status;
     let failed = ended.keeper.spent() && status == Failure::StorageFailure.status();
-    close(ended.keeper);
+    opener.close(ended.keeper);
     if failed {
         if let Some(cause) = opener.cause(path, Failure::StorageFailure) {
             let _ = explain(err, path, cause);
@@ -76,7 +76,7 @@ fn end_at<K: Keeper + Drop, O: Opener<K>, E: Write>(
 
 /// Opens the registry at a path, and carries an order out over it.
 #[tactic(auto, using(crate::proofs::ExitStatuses::opening_read))]
-pub(crate) fn run_order<K: Keeper + Drop, O: Opener<K>, W: Write, E: Write>(
+fn run_order<K: Keeper + Drop, O: Opener<K>, W: Write, E: Write>(
     alloc: Global,
     opener: &O,
     path: &str,
@@ -97,6 +97,29 @@ pub(crate) fn run_order<K: Keeper + Drop, O: Opener<K>, W: Write, E: Write>(
             end_at(opener, path, ended, err)
         }
         Err(failure) => say_at(err, failure, path, opener.cause(path, failure)),
+    }
+}
+
+/// Carries an order out over the registry that is opened for it, or sends it to the server that holds it.
+pub(crate) fn run_order_at<T: Net, K: Keeper + Drop, O: Opener<K>, W: Write, E: Write>(
+    rt: &T,
+    alloc: Global,
+    opener: &O,
+    place: Place,
+    order: &Order,
+    out: &mut W,
+    err: &mut E,
+) -> u8
+    ensures runs { RunsAt (OverAt K.is_honest K.state (O.opens opener.now)) place.entry order.now result
+        (output (W.contents out.old) (W.contents out.new)) }
+    ensures silent { 0 < result → result < 4
+        → IsSilent (output (W.contents out.old) (W.contents out.new)) }
+    ensures status { result ≤ 4 }
+    ensures read { result ≢ 2 }
+{
+    match place {
+        Place::Database(path) => run_order(alloc, opener, path, order, out, err),
+        Place::Server(path) => send_order(rt, alloc, path, order, out, err),
     }
 }
 
@@ -124,28 +147,45 @@ fn run_stored<K: Keeper + Drop, O: Opener<K>, R: Read, W: Write, E: Write>(
     }
 }
 
+/// What `registry serve` was told but for its registry.
+#[derive(Clone, Copy)]
+struct Serving<'a> {
+    address: &'a str,
+    connections: u64,
+    limits: Limits,
+    orders: Option<&'a str>,
+    log: bool,
+}
+
 /// Serves so many connections that are taken at a listener, one after the other or together.
-fn serve_taken<T: Clock + Net, K: Keeper + Drop, O: Opener<K>, W: Write>(
+fn serve_taken<T: Clock + Net, K: Keeper + Drop, O: Opener<K>, W: Write, E: Write>(
     rt: &T,
     alloc: Global,
     opener: &O,
     path: &str,
     kept: K,
-    listener: TcpListener,
-    connections: u64,
-    limits: Limits,
+    listeners: Listeners,
+    serving: Serving,
     out: &mut W,
+    err: &mut E,
 ) -> Result<(), Failure>
     requires opened { K.is_honest kept → O.opens opener.now path.now (K.state kept) }
-    ensures { ServesAddress (serves_within limits) (Over K.is_honest K.state (O.opens opener.now path.now))
+    ensures { ServesAddress (serves_within serving.entry.limits)
+        (Over K.is_honest K.state (O.opens opener.now path.now))
         result (output (W.contents out.old) (W.contents out.new)) }
 {
+    let (limits, connections) = (serving.limits, serving.connections);
+    let mut listener = listeners.connections;
     if limits.at_once == 1 {
-        let mut listener = listener;
         return serve(alloc, opener, path, kept, &mut listener, connections, out);
     }
     let at_once = limits.at_once as usize;
-    match Crowd::new(alloc, rt, rt, listener, limits, connections) {
+    let log = Log::new(err, serving.log);
+    let doors = Doors {
+        listener,
+        orders: listeners.orders,
+    };
+    match Crowd::new(alloc, rt, rt, log, doors, limits, connections) {
         Ok(mut crowd) => serve_together(alloc, opener, path, kept, &mut crowd, at_once, out),
         Err(error) => match error.kind() {
             io::ErrorKind::OutOfMemory => Err(Failure::OutOfMemory),
@@ -160,53 +200,35 @@ fn serve_bound<T: AllocGlobal + Clock + Net, K: Keeper + Drop, O: Opener<K>, W: 
     opener: &O,
     path: &str,
     kept: K,
-    listener: TcpListener,
-    connections: u64,
-    limits: Limits,
+    listeners: Listeners,
+    serving: Serving,
     out: &mut W,
     err: &mut E,
 ) -> Result<(), Failure>
     requires opened { K.is_honest kept → O.opens opener.now path.now (K.state kept) }
-    ensures { ServesAddress (serves_within limits) (Over K.is_honest K.state (O.opens opener.now path.now))
+    ensures { ServesAddress (serves_within serving.entry.limits)
+        (Over K.is_honest K.state (O.opens opener.now path.now))
         result (output (W.contents out.old) (W.contents out.new)) }
 {
     let alloc = rt.alloc();
     let mut kept = kept;
-    match introduce(alloc, &mut kept, &listener, path, err) {
-        Ok(()) => serve_taken(
-            rt,
-            alloc,
-            opener,
-            path,
-            kept,
-            listener,
-            connections,
-            limits,
-            out,
-        ),
+    match introduce(alloc, &mut kept, &listeners.connections, path, err) {
+        Ok(()) => serve_taken(rt, alloc, opener, path, kept, listeners, serving, out, err),
         Err(failure) => Err(failure),
     }
 }
 
-/// Opens the registry at a path, binds the address, says what is served, and serves so many connections.
+/// Opens the registry at a path, binds the address and the socket for orders, says what is served, and
+/// serves so many connections. The socket for orders is taken away at the end.
 fn run_server<
-    T: AllocGlobal + Clock + Net<Listener = TcpListener, Stream = TcpStream>,
+    T: AllocGlobal + Clock + Files + Net<Listener = TcpListener, Stream = TcpStream>,
     K: Keeper + Drop,
     O: Opener<K>,
     W: Write,
     E: Write,
->(
-    rt: &T,
-    opener: &O,
-    path: &str,
-    address: &str,
-    connections: u64,
-    limits: Limits,
-    out: &mut W,
-    err: &mut E,
-) -> u8
-    ensures runs { RunsServer limits (OverAt K.is_honest K.state (O.opens opener.now) path.now) result
-        (output (W.contents out.old) (W.contents out.new)) }
+>(rt: &T, opener: &O, path: &str, serving: Serving, out: &mut W, err: &mut E) -> u8
+    ensures runs { RunsServer serving.entry.limits (OverAt K.is_honest K.state (O.opens opener.now) path.now)
+        result (output (W.contents out.old) (W.contents out.new)) }
     ensures failed { 0 < result → 3 ≤ result }
     ensures status { result ≤ 4 }
 {
@@ -214,24 +236,13 @@ fn run_server<
         Ok(kept) => kept,
         Err(failure) => return say_at(err, failure, path, opener.cause(path, failure)),
     };
-    let listener = match TcpListener::bind(rt, address) {
-        Ok(listener) => listener,
-        Err(error) => {
-            let cause = cause_of_binding(error.kind());
-            return say_at(err, Failure::ConnectionFailure, address, cause);
-        }
+    let listeners = match listen(rt, serving.address, serving.orders) {
+        Ok(listeners) => listeners,
+        Err(none) => return say_at(err, Failure::ConnectionFailure, none.place, none.cause),
     };
-    match serve_bound(
-        rt,
-        opener,
-        path,
-        kept,
-        listener,
-        connections,
-        limits,
-        out,
-        err,
-    ) {
+    let served = serve_bound(rt, opener, path, kept, listeners, serving, out, err);
+    stop_orders(rt, serving.orders);
+    match served {
         Ok(()) => 0,
         Err(failure) => say_at(err, failure, path, opener.cause(path, failure)),
     }
@@ -253,8 +264,9 @@ fn run_migration<K: Keeper, O: Opener<K>, E: Write>(opener: &O, path: &str, err:
 /// Does what the words behind the program's name say, with these ends for standard input, output
 /// and error, and an opener of databases, and gives the exit status: 0 done, 1 a refused command, 2
 /// the command line, 3 storage, schema or memory, 4 a socket, reading or writing failed. What is wrong
-/// with the words is told before a database is opened. With status 1 or 2 nothing was read or written, but
-/// for the line of standard input that the words take for a token.
+/// with the words is told before a database is opened or a server asked. With status 1 or 2 nothing was read
+/// or written, but for the line of standard input that the words take for a token. An order that is sent has
+/// the status and the text that the server answers.
 pub fn run_words<
     T: AllocGlobal + Clock + Files + Net<Listener = TcpListener, Stream = TcpStream>,
     K: Keeper + Drop,
@@ -284,16 +296,29 @@ pub fn run_words<
                 address,
                 connections,
                 limits,
+                orders,
+                log,
             },
-        ) => run_server(rt, opener, path, address, connections, limits, out, err),
-        Ok(Task::Order { path, order }) => run_order(alloc, opener, path, &order, out, err),
+        ) => {
+            let serving = Serving {
+                address,
+                connections,
+                limits,
+                orders,
+                log,
+            };
+            run_server(rt, opener, path, serving, out, err)
+        }
+        Ok(Task::Order { place, order }) => {
+            run_order_at(rt, alloc, opener, place, &order, out, err)
+        }
         Ok(
             Task::TokenOrder {
-                path,
+                place,
                 source,
                 change,
             },
-        ) => run_token_order(rt, alloc, opener, path, source, change, reader, out, err),
+        ) => run_token_order(rt, alloc, opener, place, source, change, reader, out, err),
         Ok(Task::Migration { path }) => run_migration::<K, O, E>(opener, path, err),
         Err(Told::Failed(failure)) => say(err, failure),
         Err(Told::Options { word, cause }) => {

@@ -116,6 +116,7 @@ fn serve_each<K: Keeper + Drop, O: Opener<K>, D: Entrance>(
             Err(_) => return Err(Failure::ConnectionFailure),
         }
     }
+    opener.close(service.into_keeper());
     Ok(())
 }
 

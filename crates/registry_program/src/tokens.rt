@@ -8,14 +8,15 @@ ghost use Rattle.registry_program.specs.Running.{RunsByInput, RunsByFile, RunsTo
 ghost use Rattle.registry_program.specs.Running.{IsWithoutToken, LacksTokenOf};
 
 use crate::opening::Opener;
-use crate::program::run_order;
+use crate::program::run_order_at;
 use oci_names::Token;
 use registry_model::Keeper;
 use registry_orders::cause::say_at;
-use registry_orders::{Cause, Failure, Order, TokenChange, TokenSource, read_token};
+use registry_orders::{Cause, Failure, Order, Place, TokenChange, TokenSource, read_token};
 use std::alloc::Global;
 use std::fs;
 use std::io::{ErrorKind, Read, Write};
+use std::net::Net;
 use std::rt::Files;
 
 /// Why there is no token.
@@ -65,17 +66,18 @@ fn token_in_file<T: Files>(rt: &T, alloc: Global, path: &str) -> Result<Token, N
 }
 
 /// Carries out an order, the token of which is the first line of standard input.
-fn run_by_input<K: Keeper + Drop, O: Opener<K>, R: Read, W: Write, E: Write>(
+fn run_by_input<T: Net, K: Keeper + Drop, O: Opener<K>, R: Read, W: Write, E: Write>(
+    rt: &T,
     alloc: Global,
     opener: &O,
-    path: &str,
+    place: Place,
     change: TokenChange,
     reader: &mut R,
     out: &mut W,
     err: &mut E,
 ) -> u8
     ensures runs { ((result ≢ 2)
-        × RunsByInput (OverAt K.is_honest K.state (O.opens opener.now) path.now) change result
+        × RunsByInput (OverAt K.is_honest K.state (O.opens opener.now)) place.entry change result
         (streams (R.remaining reader.old) (R.remaining reader.new)
         (W.contents out.old) (W.contents out.new)))
         ⊎ IsWithoutToken result (output (W.contents out.old) (W.contents out.new)) }
@@ -86,25 +88,25 @@ fn run_by_input<K: Keeper + Drop, O: Opener<K>, R: Read, W: Write, E: Write>(
     match read_token(alloc, reader) {
         Ok(token) => {
             let order = Order::Change(change.with(token));
-            run_order(alloc, opener, path, &order, out, err)
+            run_order_at(rt, alloc, opener, place, &order, out, err)
         }
         Err(failure) => say_at(err, failure, "standard input", no_token(failure).cause),
     }
 }
 
 /// Carries out an order, the token of which is the first line of a file.
-fn run_by_file<T: Files, K: Keeper + Drop, O: Opener<K>, W: Write, E: Write>(
+fn run_by_file<T: Files + Net, K: Keeper + Drop, O: Opener<K>, W: Write, E: Write>(
     rt: &T,
     alloc: Global,
     opener: &O,
-    path: &str,
+    place: Place,
     file: &str,
     change: TokenChange,
     out: &mut W,
     err: &mut E,
 ) -> u8
     ensures runs { ((result ≢ 2)
-        × RunsByFile (OverAt K.is_honest K.state (O.opens opener.now) path.now) change result
+        × RunsByFile (OverAt K.is_honest K.state (O.opens opener.now)) place.entry change result
         (output (W.contents out.old) (W.contents out.new)))
         ⊎ IsWithoutToken result (output (W.contents out.old) (W.contents out.new)) }
     ensures silent { 0 < result → result < 4
@@ -114,19 +116,19 @@ fn run_by_file<T: Files, K: Keeper + Drop, O: Opener<K>, W: Write, E: Write>(
     match token_in_file(rt, alloc, file) {
         Ok(token) => {
             let order = Order::Change(change.with(token));
-            run_order(alloc, opener, path, &order, out, err)
+            run_order_at(rt, alloc, opener, place, &order, out, err)
         }
         Err(none) => say_at(err, none.failure, file, none.cause),
     }
 }
 
-/// Reads the token that an order lacks, and carries the order out over the registry at a path. Without a
-/// token no registry is opened.
-pub fn run_token_order<T: Files, K: Keeper + Drop, O: Opener<K>, R: Read, W: Write, E: Write>(
+/// Reads the token that an order lacks, and carries the order out at its place. Without a token no registry
+/// is opened, and nothing is sent.
+pub fn run_token_order<T: Files + Net, K: Keeper + Drop, O: Opener<K>, R: Read, W: Write, E: Write>(
     rt: &T,
     alloc: Global,
     opener: &O,
-    path: &str,
+    place: Place,
     source: TokenSource,
     change: TokenChange,
     reader: &mut R,
@@ -134,8 +136,8 @@ pub fn run_token_order<T: Files, K: Keeper + Drop, O: Opener<K>, R: Read, W: Wri
     err: &mut E,
 ) -> u8
     ensures runs { ((result ≢ 2)
-        × RunsTokenOrder (OverAt K.is_honest K.state (O.opens opener.now) path.now) source.entry change result
-        (streams (R.remaining reader.old) (R.remaining reader.new)
+        × RunsTokenOrder (OverAt K.is_honest K.state (O.opens opener.now)) place.entry source.entry
+        change result (streams (R.remaining reader.old) (R.remaining reader.new)
         (W.contents out.old) (W.contents out.new)))
         ⊎ LacksTokenOf source.entry result
         (streams (R.remaining reader.old) (R.remaining reader.new)
@@ -145,7 +147,7 @@ pub fn run_token_order<T: Files, K: Keeper + Drop, O: Opener<K>, R: Read, W: Wri
     ensures status { result ≤ 4 }
 {
     match source {
-        TokenSource::Input => run_by_input(alloc, opener, path, change, reader, out, err),
-        TokenSource::File(file) => run_by_file(rt, alloc, opener, path, file, change, out, err),
+        TokenSource::Input => run_by_input(rt, alloc, opener, place, change, reader, out, err),
+        TokenSource::File(file) => run_by_file(rt, alloc, opener, place, file, change, out, err),
     }
 }

@@ -5,7 +5,7 @@ ghost use Rattle.registry_server.specs.Slots.{slots_of};
 use crate::connection::{Connection, find, find_stirred, to_back};
 use crate::refusal::Refusal;
 use crate::turn::Turn;
-use registry_conversation::{Conversation, Wants};
+use registry_conversation::{Conversation, Exchange, Wants};
 use registry_model::Keeper;
 use registry_service::Service;
 use std::alloc::Global;
@@ -135,6 +135,15 @@ impl Connections {
     {
         match find(&self.connections, number) {
             Some(at) => Some(self.connections[at].conversation.wants()),
+            None => None,
+        }
+    }
+
+    /// The request in hand on a connection, or else the one that was answered last, as a log tells it; none
+    /// where it is not open. No contract speaks of it.
+    pub fn exchange(&self, number: u64) -> Option<&Exchange> {
+        match find(&self.connections, number) {
+            Some(at) => Some(self.connections[at].conversation.exchange()),
             None => None,
         }
     }

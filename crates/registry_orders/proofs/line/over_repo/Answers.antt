@@ -5,4 +5,4 @@ use Rattle.registry_orders.proofs.line.over_repo.Goals as goal
 
 pub returns : goal.returns
 returns c =
-    IfOk-weaker c.arg.result _ _ (λ r. arg_added (spec.alone (spec.over_database c.args.word.now)) spec.name c.in_ok-over_database.field-0 r c.name.result c.in_ok-over_database.ensures c.name.ensures) c.arg.ensures
+    IfOk-weaker c.arg.result _ _ (λ r. arg_added (spec.alone (spec.ordering c.args.word.now)) spec.name c.in_ok-ordering.field-0 r c.name.result c.in_ok-ordering.ensures c.name.ensures) c.arg.ensures

@@ -5,6 +5,6 @@ use Rattle.registry_orders.proofs.line.over_token.Goals as goal
 
 pub returns : goal.returns
 returns c =
-    let first = arg_added (spec.alone (spec.over_database c.args.word.now)) spec.token c.in_ok-over_database.field-0 c.in_ok-arg.field-0 c.token.result c.in_ok-over_database.ensures c.token.ensures c.in_ok-arg.ensures in
+    let first = arg_added (spec.alone (spec.ordering c.args.word.now)) spec.token c.in_ok-ordering.field-0 c.in_ok-arg.field-0 c.token.result c.in_ok-ordering.ensures c.token.ensures c.in_ok-arg.ensures in
     let second = arg_added _ spec.token_file c.in_ok-arg.field-0 c.in_ok-arg-2.field-0 c.token_file.result first c.token_file.ensures c.in_ok-arg-2.ensures in
     IfOk-weaker c.arg-3.result _ _ (λ r. arg_added _ spec.name c.in_ok-arg-2.field-0 r c.name.result second c.name.ensures) c.arg-3.ensures

@@ -14,4 +14,6 @@ returns c =
     let third = arg_added _ spec.connections c.in_ok-arg-2.field-0 c.in_ok-arg-3.field-0 c.connections.result second c.connections.ensures c.in_ok-arg-3.ensures in
     let fourth = arg_added _ spec.at_once c.in_ok-arg-3.field-0 c.in_ok-arg-4.field-0 c.at_once.result third c.at_once.ensures c.in_ok-arg-4.ensures in
     let fifth = arg_added _ spec.buffer c.in_ok-arg-4.field-0 c.in_ok-arg-5.field-0 c.buffer.result fourth c.buffer.ensures c.in_ok-arg-5.ensures in
-    IfOk-weaker c.arg-6.result _ _ (λ r. arg_added _ spec.idle c.in_ok-arg-5.field-0 r c.idle.result fifth c.idle.ensures) c.arg-6.ensures
+    let sixth = arg_added _ spec.idle c.in_ok-arg-5.field-0 c.in_ok-arg-6.field-0 c.idle.result fifth c.idle.ensures c.in_ok-arg-6.ensures in
+    let seventh = arg_added _ spec.orders c.in_ok-arg-6.field-0 c.in_ok-arg-7.field-0 c.orders.result sixth c.orders.ensures c.in_ok-arg-7.ensures in
+    IfOk-weaker c.arg-8.result _ _ (λ r. arg_added _ (spec.flag (codes "log")) c.in_ok-arg-7.field-0 r c.flag.result seventh c.flag.ensures) c.arg-8.ensures

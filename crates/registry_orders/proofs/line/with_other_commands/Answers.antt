@@ -6,6 +6,6 @@ pub returns : goal.returns
 returns c is =
     let one = c.in_ok-command.ensures (spec.with_subcommands spec.repo_commands spec.serving) spec.grant is c.grant.ensures refl in
     let two = c.in_ok-command-2.ensures _ (spec.over_token (codes "revoke")) one c.over_token.ensures refl in
-    let three = c.in_ok-command-3.ensures _ (spec.over_database (codes "clear")) two c.over_database.ensures refl in
-    let four = c.in_ok-command-4.ensures _ (spec.over_database (codes "usage")) three c.over_database-2.ensures refl in
-    c.with-5.ensures _ (spec.over_database (codes "migrate")) four c.over_database-3.ensures refl
+    let three = c.in_ok-command-3.ensures _ (spec.ordering (codes "clear")) two c.ordering.ensures refl in
+    let four = c.in_ok-command-4.ensures _ (spec.ordering (codes "usage")) three c.ordering-2.ensures refl in
+    c.with-5.ensures _ spec.migrate four c.migrate.ensures refl

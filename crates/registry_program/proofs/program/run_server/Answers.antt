@@ -6,5 +6,5 @@ use Rattle.registry_program.proofs.program.run_server.Goals as goal
 pub returns-in-Err-clause-runs : goal.returns-in-Err-clause-runs
 returns-in-Err-clause-runs g c = (Err c.in-Err.failure, c.say_at.ensures, serving_of_opening c.in-Err.failure c.in-Err.ensures.refused)
 
-pub returns-in-Err-bind-clause-runs : goal.returns-in-Err-bind-clause-runs
-returns-in-Err-bind-clause-runs g c = (Err ConnectionFailure, search rules, tt)
+pub returns-in-Err-listen-clause-runs : goal.returns-in-Err-listen-clause-runs
+returns-in-Err-listen-clause-runs g c = (Err ConnectionFailure, search rules, tt)

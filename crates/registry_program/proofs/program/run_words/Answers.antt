@@ -1,5 +1,5 @@
 use Rattle.std.proofs.Common.{inl, map, arith}
-use Rattle.registry_orders.specs.declared.line.Task.TheVariants.{Memory}
+use Rattle.registry_orders.specs.declared.tasks.Task.TheVariants.{Memory}
 use Rattle.registry_program.specs.Stored.{OverAt}
 use Rattle.registry_program.proofs.ExitStatuses.{memory_read}
 use Rattle.registry_program.proofs.TokenOrders.{order_runs, order_spares}
@@ -17,11 +17,11 @@ returns-in-Ok-TokenOrder-clause-runs g c =
     let read = rw c.in-Ok-TokenOrder.field-0-is at c.in-Ok-TokenOrder.ensures.read in
     let found = c.in-Ok-TokenOrder in
     order_runs (OverAt g.K.Keeper.is_honest g.K.Keeper.state (g.O.Opener.opens c.args.opener.now)) (map g.S.AsStr.text c.args.words.now)
-    found.path found.source found.change _ _ read c.run_token_order.ensures.runs
+    found.place found.source found.change _ _ read c.run_token_order.ensures.runs
 
 pub returns-in-Ok-TokenOrder-clause-refused : goal.returns-in-Ok-TokenOrder-clause-refused
 returns-in-Ok-TokenOrder-clause-refused g c more less =
     let read = rw c.in-Ok-TokenOrder.field-0-is at c.in-Ok-TokenOrder.ensures.read in
     let found = c.in-Ok-TokenOrder in
-    order_spares (OverAt g.K.Keeper.is_honest g.K.Keeper.state (g.O.Opener.opens c.args.opener.now) found.path.now) (map g.S.AsStr.text c.args.words.now)
-    found.path found.source found.change _ _ read c.run_token_order.ensures.runs (c.run_token_order.ensures.silent more (omega arith))
+    order_spares (OverAt g.K.Keeper.is_honest g.K.Keeper.state (g.O.Opener.opens c.args.opener.now)) (map g.S.AsStr.text c.args.words.now)
+    found.place found.source found.change _ _ read c.run_token_order.ensures.runs (c.run_token_order.ensures.silent more (omega arith))

@@ -6,7 +6,11 @@ pub returns-clause-leads : goal.returns-clause-leads
 returns-clause-leads g c honest =
     let s = g.K.Keeper.state c.args.service.now in
     let t = g.K.Keeper.state c.answer_all.new.service in
+    let r = g.K.Keeper.state c.take_orders.new.service in
+    let u = connected c.hear_all.new.connections in
+    let v = connected c.answer_all.new.connections in
     let before = carries_then _ _ _ c.accept_all.ensures c.hear_all.ensures in
     let behind = carries_then _ _ _ c.tell_all.ensures c.dismiss_all.ensures in
-    leads_then _ s (connected c.answer_all.new.connections) t _ t
-    (leads_then _ s (connected c.hear_all.new.connections) s _ t (before s) (c.answer_all.ensures.leads honest)) (behind t)
+    let answered = c.answer_all.ensures.leads (c.take_orders.ensures.honest honest) in
+    let ordered = leads_then u s v t v r answered (c.take_orders.ensures.leads honest v) in
+    leads_then _ s v r _ r (leads_then _ s u s v r (before s) ordered) (behind r)

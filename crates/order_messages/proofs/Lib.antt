@@ -1,0 +1,5 @@
+pub mod NumberLemmas
+pub mod PlainWords
+pub mod LineLemmas
+pub mod AnswerLemmas
+pub mod LineLaws

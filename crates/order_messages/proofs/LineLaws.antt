@@ -1,0 +1,107 @@
+-- A line spells one order at most, and is short.
+use Rattle.std.proofs.Common.{◌≡◌, ◌≢◌, ◌∙◌, ℕ, ◌+◌, ◌<◌, ◌≤◌, true, [], ◌∷◌, List, nat_le, ◌*◌, get_or, length, length-append, decimal, sym, refl, ap, arith}
+use Rattle.std.proofs.lemmas.Bool.{and_parts, leb-true}
+use Rattle.std.proofs.lemmas.Fmt.{decimal_injective, length-decimal-le}
+use Rattle.oci_names.specs.Text.{Text}
+use Rattle.oci_names.specs.RepoName.{is_repo_name, is_path}
+use Rattle.oci_names.specs.Token.{is_token, is_b64token}
+use Rattle.registry_model.specs.declared.level.Level.{Level}
+use Rattle.registry_model.specs.declared.level.Level.TheVariants.{Pull, Push, Delete}
+use Rattle.registry_model.specs.declared.quota.Quota.{Quota}
+use Rattle.registry_orders.specs.declared.orders.Change.{Change}
+use Rattle.registry_orders.specs.declared.orders.Change.TheVariants.{AddRepo, SetQuota, DropRepo, DropSessions, Grant, Revoke, Clear}
+use Rattle.registry_orders.specs.declared.orders.Order.{Order}
+use Rattle.registry_orders.specs.declared.orders.Order.TheVariants as order
+use Rattle.order_messages.specs.Lines.{digit_of, words_of_change, words_of, line_of, IsProperChange, IsProper, Spells, SpellsNone}
+use Rattle.order_messages.proofs.LineLemmas.{split, split_line}
+use native.Mathlib.Bridge.{le_prop}
+use std.HLevel.{prop→path_p}
+
+-- ---- length
+
+name_length : (t : Text) → is_repo_name t ≡ true → length t ≤ 255
+name_length t h = leb-true (length t) 255 (and_parts (nat_le (length t) 255) (is_path t) h).0
+
+token_length : (t : Text) → is_token t ≡ true → length t ≤ 200
+token_length t h = leb-true (length t) 200 (and_parts (nat_le (length t) 200) (is_b64token t) h).0
+
+quota_length : (q : Quota) → length (decimal q.bytes) ≤ 20
+quota_length q = let small = q.in_range in length-decimal-le 20 q.bytes (omega arith) (omega arith) (omega arith)
+
+digit_length : (level : Level) → length (digit_of level) ≡ 1
+digit_length Pull = refl
+digit_length Push = refl
+digit_length Delete = refl
+
+change_length : (c : Change) → IsProperChange c → length (line_of (order.Change c)) < 600
+change_length (AddRepo name quota) h = omega (arith, length-append {A = ℕ}, name_length name h, quota_length quota)
+change_length (SetQuota name quota) h = omega (arith, length-append {A = ℕ}, name_length name h, quota_length quota)
+change_length (DropRepo name) h = omega (arith, length-append {A = ℕ}, name_length name h)
+change_length (DropSessions name) h = omega (arith, length-append {A = ℕ}, name_length name h)
+change_length (Grant token name level) h =
+    omega (arith, length-append {A = ℕ}, name_length name h.0, digit_length level, token_length token h.1)
+change_length (Revoke token name) h = omega (arith, length-append {A = ℕ}, name_length name h.0, token_length token h.1)
+change_length Clear h = omega arith
+
+line_length : (o : Order) → IsProper o → length (line_of o) < 600
+line_length (order.Change c) h = change_length c h
+line_length order.Usage h = omega arith
+
+pub long_line : (line : Text) → 600 ≤ length line → SpellsNone line
+long_line line long = λ o h.
+    let short = line_length o h.1 in
+    let same = ap length h.0 in
+    omega arith
+
+-- ---- one order
+
+quota_same : (q r : Quota) → q.bytes ≡ r.bytes → q ≡ r
+quota_same q r e = λ i. record {
+  bytes = e i;
+  in_range = prop→path_p (λ j. e j < 9223372036854775808) le_prop q.in_range r.in_range i;
+}
+
+quota_from_text : (q r : Quota) → decimal q.bytes ≡ decimal r.bytes → q ≡ r
+quota_from_text q r e =
+    let low = q.in_range in
+    let high = r.in_range in
+    quota_same q r (decimal_injective q.bytes r.bytes (omega arith) (omega arith) e)
+
+level_from_digit : (l k : Level) → digit_of l ≡ digit_of k → l ≡ k
+level_from_digit Pull Pull e = refl
+level_from_digit Push Push e = refl
+level_from_digit Delete Delete e = refl
+level_from_digit l k e = let first = ap (λ t. get_or t 0 0) e in absurd (omega arith)
+
+-- two bytes of the first word, which tell it
+abbrev key_of : List Text → ℕ
+key_of [] = 0
+key_of (w ∷ words) = 256 * get_or w 0 0 + get_or w 2 0
+
+change_same : (c d : Change) → words_of_change c ≡ words_of_change d → c ≡ d
+change_same (AddRepo m q) (AddRepo n r) e = let same = quota_from_text q r cc in cc
+change_same (SetQuota m q) (SetQuota n r) e = let same = quota_from_text q r cc in cc
+change_same (DropRepo m) (DropRepo n) e = cc
+change_same (DropSessions m) (DropSessions n) e = cc
+change_same (Grant t m l) (Grant u n k) e = let same = level_from_digit l k cc in cc
+change_same (Revoke t m) (Revoke u n) e = cc
+change_same Clear Clear e = refl
+change_same c d e = let key = ap key_of e in absurd (omega arith)
+
+not_usage : (c : Change) → key_of (words_of_change c) ≢ key_of (words_of order.Usage)
+not_usage (AddRepo m q) e = omega arith
+not_usage (SetQuota m q) e = omega arith
+not_usage (DropRepo m) e = omega arith
+not_usage (DropSessions m) e = omega arith
+not_usage (Grant t m l) e = omega arith
+not_usage (Revoke t m) e = omega arith
+not_usage Clear e = omega arith
+
+words_same : (o p : Order) → words_of o ≡ words_of p → o ≡ p
+words_same (order.Change c) (order.Change d) e = ap (λ x. order.Change x) (change_same c d e)
+words_same (order.Change c) order.Usage e = absurd (not_usage c (ap key_of e))
+words_same order.Usage (order.Change d) e = absurd (not_usage d (ap key_of (sym e)))
+words_same order.Usage order.Usage e = refl
+
+pub one_order : (line : Text) (o p : Order) → Spells line o → Spells line p → o ≡ p
+one_order line o p h k = words_same o p (sym (split_line o h.1) ∙ ap split (sym h.0 ∙ k.0) ∙ split_line p k.1)

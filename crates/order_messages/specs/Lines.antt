@@ -1,0 +1,67 @@
+-- The line of text that spells an order (profile).
+use Rattle.std.specs.Prelude.{◌≡◌, ℕ, true, List, [], ◌∷◌, codes, decimal}
+use Rattle.std.specs.List.{join_with_byte}
+use Rattle.oci_names.specs.Text.{Text}
+use Rattle.oci_names.specs.RepoName.{is_repo_name}
+use Rattle.oci_names.specs.Token.{is_token}
+use Rattle.registry_model.specs.declared.level.Level.{Level}
+use Rattle.registry_model.specs.declared.level.Level.TheVariants.{Pull, Push, Delete}
+use Rattle.registry_orders.specs.declared.orders.Change.{Change}
+use Rattle.registry_orders.specs.declared.orders.Change.TheVariants.{AddRepo, SetQuota, DropRepo, DropSessions, Grant, Revoke, Clear}
+use Rattle.registry_orders.specs.declared.orders.Order.{Order}
+use Rattle.registry_orders.specs.declared.orders.Order.TheVariants as order
+
+-- the number of a level
+abbrev pub digit_of : Level → Text
+digit_of Pull = codes "1"
+digit_of Push = codes "2"
+digit_of Delete = codes "3"
+
+abbrev pub words_of_change : Change → List Text
+words_of_change (AddRepo name quota) = codes "repo" ∷ name ∷ decimal quota.bytes ∷ []
+words_of_change (SetQuota name quota) = codes "quota" ∷ name ∷ decimal quota.bytes ∷ []
+words_of_change (DropRepo name) = codes "drop" ∷ name ∷ []
+words_of_change (DropSessions name) = codes "sessions" ∷ name ∷ []
+words_of_change (Grant token name level) = codes "grant" ∷ name ∷ digit_of level ∷ token ∷ []
+words_of_change (Revoke token name) = codes "revoke" ∷ name ∷ token ∷ []
+words_of_change Clear = codes "clear" ∷ []
+
+-- what is ordered, and of what; a number is decimal, with no leading zero
+abbrev pub words_of : Order → List Text
+words_of (order.Change change) = words_of_change change
+words_of order.Usage = codes "usage" ∷ []
+
+abbrev pub space : ℕ
+space = 32
+
+-- the words, with a space between each two, and no line's end
+abbrev pub line_of : Order → Text
+line_of o = join_with_byte space (words_of o)
+
+abbrev pub IsProperChange : Change → Type 0
+IsProperChange (AddRepo name quota) = is_repo_name name ≡ true
+IsProperChange (SetQuota name quota) = is_repo_name name ≡ true
+IsProperChange (DropRepo name) = is_repo_name name ≡ true
+IsProperChange (DropSessions name) = is_repo_name name ≡ true
+IsProperChange (Grant token name level) = (is_repo_name name ≡ true) × (is_token token ≡ true)
+IsProperChange (Revoke token name) = (is_repo_name name ≡ true) × (is_token token ≡ true)
+IsProperChange Clear = Unit {0}
+
+-- its name is a repository's name and its token a token, as they are of each order that there is
+abbrev pub IsProper : Order → Type 0
+IsProper (order.Change change) = IsProperChange change
+IsProper order.Usage = Unit {0}
+
+-- the words spell the order; they spell none
+abbrev pub AreWordsOf : List Text → Order → Type 0
+AreWordsOf words o = (words ≡ words_of o) × IsProper o
+
+abbrev pub AreWordsOfNone : List Text → Type 0
+AreWordsOfNone words = (o : Order) → ¬ (AreWordsOf words o)
+
+-- the text is the order's line; it is no order's
+abbrev pub Spells : Text → Order → Type 0
+Spells text o = (text ≡ line_of o) × IsProper o
+
+abbrev pub SpellsNone : Text → Type 0
+SpellsNone text = (o : Order) → ¬ (Spells text o)

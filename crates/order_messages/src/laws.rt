@@ -1,0 +1,17 @@
+//! Laws of the lines of orders.
+ghost use Rattle.std.specs.Prelude.{◌≡◌, ◌≤◌, length};
+ghost use Rattle.oci_names.specs.Text.{Text};
+ghost use Rattle.registry_orders.specs.declared.orders.Order.{Order};
+ghost use Rattle.order_messages.specs.Lines.{Spells, SpellsNone};
+
+use crate::writing::LONGEST_LINE;
+
+/// A text of 600 bytes or more is no order's line.
+pub fn lines_are_short()
+    ensures { (line : Text) → LONGEST_LINE ≤ length line → SpellsNone line }
+{}
+
+/// A text is the line of one order at most.
+pub fn a_line_spells_one_order()
+    ensures { (line : Text) (o p : Order) → Spells line o → Spells line p → o ≡ p }
+{}

@@ -1,0 +1,22 @@
+//! Orders of the administrator to a service that goes on, as text: the line that spells an order, and
+//! the answer to it. No socket is read or written here.
+//!
+//! The crate above relies on `answer_line`, which carries out what a line spells, as one step of what the
+//! service does, and gives the whole answer, and on `write_failure` for what is no line; the other end on
+//! `write_order` and `read_answer`. `laws` says that a line spells one order at most, and how long it is.
+#![tactic(auto)]
+
+pub mod answer;
+pub mod answering;
+pub mod laws;
+mod number;
+pub mod reading;
+pub mod writing;
+
+pub use answer::{Answer, read_answer, write_failure};
+pub use answering::answer_line;
+pub use reading::{Unread, read_order};
+pub use writing::{LONGEST_LINE, write_order};
+
+#[cfg(test)]
+mod tests;

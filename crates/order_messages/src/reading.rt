@@ -1,0 +1,177 @@
+//! An order read from its line.
+ghost use Rattle.std.specs.Prelude.{◌≡◌, ◌==◌, [], ◌∷◌, IfOk, IfErr, MatchOption, map, decimal};
+ghost use Rattle.std.specs.List.{slice_split};
+ghost use Rattle.registry_model.specs.declared.level.Level.{Level};
+ghost use Rattle.registry_model.specs.declared.quota.Quota.{Quota};
+ghost use Rattle.order_messages.specs.Lines.{space, digit_of, Spells, AreWordsOf};
+ghost use Rattle.order_messages.specs.Reading.{IsUnread, AreUnread};
+
+use crate::number::number_in;
+use oci_names::{NameFault, RepoName, Token};
+use registry_model::{Level, Quota};
+use registry_orders::{Change, Order};
+use std::alloc::{AllocError, Global};
+
+/// Why a line is not read.
+#[derive(Clone, Copy, Debug, PartialEq, Eq)]
+pub enum Unread {
+    /// No order has this line.
+    Malformed,
+    /// Memory was wanting.
+    Memory,
+}
+
+impl From<AllocError> for Unread {
+    ghost use Rattle.std.specs.Prelude.{◌≡◌};
+    ghost use Rattle.order_messages.specs.declared.reading.Unread.{Unread};
+
+    ghost from_gives = { λ _ unread. unread ≡ Unread.Memory };
+
+    fn from(_: AllocError) -> Unread {
+        Unread::Memory
+    }
+}
+
+impl From<NameFault> for Unread {
+    ghost use Rattle.std.specs.Prelude.{◌≡◌};
+    ghost use Rattle.order_messages.specs.Reading.{unread_of};
+
+    ghost from_gives = { λ fault unread. unread ≡ unread_of fault };
+
+    fn from(fault: NameFault) -> Unread {
+        match fault {
+            NameFault::Memory => Unread::Memory,
+            _ => Unread::Malformed,
+        }
+    }
+}
+
+/// The parts of a text between spaces.
+fn words_in<'a>(alloc: Global, text: &'a str) -> Result<Vec<&'a str>, AllocError>
+    ensures { IfOk result (λ words. map (λ word. word.now) words.items
+        ≡ slice_split (λ b. b == space) text.now) }
+{
+    text.split(' ').collect(alloc)
+}
+
+/// The level of a number.
+fn level_in(text: &str) -> Option<Level>
+    ensures { MatchOption result ((level : Level) → ¬ (text.now ≡ digit_of level))
+        (λ level. text.now ≡ digit_of level) }
+{
+    match text {
+        "1" => Some(Level::Pull),
+        "2" => Some(Level::Push),
+        "3" => Some(Level::Delete),
+        _ => None,
+    }
+}
+
+/// The quota of a number of bytes.
+#[tactic(auto, using(crate::proofs::NumberLemmas::quota_is_small, crate::proofs::NumberLemmas::decimal_same))]
+fn quota_in(text: &str) -> Option<Quota>
+    ensures { MatchOption result ((quota : Quota) → ¬ (text.now ≡ decimal quota.bytes))
+        (λ quota. text.now ≡ decimal quota.bytes) }
+{
+    match number_in(text) {
+        Some(bytes) => Quota::new(bytes),
+        None => None,
+    }
+}
+
+/// The order of one word.
+fn order_alone(word: &str) -> Result<Order, Unread>
+    ensures read { IfOk result (AreWordsOf (word.now ∷ [])) }
+    ensures refused { IfErr result (AreUnread (word.now ∷ [])) }
+{
+    match word {
+        "usage" => Ok(Order::Usage),
+        "clear" => Ok(Order::Change(Change::Clear)),
+        _ => Err(Unread::Malformed),
+    }
+}
+
+/// The order of a word and a name.
+fn order_of_name(alloc: Global, word: &str, name: &str) -> Result<Order, Unread>
+    ensures read { IfOk result (AreWordsOf (word.now ∷ name.now ∷ [])) }
+    ensures refused { IfErr result (AreUnread (word.now ∷ name.now ∷ [])) }
+{
+    match word {
+        "drop" => Ok(Order::Change(Change::DropRepo {
+            name: RepoName::parse(alloc, name)?,
+        })),
+        "sessions" => Ok(Order::Change(Change::DropSessions {
+            name: RepoName::parse(alloc, name)?,
+        })),
+        _ => Err(Unread::Malformed),
+    }
+}
+
+/// The order of a word, a name and a quota or a token.
+fn order_of_two(alloc: Global, word: &str, name: &str, last: &str) -> Result<Order, Unread>
+    ensures read { IfOk result (AreWordsOf (word.now ∷ name.now ∷ last.now ∷ [])) }
+    ensures refused { IfErr result (AreUnread (word.now ∷ name.now ∷ last.now ∷ [])) }
+{
+    match word {
+        "repo" => Ok(Order::Change(Change::AddRepo {
+            name: RepoName::parse(alloc, name)?,
+            quota: quota_in(last).ok_or(Unread::Malformed)?,
+        })),
+        "quota" => Ok(Order::Change(Change::SetQuota {
+            name: RepoName::parse(alloc, name)?,
+            quota: quota_in(last).ok_or(Unread::Malformed)?,
+        })),
+        "revoke" => Ok(Order::Change(Change::Revoke {
+            token: Token::parse(alloc, last)?,
+            name: RepoName::parse(alloc, name)?,
+        })),
+        _ => Err(Unread::Malformed),
+    }
+}
+
+/// The order of a word, a name, a level and a token.
+fn order_of_three(
+    alloc: Global,
+    word: &str,
+    name: &str,
+    level: &str,
+    token: &str,
+) -> Result<Order, Unread>
+    ensures read { IfOk result (AreWordsOf (word.now ∷ name.now ∷ level.now ∷ token.now ∷ [])) }
+    ensures refused { IfErr result (AreUnread (word.now ∷ name.now ∷ level.now ∷ token.now ∷ [])) }
+{
+    match word {
+        "grant" => Ok(Order::Change(Change::Grant {
+            token: Token::parse(alloc, token)?,
+            name: RepoName::parse(alloc, name)?,
+            level: level_in(level).ok_or(Unread::Malformed)?,
+        })),
+        _ => Err(Unread::Malformed),
+    }
+}
+
+/// The order that the words spell.
+fn order_in(alloc: Global, words: &[&str]) -> Result<Order, Unread>
+    ensures read { IfOk result (AreWordsOf (map (λ word. word.now) words.now)) }
+    ensures refused { IfErr result (AreUnread (map (λ word. word.now) words.now)) }
+{
+    match words {
+        [word] => order_alone(word),
+        [word, name] => order_of_name(alloc, word, name),
+        [word, name, last] => order_of_two(alloc, word, name, last),
+        [word, name, level, token] => order_of_three(alloc, word, name, level, token),
+        _ => Err(Unread::Malformed),
+    }
+}
+
+/// The order that a line spells, without the line's end. `Malformed` where it spells none.
+pub fn read_order(alloc: Global, line: &[u8]) -> Result<Order, Unread>
+    ensures read { IfOk result (Spells line.now) }
+    ensures refused { IfErr result (IsUnread line.now) }
+{
+    let Ok(text) = str::from_utf8(line) else {
+        return Err(Unread::Malformed);
+    };
+    let words = words_in(alloc, text)?;
+    order_in(alloc, words.as_slice())
+}

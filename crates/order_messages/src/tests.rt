@@ -1,0 +1,157 @@
+//! Lines by hand, over a registry in memory. The answers are what the commands print by the definitions.
+
+use crate::{Unread, answer_line, read_answer, read_order, write_order};
+use oci_names::{RepoName, Token};
+use registry_maps::MapKeeper;
+use registry_model::Level;
+use registry_orders::{Change, Order};
+use registry_service::Service;
+use std::alloc::Global;
+use std::fmt::Debug;
+use std::process::Abort;
+use std::test::Fail;
+
+const DONE: &str = "0\n";
+
+const THERE: &str = "1\nregistry: repository already there\n";
+
+const NO_REPO: &str = "1\nregistry: no such repository\n";
+
+const NO_GRANT: &str = "1\nregistry: no such grant\n";
+
+const MALFORMED: &str = "2\nregistry: invalid options\n";
+
+const NO_ROWS: &str =
+    "0\n                used               quota     blobs manifests      tags  sessions name\n";
+
+const ONE_ROW: &str =
+    "0\n                used               quota     blobs manifests      tags  sessions name\n\
+     \x20                  0                2000         0         0         0         0 team/app\n";
+
+/// Lines, one after the other, and the answer to each.
+const TALK: [(&str, &str); 16] = [
+    ("usage", NO_ROWS),
+    ("drop team/app", NO_REPO),
+    ("repo team/app 1000", DONE),
+    ("repo team/app 1", THERE),
+    ("quota team/app 2000", DONE),
+    ("quota team/other 2000", NO_REPO),
+    ("usage", ONE_ROW),
+    ("grant team/app 3 t1", DONE),
+    ("grant team/other 3 t1", NO_REPO),
+    ("revoke team/app t2", NO_GRANT),
+    ("revoke team/app t1", DONE),
+    ("revoke team/app t1", NO_GRANT),
+    ("sessions team/app", DONE),
+    ("clear", DONE),
+    ("drop team/app", DONE),
+    ("usage", NO_ROWS),
+];
+
+/// Lines that spell no order.
+const MALFORMED_LINES: [&[u8]; 24] = [
+    b"",
+    b" ",
+    b"usage ",
+    b" usage",
+    b"usage\n",
+    b"usages",
+    b"USAGE",
+    b"clear all",
+    b"drop",
+    b"drop ",
+    b"drop  team/app",
+    b"drop team/app ",
+    b"drop team/app team/app",
+    b"drop team/App",
+    b"drop team/app\0",
+    b"drop team/\xff",
+    b"quota team/app 01",
+    b"quota team/app +1",
+    b"quota team/app -1",
+    b"quota team/app 9223372036854775808",
+    b"grant team/app 4 t1",
+    b"grant team/app 03 t1",
+    b"grant team/app 3 t 1",
+    b"revoke team/app =",
+];
+
+fn same<T: PartialEq + Debug + Drop>(rt: &impl Abort, place: usize, found: T, wanted: T) {
+    assert_eq!(rt; found, wanted, "at {place}");
+}
+
+/// What a line is answered.
+fn answer(alloc: Global, registry: &mut Service<MapKeeper>, line: &[u8]) -> Result<String, Fail> {
+    let bytes = answer_line(alloc, registry, line)?;
+    Ok(String::from_utf8(bytes).map_err(|_| "a text")?)
+}
+
+#[test]
+fn each_line_is_answered(rt: HostRuntime) -> Result<(), Fail> {
+    let alloc = rt.alloc();
+    let mut registry = Service::new(MapKeeper::new(alloc));
+    for (place, (line, wanted)) in TALK.iter().enumerate() {
+        let found = answer(alloc, &mut registry, line.as_bytes())?;
+        same(&rt, place, found.as_str(), wanted);
+    }
+    Ok(())
+}
+
+#[test]
+fn malformed_lines_change_nothing(rt: HostRuntime) -> Result<(), Fail> {
+    let alloc = rt.alloc();
+    let mut registry = Service::new(MapKeeper::new(alloc));
+    answer(alloc, &mut registry, b"repo team/app 2000")?;
+    for (place, line) in MALFORMED_LINES.iter().enumerate() {
+        let found = answer(alloc, &mut registry, line)?;
+        same(&rt, place, found.as_str(), MALFORMED);
+        let found = answer(alloc, &mut registry, b"usage")?;
+        same(&rt, place, found.as_str(), ONE_ROW);
+    }
+    Ok(())
+}
+
+#[test]
+fn each_line_is_written_again(rt: HostRuntime) -> Result<(), Fail> {
+    let alloc = rt.alloc();
+    for (place, (line, _)) in TALK.iter().enumerate() {
+        let order = read_order(alloc, line.as_bytes()).map_err(|_| "an order")?;
+        same(&rt, place, write_order(alloc, &order)?.as_str(), line);
+    }
+    Ok(())
+}
+
+#[test]
+fn a_grant_is_written(rt: HostRuntime) -> Result<(), Fail> {
+    let alloc = rt.alloc();
+    let order = Order::Change(Change::Grant {
+        token: Token::parse(alloc, "t1")?,
+        name: RepoName::parse(alloc, "team/app")?,
+        level: Level::Push,
+    });
+    let line = write_order(alloc, &order)?;
+    same(&rt, 0, line.as_str(), "grant team/app 2 t1");
+    Ok(())
+}
+
+#[test]
+fn answers_are_read(rt: HostRuntime) -> Result<(), Fail> {
+    let refused = read_answer(NO_REPO.as_bytes()).ok_or("an answer")?;
+    same(&rt, 0, refused.status, 1);
+    same(&rt, 0, refused.text, b"registry: no such repository\n");
+    let done = read_answer(b"0\n").ok_or("an answer")?;
+    same(&rt, 1, done.status, 0);
+    same(&rt, 1, done.text, b"");
+    let none: [&[u8]; 6] = [b"", b"0", b"\n", b"5\n", b"00\n", b" 0\n"];
+    for (place, bytes) in none.iter().enumerate() {
+        same(&rt, place, read_answer(bytes).is_none(), true);
+    }
+    Ok(())
+}
+
+#[test]
+fn a_line_that_is_none(rt: HostRuntime) -> Result<(), Fail> {
+    let unread = read_order(rt.alloc(), b"usage ").map(|_| ()).err();
+    same(&rt, 0, unread, Some(Unread::Malformed));
+    Ok(())
+}

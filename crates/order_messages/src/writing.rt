@@ -1,0 +1,63 @@
+//! The line that spells an order.
+ghost use Rattle.std.specs.Prelude.{◌≡◌, ◌<◌, IfOk, string_bytes};
+ghost use Rattle.order_messages.specs.Lines.{line_of, digit_of};
+
+use registry_model::Level;
+use registry_orders::{Change, Order};
+use std::alloc::{AllocError, Global};
+use std::fmt;
+
+/// A line of an order has fewer bytes than this, without its end (`laws::lines_are_short`).
+pub const LONGEST_LINE: usize = 600;
+
+/// The number of a level: 1 pull, 2 push, 3 delete.
+fn digit_of(level: Level) -> &'static str
+    ensures { result.now ≡ digit_of level }
+{
+    match level {
+        Level::Pull => "1",
+        Level::Push => "2",
+        Level::Delete => "3",
+    }
+}
+
+/// The words of a change.
+#[derive(Drop)]
+struct ChangeLine<'a>(&'a Change);
+
+impl<'a> fmt::Display for ChangeLine<'a> {
+    ghost use Rattle.std.specs.Prelude.{Some};
+    ghost use Rattle.std.specs.List.{join_with_byte};
+    ghost use Rattle.order_messages.specs.Lines.{words_of_change, space};
+
+    ghost output = { λ line. Some (join_with_byte space (words_of_change line.0.now)) };
+
+    fn fmt<W: fmt::Write>(&self, f: &mut fmt::Formatter<W>) -> fmt::Result {
+        match self.0 {
+            Change::AddRepo { name, quota } => write!(f, "repo {} {}", name.as_str(), quota.bytes),
+            Change::SetQuota { name, quota } => {
+                write!(f, "quota {} {}", name.as_str(), quota.bytes)
+            }
+            Change::DropRepo { name } => write!(f, "drop {}", name.as_str()),
+            Change::DropSessions { name } => write!(f, "sessions {}", name.as_str()),
+            Change::Grant { token, name, level } => {
+                let digit = digit_of(*level);
+                write!(f, "grant {} {digit} {}", name.as_str(), token.as_str())
+            }
+            Change::Revoke { token, name } => {
+                write!(f, "revoke {} {}", name.as_str(), token.as_str())
+            }
+            Change::Clear => f.write_str("clear"),
+        }
+    }
+}
+
+/// The line that spells an order, without its end.
+pub fn write_order(alloc: Global, order: &Order) -> Result<String, AllocError>
+    ensures { IfOk result (λ text. string_bytes text ≡ line_of order.now) }
+{
+    match order {
+        Order::Change(change) => format!(in alloc; "{}", ChangeLine(change)),
+        Order::Usage => String::from_str(alloc, "usage"),
+    }
+}

@@ -1,0 +1,164 @@
+//! What is said on standard error of the requests that were answered.
+
+use jiff::Timestamp;
+use registry_conversation::Step;
+use registry_server::{Connections, Turn};
+use std::alloc::{AllocError, Global};
+use std::io::Write;
+use std::time::{Clock, Duration};
+
+/// What stands before a reply where the client waited for it with its body (RFC 9110, section 15.2.1).
+const CONTINUE: &[u8] = b"HTTP/1.1 100 Continue\r\n\r\n";
+
+/// What is said where memory is wanting for more.
+const OUT_OF_MEMORY: &[u8] = b"registry: out of memory\n";
+
+/// Says each request on a line, if it is to; and each that was answered 500 or 503 in any case, with what
+/// failed. A line has the time (RFC 3339), the number of the connection, the method, the path without its
+/// query, the status, the bytes of the body, those of the reply and microseconds, and a hyphen for what is
+/// not known. No token is said, since a header field never is.
+#[derive(Drop)]
+pub struct Log<'a, E: Write> {
+    err: &'a mut E,
+    all: bool,
+}
+
+/// The status of the reply that is to go out.
+fn status_of(going: &[u8]) -> Option<u16> {
+    let reply = if going.starts_with(CONTINUE) {
+        going.get(CONTINUE.len()..)?
+    } else {
+        going
+    };
+    let digits = str::from_utf8(reply.get(9..12)?).ok()?;
+    digits.parse().ok()
+}
+
+/// What failed, where a status says so.
+fn failed(status: u16) -> Option<&'static str> {
+    match status {
+        500 => Some(" storage failure"),
+        503 => Some(" out of memory"),
+        _ => None,
+    }
+}
+
+/// Microseconds.
+fn micros(time: Duration) -> u64 {
+    let whole = time.as_secs().saturating_mul(1_000_000);
+    whole.saturating_add(u64::from(time.subsec_micros()))
+}
+
+/// What is known of a request.
+#[derive(Drop)]
+struct Said<'a> {
+    number: Option<u64>,
+    request: &'a str,
+    status: u16,
+    came: usize,
+    went: usize,
+    micros: u64,
+}
+
+/// The second that it is.
+fn now<T: Clock>(clock: &T) -> Option<Timestamp> {
+    let time = clock.since_1970().ok()?;
+    let seconds = i64::try_from(time.as_secs()).ok()?;
+    Timestamp::from_second(seconds).ok()
+}
+
+/// The time, as RFC 3339 has it.
+fn time_text<T: Clock>(alloc: Global, clock: &T) -> Result<String, AllocError> {
+    match now(clock) {
+        Some(time) => format!(in alloc; "{time}"),
+        None => format!(in alloc; "-"),
+    }
+}
+
+fn number_text(alloc: Global, number: Option<u64>) -> Result<String, AllocError> {
+    match number {
+        Some(number) => format!(in alloc; "{number}"),
+        None => format!(in alloc; "-"),
+    }
+}
+
+fn line_of<T: Clock>(alloc: Global, clock: &T, said: &Said) -> Result<String, AllocError> {
+    let time = time_text(alloc, clock)?;
+    let time = time.as_str();
+    let number = number_text(alloc, said.number)?;
+    let number = number.as_str();
+    let request = if said.request.is_empty() {
+        "- -"
+    } else {
+        said.request
+    };
+    let status = said.status;
+    let came = said.came;
+    let went = said.went;
+    let micros = said.micros;
+    let why = failed(status).unwrap_or("");
+    format!(in alloc; "{time} {number} {request} {status} {came} {went} {micros}{why}\n")
+}
+
+impl<'a, E: Write> Log<'a, E> {
+    /// Of all requests, or of those alone for which something failed.
+    pub fn new(err: &'a mut E, all: bool) -> Log<'a, E> {
+        Log { err, all }
+    }
+
+    /// Says a line, if it is to be said and can be.
+    fn say<T: Clock>(&mut self, alloc: Global, clock: &T, said: &Said) {
+        if !self.all && failed(said.status).is_none() {
+            return;
+        }
+        let _ = match line_of(alloc, clock, said) {
+            Ok(line) => self.err.write_all(line.as_bytes()),
+            Err(_) => self.err.write_all(OUT_OF_MEMORY),
+        };
+    }
+
+    /// Says what a turn came to that began at a moment of the clock, if a reply came of it.
+    pub fn say_turn<T: Clock>(
+        &mut self,
+        alloc: Global,
+        clock: &T,
+        connections: &Connections,
+        turn: &Turn,
+        began: Duration,
+    ) {
+        if turn.step == Step::Waits {
+            return;
+        }
+        let going = connections.outgoing(turn.number);
+        let Some(status) = status_of(going) else {
+            return;
+        };
+        let (line, came) = match connections.exchange(turn.number) {
+            Some(exchange) => (exchange.line(), exchange.came()),
+            None => (b"".as_slice(), 0),
+        };
+        let now = clock.monotonic().unwrap_or(began);
+        let said = Said {
+            number: Some(turn.number),
+            request: str::from_utf8(line).unwrap_or(""),
+            status,
+            came,
+            went: going.len(),
+            micros: micros(now.saturating_sub(began)),
+        };
+        self.say(alloc, clock, &said);
+    }
+
+    /// Says that one who came was turned away, because memory is wanting for a connection.
+    pub fn say_turned_away<T: Clock>(&mut self, alloc: Global, clock: &T) {
+        let said = Said {
+            number: None,
+            request: "",
+            status: 503,
+            came: 0,
+            went: 0,
+            micros: 0,
+        };
+        self.say(alloc, clock, &said);
+    }
+}

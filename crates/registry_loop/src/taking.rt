@@ -1,0 +1,119 @@
+//! How connections are taken.
+ghost use Rattle.std.specs.Prelude.{◌≡◌};
+ghost use Rattle.registry_server.specs.Events.{Carries};
+ghost use Rattle.registry_server.specs.Showing.{connected};
+
+use crate::crowd::{Crowd, EVENTS};
+use crate::peer::Peer;
+use crate::peers::oldest;
+use mio::net::TcpStream;
+use mio::{Interest, Token};
+use registry_http::FramingRefusal;
+use registry_http::reply_text::write_refusal;
+use registry_server::Connections;
+use std::alloc::Global;
+use std::io;
+use std::io::{ErrorKind, Write};
+use std::time::Clock;
+
+impl<'a, T: Clock, E: Write> Crowd<'a, T, E> {
+    /// Whether one more may be taken. Where there is no room, the one goes that has rested longest.
+    fn has_room(&mut self, connections: &mut Connections, at_once: usize) -> bool
+        ensures { Carries (connected connections.old) (connected connections.new) }
+    {
+        if self.peers.len() < at_once {
+            return true;
+        }
+        match oldest(&self.peers, self.now) {
+            Some(at) => {
+                self.dismiss(connections, at);
+                self.peers.len() < at_once
+            }
+            None => false,
+        }
+    }
+
+    /// Takes a connection that came. Where memory is wanting for it, it is told so and closed, as where the
+    /// system refuses it.
+    fn welcome(&mut self, alloc: Global, connections: &mut Connections, stream: TcpStream)
+        ensures { Carries (connected connections.old) (connected connections.new) }
+    {
+        let mut stream = stream;
+        let _ = stream.set_nodelay(true);
+        let Ok(number) = connections.open(alloc) else {
+            let _ = write_refusal(FramingRefusal::NoBufferMemory, &mut stream);
+            self.log.say_turned_away(alloc, self.clock);
+            return;
+        };
+        let interest = Interest::READABLE | Interest::WRITABLE;
+        let token = Token(number as usize);
+        let registered = self.poll.registry().register(&mut stream, token, interest);
+        let kept = match registered {
+            Ok(()) => self.peers.push(Peer::new(number, stream, self.now)).is_ok(),
+            Err(_) => false,
+        };
+        if !kept {
+            let _ = connections.close(number);
+        }
+    }
+
+    /// Takes the next one that came, and says whether another may be there. An error is that none can be
+    /// taken, and nobody is there.
+    fn accept_next(&mut self, alloc: Global, connections: &mut Connections) -> io::Result<bool>
+        ensures { Carries (connected connections.old) (connected connections.new) }
+    {
+        match self.listener.accept() {
+            Ok((stream, _)) => {
+                self.left = self.left.saturating_sub(1);
+                self.welcome(alloc, connections, stream);
+                Ok(true)
+            }
+            Err(error) => match error.kind() {
+                ErrorKind::WouldBlock => {
+                    self.knocks = false;
+                    Ok(false)
+                }
+                ErrorKind::ConnectionAborted | ErrorKind::Interrupted => Ok(true),
+                _ if self.peers.is_empty() => Err(error),
+                _ => Ok(false),
+            },
+        }
+    }
+
+    /// The same, if one may be taken.
+    fn accept_one(
+        &mut self,
+        alloc: Global,
+        connections: &mut Connections,
+        at_once: usize,
+    ) -> io::Result<bool>
+        ensures { Carries (connected connections.old) (connected connections.new) }
+    {
+        if !self.knocks || self.left == 0 {
+            return Ok(false);
+        }
+        if self.has_room(connections, at_once) {
+            self.accept_next(alloc, connections)
+        } else {
+            Ok(false)
+        }
+    }
+
+    /// Takes those who came, as far as they may be taken.
+    pub(crate) fn accept_all(
+        &mut self,
+        alloc: Global,
+        connections: &mut Connections,
+        at_once: usize,
+    ) -> io::Result<()>
+        ensures { Carries (connected connections.old) (connected connections.new) }
+    {
+        for _ in 0..EVENTS {
+            let more = self.accept_one(alloc, connections, at_once)?;
+            if !more {
+                return Ok(());
+            }
+        }
+        Ok(())
+    }
+}

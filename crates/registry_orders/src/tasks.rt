@@ -1,0 +1,147 @@
+//! What the words of a command line ask for.
+ghost use Rattle.std.specs.Prelude.{IfErr, IfOk, codes};
+ghost use Rattle.clap.specs.Words.{found_of, rows_of};
+ghost use Rattle.registry_orders.specs.Failures.{IsOfWords};
+ghost use Rattle.registry_orders.specs.Tasks.{IsTaskIn};
+
+use crate::failure::Failure;
+use crate::given::{is_given, number_given, text_given, texts_given};
+use crate::limits::{Limits, limits_given};
+use crate::options::Setup;
+use crate::orders::{Order, TokenChange, read_order, read_token_change};
+use crate::place::{Place, place_given};
+use crate::tokens::{TokenSource, token_source};
+use clap::ArgMatches;
+use std::alloc::Global;
+
+/// What there is to do.
+#[derive(Drop)]
+pub enum Task<'a> {
+    /// Serve standard input over a registry in memory.
+    Memory(Setup),
+    /// Serve standard input over the registry at a path.
+    Stored {
+        path: &'a str,
+    },
+    /// Serve an address over the registry at a path, so many connections, within these limits.
+    Server {
+        path: &'a str,
+        address: &'a str,
+        connections: u64,
+        limits: Limits,
+        /// The socket at which orders are taken; none with one connection at once.
+        orders: Option<&'a str>,
+        /// Whether each request is said on standard error; not with one connection at once.
+        log: bool,
+    },
+    /// Carry out an order, here or by a server.
+    Order {
+        place: Place<'a>,
+        order: Order,
+    },
+    /// Carry out a change with a token that is read elsewhere, here or by a server.
+    TokenOrder {
+        place: Place<'a>,
+        source: TokenSource<'a>,
+        change: TokenChange,
+    },
+    /// Take over the registry of schema 1 at a path.
+    Migration {
+        path: &'a str,
+    },
+}
+
+/// What `registry stdio` is to serve: a database, or a registry in memory, which alone is set up here.
+fn stdio_task<'a>(alloc: Global, matches: &ArgMatches<'a>) -> Result<Task<'a>, Failure>
+    ensures read { IfOk result (IsTaskIn (codes "stdio") (rows_of (found_of matches.now))) }
+    ensures refused { IfErr result IsOfWords }
+{
+    let repos = texts_given(matches, "repo").unwrap_or(&[]);
+    let grants = texts_given(matches, "grant").unwrap_or(&[]);
+    let memory = is_given(matches, "memory");
+    match text_given(matches, "db") {
+        Some(path) if !memory && repos.is_empty() && grants.is_empty() => Ok(Task::Stored { path }),
+        None if memory => {
+            let setup = Setup::read(alloc, repos, grants)?;
+            Ok(Task::Memory(setup))
+        }
+        _ => Err(Failure::InvalidOptions),
+    }
+}
+
+/// What `registry serve` is to serve, and how. Where connections are served one after the other, nobody hears
+/// orders meanwhile, and nobody says requests.
+fn serve_task<'a>(matches: &ArgMatches<'a>) -> Result<Task<'a>, Failure>
+    ensures read { IfOk result (IsTaskIn (codes "serve") (rows_of (found_of matches.now))) }
+    ensures refused { IfErr result IsOfWords }
+{
+    let path = text_given(matches, "db").ok_or(Failure::InvalidOptions)?;
+    let address = text_given(matches, "listen").ok_or(Failure::InvalidOptions)?;
+    let connections = number_given(matches, "connections")?;
+    let limits = limits_given(matches)?;
+    let orders = text_given(matches, "orders");
+    let log = is_given(matches, "log");
+    if limits.at_once == 1 && (orders.is_some() || log) {
+        return Err(Failure::InvalidOptions);
+    }
+    Ok(Task::Server {
+        path,
+        address,
+        connections,
+        limits,
+        orders,
+        log,
+    })
+}
+
+fn order_task<'a>(alloc: Global, word: &str, matches: &ArgMatches<'a>) -> Result<Task<'a>, Failure>
+    ensures read { IfOk result (IsTaskIn word.now (rows_of (found_of matches.now))) }
+    ensures refused { IfErr result IsOfWords }
+{
+    let place = place_given(matches)?;
+    let order = read_order(alloc, word, matches)?;
+    Ok(Task::Order { place, order })
+}
+
+/// A change with a token, which is on the command line or is read elsewhere.
+fn token_task<'a>(alloc: Global, word: &str, matches: &ArgMatches<'a>) -> Result<Task<'a>, Failure>
+    ensures read { IfOk result (IsTaskIn word.now (rows_of (found_of matches.now))) }
+    ensures refused { IfErr result IsOfWords }
+{
+    let Some(source) = token_source(matches)? else {
+        return order_task(alloc, word, matches);
+    };
+    let place = place_given(matches)?;
+    let change = read_token_change(alloc, word, matches)?;
+    Ok(Task::TokenOrder {
+        place,
+        source,
+        change,
+    })
+}
+
+fn migration_task<'a>(matches: &ArgMatches<'a>) -> Result<Task<'a>, Failure>
+    ensures read { IfOk result (IsTaskIn (codes "migrate") (rows_of (found_of matches.now))) }
+    ensures refused { IfErr result IsOfWords }
+{
+    let path = text_given(matches, "db").ok_or(Failure::InvalidOptions)?;
+    Ok(Task::Migration { path })
+}
+
+/// The task of a subcommand, by its word and its options.
+pub(crate) fn task_of<'a>(
+    alloc: Global,
+    word: &str,
+    matches: &ArgMatches<'a>,
+) -> Result<Task<'a>, Failure>
+    ensures read { IfOk result (IsTaskIn word.now (rows_of (found_of matches.now))) }
+    ensures refused { IfErr result IsOfWords }
+{
+    match word {
+        "stdio" => stdio_task(alloc, matches),
+        "serve" => serve_task(matches),
+        "migrate" => migration_task(matches),
+        "grant" | "revoke" => token_task(alloc, word, matches),
+        _ => order_task(alloc, word, matches),
+    }
+}

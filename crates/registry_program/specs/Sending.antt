@@ -1,0 +1,45 @@
+-- Orders that are sent to the server that holds the registry (profile). What a socket takes and gives is not
+-- known here: what the server did is its own contract.
+use Rattle.std.specs.Prelude.{◌≡◌, ◌≢◌, ◌≤◌, ℕ, ◌⊎◌, ◌==◌, ⊤, if◌then◌else◌}
+use Rattle.std.specs.Io.KnownBytes.{Appends}
+use Rattle.oci_names.specs.Text.{Text}
+use Rattle.order_messages.specs.Answers.{answer_text}
+use Rattle.registry_orders.specs.declared.failure.Failure.{Failure}
+use Rattle.registry_orders.specs.declared.failure.Failure.TheVariants.{OutOfMemory, ConnectionFailure}
+use Rattle.registry_orders.specs.Carrying.{Output, IsSilent}
+use Rattle.registry_orders.specs.Failures.{status_of}
+
+-- why an order has no answer: want of memory, or the socket fails
+abbrev pub IsOfSending : Failure → Type 0
+IsOfSending OutOfMemory = ⊤
+IsOfSending ConnectionFailure = ⊤
+IsOfSending _ = ⊥
+
+-- the text was written, or writing failed
+abbrev pub Shows : Text → ℕ → Output → Type 0
+Shows text status o =
+    ((status ≡ 0) × Appends o.held o.held' text) ⊎ (status ≡ status_of ConnectionFailure)
+
+-- the status of an order that a server did not carry out; of the command line it knows nothing
+abbrev pub relayed : ℕ → ℕ
+relayed said = if said == 2 then status_of ConnectionFailure else said
+
+-- with status 0 the server's text is shown, and with any other nothing is written
+pub record RelaysAnswer (said : ℕ) (text : Text) (status : ℕ) (o : Output) : Type 0 where
+  pub done : said ≡ 0 → Shows text status o
+  pub not_done : said ≢ 0 → IsSilent o × (status ≡ relayed said)
+
+abbrev pub IsNoAnswer : Text → Type 0
+IsNoAnswer bytes = (said : ℕ) (text : Text) → said ≤ 4 → ¬ (bytes ≡ answer_text said text)
+
+-- what the bytes come to that a server gave: they are an answer, or they are none
+abbrev pub Relays : Text → ℕ → Output → Type 0
+Relays bytes status o =
+    ((said : ℕ) × (text : Text) × (bytes ≡ answer_text said text) × RelaysAnswer said text status o)
+    ⊎ (IsNoAnswer bytes × (status ≡ status_of ConnectionFailure) × IsSilent o)
+
+-- a server gave some bytes; or there is no answer, and nothing was written
+abbrev pub IsSent : ℕ → Output → Type 0
+IsSent status o =
+    ((bytes : Text) × Relays bytes status o)
+    ⊎ ((f : Failure) × IsOfSending f × (status ≡ status_of f) × IsSilent o)
