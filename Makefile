@@ -59,7 +59,7 @@ build:
 # Each library after those that it stands on, so that independent ones are proved side by side. There are two long
 # rows of them, each waiting for the one before it; they get more processors, and the others give way to them.
 ROWS := oci_names oci_manifest registry_model registry_operations registry_service registry_http \
-  registry_conversation registry_server registry_program registry_orders \
+  registry_conversation registry_server order_messages registry_loop registry_program registry_orders \
   store_schema store_contents store_world store_statements store_old_rows store_moves store_upgrade store_writes registry_store
 define prove
 .PHONY: prove-$(1)

@@ -15,6 +15,8 @@ for below in "$crate" "$@"; do
   grep "^$below:" "$top/crates.txt" >> "$room/crates.txt"
   cp -al "$top/crates/$below" "$room/crates"
 done
+begun=$(date +%s)
 (cd "$room/crates/$crate" && rt lib --jobs "${JOBS:-2}")
+echo "$crate took $(($(date +%s) - begun)) s"
 rm -rf "$top/crates/$crate/out"
 mv "$room/crates/$crate/out" "$top/crates/$crate/out"

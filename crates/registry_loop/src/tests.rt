@@ -6,6 +6,7 @@ use registry_model::{AdminCommand, Keeper, Level, Quota};
 use registry_orders::Limits;
 use registry_service::Service;
 use std::alloc::Global;
+use std::fs;
 use std::io::{Read, Write};
 use std::net::{Shutdown, TcpListener, TcpStream};
 use std::os::unix::net::{UnixListener, UnixStream};
@@ -138,6 +139,8 @@ fn answered(alloc: Global, caller: &mut UnixStream) -> Result<String, Fail> {
 #[test]
 fn orders_are_carried_out_beside_connections(rt: HostRuntime) -> Result<(), Fail> {
     let alloc = rt.alloc();
+    // An earlier run may have left one.
+    let _ = fs::remove_file(&rt, "orders.sock");
     let orders = UnixListener::bind(&rt, "orders.sock")?;
     let mut first = ordered(&rt, "orders.sock", b"repo team/app 1000\n")?;
     let mut second = ordered(&rt, "orders.sock", b"grant team/app 1 t1\n")?;
