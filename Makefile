@@ -26,14 +26,15 @@ help:
 	@echo 'make edits CRATE=x   tries the must-fail edits of one crate (20 to 60 s each)'
 	@echo 'make check-file      a server'"'"'s file after pushes by curl, looked at by sqlite3'
 	@echo 'make check-rows      the worked examples by the program itself, over a file (after make test; 10 s)'
-	@echo 'make check-hostile   refuses each growth of memory, stops the disk at each write, kills servers (after'
-	@echo '                     make test; 5 min)'
-	@echo 'make check-clients   curl, skopeo, buildah, podman, ctr and oras-go through nginx, those that are installed'
-	@echo '                     (deploy/install-clients.sh installs them)'
+	@echo 'make check-hostile   refuses each growth of memory, stops the disk at each write, kills servers, gives orders'
+	@echo '                     beside requests (after make test; 5 min)'
+	@echo 'make check-clients   curl, skopeo and ctr straight, and with buildah, podman and oras-go through nginx, those'
+	@echo '                     that are installed (deploy/install-clients.sh installs them; 3 min); ONLY=straight'
 	@echo 'make check-docs      the commands of the tutorial and other pages, and what they print (10 s)'
 	@echo 'make install         executable, man page, completion, service and nginx files (PREFIX, DESTDIR, SYSCONFDIR)'
 	@echo 'make deb             the same as a Debian package, build/firkhen_*.deb; make check-install looks at both'
-	@echo 'make bench           requests over loopback, beside docker-registry, sha256sum, dd and cat where installed'
+	@echo 'make bench           requests over loopback, on one connection and on many, beside docker-registry, sha256sum,'
+	@echo '                     dd and cat where installed'
 	@echo '                     (under 8 min, after make build; OLD=path: beside an older executable as well)'
 	@echo 'make bench-quick     its ten lines that matter (60 s, after make build)'
 	@echo 'make bench-http      requests a second over standard input, beside cat and sha256sum'
@@ -92,14 +93,16 @@ check-file: build
 check-rows:
 	python3 check/rows.py
 
-# Hostile memory, a hostile disk and kills, over the executables that `make test` leaves: python3 and rustc.
+# Hostile memory, a hostile disk, kills, and orders beside requests, over the executables that `make test` leaves: python3 and rustc.
 KILLS = 100
 check-hostile:
 	cd check && python3 -m hostile --kills $(KILLS)
 
-# Real clients through nginx, with the configuration of deploy/nginx (python3, nginx, openssl).
+# Real clients, straight and through nginx with the configuration of deploy/nginx (python3, nginx, openssl). ONLY
+# names one of the two ways, or clients.
+ONLY =
 check-clients:
-	python3 check/clients.py
+	python3 check/clients.py $(ONLY)
 
 # Where things go; nginx and the service read SYSCONFDIR.
 PREFIX = /usr/local

@@ -45,6 +45,8 @@ class Plan:
     # docker-registry looks at no other blob as it takes one, and 100,000 blobs of it are 400,000 files
     beside_files: int = 10_000
     manifests: int = 100
+    # how long many connections ask
+    seconds: float = 1.0
     grown: int = 16
     # the cases that are wanted, where not all are
     lines: tuple = ()
@@ -107,6 +109,12 @@ class Cases:
         self.found[name] = seconds, peak
         memory = f", {peak:.0f} MiB" if peak else ""
         print(f"  {self.peer.name}: {name}: {seconds * 1e6:,.0f} us{memory}", file=sys.stderr)
+
+    def weigh(self, name):
+        """The memory that the server has now, in a row without a time."""
+        memory = self.peer.memory()
+        self.found[f"memory, {name}"] = None, memory
+        print(f"  {self.peer.name}: memory, {name}: {memory or 0:.1f} MiB", file=sys.stderr)
 
     def fresh(self, size):
         self.seed += 1

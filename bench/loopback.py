@@ -18,10 +18,12 @@ import time
 
 import limits
 from cases import PARTS, QUICK, Cases, Plan
+from many import driven, many
 from servers import Docker, Firkhen, new_database
 
 REGISTRY = os.path.abspath("build/registry")
 US, OLD, DOCKER, LIMITS = "registry", "old", "docker-registry", "limits"
+PARTS[many.__name__] = many
 QUICK_PARTS = ("blobs", "uploads", "manifests", "lists", "growing")
 # what one time is to be to others: the most that it may be of their sum
 AIMS = (
@@ -32,6 +34,7 @@ AIMS = (
     ("list of 1,000 tags", US, (("list of 1,000 tags", DOCKER),), 0.2),
     ("HEAD of 64 MiB", US, (("HEAD of 1 KiB", US),), 1.5),
     ("PATCH of 1 MiB into 60 MiB", US, (("PATCH of 1 MiB into 0", US),), 1.5),
+    ("manifest GET, 1 at once", US, (("manifest GET, 1 at once", OLD),), 1.1),
 )
 CLOSING, CLOSING_AIM = "the PUT of 64 MiB, one PATCH", 0.005
 
@@ -86,15 +89,21 @@ def run(asked, plan):
                 run_part(PARTS[name], start, plan, found[server])
             if name == "blobs":
                 take_limits(plan, found[LIMITS])
+            if name == many.__name__:
+                found[LIMITS].update({case: (seconds, None) for case, seconds in driven(plan).items()})
     return found
 
 
+def cell(value, text):
+    """A value as a format has it, or as much room where there is none."""
+    return text.format(value) if value else " " * len(text.format(0))
+
+
 def beside(ours, other):
-    """Another server's time, how many times ours it is, and its peak memory."""
-    if other is None:
-        return " " * 34
-    memory = f"{other[1]:7.0f}" if other[1] else " " * 7
-    return f"{other[0] * 1e6:20,.0f}{other[0] / ours:7.1f}{memory}"
+    """Another server's time, how many times ours it is, and its memory."""
+    seconds, peak = other or (None, None)
+    times = seconds and ours and seconds / ours
+    return cell(seconds and seconds * 1e6, "{:20,.0f}") + cell(times, "{:7.1f}") + cell(peak, "{:7.0f}")
 
 
 def show(found, lines):
@@ -104,9 +113,9 @@ def show(found, lines):
     for case, (seconds, peak) in found[US].items():
         if lines and case not in lines:
             continue
-        memory = f"{peak:7.0f}" if peak else " " * 7
+        own = cell(seconds and seconds * 1e6, "{:13,.0f}") + cell(seconds and 1 / seconds, "{:10,.1f}")
         more = "".join(beside(seconds, found[name].get(case)) for name in others)
-        print(f"{case:38}{seconds * 1e6:13,.0f}{1 / seconds:10,.1f}{memory}{more}".rstrip())
+        print(f"{case:38}{own}{cell(peak, '{:7.0f}')}{more}".rstrip())
     if not lines:
         for case, (seconds, _) in found[LIMITS].items():
             print(f"{case:38}{seconds * 1e6:13,.0f}{1 / seconds:10,.1f}")
@@ -122,7 +131,7 @@ def aims(found):
         times = [found.get(of, {}).get(name) for name, of in ((case, server), *unders)]
         if all(times):
             value = times[0][0] / sum(seconds for seconds, _ in times[1:])
-            text = " + ".join(f"{name}, {of}" if of == DOCKER else name for name, of in unders)
+            text = " + ".join(name if of in (US, LIMITS) else f"{name}, {of}" for name, of in unders)
             yield f"{verdict(value, most):8}{value:8.2f} (at most {most})  {case} / {text}"
     if CLOSING in found[US]:
         seconds = found[US][CLOSING][0]
@@ -134,7 +143,7 @@ def slower(found):
     """The cases that the older executable does faster; a twentieth is what runs differ by."""
     for case, (seconds, _) in found[US].items():
         old = found.get(OLD, {}).get(case)
-        if old and seconds > 1.05 * old[0]:
+        if old and seconds and seconds > 1.05 * old[0]:
             yield f"SLOWER  {seconds / old[0]:8.2f} times the old one's  {case}"
 
 

@@ -36,12 +36,15 @@ class Peer:
     """A server on loopback, and one kept connection to it. Python's own client takes 0.15 ms a request,
     which is most of what a look-up takes with it."""
 
-    def request(self, method, path, body=None, fields=None, wanted=(200, 201, 202, 204)):
+    def head(self, method, path, body=None, fields=None):
         said = {"Host": f"127.0.0.1:{self.port}", **self.fields, **(fields or {})}
         if body is not None:
             said["Content-Length"] = len(body)
         lines = [f"{method} {path} HTTP/1.1", *(f"{name}: {value}" for name, value in said.items()), "", ""]
-        head = "\r\n".join(lines).encode()
+        return "\r\n".join(lines).encode()
+
+    def request(self, method, path, body=None, fields=None, wanted=(200, 201, 202, 204)):
+        head = self.head(method, path, body, fields)
         if body is None or len(body) < MIB:
             self.sock.sendall(head + (body or b""))
         else:
@@ -106,10 +109,14 @@ class Peer:
             pass
 
     def peak(self):
-        """The most memory that the process had at once, in MiB: VmHWM."""
+        """The most memory that the process had at once, in MiB."""
+        return self.memory("VmHWM")
+
+    def memory(self, word="VmRSS"):
+        """The memory that the process has, in MiB."""
         try:
             with open(f"/proc/{self.process.pid}/status", encoding="ascii") as file:
-                return next(int(line.split()[1]) / KIB for line in file if line.startswith("VmHWM"))
+                return next(int(line.split()[1]) / KIB for line in file if line.startswith(word))
         except (OSError, StopIteration):
             return None
 

@@ -6,7 +6,7 @@ import shutil
 import tempfile
 
 from executables import TOP
-from front import LOGINS, must, run, until
+from serving import LOGINS, must, run, until
 from layout import MEDIA, digest, top_of
 
 ACCEPTED = ("manifest.v1+json", "index.v1+json")
@@ -60,20 +60,22 @@ class Skopeo(Client):
     def version(self):
         return self.run("skopeo", "--version").text.split()[-1]
 
+    def given(self, end, user):
+        """How an end of a copy, `src` or `dest`, is reached."""
+        return [f"--{end}-creds", login(user)] if user else [f"--{end}-no-creds"]
+
     def push(self, layout, where, user="u1"):
-        return self.run("skopeo", "copy", "--all", "--dest-creds", login(user), f"oci:{layout.folder}:v1", self.at(where))
+        return self.run("skopeo", "copy", "--all", *self.given("dest", user), f"oci:{layout.folder}:v1", self.at(where))
 
     def pull(self, where, user="u1"):
         self.back = tempfile.mkdtemp(dir=self.front.room)
-        creds = ["--src-creds", login(user)] if user else ["--src-no-creds"]
-        return self.run("skopeo", "copy", "--all", *creds, self.at(where), f"oci:{self.back}:v1")
+        return self.run("skopeo", "copy", "--all", *self.given("src", user), self.at(where), f"oci:{self.back}:v1")
 
     def pulled(self):
         return top_of(self.back)
 
     def pass_on(self, layout, source, target):
-        creds = ["--src-creds", login("u1"), "--dest-creds", login("u1")]
-        return self.run("skopeo", "copy", *creds, self.at(source), self.at(target))
+        return self.run("skopeo", "copy", *self.given("src", "u1"), *self.given("dest", "u1"), self.at(source), self.at(target))
 
 
 class Storing(Client):
@@ -83,8 +85,9 @@ class Storing(Client):
 
     def __init__(self, front):
         super().__init__(front)
-        self.head = [self.name, "--root", f"{front.room}/{self.name}", "--runroot", f"{front.room}/{self.name}-run", "--storage-driver", "vfs"]
-        self.digests = f"{front.room}/{self.name}.digest"
+        self.folder = f"{front.room}/{self.name}"
+        self.head = [self.name, "--root", self.folder, "--runroot", f"{self.folder}-run", "--storage-driver", "vfs"]
+        self.digests = f"{self.folder}.digest"
 
     def version(self):
         return self.run(self.name, "--version").text.split()[2]
@@ -92,10 +95,14 @@ class Storing(Client):
     def call(self, *words):
         return self.run(*self.head, *words)
 
-    def push(self, layout, where, user="u1"):
+    def load(self, layout):
+        """Takes a layout into its storage; the image's id."""
         # (as a relative path: a whole one becomes a name, and may be none)
         loaded = self.call("pull", f"oci:{os.path.basename(layout.folder)}:v1")
-        self.image = loaded.text.splitlines()[-1]
+        return loaded.text.splitlines()[-1]
+
+    def push(self, layout, where, user="u1"):
+        self.image = self.load(layout)
         return self.call("push", "--digestfile", self.digests, "--creds", login(user), self.image, self.at(where))
 
     def pull(self, where, user="u1"):
@@ -121,6 +128,11 @@ class Storing(Client):
         return self.call("manifest", "push", "--all", "--creds", login("u1"), listed, self.at(where))
 
 
+    def has(self, name):
+        """The id of an image of this name in its storage."""
+        return self.call("images", "--quiet", "--no-trunc", name).text
+
+
 class Podman(Storing):
     name, needs = "podman", ["podman"]
 
@@ -129,12 +141,12 @@ class Buildah(Storing):
     name, needs = "buildah", ["buildah"]
 
 
-def start_containerd(front, name):
+def start_containerd(front):
     """A daemon of its own for a client; the path of its socket."""
-    at = f"{front.room}/containerd-{name}"
+    at = tempfile.mkdtemp(dir=front.room)
     text = f'version = 2\nroot = "{at}"\nstate = "{at}-run"\ndisabled_plugins = ["io.containerd.grpc.v1.cri"]\n'
     text += f'[grpc]\n  address = "{at}.sock"\n[ttrpc]\n  address = "{at}.ttrpc"\n'
-    front.start([shutil.which("containerd"), "--config", front.write(f"containerd-{name}.toml", text)])
+    front.start([shutil.which("containerd"), "--config", front.write(f"{os.path.basename(at)}.toml", text)])
     until(lambda: os.path.exists(f"{at}.sock"), "containerd")
     return f"{at}.sock"
 
@@ -149,31 +161,37 @@ class Ctr(Client):
         return self.run("ctr", "--version").text.split()[-1]
 
     def begin(self):
-        room, self.socket = self.front.room, start_containerd(self.front, "ctr")
+        self.socket = start_containerd(self.front)
         # ctr takes `localhost` for a host without TLS unless it is told otherwise
-        os.makedirs(f"{room}/hosts/{self.front.host}")
-        at = f"https://{self.front.host}"
-        text = f'server = "{at}"\n[host."{at}"]\n  capabilities = ["pull", "resolve", "push"]\n  ca = "{self.front.authority}"\n'
-        self.front.write(f"hosts/{self.front.host}/hosts.toml", text)
-        self.hosts = ["--hosts-dir", f"{room}/hosts"]
+        self.hosts = self.told(f'  ca = "{self.front.authority}"\n')
         until(lambda: self.call("version").returncode == 0, "containerd")
+
+    def told(self, more):
+        """The words that name a folder of its own in which it is told how the registry is reached."""
+        folder, at = tempfile.mkdtemp(dir=self.front.room), self.front.url
+        os.mkdir(f"{folder}/{self.front.host}")
+        text = f'server = "{at}"\n[host."{at}"]\n  capabilities = ["pull", "resolve", "push"]\n{more}'
+        self.front.write(f"{os.path.basename(folder)}/{self.front.host}/hosts.toml", text)
+        return ["--hosts-dir", folder]
+
+    def reach(self, user):
+        return [*self.hosts, *(["--user", login(user)] if user else [])]
 
     def call(self, *words):
         return self.run("ctr", "--address", self.socket, *words, seconds=60)
 
     def push(self, layout, where, user="u1"):
         self.call("images", "import", "--all-platforms", "--no-unpack", "--digests", "--base-name", "local", layout.tar())
-        return self.call("images", "push", *self.hosts, "--user", login(user), f"{self.front.host}/{where}", f"local@{layout.digest}")
+        return self.call("images", "push", *self.reach(user), f"{self.front.host}/{where}", f"local@{layout.digest}")
 
     def pull(self, where, user="u1"):
         for it in self.call("images", "ls", "-q").text.split():
             self.call("images", "rm", "--sync", it)
         self.where = f"{self.front.host}/{where}"
-        creds = ["--user", login(user)] if user else []
-        return self.call("content", "fetch", "--all-platforms", *self.hosts, *creds, self.where)
+        return self.call("content", "fetch", "--all-platforms", *self.reach(user), self.where)
 
     def pass_on(self, layout, source, target):
-        return self.call("images", "push", *self.hosts, "--user", login("u1"), f"{self.front.host}/{target}", f"{self.front.host}/{source}")
+        return self.call("images", "push", *self.reach("u1"), f"{self.front.host}/{target}", f"{self.front.host}/{source}")
 
     def pulled(self):
         row = next((it for it in self.call("images", "ls").text.splitlines() if it.startswith(self.where + " ")), "")
@@ -190,13 +208,15 @@ class Curl(Client):
 
     def call(self, method, path, body=None, kind="octet-stream", user="u1"):
         """The status, and what came back."""
-        words = ["curl", "-sS", "--cacert", self.front.authority, "-X", method, "-w", "\n%{http_code}", "-H", f"Content-Type: application/{kind}"]
+        words = ["curl", "-sS", "-X", method, "-w", "\n%{http_code}", "-H", f"Content-Type: application/{kind}"]
+        words += ["--cacert", self.front.authority] if self.front.authority else []
         words += ["-H", "Accept: " + ", ".join(map(MEDIA.format, ACCEPTED))]
         words += ["--oauth2-bearer", LOGINS[user][1]] if user else []
         words += ["--data-binary", "@-"] if body is not None else []
-        ran = self.run(*words, f"https://{self.front.host}/v2/{path}", given=body or b"")
+        ran = self.run(*words, f"{self.front.url}/v2/{path}", given=body or b"")
         ran.content, _, status = ran.stdout.rpartition(b"\n")
-        ran.text, status = ran.content.decode(errors="replace"), status.decode()
+        status = status.decode()
+        ran.text = ran.content.decode(errors="replace") or status
         ran.returncode = ran.returncode or (0 if status.startswith("2") else int(status))
         return ran
 
@@ -279,7 +299,7 @@ class Docker(Client):
         self.env |= {"DOCKER_CONFIG": f"{room}/docker", "DOCKER_HOST": f"unix://{room}/docker.sock"}
         words = ["--iptables=false", "--ip6tables=false", "--bridge=none", "--storage-driver", "vfs", "--host", self.env["DOCKER_HOST"]]
         words += ["--data-root", f"{room}/docker-data", "--exec-root", f"{room}/docker-run", "--pidfile", f"{room}/docker.pid"]
-        self.front.start(["/usr/sbin/dockerd", *words, "--containerd", start_containerd(self.front, "docker")])
+        self.front.start(["/usr/sbin/dockerd", *words, "--containerd", start_containerd(self.front)])
         until(lambda: self.run("docker", "version").returncode == 0, "dockerd")
 
     def login(self, user):

@@ -1,9 +1,16 @@
 #!/usr/bin/env python3
-"""Real clients through nginx with TLS, as deploy/nginx has it, to a server over a file.
+"""Real clients to a server over a file: straight, and through nginx with TLS as deploy/nginx has it.
 
-nginx is started with a certificate that is made here, and `registry serve` behind it, both in a folder that is
-taken away again. Each client that is installed pushes and pulls, mounts, is refused as a stranger and where a
-layer or a quota is too large, and what arrived is compared by digests; clients that are not installed are named.
+    python3 check/clients.py [straight] [nginx] [CLIENT..]    one of the two ways, or both; these clients, or all
+
+*straight* (check/straight.py): those that can be given a token push, pull, are refused, and push twelve layers; eight
+push and pull at once; skopeo carries what buildah and podman keep.
+*nginx*: nginx is started with a certificate that is made here, and `registry serve` behind it, both in a folder that
+is taken away again. Each client pushes and pulls, mounts, is refused as a stranger and where a layer or a quota is too
+large; then skopeo and ctr straight, and buildah and podman through nginx, push and pull at the same time.
+
+What arrived is compared by digests; clients that are not installed are named. Every wait has an end, which is wrong
+where it is reached. The status is 3 where nginx or openssl is wanting, after what goes without them.
 (Where it runs as root, skopeo, buildah and podman note in /var/lib/containers/cache where they have seen blobs.)
 deploy/install-clients.sh installs what is looked for. `make check-clients` calls this.
 """
@@ -15,101 +22,15 @@ import sys
 import tempfile
 from concurrent.futures import ThreadPoolExecutor
 
+from asking import MIB, Check, is_there, say
 from client_kinds import CLIENTS, Curl, Docker, Skopeo, login
 from executables import REGISTRY
-from front import Front, must
+from front import Front
 from layout import Layout
+from serving import end, must
+from straight import all_at_once, go_straight
 
-MIB = 1 << 20
-
-
-def say(held, what, why=""):
-    print(("ok    " if held else "WRONG ") + what + ("" if held or not why else f": {why}"), flush=True)
-    if not held:
-        say.wrong += 1
-    return held
-
-
-say.wrong = 0
-
-
-class Check:
-    """What is asked of a client, one after the other."""
-
-    def __init__(self, front, client, layouts):
-        self.front, self.client = front, client
-        # an image of its own, so that none of its blobs is there before
-        self.layouts = {**layouts, "image": Layout(f"{front.room}/image-{client.name}", client.name, MIB)}
-
-    def say(self, held, what, why=""):
-        return say(held, f"{self.client.name}: {what}", why)
-
-    def works(self, ran, what):
-        return self.say(ran.returncode == 0, what, ran.text[-600:])
-
-    def is_refused(self, ran, what, *words):
-        said = ran.returncode != 0 and any(word in ran.text for word in words)
-        self.say(said, f"{what} is refused, and says why", f"status {ran.returncode}")
-        print("        " + (ran.text.splitlines() or [""])[-1][-300:])
-
-    def push_and_pull(self):
-        image, where = self.layouts["image"], f"team/app:{self.client.name}"
-        self.works(self.client.push(image, where), "push")
-        there = self.front.digest(*where.split(":"))
-        if self.client.packs_again:
-            self.say(self.client.pushed() == there, "the digest that it tells is the registry's", f"{self.client.pushed()} {there}")
-            self.say(self.front.document(*where.split(":"))["config"]["digest"] == image.config, "the config that it pushed is the one that was made")
-            self.works(self.client.pull(where), "pull")
-            self.say("sha256:" + self.client.image[-64:] == image.config, "what it pulled is the image that was made", self.client.image)
-        else:
-            self.say(there == image.digest, "the manifest that it pushed is the one that was made")
-            self.works(self.client.pull(where), "pull")
-            self.say(self.client.pulled() == image.digest, "what it pulled is what was made", self.client.pulled())
-
-    def index(self):
-        """Two platforms, and each image of them is there."""
-        layout, where = self.layouts["two"], f"team/app:{self.client.name}-two"
-        self.works(self.client.push_index(layout, where), "push of an index of two platforms")
-        listed = self.front.document(*where.split(":")).get("manifests", [])
-        found = sorted(it["platform"]["architecture"] for it in listed)
-        self.say(found == ["amd64", "arm64"], "the index has both", str(found))
-        self.say(listed != [] and all(self.front.read(f"/v2/team/app/manifests/{it['digest']}")[0] == 200 for it in listed), "and so has the registry")
-
-    def mount(self):
-        """The same image to another repository: its blobs are mounted, not sent."""
-        mounts = "POST /v2/team/lib/blobs/uploads/?", "mount=sha256", "201 "
-        before = self.front.asked(*mounts)
-        ran = self.client.pass_on(self.layouts["image"], f"team/app:{self.client.name}", f"team/lib:{self.client.name}")
-        if ran is None:
-            print(f"--    {self.client.name} does not ask for a mount")
-            return
-        self.works(ran, "push to another repository")
-        self.say(self.front.was_asked(before, *mounts), "which mounts blobs")
-
-    def refusals(self):
-        own, name = self.layouts["image"], self.client.name
-        self.is_refused(self.client.pull(f"team/app:{name}", "u2"), "a stranger's pull", "denied", "403", "orbidden")
-        self.is_refused(self.client.push(own, f"team/app:{name}-s", "u2"), "a stranger's push", "denied", "403", "orbidden")
-        self.is_refused(self.client.pull(f"team/app:{name}", None), "a pull by nobody", "unauthorized", "token required", "401", "password unknown")
-        self.is_refused(self.client.push(self.layouts["quota"], f"team/small:{name}"), "a push over the quota", "quota exceeded", "403", "orbidden")
-
-    def refuse_a_large_layer(self):
-        told, where = self.front.asked("413 "), f"team/app:{self.client.name}-large"
-        ran = self.client.push(self.layouts["large"], where)
-        if ran.ended or not self.client.may_wait:
-            self.is_refused(ran, "a layer over 64 MiB", "64 MiB", "413")
-        else:
-            print(f"        {self.client.name}: a layer over 64 MiB: {ran.text}, as is known of it")
-        self.say(self.front.was_asked(told, "413 "), "it was told 413")
-        self.say(self.front.digest(*where.split(":")) is None, "and nothing came of it")
-
-    def all(self):
-        self.client.begin()
-        self.push_and_pull()
-        self.mount()
-        self.index()
-        self.refusals()
-        self.refuse_a_large_layer()
+WAYS = ["straight", "nginx"]
 
 
 def basic(user):
@@ -191,8 +112,7 @@ def push_in_dockers_form(front, image):
 
 def stop_the_server(front):
     """What is answered while nothing stands behind nginx, and afterwards."""
-    front.server.terminate()
-    front.server.wait()
+    end(front.server)
     say(front.ask("/healthz")[0] == 503, "without the server /healthz says 503")
     status, _, body = front.ask("/v2/")
     say((status, json.loads(body)["errors"][0]["code"]) == (503, "UNAVAILABLE"), "and so does the registry")
@@ -207,13 +127,6 @@ def look_at_the_quota(front):
     say(used["team/small"] <= 100_000, "the repository with the small quota keeps to it", table)
 
 
-def is_there(kind):
-    lacks = kind.lacks()
-    if lacks:
-        print(f"--    {kind.name}: left out, for want of {', '.join(lacks)}")
-    return not lacks
-
-
 def ask_clients(front, layouts, only):
     for kind in CLIENTS:
         if only and kind.name not in only or not is_there(kind):
@@ -223,14 +136,7 @@ def ask_clients(front, layouts, only):
         Check(front, client, layouts).all()
 
 
-def main():
-    lacking = [it for it in ("nginx", "openssl") if shutil.which(it, path=os.environ["PATH"] + ":/usr/sbin") is None]
-    if not os.path.exists(REGISTRY):
-        print("check-clients needs what `make build` or `make test` leaves", file=sys.stderr)
-        return 2
-    if lacking:
-        print(f"check-clients needs {' and '.join(lacking)}", file=sys.stderr)
-        return 3
+def go_through_nginx(only):
     with tempfile.TemporaryDirectory() as room:
         image = Layout(f"{room}/image", "image", 4 * MIB)
         layouts = {
@@ -238,10 +144,9 @@ def main():
             "quota": Layout(f"{room}/quota", "quota", 300_000),
             "large": Layout(f"{room}/large", "large", 64 * MIB),
         }
-        front = Front(room)
-        try:
+        with Front(room) as front:
             look_at_the_front(front)
-            ask_clients(front, layouts, sys.argv[1:])
+            ask_clients(front, layouts, only)
             if not Curl.lacks():
                 look_at_referrers(front, image)
             if is_there(Docker) and not Curl.lacks():
@@ -249,12 +154,27 @@ def main():
             if not Skopeo.lacks():
                 pull_eight_at_once(front, image)
                 push_in_dockers_form(front, image)
+            if not only:
+                all_at_once(front)
             stop_the_server(front)
-        finally:
-            front.end()
         look_at_the_quota(front)
+
+
+def main():
+    if not os.path.exists(REGISTRY):
+        print("check-clients needs what `make build` or `make test` leaves", file=sys.stderr)
+        return 2
+    ways = [it for it in WAYS if it in sys.argv[1:]] or WAYS
+    only = [it for it in sys.argv[1:] if it not in WAYS]
+    lacking = [it for it in ("nginx", "openssl") if shutil.which(it, path=os.environ["PATH"] + ":/usr/sbin") is None]
+    if "straight" in ways:
+        go_straight(only)
+    if "nginx" in ways and not lacking:
+        go_through_nginx(only)
+    if "nginx" in ways and lacking:
+        print(f"check-clients needs {' and '.join(lacking)} for the ways through nginx", file=sys.stderr)
     print(f"{say.wrong} wrong" if say.wrong else "the clients were answered as they should be")
-    return 1 if say.wrong else 0
+    return 1 if say.wrong else 3 if "nginx" in ways and lacking else 0
 
 
 if __name__ == "__main__":

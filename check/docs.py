@@ -23,7 +23,7 @@ from contextlib import suppress
 
 import house
 from executables import TOP
-from front import listens, until
+from serving import listens, until
 from layout import Layout
 
 PROGRAM = f"{TOP}/build/registry"

@@ -29,15 +29,16 @@ def layer_of(name, content):
 
 
 class Layout:
-    """A layout in a folder, under the tag v1: an image for each platform, and an index where there are several."""
+    """A layout in a folder, under the tag v1: an image of so many layers for each platform, and an index where there
+    are several."""
 
-    def __init__(self, folder, seed, size, platforms=("amd64",), subject=None):
+    def __init__(self, folder, seed, size, platforms=("amd64",), subject=None, layers=1):
         self.folder, self.blobs, self.kinds = folder, {}, {}
         os.makedirs(f"{folder}/blobs/sha256")
-        tar, packed = layer_of("content", bytes_of(seed, size))
-        images = [self.image(seed, platform, tar, packed, subject) for platform in platforms]
+        pairs = [layer_of(f"content{number or ''}", bytes_of(f"{seed}{number or ''}", size)) for number in range(layers)]
+        images = [self.image(seed, platform, pairs, subject) for platform in platforms]
         whole = images[0] if len(images) == 1 else self.index(images)
-        self.digest, self.layer = whole["digest"], digest(packed)
+        self.digest, self.layer = whole["digest"], digest(pairs[0][1])
         self.write("oci-layout", json.dumps({"imageLayoutVersion": "1.0.0"}).encode())
         named = {**whole, "annotations": {"org.opencontainers.image.ref.name": "v1"}}
         self.write("index.json", json.dumps({"schemaVersion": 2, "manifests": [named]}).encode())
@@ -52,21 +53,21 @@ class Layout:
         self.write(f"blobs/{at.replace(':', '/')}", body)
         return {"mediaType": MEDIA.format(kind), "digest": at, "size": len(body)}
 
-    def image(self, seed, platform, tar, packed, subject):
+    def image(self, seed, platform, pairs, subject):
         # (ctr takes a config without a time of making as made by nobody)
         config = {
             "created": "2024-01-01T00:00:00Z",
             "architecture": platform,
             "os": "linux",
             "config": {"Labels": {"seed": seed}},
-            "rootfs": {"type": "layers", "diff_ids": [digest(tar)]},
-            "history": [{"created": "2024-01-01T00:00:00Z", "created_by": "check"}],
+            "rootfs": {"type": "layers", "diff_ids": [digest(tar) for tar, _ in pairs]},
+            "history": [{"created": "2024-01-01T00:00:00Z", "created_by": "check"} for _ in pairs],
         }
         manifest = {
             "schemaVersion": 2,
             "mediaType": MEDIA.format("manifest.v1+json"),
             "config": self.blob("config.v1+json", json.dumps(config).encode()),
-            "layers": [self.blob("layer.v1.tar+gzip", packed)],
+            "layers": [self.blob("layer.v1.tar+gzip", packed) for _, packed in pairs],
         }
         if subject:
             manifest["subject"] = {"mediaType": MEDIA.format("manifest.v1+json"), "digest": subject.digest, "size": len(subject.blobs[subject.digest])}

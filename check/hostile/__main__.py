@@ -1,6 +1,8 @@
-"""Memory that is refused, a disk that stops, a server that is killed, a client that opens all it can, and many at once.
+"""Memory that is refused, a disk that stops, a server that is killed, a client that opens all it can, many at once, and
+orders beside them.
 
-    python3 -m hostile memory|disk|kill|open|many [--kills N]    in check/: one of the five, or all where none is named
+    python3 -m hostile memory|disk|kill|open|many|orders [--kills N]    in check/: one of the six, or all where none is
+                                                                        named
 
 The executables are the proved ones that `make build` and `make test` leave. refusing.rs, a library that is
 loaded before a program, lets one growth of memory fail, or the disk stop at one write; `rustc` compiles it.
@@ -25,6 +27,11 @@ asked the same as one that never was, by two teams together and by each alone.
 *many*: clients that are idle, that stop in the middle of a head or a body, or that read nothing hold up nobody;
 requests of many connections, interleaved as drawn, are answered as alone; who is silent is closed in the end; and
 many large pushes at once take no more memory than they may.
+*orders*: forty orders to a server that is pushed to are told what they would be told over a file, and are in force for
+the next request; lines that are no orders, and callers that say nothing, change nothing and hold up no request; of a
+server that is killed amid orders all that were done are there, and the next one takes its socket over; who cannot take
+orders, or give them, is told why. `--log` says each request on a line, without its token and its query; without it
+what fails is said alone, and why.
 """
 import concurrent.futures
 import os
@@ -39,6 +46,7 @@ from hostile.disk import fail_once_on_sockets, stop_in_writes
 from hostile.kills import kill_servers
 from hostile.memory import refuse_in_orders, refuse_in_rows, refuse_on_sockets
 from hostile.migration import look_beside_a_new_file, refuse_in_migration, stop_in_migration
+from hostile.ordering import give_orders
 from hostile.refusing import Refusing
 from hostile.said import wrong
 from hostile.sessions import open_sessions
@@ -48,7 +56,7 @@ CANNOT_RUN = 3
 
 
 def main():
-    parts = ["memory", "disk", "kill", "open", "many"]
+    parts = ["memory", "disk", "kill", "open", "many", "orders"]
     words = [it for it in sys.argv[1:] if it in parts] or parts
     kills = int(sys.argv[sys.argv.index("--kills") + 1]) if "--kills" in sys.argv else 20
     needed = [REGISTRY] + [EXAMPLES] * ("memory" in words)
@@ -81,6 +89,8 @@ def main():
             look_beside_a_new_file(room)
         if "many" in words:
             serve_many(room)
+        if "orders" in words:
+            give_orders(refusing, room)
     print(f"{len(wrong)} wrong" if wrong else "nothing was lost, and nothing answered wrongly")
     return 1 if wrong else 0
 

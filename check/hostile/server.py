@@ -50,15 +50,14 @@ def answer(connection, text):
         return None
 
 
-def pushes_on_sockets(refusing, db, growth=0, write=0):
+def pushes_on_sockets(refusing, db, growth=0, write=0, said=subprocess.DEVNULL):
     """The statuses of two pushes on connections of their own, with this growth refused or this write failing, and
-    the numbers of growths and of writes."""
+    the numbers of growths and of writes. What the server says of it goes to `said`."""
     told, tell = os.pipe()
     numbers = {"REFUSE_GROWTH": str(growth), "FAIL_WRITE": str(write), "TELL_COUNTS": str(tell)}
     env = {"LD_PRELOAD": refusing.library, **numbers}
     try:
-        quiet = {"stderr": subprocess.DEVNULL}
-        server, statuses = Server(db, "--connections", "2", env=env, pass_fds=[tell], **quiet), []
+        server, statuses = Server(db, "--connections", "2", env=env, pass_fds=[tell], stderr=said), []
     except OSError:
         os.close(told)
         raise
