@@ -143,7 +143,7 @@ impl<'a, T: Clock, E: Write> Crowd<'a, T, E> {
         }
     }
 
-    /// Reads each that may be read, once.
+    /// Reads each that may be read, once, and lets fall what those send who were refused.
     fn hear_all(&mut self, connections: &mut Connections)
         ensures { Carries (connected connections.old) (connected connections.new) }
     {
@@ -154,6 +154,9 @@ impl<'a, T: Clock, E: Write> Crowd<'a, T, E> {
             let may = may_speak(full, first, peer);
             self.pending = self.pending || may;
             peer.hear_if(may, connections, &mut self.room, now);
+            if peer.drains() {
+                peer.drain(&mut self.room, now);
+            }
             first = first && !is_large(peer);
         }
     }

@@ -6,10 +6,12 @@ ghost use Rattle.registry_server.specs.Events.{Carries};
 
 use mio::event::Event;
 use mio::net::TcpStream;
-use registry_conversation::Wants;
+use registry_conversation::{Step, Wants};
+use registry_http::End;
 use registry_server::{Connections, Turn};
 use std::alloc::Global;
 use std::io::{ErrorKind, Read, Write};
+use std::net::Shutdown;
 use std::time::Duration;
 
 /// So many bytes that moved are a sign of life.
@@ -18,8 +20,16 @@ const SIGN_OF_LIFE: usize = 65_536;
 /// So often a socket is written to, before others have their turn.
 const WRITES: usize = 16;
 
+/// So often what is let fall is read.
+const READS: usize = 16;
+
 /// After so many seconds of rest room is given back.
 const REST: u64 = 1;
+
+/// One who was refused is heard on until it was silent for so many seconds, and so many at most.
+const LINGER: u64 = 2;
+
+const MOST_LINGER: u64 = 30;
 
 /// A socket, and the number of its connection.
 #[derive(Drop)]
@@ -34,6 +44,10 @@ pub struct Peer {
     closed: bool,
     /// It failed.
     pub failed: bool,
+    /// It was refused, and may go on to send what it was refused for.
+    refused: bool,
+    /// Since when what it sends is let fall.
+    lingers: Option<Duration>,
     /// Its connection may keep room that holds nothing.
     keeps_room: bool,
     /// What its connection waits for, and how many bytes it holds of requests and of replies.
@@ -54,6 +68,8 @@ impl Peer {
             writable: true,
             closed: false,
             failed: false,
+            refused: false,
+            lingers: None,
             keeps_room: false,
             wants: Some(Wants::Bytes),
             coming: 0,
@@ -78,9 +94,22 @@ impl Peer {
         self.coming == 0 && self.going == 0
     }
 
-    /// All is said, or it failed.
-    pub fn ended(&self) -> bool {
-        self.failed || self.wants == Some(Wants::Nothing)
+    /// What it sends is read, and let fall.
+    pub fn drains(&self) -> bool {
+        self.refused && self.readable && !self.failed && self.wants == Some(Wants::Nothing)
+    }
+
+    /// Whether one who was refused is heard on.
+    fn is_heard_on(&self, now: Duration) -> bool {
+        let begun = self.lingers.unwrap_or(now);
+        self.refused
+            && self.silent(now) < Duration::from_secs(LINGER)
+            && now.saturating_sub(begun) < Duration::from_secs(MOST_LINGER)
+    }
+
+    /// It failed, or all is said, and it is not heard on.
+    pub fn ended(&self, now: Duration) -> bool {
+        self.failed || (self.wants == Some(Wants::Nothing) && !self.is_heard_on(now))
     }
 
     /// Nothing was heard from it or taken by it for so long.
@@ -162,6 +191,25 @@ impl Peer {
         }
     }
 
+    /// Ends the output to one who was refused, and lets fall what it still sends: a connection that is closed
+    /// before all that came was read takes with it what the other side was told (RFC 9112, section 9.6).
+    pub fn drain(&mut self, room: &mut [u8], now: Duration) {
+        if self.lingers.is_none() {
+            self.lingers = Some(now);
+            let _ = self.stream.shutdown(Shutdown::Write);
+        }
+        for _ in 0..READS {
+            match self.stream.read(room) {
+                Ok(0) => self.failed = true,
+                Ok(count) => self.moves(count, now),
+                Err(error) => self.read_failed(error.kind()),
+            }
+            if !self.readable || self.failed {
+                return;
+            }
+        }
+    }
+
     /// Reads once, if it may.
     pub fn hear_if(
         &mut self,
@@ -239,6 +287,7 @@ impl Peer {
         ensures { Carries (connected connections.old) (connected connections.new) }
     {
         if self.number == turn.number {
+            self.refused = matches!(turn.step, Step::Ended(End::Refused(_)));
             self.tell(connections, now);
         }
     }

@@ -45,7 +45,7 @@ pub fn is_any_ready(peers: &[Peer], room: usize) -> bool {
     let full = coming(peers) >= room;
     let mut first = true;
     for peer in peers.iter() {
-        if peer.listens() || may_speak(full, first, peer) {
+        if peer.listens() || peer.drains() || may_speak(full, first, peer) {
             return true;
         }
         first = first && !is_large(peer);
@@ -81,5 +81,5 @@ pub fn oldest(peers: &[Peer], now: Duration) -> Option<usize> {
 pub fn leaves(peer: &Peer, now: Duration, idle: u64, pressed: bool) -> bool {
     let silent = peer.silent(now);
     let stalls = pressed && peer.going > 0 && silent >= Duration::from_secs(PATIENCE);
-    peer.ended() || stalls || silent >= Duration::from_secs(idle)
+    peer.ended(now) || stalls || silent >= Duration::from_secs(idle)
 }

@@ -26,6 +26,9 @@ const CLOSING_REPLY: &[u8] =
     b"HTTP/1.1 200 OK\r\nContent-Length: 2\r\nContent-Type: application/json\r\n\
     Connection: close\r\n\r\n{}";
 
+const BAD_REQUEST: &[u8] =
+    b"HTTP/1.1 400 Bad Request\r\nContent-Length: 0\r\nConnection: close\r\n\r\n";
+
 /// Makes a repository.
 fn add(alloc: Global, service: &mut Service<MapKeeper>) -> Result<(), Fail> {
     let name = RepoName::parse(alloc, "team/app")?;
@@ -118,6 +121,25 @@ fn three_clients_are_served_two_at_once(rt: HostRuntime) -> Result<(), Fail> {
     assert_eq!(rt; told(alloc, &mut third)?.as_slice(), HELD_REPLY);
     assert_eq!(rt; said.lines().count(), 4);
     assert!(rt; said.lines().all(is_of_base));
+    Ok(())
+}
+
+/// One who is refused, and has sent more than was read, is told so all the same.
+#[test]
+fn a_refusal_is_told_to_one_who_still_sends(rt: HostRuntime) -> Result<(), Fail> {
+    let alloc = rt.alloc();
+    let listener = TcpListener::bind(&rt, "127.0.0.1:0")?;
+    let mut client = TcpStream::connect(&rt, listener.local_addr()?)?;
+    client.write_all(b"what is this\r\n\r\n")?;
+    let more = vec![in alloc; b'x'; 200_000]?;
+    client.write_all(&more)?;
+    let doors = Doors {
+        listener,
+        orders: None,
+    };
+    let mut service = Service::new(MapKeeper::new(alloc));
+    served(&rt, doors, &mut service, 1)?;
+    assert_eq!(rt; told(alloc, &mut client)?.as_slice(), BAD_REQUEST);
     Ok(())
 }
 
