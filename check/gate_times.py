@@ -21,6 +21,9 @@ def processor_minutes():
 
 
 def main():
+    # what is handed on is not looked at but for a few words, whatever its bytes
+    for stream in (sys.stdin, sys.stdout):
+        stream.reconfigure(encoding="utf-8", errors="surrogateescape")
     begun, before = time.monotonic(), processor_minutes()
     minutes = {kind: [] for kind in KINDS.values()}
     for line in sys.stdin:
