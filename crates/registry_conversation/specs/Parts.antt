@@ -98,6 +98,10 @@ abbrev pub TakesAll : Part → Taken → Text → Text → Text → Text → Typ
 TakesAll part found taken unread taken' unread' = (framing : Framing) (front v : Text)
     → IsPart part framing front v taken unread → TakesBody found framing front v taken' unread'
 
+-- of the bytes that are held some may be let go
+abbrev pub LetsGo : Text → Text → Text → Text → Type 0
+LetsGo taken unread taken' unread' = length taken' + length unread' ≤ length taken + length unread
+
 -- ---- parts come to an end
 
 -- falls from each part to the next

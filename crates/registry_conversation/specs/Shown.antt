@@ -31,6 +31,10 @@ with_phase c p = record c { phase = p }
 abbrev pub with_going : Shown → Text → Shown
 with_going c text = record c { going = text }
 
+-- all that came is let go
+abbrev pub with_none : Shown → Shown
+with_none c = record c { taken = []; unread = [] }
+
 -- bytes that come are kept
 abbrev pub listens_as : Phase → Bool → Bool
 listens_as Head finished = not finished
@@ -50,6 +54,10 @@ wants_as true (Ended e) = Nothing
 abbrev pub wants_of : Shown → Wants
 wants_of c = wants_as (length c.going == 0) c.phase
 
--- the bytes that came and are not answered, and those that are to go out
+-- the bytes that came and are not answered
+abbrev pub coming_len : Shown → ℕ
+coming_len c = length c.taken + length c.unread
+
+-- these, and those that are to go out
 abbrev pub held_len : Shown → ℕ
-held_len c = length c.taken + length c.unread + length c.going
+held_len c = coming_len c + length c.going

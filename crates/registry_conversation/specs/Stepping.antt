@@ -18,7 +18,7 @@ use Rattle.registry_http.specs.declared.ending.End.TheVariants.{Closed, Cut, Ref
 use Rattle.registry_conversation.specs.declared.phase.Phase.TheVariants as phase
 use Rattle.registry_conversation.specs.declared.phase.Step.{Step}
 use Rattle.registry_conversation.specs.declared.phase.Step.TheVariants as step
-use Rattle.registry_conversation.specs.Shown.{Shown, with_more, with_phase}
+use Rattle.registry_conversation.specs.Shown.{Shown, with_more, with_phase, coming_len}
 use Rattle.registry_conversation.specs.Holding.{Holds}
 
 -- ---- where before was put out already, behind going, of the text of the request that b begins with
@@ -88,13 +88,14 @@ pub record Acts (found : Step) (b said : Text) (old : Shown) (s s' : State) (new
 
 -- ---- parts of a turn
 
--- the refusal is put out, or so many of its first bytes, and nothing more comes of it
+-- the refusal is put out, or so many of its first bytes, and nothing more comes of it; what came is let go
 pub record Refuses (found : Step) (r : FramingRefusal) (old new : Shown) : Type 0 where
   pub end : End
   pub found_is : found ≡ step.Ended end
   pub sends : SendsRefusal end r (Some old.going) (Some new.going)
   pub ended : new.phase ≡ phase.Ended end
   pub finished : new.finished ≡ old.finished
+  pub none_held : coming_len new ≡ 0
 
 -- no memory for the bytes that came
 pub record LacksMemory (old new : Shown) : Type 0 where

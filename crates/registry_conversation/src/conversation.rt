@@ -1,4 +1,4 @@
-ghost use Rattle.std.specs.Prelude.{◌≡◌, ◌<◌, ◌≤◌, [], true, false, length, drop, min, IfOk, vec_len};
+ghost use Rattle.std.specs.Prelude.{◌≡◌, ◌+◌, ◌<◌, ◌≤◌, [], true, false, length, drop, min, IfOk, vec_len};
 ghost use Rattle.std.specs.Bool.{MatchBool};
 ghost use Rattle.oci_names.specs.Text.{Text};
 
@@ -45,7 +45,7 @@ pub struct Conversation {
 }
 
 impl Conversation {
-    ghost use Rattle.registry_conversation.specs.Shown.{begun, with_finished, with_phase, with_going, listens, wants_of, held_len};
+    ghost use Rattle.registry_conversation.specs.Shown.{begun, with_finished, with_phase, with_going, with_none, listens, wants_of, coming_len, held_len};
     ghost use Rattle.registry_http.specs.Reading.{Parses};
     ghost use Rattle.registry_conversation.specs.Showing.{shown};
     ghost use Rattle.registry_conversation.specs.Headings.{BeginsAt};
@@ -101,10 +101,21 @@ impl Conversation {
         Step::Ended(end)
     }
 
-    /// Refuses what has come: no further request is read.
+    /// Lets go all bytes that came.
+    fn let_go(&mut self)
+        ensures { shown self.new ≡ with_none (shown self.old) }
+    {
+        let buffer = &mut self.buffer;
+        buffer.forget();
+        let rest = buffer.behind().len();
+        buffer.skip(rest);
+    }
+
+    /// Refuses what has come, and lets it go: no further request is read.
     fn refuse(&mut self, refusal: FramingRefusal) -> Step
         ensures { Refuses result refusal (shown self.old) (shown self.new) }
     {
+        self.let_go();
         match write_refusal(refusal, &mut self.out) {
             Ok(()) => self.end(End::Refused(refusal)),
             Err(fault) => self.end(End::WriteFailed {
@@ -119,6 +130,7 @@ impl Conversation {
         ensures ignores { listens (shown self.old) ≡ false → shown self.new ≡ shown self.old }
         ensures keeps { listens (shown self.old) ≡ true
             → Receives bytes.now (shown self.old) (shown self.new) }
+        ensures sized { coming_len (shown self.new) ≤ coming_len (shown self.old) + length bytes.now }
     {
         if !self.listens() {
             return;
@@ -193,15 +205,18 @@ impl Conversation {
         &self.exchange
     }
 
-    /// How many bytes it holds: those that came and are not answered, and those that are to go out. More
-    /// than 18,446,744,073,709,551,615 count as so many.
+    /// How many bytes it holds that came and are not answered.
+    pub fn coming(&self) -> usize
+        ensures { result ≡ coming_len (shown self.now) }
+    {
+        self.buffer.before().len() + self.buffer.behind().len()
+    }
+
+    /// The same, and those that are to go out; more than 18,446,744,073,709,551,615 count as so many.
     pub fn held(&self) -> usize
         ensures { result ≡ min (held_len (shown self.now)) usize.MAX }
     {
-        let taken = self.buffer.before().len();
-        let unread = self.buffer.behind().len();
-        let going = self.out.len() - self.gone;
-        taken.saturating_add(unread).saturating_add(going)
+        self.coming().saturating_add(self.out.len() - self.gone)
     }
 
     /// Gives back room for bytes that come, where none are held, and for bytes that go out, where none are
@@ -213,9 +228,7 @@ impl Conversation {
             self.gone = 0;
             self.out = Vec::new(alloc);
         }
-        let untaken = self.buffer.before().is_empty();
-        let unheard = self.buffer.behind().is_empty();
-        if untaken && unheard {
+        if self.coming() == 0 {
             self.buffer = Buffer::new(alloc);
         }
     }
@@ -234,6 +247,7 @@ impl Conversation {
     fn close_if(&mut self, closing: bool)
         ensures going { (shown self.new).going ≡ (shown self.old).going }
         ensures finished { (shown self.new).finished ≡ (shown self.old).finished }
+        ensures fewer { coming_len (shown self.new) ≤ coming_len (shown self.old) }
         ensures next { MatchBool closing ((shown self.new).phase ≡ Phase.Ended End.Closed)
             (Holds (shown self.new) (shown self.old).unread []) }
     {
@@ -258,6 +272,7 @@ impl Conversation {
     fn reply<K: Keeper>(&mut self, alloc: Global, service: &mut Service<K>) -> Step
         ensures honest { K.is_honest service.new → K.is_honest service.old }
         ensures finished { (shown self.new).finished ≡ (shown self.old).finished }
+        ensures fewer { coming_len (shown self.new) ≤ coming_len (shown self.old) }
         ensures acts { K.is_honest service.new → (b said : Text)
             → HoldsWhole (shown self.old).taken (shown self.old).unread b said
             → ActsAs result b said (shown self.old).going (K.state service.old) (K.state service.new)
@@ -287,6 +302,7 @@ impl Conversation {
     fn go_on<K: Keeper>(&mut self, alloc: Global, service: &mut Service<K>, part: Part) -> Step
         ensures honest { K.is_honest service.new → K.is_honest service.old }
         ensures finished { (shown self.new).finished ≡ (shown self.old).finished }
+        ensures fewer { coming_len (shown self.new) ≤ coming_len (shown self.old) }
         ensures acts { K.is_honest service.new → (b said : Text)
             → HoldsAs (Phase.Body part) (shown self.old).taken (shown self.old).unread b said
             → ActsAs result b said (shown self.old).going (K.state service.old) (K.state service.new)
@@ -313,6 +329,7 @@ impl Conversation {
         requires { heading.len ≤ length (shown self.old).unread }
         ensures honest { K.is_honest service.new → K.is_honest service.old }
         ensures finished { (shown self.new).finished ≡ (shown self.old).finished }
+        ensures fewer { coming_len (shown self.new) ≤ coming_len (shown self.old) }
         ensures acts { K.is_honest service.new → (b : Text)
             → BeginsAt heading b → (shown self.old).taken ≡ [] → (shown self.old).unread ≡ b
             → Acts result b [] (shown self.old) (K.state service.old) (K.state service.new)
@@ -337,6 +354,7 @@ impl Conversation {
     fn begin<K: Keeper>(&mut self, alloc: Global, service: &mut Service<K>) -> Step
         ensures honest { K.is_honest service.new → K.is_honest service.old }
         ensures finished { (shown self.new).finished ≡ (shown self.old).finished }
+        ensures fewer { coming_len (shown self.new) ≤ coming_len (shown self.old) }
         ensures acts { K.is_honest service.new → (shown self.old).phase ≡ Phase.Head → (b said : Text)
             → Holds (shown self.old) b said
             → Acts result b said (shown self.old) (K.state service.old) (K.state service.new)
@@ -365,6 +383,7 @@ impl Conversation {
     pub fn answer_next<K: Keeper>(&mut self, alloc: Global, service: &mut Service<K>) -> Step
         ensures honest { K.is_honest service.new → K.is_honest service.old }
         ensures finished { (shown self.new).finished ≡ (shown self.old).finished }
+        ensures fewer { coming_len (shown self.new) ≤ coming_len (shown self.old) }
         ensures over { (e : End) → (shown self.old).phase ≡ Phase.Ended e
             → (result ≡ Step.Ended e) × (shown self.new ≡ shown self.old) × (service.new ≡ service.old) }
         ensures acts { K.is_honest service.new → (b said : Text) → Holds (shown self.old) b said

@@ -1,6 +1,6 @@
 ghost use Rattle.std.specs.Prelude.{◌≡◌, length};
 ghost use Rattle.registry_http.specs.Buffering.{before, behind};
-ghost use Rattle.registry_conversation.specs.Parts.{FindsEnd, TakesFrom, TakesAll, IsSmaller};
+ghost use Rattle.registry_conversation.specs.Parts.{FindsEnd, TakesFrom, TakesAll, LetsGo, IsSmaller};
 
 use httparse::spans::HeaderSpan;
 use registry_http::FramingRefusal;
@@ -78,6 +78,7 @@ fn find_end(unread: &[u8], size: usize) -> FoundEnd
 fn take_length(buffer: &mut Buffer, count: usize) -> Took
     ensures takes { TakesFrom (Part.Length count) result
         (before buffer.old) (behind buffer.old) (before buffer.new) (behind buffer.new) }
+    ensures fewer { LetsGo (before buffer.old) (behind buffer.old) (before buffer.new) (behind buffer.new) }
     ensures smaller { IsSmaller (Part.Length count) result }
 {
     if buffer.behind().len() < count {
@@ -91,6 +92,7 @@ fn take_length(buffer: &mut Buffer, count: usize) -> Took
 fn take_line(buffer: &mut Buffer, total: usize) -> Took
     ensures takes { TakesFrom (Part.Line total) result
         (before buffer.old) (behind buffer.old) (before buffer.new) (behind buffer.new) }
+    ensures fewer { LetsGo (before buffer.old) (behind buffer.old) (before buffer.new) (behind buffer.new) }
     ensures smaller { IsSmaller (Part.Line total) result }
 {
     let line = match find_line(buffer.behind()) {
@@ -117,6 +119,7 @@ fn take_line(buffer: &mut Buffer, total: usize) -> Took
 fn take_data(buffer: &mut Buffer, total: usize, size: usize) -> Took
     ensures takes { TakesFrom (Part.Data total size) result
         (before buffer.old) (behind buffer.old) (before buffer.new) (behind buffer.new) }
+    ensures fewer { LetsGo (before buffer.old) (behind buffer.old) (before buffer.new) (behind buffer.new) }
     ensures smaller { IsSmaller (Part.Data total size) result }
 {
     match find_end(buffer.behind(), size) {
@@ -134,6 +137,7 @@ fn take_trailer(buffer: &mut Buffer, fields: &mut [HeaderSpan]) -> Took
     requires { length fields.old ≡ 8192 }
     ensures takes { TakesFrom Part.Trailer result
         (before buffer.old) (behind buffer.old) (before buffer.new) (behind buffer.new) }
+    ensures fewer { LetsGo (before buffer.old) (behind buffer.old) (before buffer.new) (behind buffer.new) }
     ensures smaller { IsSmaller Part.Trailer result }
 {
     match find_trailer(buffer.behind(), fields) {
@@ -151,6 +155,7 @@ fn take_part(buffer: &mut Buffer, fields: &mut [HeaderSpan], part: Part) -> Took
     requires { length fields.old ≡ 8192 }
     ensures takes { TakesFrom part result
         (before buffer.old) (behind buffer.old) (before buffer.new) (behind buffer.new) }
+    ensures fewer { LetsGo (before buffer.old) (behind buffer.old) (before buffer.new) (behind buffer.new) }
     ensures smaller { IsSmaller part result }
 {
     match part {
@@ -165,8 +170,9 @@ fn take_part(buffer: &mut Buffer, fields: &mut [HeaderSpan], part: Part) -> Took
 /// often it is called.
 pub fn take_body(buffer: &mut Buffer, fields: &mut [HeaderSpan], part: Part) -> Taken
     requires { length fields.old ≡ 8192 }
-    ensures { TakesAll part result
+    ensures takes { TakesAll part result
         (before buffer.old) (behind buffer.old) (before buffer.new) (behind buffer.new) }
+    ensures fewer { LetsGo (before buffer.old) (behind buffer.old) (before buffer.new) (behind buffer.new) }
 {
     let mut next = part;
     'parts: loop {

@@ -1,1 +1,2 @@
 pub mod TogetherLemmas
+pub mod CallingLemmas

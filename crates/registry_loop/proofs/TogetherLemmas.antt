@@ -6,20 +6,31 @@ use Rattle.registry_model.specs.Runs.{did}
 use Rattle.registry_server.specs.Open.{Open, none}
 use Rattle.registry_server.specs.Events.{Leads, elsewhere}
 use Rattle.registry_server.proofs.LedgerLemmas.{all_are_served}
+use Rattle.registry_server.proofs.RoomLemmas.{all_within}
 use Rattle.registry_server.proofs.CallLemmas.{leads_none, leads_then}
 use Rattle.order_messages.specs.Answering.{IsOneStep}
-use Rattle.registry_loop.specs.Together.{ServesTogether, LeadsBeside}
+use Rattle.registry_loop.specs.Together.{ServesWithin, ServesTogether, LeadsBeside, bounds_of}
 
-pub together_from : (at_once : ℕ) (s : State) (u : Open) (s' : State) → Leads (none at_once) s u s' → ServesTogether at_once s s'
-together_from at_once s u s' x = record {
-  events = x.0;
-  last = u;
-  passes = x.1;
-  ledger = all_are_served x.0 at_once s u s' x.1;
-}
+pub within_from : (at_once buffer : ℕ) (s : State) (u : Open) (s' : State) → Leads (none (bounds_of at_once buffer)) s u s'
+    → ServesWithin at_once buffer s s'
+within_from at_once buffer s u s' x =
+    let bounds = bounds_of at_once buffer in
+    record {
+      events = x.0;
+      last = u;
+      passes = x.1;
+      ledger = all_are_served x.0 bounds s u s' x.1;
+      within = λ front back e v t y. all_within front bounds s v t y;
+    }
 
+pub within_none : (at_once buffer : ℕ) (s : State) → ServesWithin at_once buffer s s
+within_none at_once buffer s =
+    let u = none (bounds_of at_once buffer) in
+    within_from at_once buffer s u s (leads_none u s)
+
+-- with any buffer
 pub together_none : (at_once : ℕ) (s : State) → ServesTogether at_once s s
-together_none at_once s = together_from at_once s (none at_once) s (leads_none (none at_once) s)
+together_none at_once s = (0, within_none at_once 0 s)
 
 -- ---- orders, which leave all connections as they are
 

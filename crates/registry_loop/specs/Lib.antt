@@ -1,1 +1,3 @@
 pub mod Together
+pub mod Calling
+pub mod Calls

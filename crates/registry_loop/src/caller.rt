@@ -1,5 +1,7 @@
 //! Somebody who gives one order over a socket.
-ghost use Rattle.registry_loop.specs.Together.{LeadsBeside};
+ghost use Rattle.std.specs.Prelude.{◌≡◌, ◌==◌, true, false, position, MatchOption};
+ghost use Rattle.registry_loop.specs.Calling.{Attends, Obeys, fresh, line_in};
+ghost use Rattle.registry_loop.specs.Calls.{called};
 
 use mio::Token;
 use mio::event::Event;
@@ -37,12 +39,16 @@ pub struct Caller {
 }
 
 /// Where the first line ends, if it is whole.
-fn line_end(heard: &[u8]) -> Option<usize> {
+fn line_end(heard: &[u8]) -> Option<usize>
+    ensures { result ≡ position (λ byte. byte == 10) heard.now }
+{
     heard.iter().position(|byte| *byte == b'\n')
 }
 
 impl Caller {
-    pub fn new(alloc: Global, token: Token, stream: UnixStream, now: Duration) -> Caller {
+    pub fn new(alloc: Global, token: Token, stream: UnixStream, now: Duration) -> Caller
+        ensures { called result ≡ fresh }
+    {
         Caller {
             token,
             stream,
@@ -57,8 +63,13 @@ impl Caller {
         }
     }
 
-    /// Notes what it was found ready for.
-    pub fn note(&mut self, event: &Event) {
+    /// Notes what it was found ready for, if the event is its own.
+    pub fn note(&mut self, event: &Event)
+        ensures { called self.new ≡ called self.old }
+    {
+        if self.token != event.token() {
+            return;
+        }
         let failed = event.is_error();
         self.readable = self.readable || failed || event.is_readable() || event.is_read_closed();
         self.writable = self.writable || failed || event.is_writable() || event.is_write_closed();
@@ -79,7 +90,10 @@ impl Caller {
     }
 
     /// Reads once.
-    fn hear_once(&mut self, now: Duration) {
+    fn hear_once(&mut self, now: Duration)
+        ensures answered { self.new.answered ≡ self.old.answered }
+        ensures answer { self.new.answer ≡ self.old.answer }
+    {
         let mut room = [0; LONGEST_LINE];
         match self.stream.read(&mut room) {
             Ok(0) => self.over = true,
@@ -98,7 +112,14 @@ impl Caller {
     }
 
     /// Reads what there is of the line.
-    fn hear(&mut self, now: Duration) {
+    fn hear(&mut self, now: Duration)
+        ensures answered { self.new.answered ≡ self.old.answered }
+        ensures answer { self.new.answer ≡ self.old.answer }
+        ensures before { self.old.answered ≡ true → called self.new ≡ called self.old }
+    {
+        if self.answered {
+            return;
+        }
         for _ in 0..TIMES {
             if line_end(&self.heard).is_some() || !self.readable || self.over {
                 return;
@@ -110,16 +131,17 @@ impl Caller {
     /// Carries the order out, if its line is whole.
     fn obey<K: Keeper>(&mut self, alloc: Global, service: &mut Service<K>)
         ensures honest { K.is_honest service.new → K.is_honest service.old }
-        ensures leads { K.is_honest service.new
-            → LeadsBeside (K.state service.old) (K.state service.new) }
+        ensures heard { self.new.heard ≡ self.old.heard }
+        ensures obeys { K.is_honest service.new → MatchOption (line_in self.old.heard.items)
+            ((called self.new ≡ called self.old) × (K.state service.new ≡ K.state service.old))
+            (λ line. (self.new.answered ≡ true)
+            × Obeys line (called self.new) (K.state service.old) (K.state service.new)) }
     {
         let Some(end) = line_end(&self.heard) else {
             return;
         };
-        let Some(line) = self.heard.get(..end) else {
-            return;
-        };
-        let answer = answer_line(alloc, service, line);
+        let end = end.min(self.heard.len());
+        let answer = answer_line(alloc, service, &self.heard[..end]);
         self.answered = true;
         match answer {
             Ok(answer) => self.answer = answer,
@@ -128,7 +150,12 @@ impl Caller {
     }
 
     /// Writes once what is left of the answer.
-    fn tell_once(&mut self, now: Duration) {
+    fn tell_once(&mut self, now: Duration)
+        ensures heard { self.new.heard ≡ self.old.heard }
+        ensures answered { self.new.answered ≡ self.old.answered }
+        ensures answer { self.new.answer ≡ self.old.answer }
+        ensures over { self.old.over ≡ true → self.new.over ≡ true }
+    {
         let going = self.answer.get(self.gone..).unwrap_or(&[]);
         if going.is_empty() {
             self.over = true;
@@ -149,7 +176,13 @@ impl Caller {
     }
 
     /// Writes the answer, as far as it is taken.
-    pub fn tell(&mut self, now: Duration) {
+    pub fn tell(&mut self, now: Duration)
+        ensures heard { self.new.heard ≡ self.old.heard }
+        ensures answered { self.new.answered ≡ self.old.answered }
+        ensures answer { self.new.answer ≡ self.old.answer }
+        ensures over { self.old.over ≡ true → self.new.over ≡ true }
+        ensures unsaid { self.old.answered ≡ false → self.new.over ≡ self.old.over }
+    {
         for _ in 0..TIMES {
             if !self.answered || !self.writable || self.over {
                 return;
@@ -158,25 +191,25 @@ impl Caller {
         }
     }
 
-    /// The same where its order is still to be carried out, and where it was.
-    fn go_on<K: Keeper>(&mut self, alloc: Global, service: &mut Service<K>)
+    /// Reads its line, and carries its order out where it was not and its line is whole.
+    fn go_on<K: Keeper>(&mut self, alloc: Global, service: &mut Service<K>, now: Duration)
         ensures honest { K.is_honest service.new → K.is_honest service.old }
-        ensures leads { K.is_honest service.new
-            → LeadsBeside (K.state service.old) (K.state service.new) }
+        ensures attends { K.is_honest service.new
+            → Attends (called self.old) (called self.new) (K.state service.old) (K.state service.new) }
     {
+        self.hear(now);
         if !self.answered && !self.over {
             self.obey(alloc, service);
         }
     }
 
-    /// Reads its line, carries its order out, and writes the answer, each as far as it goes.
+    /// The same, and writes the answer, as far as it goes.
     pub fn attend<K: Keeper>(&mut self, alloc: Global, service: &mut Service<K>, now: Duration)
         ensures honest { K.is_honest service.new → K.is_honest service.old }
-        ensures leads { K.is_honest service.new
-            → LeadsBeside (K.state service.old) (K.state service.new) }
+        ensures attends { K.is_honest service.new
+            → Attends (called self.old) (called self.new) (K.state service.old) (K.state service.new) }
     {
-        self.hear(now);
-        self.go_on(alloc, service);
+        self.go_on(alloc, service, now);
         self.tell(now);
     }
 }

@@ -1,5 +1,8 @@
 //! Those who give orders while connections are served.
+ghost use Rattle.std.specs.Prelude.{◌≡◌};
 ghost use Rattle.registry_loop.specs.Together.{LeadsBeside};
+ghost use Rattle.registry_loop.specs.Calling.{Come, AttendsAll, AttendsRound, Stay};
+ghost use Rattle.registry_loop.specs.Calls.{all_called};
 
 use crate::caller::Caller;
 use mio::event::Event;
@@ -28,6 +31,31 @@ pub struct Callers {
     callers: Vec<Caller>,
     /// The token of the one that comes next.
     next: usize,
+}
+
+/// Tells the one that an event is of.
+fn note_each(callers: &mut [Caller], event: &Event)
+    ensures { all_called callers.new ≡ all_called callers.old }
+{
+    for caller in callers.iter_mut() {
+        caller.note(event);
+    }
+}
+
+/// Attends each in turn.
+fn attend_each<K: Keeper>(
+    callers: &mut [Caller],
+    alloc: Global,
+    service: &mut Service<K>,
+    now: Duration,
+)
+    ensures honest { K.is_honest service.new → K.is_honest service.old }
+    ensures attends { K.is_honest service.new → AttendsAll (all_called callers.old) (all_called callers.new)
+        (K.state service.old) (K.state service.new) }
+{
+    for caller in callers.iter_mut() {
+        caller.attend(alloc, service, now);
+    }
 }
 
 impl Callers {
@@ -65,20 +93,19 @@ impl Callers {
     }
 
     /// Tells the one that an event is of.
-    pub fn note(&mut self, event: &Event) {
-        let token = event.token();
-        if token == DESK {
+    pub fn note(&mut self, event: &Event)
+        ensures { all_called self.new.callers.items ≡ all_called self.old.callers.items }
+    {
+        if event.token() == DESK {
             self.knocks = true;
         }
-        for caller in self.callers.iter_mut() {
-            if caller.token == token {
-                caller.note(event);
-            }
-        }
+        note_each(&mut self.callers, event);
     }
 
     /// Takes the next one that came.
-    fn accept_next(&mut self, alloc: Global, registry: &Registry, now: Duration) {
+    fn accept_next(&mut self, alloc: Global, registry: &Registry, now: Duration)
+        ensures { Come (all_called self.old.callers.items) (all_called self.new.callers.items) }
+    {
         let Some(listener) = &self.listener else {
             self.knocks = false;
             return;
@@ -101,7 +128,9 @@ impl Callers {
     }
 
     /// Takes those who came, as far as there is room.
-    fn accept_all(&mut self, alloc: Global, registry: &Registry, now: Duration) {
+    fn accept_all(&mut self, alloc: Global, registry: &Registry, now: Duration)
+        ensures { Come (all_called self.old.callers.items) (all_called self.new.callers.items) }
+    {
         for _ in 0..MOST {
             if !self.knocks || self.callers.len() >= MOST {
                 return;
@@ -110,34 +139,37 @@ impl Callers {
         }
     }
 
-    /// Carries out the orders that are there, each of them whole.
-    fn attend_all<K: Keeper>(&mut self, alloc: Global, service: &mut Service<K>, now: Duration)
-        ensures honest { K.is_honest service.new → K.is_honest service.old }
-        ensures leads { K.is_honest service.new
-            → LeadsBeside (K.state service.old) (K.state service.new) }
-    {
-        for caller in self.callers.iter_mut() {
-            caller.attend(alloc, service, now);
+    /// Whether the one at a place is to go.
+    fn is_to_go(&self, at: usize, now: Duration) -> bool {
+        match self.callers.get(at) {
+            Some(caller) => caller.leaves(now),
+            None => false,
         }
+    }
+
+    /// Lets the one at a place go, if it is to go; says where the next is.
+    fn dismiss_if(&mut self, at: usize, now: Duration) -> usize
+        ensures { Stay (all_called self.new.callers.items) (all_called self.old.callers.items) }
+    {
+        if self.is_to_go(at, now) && at < self.callers.len() {
+            self.callers.remove(at);
+            return at;
+        }
+        at.saturating_add(1)
     }
 
     /// Lets those go that are to go.
-    fn dismiss_all(&mut self, now: Duration) {
+    fn dismiss_all(&mut self, now: Duration)
+        ensures { Stay (all_called self.new.callers.items) (all_called self.old.callers.items) }
+    {
         let mut at = 0;
         for _ in 0..self.callers.len() {
-            let leaves = match self.callers.get(at) {
-                Some(caller) => caller.leaves(now),
-                None => return,
-            };
-            if leaves && at < self.callers.len() {
-                self.callers.remove(at);
-            } else {
-                at += 1;
-            }
+            at = self.dismiss_if(at, now);
         }
     }
 
-    /// One round: takes those who came, carries out their orders, answers, and lets go.
+    /// One round: takes those who came, carries out the order of each whose line got whole, answers, and lets
+    /// go.
     pub fn attend<K: Keeper>(
         &mut self,
         alloc: Global,
@@ -146,11 +178,14 @@ impl Callers {
         now: Duration,
     )
         ensures honest { K.is_honest service.new → K.is_honest service.old }
+        ensures attends { K.is_honest service.new
+            → AttendsRound (all_called self.old.callers.items) (all_called self.new.callers.items)
+            (K.state service.old) (K.state service.new) }
         ensures leads { K.is_honest service.new
             → LeadsBeside (K.state service.old) (K.state service.new) }
     {
         self.accept_all(alloc, registry, now);
-        self.attend_all(alloc, service, now);
+        attend_each(&mut self.callers, alloc, service, now);
         self.dismiss_all(now);
     }
 

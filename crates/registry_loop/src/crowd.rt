@@ -2,18 +2,18 @@
 ghost use Rattle.std.specs.Prelude.{◌≡◌};
 ghost use Rattle.registry_server.specs.Events.{Carries, Leads};
 ghost use Rattle.registry_server.specs.Showing.{connected};
-ghost use Rattle.registry_loop.specs.Together.{LeadsBeside};
+ghost use Rattle.registry_loop.specs.Together.{LeadsBeside, bounds_of};
 
 use crate::callers::Callers;
 use crate::gathering::Gathering;
 use crate::log::Log;
 use crate::peer::Peer;
-use crate::peers::{coming, going, is_any_ready, is_large, leaves, may_speak, note};
+use crate::peers::{is_any_ready, leaves, note};
 use mio::net::TcpListener;
 use mio::{Events, Interest, Poll, Token};
 use registry_model::Keeper;
 use registry_orders::Limits;
-use registry_server::{Connections, Turn};
+use registry_server::{Bounds, Connections, Turn};
 use registry_service::Service;
 use std::alloc::Global;
 use std::io::Write;
@@ -61,6 +61,18 @@ pub struct Crowd<'a, T: Clock, E: Write> {
     pub(crate) now: Duration,
 }
 
+/// Half of the buffer is for requests, and half for replies.
+fn bounds_for(at_once: usize, buffer: u64) -> Bounds
+    ensures { result ≡ bounds_of at_once buffer }
+{
+    let half = (buffer / 2) as usize;
+    Bounds {
+        at_once,
+        coming: half,
+        going: half,
+    }
+}
+
 impl<'a, T: Clock, E: Write> Crowd<'a, T, E> {
     /// Nobody but those who come to the listener, of whom so many are taken. An error is that of the system,
     /// or want of memory.
@@ -97,22 +109,16 @@ impl<'a, T: Clock, E: Write> Crowd<'a, T, E> {
         })
     }
 
-    /// Half of the room is for requests, and half for replies.
-    fn half(&self) -> usize {
-        (self.limits.buffer / 2) as usize
-    }
-
     /// Whether something is to be done before anything happens.
-    fn busy(&self) -> bool {
-        let half = self.half();
-        (self.pending && going(&self.peers) < half)
-            || is_any_ready(&self.peers, half)
+    fn busy(&self, connections: &Connections) -> bool {
+        (self.pending && connections.has_room_for_reply())
+            || is_any_ready(&self.peers, connections)
             || self.callers.is_any_ready()
     }
 
     /// Waits until something happens, and notes what.
-    fn wait(&mut self) -> io::Result<()> {
-        let limit = if self.busy() {
+    fn wait(&mut self, connections: &Connections) -> io::Result<()> {
+        let limit = if self.busy(connections) {
             Some(Duration::ZERO)
         } else if self.peers.is_empty() && !self.knocks && self.callers.is_quiet() {
             None
@@ -143,21 +149,19 @@ impl<'a, T: Clock, E: Write> Crowd<'a, T, E> {
         }
     }
 
-    /// Reads each that may be read, once, and lets fall what those send who were refused.
+    /// Reads each that may be read, once, as many bytes as its connection takes, and lets fall what those
+    /// send who were refused.
     fn hear_all(&mut self, connections: &mut Connections)
         ensures { Carries (connected connections.old) (connected connections.new) }
     {
-        let full = coming(&self.peers) >= self.half();
         let now = self.now;
-        let mut first = true;
         for peer in self.peers.iter_mut() {
-            let may = may_speak(full, first, peer);
+            let may = peer.may_speak(connections);
             self.pending = self.pending || may;
             peer.hear_if(may, connections, &mut self.room, now);
             if peer.drains() {
                 peer.drain(&mut self.room, now);
             }
-            first = first && !is_large(peer);
         }
     }
 
@@ -194,7 +198,7 @@ impl<'a, T: Clock, E: Write> Crowd<'a, T, E> {
         ensures leads { K.is_honest service.new → Leads (connected connections.old) (K.state service.old)
             (connected connections.new) (K.state service.new) }
     {
-        if service.spent() || going(&self.peers) >= self.half() {
+        if service.spent() {
             return false;
         }
         let clock = self.clock;
@@ -206,7 +210,8 @@ impl<'a, T: Clock, E: Write> Crowd<'a, T, E> {
                 true
             }
             None => {
-                self.pending = false;
+                // Where there is no room for a reply, some may wait for their turn.
+                self.pending = !connections.has_room_for_reply();
                 false
             }
         }
@@ -264,7 +269,7 @@ impl<'a, T: Clock, E: Write> Crowd<'a, T, E> {
     fn dismiss_all(&mut self, alloc: Global, connections: &mut Connections)
         ensures { Carries (connected connections.old) (connected connections.new) }
     {
-        let pressed = going(&self.peers) >= self.half();
+        let pressed = !connections.has_room_for_reply();
         let mut at = 0;
         for _ in 0..self.peers.len() {
             at = self.dismiss_if(alloc, connections, at, pressed);
@@ -306,7 +311,7 @@ impl<'a, T: Clock, E: Write> Crowd<'a, T, E> {
         ensures leads { K.is_honest service.new → Leads (connected connections.old) (K.state service.old)
             (connected connections.new) (K.state service.new) }
     {
-        self.wait()?;
+        self.wait(connections)?;
         self.accept_all(alloc, connections, at_once)?;
         self.hear_all(connections);
         self.answer_all(alloc, connections, service);
@@ -318,13 +323,15 @@ impl<'a, T: Clock, E: Write> Crowd<'a, T, E> {
 }
 
 impl<'a, T: Clock, E: Write> Gathering for Crowd<'a, T, E> {
+    ghost buffer = { λ c. c.limits.buffer };
+
     fn serve_all<K: Keeper>(
         &mut self,
         alloc: Global,
         service: &mut Service<K>,
         at_once: usize,
     ) -> io::Result<bool> {
-        let mut connections = Connections::new(alloc, at_once);
+        let mut connections = Connections::new(alloc, bounds_for(at_once, self.limits.buffer));
         for _ in 0..u64::MAX {
             if service.spent() {
                 self.leave(&mut connections);

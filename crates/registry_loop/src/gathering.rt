@@ -1,6 +1,6 @@
 //! Connections that are served together.
-ghost use Rattle.std.specs.Prelude.{◌≡◌, true, false, IfOk};
-ghost use Rattle.registry_loop.specs.Together.{ServesTogether};
+ghost use Rattle.std.specs.Prelude.{◌≡◌, ℕ, true, false, IfOk};
+ghost use Rattle.registry_loop.specs.Together.{ServesTogether, ServesWithin};
 
 use registry_model::Keeper;
 use registry_service::Service;
@@ -9,6 +9,9 @@ use std::io;
 
 /// Those whose connections are served together.
 pub trait Gathering {
+    /// About how many bytes of requests and of replies they may have in hand.
+    ghost buffer: { Self → ℕ };
+
     /// Serves those who come, at most so many at once, until all have come and gone, or the service is spent:
     /// then everybody goes, and the answer is `false`. An error is that nobody can come.
     fn serve_all<K: Keeper>(
@@ -20,5 +23,7 @@ pub trait Gathering {
         ensures honest { K.is_honest service.new → K.is_honest service.old }
         ensures serves { K.is_honest service.new
             → ServesTogether at_once (K.state service.old) (K.state service.new) }
+        ensures within { K.is_honest service.new
+            → ServesWithin at_once (buffer self.old) (K.state service.old) (K.state service.new) }
         ensures spent { IfOk result (λ over. over ≡ false → (K.state service.new).spent ≡ true) };
 }

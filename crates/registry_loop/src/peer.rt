@@ -8,7 +8,7 @@ use mio::event::Event;
 use mio::net::TcpStream;
 use registry_conversation::{Step, Wants};
 use registry_http::End;
-use registry_server::{Connections, Turn};
+use registry_server::{Connections, Receipt, Turn};
 use std::alloc::Global;
 use std::io::{ErrorKind, Read, Write};
 use std::net::Shutdown;
@@ -79,9 +79,10 @@ impl Peer {
         }
     }
 
-    /// It is to be read.
-    pub fn speaks(&self) -> bool {
-        self.readable && !self.failed && self.wants == Some(Wants::Bytes)
+    /// It is to be read, and its connection takes what comes.
+    pub fn may_speak(&self, connections: &Connections) -> bool {
+        let speaks = self.readable && !self.failed && self.wants == Some(Wants::Bytes);
+        speaks && connections.room(self.number) > 0
     }
 
     /// It is to be written to.
@@ -173,19 +174,25 @@ impl Peer {
         }
     }
 
-    /// Reads once, at most as many bytes as there is room.
+    /// Reads once, at most as many bytes as its connection takes.
     fn read_once(&mut self, connections: &mut Connections, room: &mut [u8], now: Duration)
         ensures { Carries (connected connections.old) (connected connections.new) }
     {
+        let most = connections.room(self.number).min(room.len());
+        let room = &mut room[..most];
         match self.stream.read(room) {
             Ok(0) => {
                 self.readable = false;
                 let _ = connections.finish(self.number);
             }
             Ok(count) => {
-                let count = count.min(room.len());
-                let _ = connections.receive(self.number, &room[..count]);
-                self.heard(count, count == room.len(), now);
+                let count = count.min(most);
+                match connections.receive(self.number, &room[..count]) {
+                    Receipt::Taken | Receipt::NotOpen => {}
+                    // No more was read than there is room for.
+                    Receipt::NoRoom => unreachable!(),
+                }
+                self.heard(count, count == most, now);
             }
             Err(error) => self.read_failed(error.kind()),
         }

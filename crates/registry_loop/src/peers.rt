@@ -1,54 +1,20 @@
-//! What many sockets have in hand together, and which of them is read, waits, or is to go.
+//! Which of many sockets is ready, rests, or is to go.
 
 use crate::peer::Peer;
 use mio::event::Event;
+use registry_server::Connections;
 use std::time::Duration;
-
-/// So many bytes of a request a connection may always send, however many others have.
-const SHARE: usize = 65_536;
 
 /// How many seconds a connection that rests stays where another waits to be taken, and one that takes nothing
 /// where there is no room for replies.
 const PATIENCE: u64 = 5;
 
-/// How many bytes of requests are in hand.
-pub fn coming(peers: &[Peer]) -> usize {
-    let mut sum = 0usize;
+/// Whether any may be read, so that its connection takes what comes, or written to.
+pub fn is_any_ready(peers: &[Peer], connections: &Connections) -> bool {
     for peer in peers.iter() {
-        sum = sum.saturating_add(peer.coming);
-    }
-    sum
-}
-
-/// How many bytes of replies are in hand.
-pub fn going(peers: &[Peer]) -> usize {
-    let mut sum = 0usize;
-    for peer in peers.iter() {
-        sum = sum.saturating_add(peer.going);
-    }
-    sum
-}
-
-/// It has sent more of a request than every connection may.
-pub fn is_large(peer: &Peer) -> bool {
-    peer.coming >= SHARE
-}
-
-/// Where requests leave no room, only those who sent little are read, and the first of the others, so that
-/// its request gets whole.
-pub fn may_speak(full: bool, first: bool, peer: &Peer) -> bool {
-    peer.speaks() && (!full || first || !is_large(peer))
-}
-
-/// Whether any may be read, where so many bytes of requests are room for all, or written to.
-pub fn is_any_ready(peers: &[Peer], room: usize) -> bool {
-    let full = coming(peers) >= room;
-    let mut first = true;
-    for peer in peers.iter() {
-        if peer.listens() || peer.drains() || may_speak(full, first, peer) {
+        if peer.listens() || peer.drains() || peer.may_speak(connections) {
             return true;
         }
-        first = first && !is_large(peer);
     }
     false
 }

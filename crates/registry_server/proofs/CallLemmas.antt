@@ -1,13 +1,16 @@
 -- From the clause of each call to its event, and of calls one after the other.
-use Rattle.std.proofs.Common.{◌≡◌, ℕ, ◌≤◌, Bool, true, false, List, [], ◌∷◌, ◌++◌, length, take, drop, refl, sym, ap, subst, ◌∙◌}
+use Rattle.std.proofs.Common.{◌≡◌, ℕ, ◌+◌, ◌<◌, ◌≤◌, Bool, true, false, List, [], ◌∷◌, ◌++◌, length, take, drop, refl, sym, ap, subst, ◌∙◌}
 use Rattle.std.proofs.lemmas.List.{length-take-le, take-append-drop}
 use Rattle.oci_names.specs.Text.{Text}
 use Rattle.registry_model.specs.Keeping.{State}
 use Rattle.registry_conversation.specs.declared.phase.Step.{Step}
-use Rattle.registry_conversation.specs.Shown.{Shown}
+use Rattle.registry_conversation.specs.Shown.{Shown, coming_len}
 use Rattle.registry_conversation.specs.Events.{came, ended, acted, sent, Happens as Does}
-use Rattle.registry_server.specs.Open.{Slot, Open, Opens, Changes, Closes, TakesTurn, IfOpen, with_slots, hears, sends, Hears, Finishes, Sends}
-use Rattle.registry_server.specs.Events.{Event, comes, on, goes, Happens, Passes, Leads, Carries}
+use Rattle.registry_server.specs.declared.receipt.Receipt.{Receipt}
+use Rattle.registry_server.specs.declared.receipt.Receipt.TheVariants.{Taken, NoRoom, NotOpen}
+use Rattle.registry_server.specs.Room.{IsReceived, going_sum}
+use Rattle.registry_server.specs.Open.{Slot, Open, Opens, Changes, Closes, TakesTurn, IfOpen, with_slots, hears, sends, Finishes, Sends}
+use Rattle.registry_server.specs.Events.{Event, comes, on, goes, HappensOn, Happens, Passes, Leads, Carries}
 
 -- ---- none, one, and one behind the other
 
@@ -59,10 +62,13 @@ of_open false n P u u' f x = carries_same u u' x.1
 pub of_opened : (n : ℕ) (u u' : Open) → Opens n u u' → Carries u u'
 of_opened n u u' x s = leads_one (comes n) u s u' s (x, refl)
 
-pub of_received : (there : Bool) (n : ℕ) (bytes : Text) (u u' : Open) → IfOpen there n (Changes n (Hears bytes) hears) u u' → Carries u u'
-of_received there n bytes u u' =
-    of_open there n (Changes n (Hears bytes) hears) u u'
-    (λ s x e. leads_one (on n (came bytes)) u s u' s (changes_as {Q = λ c c'. Does (came bytes) c s c' s} (λ c c' h. (h.0, h.1, refl)) x, e))
+pub of_received : (receipt : Receipt) (n : ℕ) (bytes : Text) (u u' : Open) → IsReceived receipt n bytes u u' → Carries u u'
+of_received Taken n bytes u u' x = λ s.
+    let h : HappensOn n (came bytes) u s u' s =
+    (changes_as {Q = λ c c'. Does (came bytes) c s c' s × (coming_len c' ≤ coming_len c + length bytes)} (λ c c' h. ((h.0, h.1, refl), h.2)) x.0, x.2) in
+    leads_one (on n (came bytes)) u s u' s (h, x.1)
+of_received NoRoom n bytes u u' x = carries_same u u' x.3
+of_received NotOpen n bytes u u' x = carries_same u u' x.1
 
 pub of_finished : (there : Bool) (n : ℕ) (u u' : Open) → IfOpen there n (Changes n Finishes hears) u u' → Carries u u'
 of_finished there n u u' =
@@ -103,21 +109,25 @@ pub of_closed : (there : Bool) (n : ℕ) (u u' : Open) → IfOpen there n (Close
 of_closed there n u u' = of_open there n (Closes n) u u' (λ s x e. leads_one (goes n) u s u' s (x, e, refl))
 
 pub of_turn : {honest : Type 0} (n : ℕ) (found : Step) (u : Open) (s : State) (u' : Open) (s' : State)
-    → TakesTurn n found (λ c c'. honest → Does (acted found) c s c' s') u.slots u'.slots → u' ≡ with_slots u u'.slots → honest → Leads u s u' s'
-of_turn {honest} n found u s u' s' y e h =
+    → TakesTurn n found (λ c c'. (honest → Does (acted found) c s c' s') × (coming_len c' ≤ coming_len c)) u.slots u'.slots → u' ≡ with_slots u u'.slots
+    → going_sum u.slots < u.bounds.going → honest → Leads u s u' s'
+of_turn {honest} n found u s u' s' y e room h =
     leads_one (on n (acted found)) u s u' s' (
-      record {
-        front = y.front;
-        slot = y.slot;
-        back = y.back;
-        conversation = y.conversation;
-        was = y.was;
-        waiting = y.waiting;
-        stirred = y.stirred;
-        numbered = y.numbered;
-        is = y.is;
-        changes = y.changes h;
-        only = y.only;
-      },
+      (
+        record {
+          front = y.front;
+          slot = y.slot;
+          back = y.back;
+          conversation = y.conversation;
+          was = y.was;
+          waiting = y.waiting;
+          stirred = y.stirred;
+          numbered = y.numbered;
+          is = y.is;
+          changes = (y.changes.0 h, y.changes.1);
+          only = y.only;
+        },
+        room,
+      ),
       e,
     )

@@ -9,6 +9,7 @@ use Rattle.registry_model.specs.Team.{Step}
 use Rattle.registry_model.proofs.RunLaws.{run_says, one_more}
 use Rattle.registry_conversation.specs.Shown.{Shown, begun}
 use Rattle.registry_conversation.specs.Events.{Event as Call, came, ended, acted, sent, Happens as Does, heard, heard_if, went}
+use Rattle.registry_server.specs.declared.bounds.Bounds.{Bounds}
 use Rattle.registry_server.specs.Open.{Open, none, conversation_of, Only, Opens}
 use Rattle.registry_server.specs.Accounts.{Replied, AccountsAs}
 use Rattle.registry_server.specs.Events.{Event, comes, on, goes, elsewhere, HappensOn, Happens, Passes, calls_of, Entry, replied, took, step_of, outcome_of, replies_of, OneLedger}
@@ -117,9 +118,9 @@ record Moves (n : ℕ) (call : Call) (u : Open) (s : State) (u' : Open) (s' : St
   only : Only n (Some before) (Some after) u.slots u'.slots
 
 moves : (n : ℕ) (call : Call) (u : Open) (s : State) (u' : Open) (s' : State) → HappensOn n call u s u' s' → Moves n call u s u' s'
-moves n (came bytes) u s u' s' x = record { before = x.slot.conversation; after = x.conversation; does = x.changes; only = x.only }
+moves n (came bytes) u s u' s' x = record { before = x.0.slot.conversation; after = x.0.conversation; does = x.0.changes.0; only = x.0.only }
 moves n ended u s u' s' x = record { before = x.slot.conversation; after = x.conversation; does = x.changes; only = x.only }
-moves n (acted found) u s u' s' x = record { before = x.slot.conversation; after = x.conversation; does = x.changes; only = x.only }
+moves n (acted found) u s u' s' x = record { before = x.0.slot.conversation; after = x.0.conversation; does = x.0.changes.0; only = x.0.only }
 moves n (sent text) u s u' s' x = record { before = x.slot.conversation; after = x.conversation; does = x.changes; only = x.only }
 
 -- ---- all events
@@ -257,8 +258,8 @@ after_is (on m call) es out n = elim (cases_eq n m) [
 after_is (goes m) es out n = refl
 after_is (elsewhere step outcome) es out n = refl
 
-starts : (events : List Event) (most : ℕ) (s : State) → Stage (λ n. heard (calls_of n events)) events (λ n. []) s s (none most)
-starts events most s = record {
+starts : (events : List Event) (bounds : Bounds) (s : State) → Stage (λ n. heard (calls_of n events)) events (λ n. []) s s (none bounds)
+starts events bounds s = record {
   ledger = [];
   writes = refl;
   kept = λ n. record {
@@ -302,7 +303,7 @@ finishes events s u s' out is g = record {
       };
 }
 
-pub all_are_served : (events : List Event) (most : ℕ) (s : State) (u : Open) (s' : State) → Passes events (none most) s u s' → OneLedger events s s' u
-all_are_served events most s u s' x =
-    let r = all_events (λ n. heard (calls_of n events)) events (λ n. []) s s (none most) u s' (starts events most s) x in
+pub all_are_served : (events : List Event) (bounds : Bounds) (s : State) (u : Open) (s' : State) → Passes events (none bounds) s u s' → OneLedger events s s' u
+all_are_served events bounds s u s' x =
+    let r = all_events (λ n. heard (calls_of n events)) events (λ n. []) s s (none bounds) u s' (starts events bounds s) x in
     finishes events s u s' r.0 r.1 r.2

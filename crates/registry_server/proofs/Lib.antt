@@ -5,3 +5,4 @@ pub mod AccountLemmas
 pub mod LedgerLemmas
 pub mod TurnLemmas
 pub mod CallLemmas
+pub mod RoomLemmas

@@ -5,6 +5,7 @@ use Rattle.std.specs.List.{remove}
 use Rattle.std.proofs.lemmas.List.Elements.{All-push}
 use Rattle.registry_conversation.specs.declared.phase.Step.{Step}
 use Rattle.registry_conversation.specs.Shown.{Shown, begun}
+use Rattle.registry_server.specs.declared.bounds.Bounds.{Bounds}
 use Rattle.registry_server.specs.declared.connection.Connection.{Connection}
 use Rattle.registry_server.specs.Open.{Slot, conversation_of, are_numbered, Opens, Only, Changes, Closes, TakesTurn, Becomes, FoundAt, StirredAt, goes_on}
 use Rattle.registry_server.specs.Slots.{slot_of, slots_of, IsMoved}
@@ -20,7 +21,7 @@ cut i xs x lt is =
 place : (i : ℕ) (xs : List Connection) → i < length xs → length (slots_of (take i xs)) ≡ i
 place i xs lt = length-map (take i xs) slot_of ∙ length-take-le i xs (omega arith)
 
-grown : (i : ℕ) (xs : List Connection) (x : Connection) → i < length xs → x ≡ get_or xs i x
+pub grown : (i : ℕ) (xs : List Connection) (x : Connection) → i < length xs → x ≡ get_or xs i x
     → slots_of (take (i + 1) xs) ≡ slots_of (take i xs) ++ slot_of x ∷ []
 grown i xs x lt is =
     ap slots_of (take_more xs i x lt)
@@ -145,6 +146,10 @@ unchanged at xs x y is e =
     ∙ ap (λ (s : Slot). set (slots_of xs) at s) (e ∙ ap slot_of is)
     ∙ sym (map-set slot_of xs at (get_or xs at x))
     ∙ ap slots_of (set-get_or xs at x)
+
+-- what was found is what stands under the number
+pub found_there : (n at : ℕ) (slots : List Slot) (f : FoundAt n at slots) → conversation_of n slots ≡ Some f.slot.conversation
+found_there n at slots f = ap (conversation_of n) f.was ∙ skip n f.front (f.slot ∷ f.back) f.first ∙ of_same n f.slot f.back f.numbered
 
 -- what is found under the number
 pub found_is : (n at : ℕ) (xs : List Connection) (x : Connection) → x ≡ get_or xs at x → FoundAt n at (slots_of xs)
@@ -279,18 +284,18 @@ came_numbers xs zs x n e is h =
     (closed (n + 1) (slots_of xs ++ record { number = n; conversation = begun; stirred = false } ∷ [])
     (pushed n (n + 1) (slots_of xs) (record { number = n; conversation = begun; stirred = false }) all (omega arith) (omega arith) (fresh n (slots_of xs) n all (omega arith))))
 
-pub opens : (most n : ℕ) (xs zs : List Connection) (x : Connection) → length xs < most → are_numbered n (slots_of xs) ≡ true → zs ≡ xs ++ x ∷ []
+pub opens : (bounds : Bounds) (n : ℕ) (xs zs : List Connection) (x : Connection) → length xs < bounds.at_once → are_numbered n (slots_of xs) ≡ true → zs ≡ xs ++ x ∷ []
     → slot_of x ≡ record { number = n; conversation = begun; stirred = false }
-    → Opens n (record { slots = slots_of xs; next = n; most = most }) (record { slots = slots_of zs; next = n + 1; most = most })
-opens most n xs zs x room h e is =
+    → Opens n (record { slots = slots_of xs; next = n; bounds = bounds }) (record { slots = slots_of zs; next = n + 1; bounds = bounds })
+opens bounds n xs zs x room h e is =
     let all = opened n (slots_of xs) h in
     let w = came_slots xs zs x n e is in
     let absent = fresh n (slots_of xs) n all (omega arith) in
     let c : Slot = record { number = n; conversation = begun; stirred = false } in
     record {
       number = refl;
-      room = subst (λ (k : ℕ). k < most) (sym (length-map xs slot_of)) room;
-      is = ap (λ (ys : List Slot). record { slots = ys; next = n + 1; most = most }) w;
+      room = subst (λ (k : ℕ). k < bounds.at_once) (sym (length-map xs slot_of)) room;
+      is = ap (λ (ys : List Slot). record { slots = ys; next = n + 1; bounds = bounds }) w;
       only = only_on refl w (record {
         was = absent;
         is = skip n (slots_of xs) (c ∷ []) absent ∙ of_same n c [] refl;

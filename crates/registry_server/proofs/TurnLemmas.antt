@@ -7,6 +7,7 @@ use Rattle.registry_model.specs.Keeping.{State}
 use Rattle.registry_conversation.specs.declared.phase.Step.{Step}
 use Rattle.registry_conversation.specs.Shown.{Shown, listens}
 use Rattle.registry_conversation.specs.Events.{Event as Call, came, ended, acted, sent}
+use Rattle.registry_server.specs.declared.bounds.Bounds.{Bounds}
 use Rattle.registry_server.specs.Open.{Slot, Open, none, conversation_of, Changes, TakesTurn, is_told, hears, sends}
 use Rattle.registry_server.specs.Events.{Event, comes, on, goes, elsewhere, HappensOn, Happens, Passes}
 use Rattle.registry_server.specs.Turns.{IsStirred, HasTurn, TurnsTwice}
@@ -27,18 +28,18 @@ numbers_on (on n call) u s u' s' x h =
         subst (AreNumbered u.next) (sym y.is) (in_place u.next y.front y.slot _ y.back (subst (AreNumbered u.next) y.was h) (sym y.numbered))
 
     by_call : (c : Call) → HappensOn n c u s u' s' → AreNumbered u.next u'.slots
-    by_call (came bytes) y = changed _ _ y
+    by_call (came bytes) y = changed _ _ y.0
     by_call ended y = changed _ _ y
     by_call (sent text) y = changed _ _ y
     by_call (acted found) y =
-        subst (AreNumbered u.next) (sym y.is) (to_back u.next y.front y.slot _ y.back (subst (AreNumbered u.next) y.was h) (sym y.numbered))
+        subst (AreNumbered u.next) (sym y.0.is) (to_back u.next y.0.front y.0.slot _ y.0.back (subst (AreNumbered u.next) y.0.was h) (sym y.0.numbered))
 numbers_on (goes n) u s u' s' x h =
     let y = x.0 in
     subst (λ (k : ℕ). AreNumbered k u'.slots) (sym (ap (λ (v : Open). v.next) x.1))
     (subst (AreNumbered u.next) (sym y.is) (among u.next y.front y.slot y.back (subst (AreNumbered u.next) y.was h)).others)
 numbers_on (elsewhere step outcome) u s u' s' x h = subst (λ (v : Open). AreNumbered v.next v.slots) (sym x.0) h
 
-numbers_after : (es : List Event) (u : Open) (s : State) (u' : Open) (s' : State) → Passes es u s u' s' → AreNumbered u.next u.slots → AreNumbered u'.next u'.slots
+pub numbers_after : (es : List Event) (u : Open) (s : State) (u' : Open) (s' : State) → Passes es u s u' s' → AreNumbered u.next u.slots → AreNumbered u'.next u'.slots
 numbers_after [] u s u' s' x h = subst (λ (v : Open). AreNumbered v.next v.slots) (sym x.0) h
 numbers_after (e ∷ es) u s u' s' x h = numbers_after es x.0 x.1 u' s' x.3 (numbers_on e u s x.0 x.1 x.2 h)
 
@@ -102,7 +103,7 @@ module _ (m n : ℕ) (ne : m ≢ n) (second : Step) where
 
   at_last : (u : Open) (s : State) (u' : Open) (s' : State) → Passes (on n (acted second) ∷ []) u s u' s' → Before m n u.slots → ⊥
   at_last u s u' s' x b =
-      let t = x.2.0 in
+      let t = x.2.0.0 in
       not_first m n t.front t.slot t.back ne t.numbered t.waiting (subst (Before m n) t.was b)
 
   still : (k : ℕ) (P : Shown → Shown → Type 0) (stirs : Slot → Bool) (xs ys : List Slot) → ((c : Slot) → c.stirred ≡ true → stirs c ≡ true) → Changes k P stirs xs ys
@@ -123,12 +124,12 @@ module _ (m n : ℕ) (ne : m ≢ n) (second : Step) where
 
   between : (es : List Event) (u : Open) → Goal es u
   between [] u s u' s' x b = absurd (at_last u s u' s' x b)
-  between (on k (came bytes) ∷ es) u s u' s' x b = between es x.0 x.1 u' s' x.3 (still k _ _ u.slots x.0.slots heard x.2.0 b)
+  between (on k (came bytes) ∷ es) u s u' s' x b = between es x.0 x.1 u' s' x.3 (still k _ _ u.slots x.0.slots heard x.2.0.0 b)
   between (on k ended ∷ es) u s u' s' x b = between es x.0 x.1 u' s' x.3 (still k _ _ u.slots x.0.slots heard x.2.0 b)
   between (on k (sent text) ∷ es) u s u' s' x b = between es x.0 x.1 u' s' x.3 (still k _ _ u.slots x.0.slots (told text) x.2.0 b)
   between (on k (acted found) ∷ es) u s u' s' x b = elim (cases_eq k m) [
     | inl same ↦ inl same
-    | inr other ↦ inr (between es x.0 x.1 u' s' x.3 (others_turn k found _ u.slots x.0.slots other x.2.0 b))
+    | inr other ↦ inr (between es x.0 x.1 u' s' x.3 (others_turn k found _ u.slots x.0.slots other x.2.0.0 b))
   ]
   between (goes k ∷ es) u s u' s' x b = elim (cases_eq k m) [
     | inl same ↦ inl same
@@ -143,12 +144,12 @@ module _ (m n : ℕ) (ne : m ≢ n) (second : Step) where
   between (elsewhere step outcome ∷ es) u s u' s' x b =
       between es x.0 x.1 u' s' x.3 (subst (λ (v : Open). Before m n v.slots) (sym x.2.0) b)
 
-pub turn_between : (events : List Event) (most : ℕ) (s : State) (u : Open) (t : State) → Passes events (none most) s u t
+pub turn_between : (events : List Event) (bounds : Bounds) (s : State) (u : Open) (t : State) → Passes events (none bounds) s u t
     → (n m : ℕ) (es : List Event) (u' : Open) (t' : State) → m ≢ n → IsStirred m u.slots → TurnsTwice n es u t u' t' → HasTurn m es
-turn_between events most s u t p n m es u' t' ne waits x =
+turn_between events bounds s u t p n m es u' t' ne waits x =
     let y = x.2 in
-    let f = y.2.0 in
-    let all = numbers_after events (none most) s u t p tt in
+    let f = y.2.0.0 in
+    let all = numbers_after events (none bounds) s u t p tt in
     let r = among u.next f.front f.slot f.back (subst (AreNumbered u.next) f.was all) in
     let absent : conversation_of n (f.front ++ f.back) ≡ None =
     subst (λ (k : ℕ). conversation_of k (f.front ++ f.back) ≡ None) f.numbered (skip f.slot.number f.front f.back r.before ∙ r.behind) in

@@ -1,12 +1,13 @@
 -- What any list of calls comes to, over all connections and one service.
-use Rattle.std.specs.Prelude.{◌≡◌, ℕ, ◌==◌, if◌then◌else◌, List, [], ◌∷◌, ◌++◌, length, map, IfSome}
+use Rattle.std.specs.Prelude.{◌≡◌, ℕ, ◌+◌, ◌<◌, ◌≤◌, ◌==◌, if◌then◌else◌, List, [], ◌∷◌, ◌++◌, length, map, IfSome}
 use Rattle.registry_model.specs.Keeping.{State}
 use Rattle.registry_model.specs.Runs.{Outcome, told, Takes, TakesAll, RunSays}
 use Rattle.registry_model.specs.Team.{Step, asks}
 use Rattle.registry_http.specs.Asking.{ask_in}
-use Rattle.registry_conversation.specs.Shown.{Shown}
+use Rattle.registry_conversation.specs.Shown.{Shown, coming_len}
 use Rattle.registry_conversation.specs.Events.{Event as Call, came, ended, acted, sent, Happens as Does, heard, went}
 use Rattle.registry_server.specs.Open.{Open, conversation_of, Opens, Changes, Closes, TakesTurn, with_slots, hears, sends}
+use Rattle.registry_server.specs.Room.{room_of, going_sum}
 use Rattle.registry_server.specs.Accounts.{Replied, Accounts}
 
 -- ---- events
@@ -19,13 +20,17 @@ pub data Event : Type 0 where
   goes : ℕ → Event
   elsewhere : Step → Outcome → Event
 
--- what a call for one connection says: the clauses of `receive`, `finish`, `turn` and `sent`
+-- what a call for one connection says: the clauses of `receive` where it took the bytes, `finish`, `turn` and
+-- `sent`
 abbrev pub HappensOn : ℕ → Call → Open → State → Open → State → Type 0
 HappensOn n (came bytes) u s u' s' =
-    Changes n (λ c c'. Does (came bytes) c s c' s') hears u.slots u'.slots
+    Changes n (λ c c'. Does (came bytes) c s c' s' × (coming_len c' ≤ coming_len c + length bytes)) hears
+    u.slots u'.slots
+    × (length bytes ≤ room_of n u)
 HappensOn n ended u s u' s' = Changes n (λ c c'. Does ended c s c' s') hears u.slots u'.slots
 HappensOn n (acted found) u s u' s' =
-    TakesTurn n found (λ c c'. Does (acted found) c s c' s') u.slots u'.slots
+    TakesTurn n found (λ c c'. Does (acted found) c s c' s' × (coming_len c' ≤ coming_len c)) u.slots u'.slots
+    × (going_sum u.slots < u.bounds.going)
 HappensOn n (sent text) u s u' s' =
     Changes n (λ c c'. Does (sent text) c s c' s') (sends (length text)) u.slots u'.slots
 

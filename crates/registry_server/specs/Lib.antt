@@ -1,4 +1,5 @@
 pub mod Open
+pub mod Room
 pub mod Slots
 pub mod Showing
 pub mod Accounts

@@ -3,8 +3,9 @@ use Rattle.std.specs.Prelude.{◌≡◌, ◌≢◌, ℕ, ◌+◌, ◌<◌, ◌�
 use Rattle.oci_names.specs.Text.{Text}
 use Rattle.registry_conversation.specs.declared.phase.Step.{Step}
 use Rattle.registry_conversation.specs.declared.phase.Step.TheVariants.{Answered, Waits, Ended}
-use Rattle.registry_conversation.specs.Shown.{Shown, begun, listens, with_finished, with_going, held_len}
+use Rattle.registry_conversation.specs.Shown.{Shown, begun, listens, with_finished, with_going, coming_len, held_len}
 use Rattle.registry_conversation.specs.Stepping.{Receives}
+use Rattle.registry_server.specs.declared.bounds.Bounds.{Bounds}
 use Rattle.registry_server.specs.declared.refusal.Refusal.{Refusal}
 use Rattle.registry_server.specs.declared.refusal.Refusal.TheVariants.{Full, NoNumber, Memory}
 
@@ -21,14 +22,14 @@ abbrev pub last_number : ℕ
 last_number = 18446744073709551615
 
 -- the connections, in the order in which they take their turns; the number of the next, and how many there
--- may be
+-- may be, and how much they may hold
 pub record Open : Type 0 where
   pub slots : List Slot
   pub next : ℕ
-  pub most : ℕ
+  pub bounds : Bounds
 
-abbrev pub none : ℕ → Open
-none most = record { slots = []; next = 0; most = most }
+abbrev pub none : Bounds → Open
+none bounds = record { slots = []; next = 0; bounds = bounds }
 
 -- the conversation under a number
 abbrev pub conversation_of : ℕ → List Slot → Option Shown
@@ -68,17 +69,17 @@ pub record Only (n : ℕ) (before after : Option Shown) (old new : List Slot) : 
 -- a connection came under the next number, and takes its turns behind the others
 pub record Opens (n : ℕ) (old new : Open) : Type 0 where
   pub number : n ≡ old.next
-  pub room : length old.slots < old.most
+  pub room : length old.slots < old.bounds.at_once
   pub is : new ≡ record {
     slots = old.slots ++ record { number = n; conversation = begun; stirred = false } ∷ [];
     next = n + 1;
-    most = old.most;
+    bounds = old.bounds;
   }
   pub only : Only n None (Some begun) old.slots new.slots
 
 -- there is no room for a further one, or no number, or no memory
 abbrev pub Refuses : Refusal → Open → Type 0
-Refuses Full u = u.most ≤ length u.slots
+Refuses Full u = u.bounds.at_once ≤ length u.slots
 Refuses NoNumber u = u.next ≡ last_number
 Refuses Memory u = ⊤
 
@@ -151,6 +152,7 @@ sends count slot = (length (drop count slot.conversation.going) == 0) || slot.st
 -- the clauses of `receive`
 abbrev pub Hears : Text → Shown → Shown → Type 0
 Hears bytes c c' = (listens c ≡ false → c' ≡ c) × (listens c ≡ true → Receives bytes c c')
+    × (coming_len c' ≤ coming_len c + length bytes)
 
 -- the clause of `finish`
 abbrev pub Finishes : Shown → Shown → Type 0

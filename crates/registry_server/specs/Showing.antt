@@ -4,4 +4,4 @@ use Rattle.registry_server.specs.Open.{Open}
 use Rattle.registry_server.specs.Slots.{slots_of}
 
 abbrev pub connected : Connections → Open
-connected c = record { slots = slots_of c.connections.items; next = c.next; most = c.most }
+connected c = record { slots = slots_of c.connections.items; next = c.next; bounds = c.bounds }

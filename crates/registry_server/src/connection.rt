@@ -1,7 +1,9 @@
-ghost use Rattle.std.specs.Prelude.{◌≡◌, ◌<◌, ◌≤◌, false, length, None, IfSome, IfNone, All};
+ghost use Rattle.std.specs.Prelude.{◌≡◌, ◌<◌, ◌≤◌, false, length, min, None, IfSome, IfNone, All};
 ghost use Rattle.registry_server.specs.Open.{FoundAt, StirredAt, conversation_of};
+ghost use Rattle.registry_server.specs.Room.{over_sum, going_sum};
 ghost use Rattle.registry_server.specs.Slots.{slots_of, IsMoved};
 
+use crate::bounds::SHARE;
 use crate::turn::Turn;
 use registry_conversation::{Conversation, Step};
 use registry_model::Keeper;
@@ -20,6 +22,7 @@ pub struct Connection {
 
 impl Connection {
     ghost use Rattle.registry_conversation.specs.Events.{Happens, acted};
+    ghost use Rattle.registry_conversation.specs.Shown.{coming_len};
     ghost use Rattle.registry_conversation.specs.Showing.{shown};
     ghost use Rattle.registry_server.specs.Open.{Becomes, Hears, Finishes, Sends, hears, sends, goes_on};
     ghost use Rattle.registry_server.specs.Slots.{slot_of};
@@ -67,6 +70,7 @@ impl Connection {
         ensures acts { Becomes (λ c c'. K.is_honest service.new
             → Happens (acted result.step) c (K.state service.old) c' (K.state service.new))
             (goes_on result.step (slot_of self.new).conversation) (slot_of self.old) (slot_of self.new) }
+        ensures fewer { coming_len (shown self.new.conversation) ≤ coming_len (shown self.old.conversation) }
     {
         let step = self.conversation.answer_next(alloc, service);
         self.stirred = matches!(step, Step::Answered) && self.conversation.outgoing().is_empty();
@@ -101,6 +105,30 @@ pub fn find_stirred(connections: &[Connection]) -> Option<usize>
         }
     }
     None
+}
+
+/// How many bytes of requests connections hold above their shares; more than 18,446,744,073,709,551,615 count
+/// as so many.
+pub fn over(connections: &[Connection]) -> usize
+    ensures { result ≡ min (over_sum (slots_of connections.now)) usize.MAX }
+{
+    let mut sum: usize = 0;
+    for connection in connections.iter() {
+        let held = connection.conversation.coming();
+        sum = sum.saturating_add(held.saturating_sub(SHARE));
+    }
+    sum
+}
+
+/// How many bytes are to go out on connections, counted likewise.
+pub fn going(connections: &[Connection]) -> usize
+    ensures { result ≡ min (going_sum (slots_of connections.now)) usize.MAX }
+{
+    let mut sum: usize = 0;
+    for connection in connections.iter() {
+        sum = sum.saturating_add(connection.conversation.outgoing().len());
+    }
+    sum
 }
 
 /// Puts a connection behind all others.

@@ -1,8 +1,11 @@
-ghost use Rattle.std.specs.Prelude.{◌≡◌, true, false, ◌≤◌, length, option_map, All, IfOk, IfErr, IfSome, IfNone};
+ghost use Rattle.std.specs.Prelude.{◌≡◌, true, false, ◌<◌, ◌≤◌, ◌⊎◌, ◌↔◌, length, option_map, All, IsTrue, IfOk, IfErr, IfSome, IfNone};
 ghost use Rattle.registry_server.specs.Open.{are_numbered};
+ghost use Rattle.registry_server.specs.Room.{IsWithin};
 ghost use Rattle.registry_server.specs.Slots.{slots_of};
 
-use crate::connection::{Connection, find, find_stirred, to_back};
+use crate::bounds::{Bounds, pool, room_beside};
+use crate::connection::{Connection, find, find_stirred, going, over, to_back};
+use crate::receipt::Receipt;
 use crate::refusal::Refusal;
 use crate::turn::Turn;
 use registry_conversation::{Conversation, Exchange, Wants};
@@ -20,26 +23,28 @@ pub struct Connections {
     connections: Vec<Connection>,
     /// The number of the connection that comes next.
     next: u64,
-    /// How many may be open at once.
-    most: usize,
+    /// How many may be open at once, and how much they may hold.
+    bounds: Bounds,
     ghost numbered: { are_numbered next (slots_of connections.items) ≡ true },
+    ghost within: { IsWithin bounds (slots_of connections.items) },
 }
 
 impl Connections {
-    ghost use Rattle.registry_conversation.specs.Shown.{wants_of};
+    ghost use Rattle.registry_conversation.specs.Shown.{coming_len, wants_of};
     ghost use Rattle.registry_conversation.specs.Events.{Happens, acted};
-    ghost use Rattle.registry_server.specs.Open.{none, conversation_of, outgoing_of, held_of, Opens, Refuses, Changes, Closes, TakesTurn, IfOpen, with_slots, hears, sends, Hears, Finishes, Sends};
+    ghost use Rattle.registry_server.specs.Open.{none, conversation_of, outgoing_of, held_of, Opens, Refuses, Changes, Closes, TakesTurn, IfOpen, with_slots, hears, sends, Finishes, Sends};
+    ghost use Rattle.registry_server.specs.Room.{going_sum, room_of, IsReceived};
     ghost use Rattle.registry_server.specs.Events.{Leads, Carries};
     ghost use Rattle.registry_server.specs.Showing.{connected};
 
-    /// No connection; at most `at_once` may be open at once.
-    pub fn new(alloc: Global, at_once: usize) -> Connections
-        ensures { connected result ≡ none at_once }
+    /// No connection; they may take so much together.
+    pub fn new(alloc: Global, bounds: Bounds) -> Connections
+        ensures { connected result ≡ none bounds }
     {
         Connections {
             connections: Vec::new(alloc),
             next: 0,
-            most: at_once,
+            bounds,
         }
     }
 
@@ -51,7 +56,7 @@ impl Connections {
             × (connected self.new ≡ connected self.old)) }
         ensures leads { Carries (connected self.old) (connected self.new) }
     {
-        if self.connections.len() >= self.most {
+        if self.connections.len() >= self.bounds.at_once {
             return Err(Refusal::Full);
         }
         if self.next == u64::MAX {
@@ -73,18 +78,40 @@ impl Connections {
         Ok(number)
     }
 
-    /// These bytes came on a connection, as `Conversation::receive` takes them. Says whether it is open.
-    pub fn receive(&mut self, number: u64, bytes: &[u8]) -> bool
-        ensures hears { IfOpen result number (Changes number (Hears bytes.now) hears)
-            (connected self.old) (connected self.new) }
-        ensures leads { Carries (connected self.old) (connected self.new) }
+    /// How many bytes a connection may be given now; 0 where it is not open.
+    ///
+    /// Each may always hold `SHARE` bytes of requests, whatever others hold. Where what the others hold above
+    /// their shares is no more than there is for all, it may hold `LARGEST` more: so of those that hold much
+    /// one can always go on to the end of its request.
+    pub fn room(&self, number: u64) -> usize
+        ensures { result ≡ room_of number (connected self.now) }
     {
+        let all = over(&self.connections);
         match find(&self.connections, number) {
             Some(at) => {
-                self.connections[at].receive(bytes);
-                true
+                let held = self.connections[at].conversation.coming();
+                room_beside(all, held, pool(&self.bounds))
             }
-            None => false,
+            None => 0,
+        }
+    }
+
+    /// These bytes came on a connection, as `Conversation::receive` takes them, if there is room for them:
+    /// they are no more than `room` says. Where they are not taken nothing has changed.
+    pub fn receive(&mut self, number: u64, bytes: &[u8]) -> Receipt
+        ensures receives { IsReceived result number bytes.now (connected self.old) (connected self.new) }
+        ensures leads { Carries (connected self.old) (connected self.new) }
+    {
+        let room = self.room(number);
+        match find(&self.connections, number) {
+            Some(at) => {
+                if bytes.len() > room {
+                    return Receipt::NoRoom;
+                }
+                self.connections[at].receive(bytes);
+                Receipt::Taken
+            }
+            None => Receipt::NotOpen,
         }
     }
 
@@ -182,24 +209,37 @@ impl Connections {
         }
     }
 
+    /// Whether there is room for a reply: those that wait to go out have fewer bytes than are the bound.
+    pub fn has_room_for_reply(&self) -> bool
+        ensures { IsTrue result ↔ (going_sum (connected self.now).slots < (connected self.now).bounds.going) }
+    {
+        going(&self.connections) < self.bounds.going
+    }
+
     /// One connection takes one turn, as `Conversation::answer_next` does: the first that is to be looked
     /// at, which goes behind all others. None takes one where nothing came for any that it has not
-    /// answered yet.
+    /// answered yet, nor where the replies that wait to go out are as many bytes as may.
     ///
     /// A connection that waited for more bytes is not looked at again before something comes for it, and
     /// one that answered not before its reply has gone out: so none holds more than one reply.
     pub fn turn<K: Keeper>(&mut self, alloc: Global, service: &mut Service<K>) -> Option<Turn>
         ensures honest { K.is_honest service.new → K.is_honest service.old }
         ensures takes { IfSome result (λ turn. TakesTurn turn.number turn.step
-            (λ c c'. K.is_honest service.new
+            (λ c c'. (K.is_honest service.new
             → Happens (acted turn.step) c (K.state service.old) c' (K.state service.new))
+            × (coming_len c' ≤ coming_len c))
             (connected self.old).slots (connected self.new).slots
-            × (connected self.new ≡ with_slots (connected self.old) (connected self.new).slots)) }
+            × (connected self.new ≡ with_slots (connected self.old) (connected self.new).slots)
+            × (going_sum (connected self.old).slots < (connected self.old).bounds.going)) }
         ensures idle { IfNone result ((connected self.new ≡ connected self.old) × (service.new ≡ service.old)
-            × All (λ s. s.stirred ≡ false) (connected self.old).slots) }
+            × (All (λ s. s.stirred ≡ false) (connected self.old).slots
+            ⊎ ((connected self.old).bounds.going ≤ going_sum (connected self.old).slots))) }
         ensures leads { K.is_honest service.new → Leads (connected self.old) (K.state service.old)
             (connected self.new) (K.state service.new) }
     {
+        if !self.has_room_for_reply() {
+            return None;
+        }
         let at = find_stirred(&self.connections)?;
         let turn = self.connections[at].answer_next(alloc, service);
         to_back(&mut self.connections, at);

@@ -1,7 +1,7 @@
 //! Eight connections at once, whose requests are cut and interleaved by a small generator. The texts are
 //! those of RFC 9112 and of the worked examples.
 
-use crate::{Connections, Refusal};
+use crate::{Bounds, Connections, LARGEST, Receipt, Refusal, SHARE};
 use oci_names::{RepoName, Token};
 use registry_conversation::{Step, Wants};
 use registry_http::End;
@@ -9,11 +9,25 @@ use registry_maps::MapKeeper;
 use registry_model::{AdminCommand, Level, Quota};
 use registry_service::Service;
 use std::alloc::Global;
+use std::process::Abort;
 use std::test::Fail;
 
 const HELLO: &str = "sha256:2cf24dba5fb0a30e26e83b2ac5b9e29e1b161e5c1fa7425e73043362938b9824";
 
 const FIELDS: &str = "Host: r\r\nAuthorization: Bearer t1\r\n";
+
+const SMALL: &[u8] = b"GET /v2/ HTTP/1.1\r\nHost: r\r\n\r\n";
+
+const LARGE_HEAD: &[u8] = b"PUT /v2/ HTTP/1.1\r\nHost: r\r\nContent-Length: 1000000\r\n\r\n";
+
+/// So many at once, and no room but for their shares and one largest request.
+fn bounds(at_once: usize) -> Bounds {
+    Bounds {
+        at_once,
+        coming: 0,
+        going: 1_000_000,
+    }
+}
 
 /// Makes a repository.
 fn add(alloc: Global, registry: &mut Service<MapKeeper>, name: &str) -> Result<(), Fail> {
@@ -144,7 +158,7 @@ fn settle(alloc: Global, play: &mut Play, clients: &mut [Client]) -> Result<(), 
 /// Eight connections, each with requests of its own.
 fn setting(alloc: Global) -> Result<(Play, Vec<Client>), Fail> {
     let mut registry = Service::new(MapKeeper::new(alloc));
-    let mut connections = Connections::new(alloc, 8);
+    let mut connections = Connections::new(alloc, bounds(8));
     let mut clients = Vec::new(alloc);
     for place in 0..8 {
         let name = format!(in alloc; "team/a{place}")?;
@@ -206,13 +220,13 @@ fn send_all(connections: &mut Connections, number: u64) {
 fn one_request_and_then_the_next_connection(rt: HostRuntime) -> Result<(), Fail> {
     let alloc = rt.alloc();
     let mut registry = Service::new(MapKeeper::new(alloc));
-    let mut connections = Connections::new(alloc, 2);
+    let mut connections = Connections::new(alloc, bounds(2));
     assert!(rt; connections.open(alloc) == Ok(0));
     assert!(rt; connections.open(alloc) == Ok(1));
     assert!(rt; connections.open(alloc) == Err(Refusal::Full));
     let two = b"GET /v2/ HTTP/1.1\r\nHost: r\r\n\r\nGET /v2/ HTTP/1.1\r\nHost: r\r\n\r\n";
-    assert!(rt; connections.receive(0, two));
-    assert!(rt; connections.receive(1, two));
+    assert!(rt; connections.receive(0, two) == Receipt::Taken);
+    assert!(rt; connections.receive(1, two) == Receipt::Taken);
     assert_eq!(rt; connections.held(0), two.len());
     for (number, step) in [
         (0, Step::Answered),
@@ -245,18 +259,94 @@ fn one_request_and_then_the_next_connection(rt: HostRuntime) -> Result<(), Fail>
 fn nothing_of_one_that_is_gone(rt: HostRuntime) -> Result<(), Fail> {
     let alloc = rt.alloc();
     let mut registry = Service::new(MapKeeper::new(alloc));
-    let mut connections = Connections::new(alloc, 1);
+    let mut connections = Connections::new(alloc, bounds(1));
     assert!(rt; connections.open(alloc) == Ok(0));
-    assert!(rt; connections.receive(0, b"GET /v2/ HTTP/1.1\r\nHost: r\r\n\r\n"));
+    assert!(rt; connections.receive(0, SMALL) == Receipt::Taken);
     assert!(rt; connections.close(0));
     assert!(rt; !connections.close(0));
     assert!(rt; connections.turn(alloc, &mut registry).is_none());
     assert!(rt; connections.open(alloc) == Ok(1));
-    assert!(rt; !connections.receive(0, b"GET /v2/ HTTP/1.1\r\nHost: r\r\n\r\n"));
+    assert!(rt; connections.receive(0, SMALL) == Receipt::NotOpen);
     assert!(rt; !connections.finish(0));
     assert!(rt; connections.turn(alloc, &mut registry).is_none());
     assert!(rt; connections.outgoing(0).is_empty());
     assert!(rt; connections.wants(0).is_none());
     assert!(rt; connections.wants(1) == Some(Wants::Bytes));
     Ok(())
+}
+
+/// The next turn is this connection's, and comes to this.
+fn is_turn_of(
+    rt: &impl Abort,
+    alloc: Global,
+    play: &mut Play,
+    number: u64,
+    step: Step,
+) -> Result<(), Fail> {
+    let turn = play
+        .connections
+        .turn(alloc, &mut play.registry)
+        .ok_or("a turn")?;
+    assert!(rt; turn.number == number && turn.step == step);
+    Ok(())
+}
+
+/// Of two large requests the second waits where there is room for one, and a small one does not; the second
+/// goes on when the first was answered.
+#[test]
+fn a_small_request_waits_for_no_large_one(rt: HostRuntime) -> Result<(), Fail> {
+    let alloc = rt.alloc();
+    let mut play = Play {
+        connections: Connections::new(alloc, bounds(3)),
+        registry: Service::new(MapKeeper::new(alloc)),
+    };
+    for number in 0..3 {
+        assert!(rt; play.connections.open(alloc) == Ok(number));
+    }
+    let body = vec![in alloc; b'x'; 1_000_000]?;
+    let first = body.get(..200_000).ok_or("a first part")?;
+    let rest = body.get(200_000..).ok_or("a rest")?;
+    assert!(rt; play.connections.receive(0, LARGE_HEAD) == Receipt::Taken);
+    assert!(rt; play.connections.receive(0, first) == Receipt::Taken);
+    assert!(rt; play.connections.receive(1, LARGE_HEAD) == Receipt::Taken);
+    assert!(rt; play.connections.receive(1, first) == Receipt::NoRoom);
+    let room = play.connections.room(1);
+    assert!(rt; room.saturating_add(LARGE_HEAD.len()) == SHARE);
+    let share = body.get(..room).ok_or("a share")?;
+    assert!(rt; play.connections.receive(1, share) == Receipt::Taken);
+    assert!(rt; play.connections.room(1) == 0);
+    assert!(rt; play.connections.receive(2, SMALL) == Receipt::Taken);
+    is_turn_of(&rt, alloc, &mut play, 0, Step::Waits)?;
+    is_turn_of(&rt, alloc, &mut play, 1, Step::Waits)?;
+    is_turn_of(&rt, alloc, &mut play, 2, Step::Answered)?;
+    assert!(rt; play.connections.receive(0, rest) == Receipt::Taken);
+    is_turn_of(&rt, alloc, &mut play, 0, Step::Answered)?;
+    assert!(rt; play.connections.room(1) == LARGEST);
+    let behind = body.get(room..).ok_or("the bytes behind")?;
+    assert!(rt; play.connections.receive(1, behind) == Receipt::Taken);
+    is_turn_of(&rt, alloc, &mut play, 1, Step::Answered)
+}
+
+/// Where a reply fills the room for replies, none is answered before it has gone out.
+#[test]
+fn no_turn_where_replies_fill_the_room(rt: HostRuntime) -> Result<(), Fail> {
+    let alloc = rt.alloc();
+    let narrow = Bounds {
+        at_once: 2,
+        coming: 0,
+        going: 1,
+    };
+    let mut play = Play {
+        connections: Connections::new(alloc, narrow),
+        registry: Service::new(MapKeeper::new(alloc)),
+    };
+    for number in 0..2 {
+        assert!(rt; play.connections.open(alloc) == Ok(number));
+        assert!(rt; play.connections.receive(number, SMALL) == Receipt::Taken);
+    }
+    is_turn_of(&rt, alloc, &mut play, 0, Step::Answered)?;
+    assert!(rt; !play.connections.has_room_for_reply());
+    assert!(rt; play.connections.turn(alloc, &mut play.registry).is_none());
+    send_all(&mut play.connections, 0);
+    is_turn_of(&rt, alloc, &mut play, 1, Step::Answered)
 }

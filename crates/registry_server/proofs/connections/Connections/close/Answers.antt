@@ -1,5 +1,7 @@
 use Rattle.std.proofs.Common.{true, refl}
 use Rattle.registry_server.proofs.PlaceLemmas.{found_on, closes, closed_numbers}
+use Rattle.registry_server.specs.Slots.{slots_of}
+use Rattle.registry_server.proofs.RoomLemmas.{within_closed}
 use Rattle.registry_server.proofs.CallLemmas.{carries_none, of_closed}
 use Rattle.registry_server.proofs.connections.Connections.close.Goals as goal
 
@@ -7,6 +9,10 @@ pub invariant_of-self : goal.invariant_of-self
 invariant_of-self c = record {
   numbered = closed_numbers c.args.self.now.next c.args.number c.in-Some.at c.args.self.now.connections.items c.remove.new.self.items
       (found_on c.args.number c.in-Some.at c.deref.result.now c.args.self.now.connections.items c.deref.ensures.value c.in-Some.ensures.found) c.args.self.now.numbered c.remove.ensures.items;
+  within = within_closed c.args.self.now.bounds c.args.number (slots_of c.args.self.now.connections.items) (slots_of c.remove.new.self.items)
+      (closes c.args.self.now.next c.args.number c.in-Some.at c.args.self.now.connections.items c.remove.new.self.items
+      (found_on c.args.number c.in-Some.at c.deref.result.now c.args.self.now.connections.items c.deref.ensures.value c.in-Some.ensures.found) c.args.self.now.numbered c.remove.ensures.items)
+      c.args.self.now.within;
 }
 
 pub returns-in-Some-clause-closes : goal.returns-in-Some-clause-closes

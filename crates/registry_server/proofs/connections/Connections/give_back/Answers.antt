@@ -1,5 +1,6 @@
 use Rattle.std.proofs.Common.{◌≡◌, List, true, ap, sym, subst}
 use Rattle.registry_server.specs.Open.{Slot, are_numbered}
+use Rattle.registry_server.specs.Room.{IsWithin}
 use Rattle.registry_server.proofs.PlaceLemmas.{unchanged}
 use Rattle.registry_server.proofs.connections.Connections.give_back.Goals as goal
 
@@ -7,9 +8,11 @@ pub invariant_of-self : goal.invariant_of-self
 invariant_of-self c = record {
   numbered = subst (λ (ys : List Slot). are_numbered c.args.self.now.next ys ≡ true)
       (sym (unchanged c.in-Some.at c.args.self.now.connections.items c.index_mut.result.now c.give_back.new.self c.index_mut.ensures.value c.give_back.ensures)) c.args.self.now.numbered;
+  within = subst (IsWithin c.args.self.now.bounds)
+      (sym (unchanged c.in-Some.at c.args.self.now.connections.items c.index_mut.result.now c.give_back.new.self c.index_mut.ensures.value c.give_back.ensures)) c.args.self.now.within;
 }
 
 pub returns-in-Some : goal.returns-in-Some
 returns-in-Some c =
-    ap (λ (ys : List Slot). record { slots = ys; next = c.args.self.now.next; most = c.args.self.now.most })
+    ap (λ (ys : List Slot). record { slots = ys; next = c.args.self.now.next; bounds = c.args.self.now.bounds })
     (unchanged c.in-Some.at c.args.self.now.connections.items c.index_mut.result.now c.give_back.new.self c.index_mut.ensures.value c.give_back.ensures)

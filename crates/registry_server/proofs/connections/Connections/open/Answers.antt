@@ -1,5 +1,10 @@
-use Rattle.std.proofs.Common.{false, arith}
-use Rattle.registry_server.proofs.PlaceLemmas.{came_numbers, opens}
+use Rattle.std.proofs.Common.{false, refl, sym, subst, arith}
+use Rattle.std.proofs.lemmas.List.{length-map}
+use Rattle.registry_conversation.specs.Shown.{begun}
+use Rattle.registry_server.specs.Room.{IsWithin}
+use Rattle.registry_server.specs.Slots.{slot_of, slots_of}
+use Rattle.registry_server.proofs.RoomLemmas.{one_comes}
+use Rattle.registry_server.proofs.PlaceLemmas.{came_slots, came_numbers, opens}
 use Rattle.registry_server.proofs.CallLemmas.{of_opened}
 use Rattle.registry_server.proofs.connections.Connections.open.Goals as goal
 
@@ -7,11 +12,16 @@ pub invariant_of-self-2 : goal.invariant_of-self-2
 invariant_of-self-2 c = record {
   numbered = came_numbers c.args.self.now.connections.items c.push.new.self.items _ c.args.self.now.next c.in-Ok-push.ensures.items
       (λ i. record { number = c.args.self.now.next; conversation = c.in-Ok.ensures i; stirred = false }) c.args.self.now.numbered;
+  within = subst (IsWithin c.args.self.now.bounds)
+      (sym (came_slots c.args.self.now.connections.items c.push.new.self.items _ c.args.self.now.next c.in-Ok-push.ensures.items
+      (λ i. record { number = c.args.self.now.next; conversation = c.in-Ok.ensures i; stirred = false })))
+      (one_comes c.args.self.now.bounds (slots_of c.args.self.now.connections.items) (record { number = c.args.self.now.next; conversation = begun; stirred = false })
+      (omega (arith, c.len.ensures, c.if-len-self.false, length-map c.args.self.now.connections.items slot_of)) refl c.args.self.now.within);
 }
 
 pub returns-clause-opens : goal.returns-clause-opens
 returns-clause-opens c =
-    opens c.args.self.now.most c.args.self.now.next c.args.self.now.connections.items c.push.new.self.items _ (omega (arith, c.len.ensures, c.if-len-self.false)) c.args.self.now.numbered c.in-Ok-push.ensures.items
+    opens c.args.self.now.bounds c.args.self.now.next c.args.self.now.connections.items c.push.new.self.items _ (omega (arith, c.len.ensures, c.if-len-self.false)) c.args.self.now.numbered c.in-Ok-push.ensures.items
     (λ i. record { number = c.args.self.now.next; conversation = c.in-Ok.ensures i; stirred = false })
 
 pub returns-clause-leads : goal.returns-clause-leads

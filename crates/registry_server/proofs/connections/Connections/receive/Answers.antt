@@ -1,24 +1,45 @@
-use Rattle.std.proofs.Common.{true, refl, ap}
+use Rattle.std.proofs.Common.{◌≤◌, length, refl, ap, arith}
 use Rattle.registry_server.specs.Open.{Slot, Hears, hears}
-use Rattle.registry_server.proofs.PlaceLemmas.{found_on, changed, changed_numbers}
+use Rattle.registry_server.specs.Room.{room_of}
+use Rattle.registry_server.specs.Showing.{connected}
+use Rattle.registry_server.specs.declared.receipt.Receipt.TheVariants.{Taken}
+use Rattle.registry_server.proofs.PlaceLemmas.{found_on, found_there, changed, changed_numbers}
+use Rattle.registry_server.proofs.RoomLemmas.{within_received}
 use Rattle.registry_server.proofs.CallLemmas.{carries_none, of_received}
 use Rattle.registry_server.proofs.connections.Connections.receive.Goals as goal
 
 pub invariant_of-self : goal.invariant_of-self
-invariant_of-self c = record {
-  numbered = changed_numbers c.args.self.now.next c.args.number c.in-Some.at c.args.self.now.connections.items c.index_mut.result.now c.receive.new.self
-      c.index_mut.ensures.value (found_on c.args.number c.in-Some.at c.deref.result.now c.args.self.now.connections.items c.deref.ensures.value c.in-Some.ensures.found) (ap (λ (s : Slot). s.number) c.receive.ensures.1) c.args.self.now.numbered;
-}
+invariant_of-self c =
+    let items = c.args.self.now.connections.items in
+    let f = found_on c.args.number c.in-Some.at c.deref.result.now items c.deref.ensures.value c.in-Some.ensures.found in
+    let room : length c.args.bytes.now ≤ room_of c.args.number (connected c.args.self.now) = omega (arith, c.room-room.ensures, c.if-bytes-room.false) in
+    record {
+      numbered = changed_numbers c.args.self.now.next c.args.number c.in-Some.at items c.index_mut.result.now c.receive.new.self
+          c.index_mut.ensures.value f (ap (λ (s : Slot). s.number) c.receive.ensures.1) c.args.self.now.numbered;
+      within = within_received (connected c.args.self.now) c.args.number c.args.bytes.now (Hears c.args.bytes.now) _ (λ a b h. h.2)
+          (changed c.args.number c.in-Some.at (Hears c.args.bytes.now) hears items c.index_mut.result.now c.receive.new.self c.index_mut.ensures.value f c.receive.ensures)
+          room c.args.self.now.within;
+    }
 
-pub returns-in-Some-clause-hears : goal.returns-in-Some-clause-hears
-returns-in-Some-clause-hears c = (
-  changed c.args.number c.in-Some.at (Hears c.args.bytes.now) hears c.args.self.now.connections.items c.index_mut.result.now c.receive.new.self
-      c.index_mut.ensures.value (found_on c.args.number c.in-Some.at c.deref.result.now c.args.self.now.connections.items c.deref.ensures.value c.in-Some.ensures.found) c.receive.ensures,
-  refl,
-)
+pub returns-else-bytes-room-clause-receives : goal.returns-else-bytes-room-clause-receives
+returns-else-bytes-room-clause-receives c =
+    let items = c.args.self.now.connections.items in
+    let f = found_on c.args.number c.in-Some.at c.deref.result.now items c.deref.ensures.value c.in-Some.ensures.found in (
+      changed c.args.number c.in-Some.at (Hears c.args.bytes.now) hears items c.index_mut.result.now c.receive.new.self c.index_mut.ensures.value f c.receive.ensures,
+      refl,
+      omega (arith, c.room-room.ensures, c.if-bytes-room.false),
+    )
 
-pub returns-in-Some-clause-leads : goal.returns-in-Some-clause-leads
-returns-in-Some-clause-leads c = of_received true c.args.number c.args.bytes.now _ _ (returns-in-Some-clause-hears c)
+pub returns-else-bytes-room-clause-leads : goal.returns-else-bytes-room-clause-leads
+returns-else-bytes-room-clause-leads c = of_received Taken c.args.number c.args.bytes.now _ _ (returns-else-bytes-room-clause-receives c)
+
+pub returns-then-bytes-room-clause-receives : goal.returns-then-bytes-room-clause-receives
+returns-then-bytes-room-clause-receives c =
+    let f = found_on c.args.number c.in-Some.at c.deref.result.now c.args.self.now.connections.items c.deref.ensures.value c.in-Some.ensures.found in
+    (f.slot.conversation, found_there c.args.number c.in-Some.at _ f, omega (arith, c.room-room.ensures, c.if-bytes-room.true), refl)
+
+pub returns-then-bytes-room-clause-leads : goal.returns-then-bytes-room-clause-leads
+returns-then-bytes-room-clause-leads c = carries_none _
 
 pub returns-in-None-clause-leads : goal.returns-in-None-clause-leads
 returns-in-None-clause-leads c = carries_none _

@@ -1,6 +1,9 @@
-use Rattle.std.proofs.Common.{refl, ap}
+use Rattle.std.proofs.Common.{◌≤◌, refl, ap}
+use Rattle.registry_conversation.specs.Shown.{coming_len}
 use Rattle.registry_server.specs.Open.{Slot}
+use Rattle.registry_server.specs.Slots.{slots_of}
 use Rattle.registry_server.proofs.PlaceLemmas.{stirred_on, within_found, moved_in, turned, turned_numbers}
+use Rattle.registry_server.proofs.RoomLemmas.{within_turned}
 use Rattle.registry_server.proofs.CallLemmas.{of_turn}
 use Rattle.registry_server.proofs.connections.Connections.turn.Goals as goal
 
@@ -9,11 +12,16 @@ invariant_of-self g c =
     let items = c.args.self.now.connections.items in
     let f = stirred_on c.in_ok-at.at c.deref.result.now items c.deref.ensures.value c.in_ok-at.ensures.found in
     let y = c.answer_next-turn.new.self in
+    let m =
+    moved_in c.in_ok-at.at c.args.self.now.connections.len items c.deref_mut.result.now c.to_back.new.connections y
+    c.deref_mut.ensures.value c.deref_mut.ensures.len (within_found c.in_ok-at.at items f.front f.back f.slot f.was f.place) c.to_back.ensures in
     record {
       numbered = turned_numbers c.args.self.now.next c.in_ok-at.at items _ c.index_mut.result.now y c.index_mut.ensures.value f
-          (ap (λ (s : Slot). s.number) c.answer_next-turn.ensures.acts.1) c.args.self.now.numbered
-          (moved_in c.in_ok-at.at c.args.self.now.connections.len items c.deref_mut.result.now c.to_back.new.connections y
-          c.deref_mut.ensures.value c.deref_mut.ensures.len (within_found c.in_ok-at.at items f.front f.back f.slot f.was f.place) c.to_back.ensures);
+          (ap (λ (s : Slot). s.number) c.answer_next-turn.ensures.acts.1) c.args.self.now.numbered m;
+      within = within_turned c.args.self.now.bounds c.answer_next-turn.result.number c.answer_next-turn.result.step (λ a b. coming_len b ≤ coming_len a) (slots_of items) _ (λ a b h. h)
+          (turned c.args.self.now.next c.answer_next-turn.result.number c.in_ok-at.at c.answer_next-turn.result.step (λ a b. coming_len b ≤ coming_len a) items _ c.index_mut.result.now y c.index_mut.ensures.value f
+          c.args.self.now.numbered c.answer_next-turn.ensures.number (c.answer_next-turn.ensures.fewer, c.answer_next-turn.ensures.acts.1) m)
+          c.args.self.now.within;
     }
 
 pub returns-clause-takes : goal.returns-clause-takes
@@ -22,13 +30,15 @@ returns-clause-takes g c =
     let f = stirred_on c.in_ok-at.at c.deref.result.now items c.deref.ensures.value c.in_ok-at.ensures.found in
     let y = c.answer_next-turn.new.self in (
       turned c.args.self.now.next c.answer_next-turn.result.number c.in_ok-at.at c.answer_next-turn.result.step _ items _ c.index_mut.result.now y c.index_mut.ensures.value f
-          c.args.self.now.numbered c.answer_next-turn.ensures.number c.answer_next-turn.ensures.acts
+          c.args.self.now.numbered c.answer_next-turn.ensures.number
+          ((c.answer_next-turn.ensures.acts.0, c.answer_next-turn.ensures.fewer), c.answer_next-turn.ensures.acts.1)
           (moved_in c.in_ok-at.at c.args.self.now.connections.len items c.deref_mut.result.now c.to_back.new.connections y
           c.deref_mut.ensures.value c.deref_mut.ensures.len (within_found c.in_ok-at.at items f.front f.back f.slot f.was f.place) c.to_back.ensures),
       refl,
+      c.has_room_for_reply.ensures.0 c.if-not-has_room_for_reply.false,
     )
 
 pub returns-clause-leads : goal.returns-clause-leads
 returns-clause-leads g c honest =
     let t = returns-clause-takes g c in
-    of_turn c.answer_next-turn.result.number c.answer_next-turn.result.step _ _ _ _ t.0 t.1 honest
+    of_turn c.answer_next-turn.result.number c.answer_next-turn.result.step _ _ _ _ t.0 t.1 t.2 honest

@@ -1,0 +1,9 @@
+use Rattle.std.proofs.Common.{◌≡◌, false}
+use Rattle.registry_loop.proofs.caller.Caller.hear.Given as goal
+
+abbrev pub invariant-loop : goal.invariant-loop
+invariant-loop l = record {
+  answered : l.self.answered ≡ l.fn.self.answered;
+  answer : l.self.answer ≡ l.fn.self.answer;
+  first : l.fn.self.answered ≡ false;
+}

@@ -1,0 +1,6 @@
+use Rattle.registry_loop.specs.Calling.{Stay}
+use Rattle.registry_loop.specs.Calls.{all_called}
+use Rattle.registry_loop.proofs.callers.Callers.dismiss_all.Given as goal
+
+abbrev pub invariant-loop : goal.invariant-loop
+invariant-loop l = Stay (all_called l.self.callers.items) (all_called l.fn.self.callers.items)
