@@ -52,20 +52,25 @@ demo:
 # Proves the program and everything below it, and leaves the executable as build/registry.
 build:
 	@echo 'Proves some 1,100 functions: an hour of a processor, on all there are, and up to 12 GB of memory.' >&2
-	$(MAKE) --no-print-directory --jobs=$(PROCESSORS) $(addprefix prove-,$(all_below_registry_cli))
+	$(MAKE) --no-print-directory --jobs=$$(( $(PROCESSORS) + 2 )) $(addprefix prove-,$(all_below_registry_cli))
 	cd crates/registry_cli && rt run --jobs $(PROCESSORS) -- --version
 	mkdir -p build
 	cp crates/registry_cli/out/registry_cli build/registry
 
-# Each library after those that it stands on, so that independent ones are proved side by side. There are two long
-# rows of them, each waiting for the one before it; they get more processors, and the others give way to them.
+# Each library after those that it stands on, so that independent ones are proved side by side. What the others wait
+# for longest goes first: two long rows of libraries, on more than one processor each; then what only the program
+# waits for. What is neither gives way to both, and takes one processor, since each further one reads the
+# libraries below once more.
 ROWS := oci_names oci_manifest registry_model registry_operations registry_service registry_http \
-  registry_conversation registry_server order_messages registry_loop registry_program registry_orders \
-  store_schema store_contents store_world store_statements store_old_rows store_moves store_upgrade store_writes registry_store
+  registry_conversation registry_server registry_loop registry_program \
+  store_schema store_contents store_world store_statements store_writes registry_store
+NEXT := registry_maps registry_orders order_messages store_old_rows store_moves store_upgrade
+jobs_of = $(if $(filter $(1),$(ROWS)),$(if $(filter 1 2,$(PROCESSORS)),2,3),1)
+niceness_of = $(if $(filter $(1),$(ROWS)),0,$(if $(filter $(1),$(NEXT)),4,8))
 define prove
 .PHONY: prove-$(1)
 prove-$(1): $(addprefix prove-,$(below_$(1)))
-	JOBS=$(if $(filter $(1),$(ROWS)),4,2) $(if $(filter $(1),$(ROWS)),,nice) check/prove.sh $(1) $(all_below_$(1))
+	JOBS=$(call jobs_of,$(1)) nice -n $(call niceness_of,$(1)) check/prove.sh $(1) $(all_below_$(1))
 endef
 $(foreach crate,$(CRATES),$(eval $(call prove,$(crate))))
 
@@ -86,7 +91,7 @@ test:
 	RT_JOBS=$$(( $(PROCESSORS) < 4 ? $(PROCESSORS) : 4 )) rt ci
 
 # A server's database file, looked at by another program: needs curl and sqlite3 beside python3.
-check-file: build
+check-file: build/registry
 	python3 check/file.py
 
 # The worked examples by the program itself, commands by its orders (python3).

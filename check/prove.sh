@@ -17,6 +17,7 @@ for below in "$crate" "$@"; do
 done
 begun=$(date +%s)
 (cd "$room/crates/$crate" && rt lib --jobs "${JOBS:-2}")
-echo "$crate took $(($(date +%s) - begun)) s"
+# (the second line of `times` is what the commands took of the processors)
+echo "$crate took $(($(date +%s) - begun)) s; of a processor, user and system: $(times | tail -n 1)"
 rm -rf "$top/crates/$crate/out"
 mv "$room/crates/$crate/out" "$top/crates/$crate/out"
