@@ -22,41 +22,13 @@ import subprocess
 import sys
 import tempfile
 
+from file_tables import INDEXES, TABLES, WITHOUT_REPO
 from old_file import TABLES as TABLES_OF_SCHEMA_1
 
 REGISTRY = os.path.abspath("build/registry")
 REPO = "team/app"
 # 1,000,000,000 bytes
 QUOTA = "1000000000"
-
-# name: (columns as PRAGMA table_info has them: name, type, NOT NULL, place in the primary key), foreign keys
-TEXT, NUMBER, BLOB = "TEXT", "INTEGER", "BLOB"
-TABLES = {
-    "registry_schema": [("version", NUMBER, 1, 0)],
-    "registry_repos": [("name", TEXT, 1, 1), ("quota", NUMBER, 1, 0), ("last_session", NUMBER, 1, 0)],
-    "registry_grants": [("token", TEXT, 1, 1), ("repo", TEXT, 1, 2), ("level", NUMBER, 1, 0)],
-    "registry_tags": [("repo", TEXT, 1, 1), ("tag", TEXT, 1, 2), ("digest", TEXT, 1, 0)],
-    "registry_contents": [("id", NUMBER, 0, 1), ("sha256", TEXT, 1, 0), ("size", NUMBER, 1, 0), ("bytes", BLOB, 1, 0)],
-    "registry_blob_links": [("repo", TEXT, 1, 1), ("digest", TEXT, 1, 2), ("size", NUMBER, 1, 0), ("content", NUMBER, 1, 0)],
-    "registry_manifest_links": [
-        ("repo", TEXT, 1, 1),
-        ("digest", TEXT, 1, 2),
-        ("size", NUMBER, 1, 0),
-        ("kind", NUMBER, 1, 0),
-        ("subject", TEXT, 0, 0),
-        ("content", NUMBER, 1, 0),
-    ],
-    "registry_uploads": [("repo", TEXT, 1, 1), ("number", NUMBER, 1, 2), ("size", NUMBER, 1, 0)],
-    "registry_pieces": [
-        ("repo", TEXT, 1, 1),
-        ("number", NUMBER, 1, 2),
-        ("start", NUMBER, 1, 3),
-        ("size", NUMBER, 1, 0),
-        ("content", NUMBER, 1, 0),
-    ],
-}
-WITHOUT_REPO = {"registry_schema", "registry_repos", "registry_contents"}
-INDEXES = {"registry_manifest_links_subject", "registry_contents_sha256"}
 
 
 def digest(body):
