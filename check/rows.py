@@ -153,6 +153,7 @@ def commanded(db, command):
         "sessions": lambda: repo(rest[0]),
         "grant": lambda: ["--token", rest[0], *repo(rest[1]), "--level", LEVELS[rest[2]]],
         "revoke": lambda: ["--token", rest[0], *repo(rest[1])],
+        "prune": lambda: repo(rest[0]),
         "clear": lambda: [],
     }[name]()
     ran = run(name, "--db", db, *words)

@@ -35,6 +35,7 @@ MALFORMED = [
     b"drop\n",
     b"drop Team/app\n",
     b"drop team/app now\n",
+    b"prune\n",
     b"clear team/app\n",
     b"repo team/more 01\n",
     b"repo team/more -1\n",

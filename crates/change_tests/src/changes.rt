@@ -25,10 +25,13 @@ pub const REFERRER: &[u8] = b"{\"schemaVersion\":2,\"manifests\":[],\
 /// By `printf hello | sha256sum`.
 const HELLO: &str = "sha256:2cf24dba5fb0a30e26e83b2ac5b9e29e1b161e5c1fa7425e73043362938b9824";
 
+/// By `printf '{}' | sha256sum`.
+const CONFIG: &str = "sha256:44136fa355b3678a1146ad16f7e8649e94fb4fc21fe77e8310c060f61caaff8a";
+
 /// By `printf hel | sha256sum`.
 const HEL: &str = "sha256:d6a81f224bbf2f7c22baddbd5d40730eb20cfb0b3d74e10cab61788214caceb1";
 
-/// The changes of a keeper, one for each of its sixteen writes.
+/// The changes of a keeper, one for each of its seventeen writes.
 #[derive(Clone, Copy, Debug)]
 pub enum Change {
     SetRepo,
@@ -36,6 +39,7 @@ pub enum Change {
     Grant,
     Revoke,
     DropSessions,
+    Prune,
     Clear,
     PutBlob,
     Mount,
@@ -49,12 +53,13 @@ pub enum Change {
     DeleteBlob,
 }
 
-pub const CHANGES: [Change; 16] = [
+pub const CHANGES: [Change; 17] = [
     Change::SetRepo,
     Change::DropRepo,
     Change::Grant,
     Change::Revoke,
     Change::DropSessions,
+    Change::Prune,
     Change::Clear,
     Change::PutBlob,
     Change::Mount,
@@ -133,6 +138,7 @@ impl Change {
             | Change::Grant
             | Change::Revoke
             | Change::DropSessions
+            | Change::Prune
             | Change::Clear => self.order(alloc, registry),
             Change::PutManifest | Change::DeleteTag | Change::DeleteManifest | Change::DeleteBlob =>
                 self.manifest_or_deletion(alloc, registry),
@@ -163,9 +169,10 @@ impl Change {
                 name: &lib,
             },
             Change::DropSessions => AdminCommand::DropSessions { name: &app },
+            Change::Prune => AdminCommand::Prune { name: &app },
             _ => AdminCommand::Clear,
         };
-        ordered(registry.admin(&command))
+        ordered(registry.admin(alloc, &command))
     }
 
     fn push<K: Keeper>(self, alloc: Global, registry: &mut Service<K>) -> Result<Told, Fail> {
@@ -243,12 +250,15 @@ pub fn admit<K: Keeper>(alloc: Global, registry: &mut Service<K>) -> Result<bool
     let quota = Quota::new(1000).ok_or("a quota")?;
     for name in ["team/app", "team/lib"] {
         let name = RepoName::parse(alloc, name)?;
-        let added = registry.admin(&AdminCommand::AddRepo { name: &name, quota });
-        let granted = registry.admin(&AdminCommand::Grant {
-            token: &token,
-            name: &name,
-            level: Level::Delete,
-        });
+        let added = registry.admin(alloc, &AdminCommand::AddRepo { name: &name, quota });
+        let granted = registry.admin(
+            alloc,
+            &AdminCommand::Grant {
+                token: &token,
+                name: &name,
+                level: Level::Delete,
+            },
+        );
         if ordered(added)? == Told::Lost || ordered(granted)? == Told::Lost {
             return Ok(false);
         }
@@ -256,8 +266,9 @@ pub fn admit<K: Keeper>(alloc: Global, registry: &mut Service<K>) -> Result<bool
     Ok(true)
 }
 
-/// Fills `team/app`, so that each of the changes changes something: it holds `abc`, an index under the tag
-/// `v1` and an upload session with `hel`; and there is a content that nothing names. Whether it was done.
+/// Fills `team/app`, so that each of the changes changes something: it holds two blobs, `abc` one of them, an
+/// index under the tag `v1` and an upload session with `hel`; and there is a content that nothing names.
+/// Whether it was done.
 pub fn fill<K: Keeper>(alloc: Global, registry: &mut Service<K>) -> Result<bool, Fail> {
     let uploads = Route::Uploads { name: "team/app" };
     let session = Route::Session {
@@ -270,6 +281,7 @@ pub fn fill<K: Keeper>(alloc: Global, registry: &mut Service<K>) -> Result<bool,
     };
     for (method, route, digest, body) in [
         (Verb::Post, uploads, Some(ABC), b"abc".as_slice()),
+        (Verb::Post, uploads, Some(CONFIG), b"{}".as_slice()),
         (Verb::Put, manifest("v1"), None, INDEX),
         (Verb::Post, uploads, None, b"".as_slice()),
         (Verb::Patch, session, None, b"hel".as_slice()),

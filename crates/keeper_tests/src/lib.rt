@@ -1,6 +1,6 @@
 //! Tests of a keeper's calls, over ordered maps and over tables: what each keeps, what `clear` leaves, that
-//! equal bytes are kept once, what repositories are told to hold after each change, and sessions that end
-//! without their bytes; and single calls against values of other tools.
+//! equal bytes are kept once, what repositories are told to hold after each change, sessions that end
+//! without their bytes, and blobs that go at once; and single calls against values of other tools.
 #![tactic(auto)]
 
 #[cfg(test)]
@@ -15,6 +15,8 @@ mod contents;
 mod keeping;
 #[cfg(test)]
 mod model;
+#[cfg(test)]
+mod pruning;
 #[cfg(test)]
 mod referrers;
 #[cfg(test)]

@@ -33,12 +33,13 @@ const ENDING: [Change; 17] = [
     Change::DropRepo,
 ];
 
-/// The open session is appended to.
-const APPENDING: [Change; 9] = [
+/// The open session is appended to. The blobs that nothing names go.
+const APPENDING: [Change; 10] = [
     Change::PutBlob,
     Change::Append,
     Change::Append,
     Change::Mount,
+    Change::Prune,
     Change::DeleteManifest,
     Change::PutManifest,
     Change::DropSessions,

@@ -8,5 +8,6 @@ pub mod Parts
 pub mod DescriptorLaws
 pub mod RuleLaws
 pub mod ManifestLaws
+pub mod NeededNamed
 pub mod FaultLaws
 pub mod FoundOrRefused

@@ -36,6 +36,7 @@ finished body contents texts subject own = record {
   kind = body_kind body;
   artifact_type = artifact_type_of own contents.config_type;
   needs = contents.needs;
+  names = contents.names;
   subject = subject;
   annotations = texts;
 }
@@ -86,13 +87,14 @@ says_found d m h =
       contents = contents.0;
       holds = contents_found body.0 contents.0 contents.1;
       needs = refl;
+      names = refl;
       annotations = texts_found (codes "annotations") d texts.0 texts.1;
       subject = subject_found d subject.0 subject.1;
       artifact_type = (own.0, optional_text_found (codes "artifactType") d own.0 own.1, type_shown own.0 contents.0.config_type);
     })
 
 finished_is : (d : Data) (m : ManifestShown) (s : Says d m) → finished s.body s.contents m.annotations m.subject s.artifact_type.0 ≡ m
-finished_is d m s = let typed = type_only s.artifact_type.0 s.contents.config_type m.artifact_type s.artifact_type.2 in rw (← s.kind, ← s.needs, typed) refl
+finished_is d m s = let typed = type_only s.artifact_type.0 s.contents.config_type m.artifact_type s.artifact_type.2 in rw (← s.kind, ← s.needs, ← s.names, typed) refl
 
 pub says_only : (d : Data) (m : ManifestShown) → Says d m → manifest_of d ≡ Ok m
 unfolding manifest_of

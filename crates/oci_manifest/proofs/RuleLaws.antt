@@ -13,7 +13,7 @@ use Rattle.oci_names.specs.Text.{Text}
 use Rattle.oci_manifest.specs.declared.kind.Kind.{Kind}
 use Rattle.oci_manifest.specs.Kind.{media_type_of}
 use Rattle.oci_manifest.specs.Member.{present_at, if_present, list_at, optional_text_at}
-use Rattle.oci_manifest.specs.Descriptor.{DescriptorShown, descriptor_of, descriptors_of, needed}
+use Rattle.oci_manifest.specs.Descriptor.{DescriptorShown, descriptor_of, descriptors_of, digests_of, needed}
 use Rattle.oci_manifest.specs.Manifest.{document_in, if_two, version_of, BodyShown, image, index, unless_present, body_from, body_of, fits_kind, if_fits, own_type_of, ContentsShown, image_contents, index_contents, contents_of, subject_of, artifact_type_of}
 use Rattle.oci_manifest.specs.Reads.{Has, IsDescriptor, HasBody, Holds, FitsKind, HasOwnType, HasSubject, ShowsType, IsJson}
 use Rattle.oci_manifest.proofs.Documents.{document_read}
@@ -112,29 +112,29 @@ pub contents_found : (b : BodyShown) (c : ContentsShown) → contents_of b ≡ S
 contents_found (image config layers) c h =
     let found = then_found (λ first. option_map (image_contents first) (descriptors_of layers)) (descriptor_of config) c h in
     let others = map_found (image_contents found.0) (descriptors_of layers) c found.2 in
-    (found.0, others.0, descriptor_found config found.0 found.1, descriptors_found layers others.0 others.1, ap (λ (x : ContentsShown). x.config_type) (sym others.2), ap (λ (x : ContentsShown). x.needs) (sym others.2))
+    (found.0, others.0, descriptor_found config found.0 found.1, descriptors_found layers others.0 others.1, ap (λ (x : ContentsShown). x.config_type) (sym others.2), ap (λ (x : ContentsShown). x.needs) (sym others.2), ap (λ (x : ContentsShown). x.names) (sym others.2))
 contents_found (index manifests) c h =
     let others = map_found index_contents (descriptors_of manifests) c h in
-    (others.0, descriptors_found manifests others.0 others.1, ap (λ (x : ContentsShown). x.config_type) (sym others.2), ap (λ (x : ContentsShown). x.needs) (sym others.2))
+    (others.0, descriptors_found manifests others.0 others.1, ap (λ (x : ContentsShown). x.config_type) (sym others.2), ap (λ (x : ContentsShown). x.needs) (sym others.2), ap (λ (x : ContentsShown). x.names) (sym others.2))
 
-same_contents : (c : ContentsShown) (config_type : Option Text) (needs : List Text) → c.config_type ≡ config_type → c.needs ≡ needs → record { config_type = config_type; needs = needs } ≡ c
-same_contents c config_type needs typed named = rw (← typed, ← named) refl
+same_contents : (c : ContentsShown) (config_type : Option Text) (needs names : List Text) → c.config_type ≡ config_type → c.needs ≡ needs → c.names ≡ names → record { config_type = config_type; needs = needs; names = names } ≡ c
+same_contents c config_type needs names typed needing naming = rw (← typed, ← needing, ← naming) refl
 
 pub contents_only : (b : BodyShown) (c : ContentsShown) → Holds b c → contents_of b ≡ Some c
 contents_only (image config layers) c h =
     let first = h.0 in
     let others = h.1 in
     then_only (λ f. option_map (image_contents f) (descriptors_of layers)) (descriptor_of config) first c (descriptor_only config first h.2)
-    (ap (option_map (image_contents first)) (descriptors_only layers others h.3) ∙ ap (λ (x : ContentsShown). Some x) (same_contents c (Some first.media_type) (needed (first ∷ others)) h.4 h.5))
+    (ap (option_map (image_contents first)) (descriptors_only layers others h.3) ∙ ap (λ (x : ContentsShown). Some x) (same_contents c (Some first.media_type) (needed (first ∷ others)) (digests_of (first ∷ others)) h.4 h.5 h.6))
 contents_only (index manifests) c h =
-    ap (option_map index_contents) (descriptors_only manifests h.0 h.1) ∙ ap (λ (x : ContentsShown). Some x) (same_contents c None [] h.2 h.3)
+    ap (option_map index_contents) (descriptors_only manifests h.0 h.1) ∙ ap (λ (x : ContentsShown). Some x) (same_contents c None [] [] h.2 h.3 h.4)
 
 -- ---- the subject
 
-abbrev digests_of : Option (Option DescriptorShown) → Option (Option Text)
-digests_of o = option_map (option_map (λ n. n.digest)) o
+abbrev digest_shown : Option (Option DescriptorShown) → Option (Option Text)
+digest_shown o = option_map (option_map (λ n. n.digest)) o
 
-subject_found_in : (d : Data) (p : Option Data) (o : Option Text) → present_at (codes "subject") d ≡ p → digests_of (if_present descriptor_of p) ≡ Some o → HasSubject d o
+subject_found_in : (d : Data) (p : Option Data) (o : Option Text) → present_at (codes "subject") d ≡ p → digest_shown (if_present descriptor_of p) ≡ Some o → HasSubject d o
 subject_found_in d None o is h = let none : None ≡ o = cc in subst (λ (x : Option Text). HasSubject d x) none (lacks_found (codes "subject") d is)
 subject_found_in d (Some v) o is h =
     let outer = map_found (option_map (λ n. n.digest)) (option_map Some (descriptor_of v)) o h in
@@ -151,13 +151,13 @@ null_is_none : (n : DescriptorShown) → ¬ (IsDescriptor null n)
 null_is_none n is = let typed = is.media_type in absurd cc
 
 pub subject_only : (d : Data) (o : Option Text) → HasSubject d o → subject_of d ≡ Some o
-subject_only d None h = ap (λ (p : Option Data). digests_of (if_present descriptor_of p)) (lacks_only (codes "subject") d h)
+subject_only d None h = ap (λ (p : Option Data). digest_shown (if_present descriptor_of p)) (lacks_only (codes "subject") d h)
 subject_only d (Some digest) h =
     let v = h.0 in
     let n = h.1 in
     let there = present_only (codes "subject") d v h.2 (λ (is : v ≡ null). null_is_none n (subst (λ (w : Data). IsDescriptor w n) is h.3)) in
-    ap (λ (p : Option Data). digests_of (if_present descriptor_of p)) there
-    ∙ ap (λ (x : Option DescriptorShown). digests_of (option_map Some x)) (descriptor_only v n h.3)
+    ap (λ (p : Option Data). digest_shown (if_present descriptor_of p)) there
+    ∙ ap (λ (x : Option DescriptorShown). digest_shown (option_map Some x)) (descriptor_only v n h.3)
     ∙ ap (λ (t : Text). Some (Some t)) h.4
 
 -- ---- the type that is shown

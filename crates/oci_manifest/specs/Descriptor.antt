@@ -55,6 +55,10 @@ descriptors_of (item d ds) = do
   others ← descriptors_of ds
   Some (first ∷ others)
 
+-- the digests of them all
+abbrev pub digests_of : List DescriptorShown → List Text
+digests_of ds = map (λ d. d.digest) ds
+
 -- the digests whose content the registry has to hold: not those with URLs (profile)
 abbrev pub needed : List DescriptorShown → List Text
 needed ds = map (λ d. d.digest) (filter (λ d. not d.elsewhere) ds)

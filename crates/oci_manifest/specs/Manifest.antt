@@ -18,7 +18,7 @@ use Rattle.oci_manifest.specs.declared.manifest.Manifest.{Manifest}
 use Rattle.oci_manifest.specs.Rules.{◌>>=◌, or_fault}
 use Rattle.oci_manifest.specs.Kind.{media_type_of}
 use Rattle.oci_manifest.specs.Member.{Pairs, pairs_of, present_at, if_present, list_at, optional_text_at, texts_at}
-use Rattle.oci_manifest.specs.Descriptor.{DescriptorShown, descriptor_of, descriptors_of, needed}
+use Rattle.oci_manifest.specs.Descriptor.{DescriptorShown, descriptor_of, descriptors_of, digests_of, needed}
 
 -- UTF-8, and one JSON value that nests at most 127 deep; of equal keys the last counts
 abbrev pub document_in : Text → Option Data
@@ -77,20 +77,26 @@ own_type_of k d = option_and_then (if_fits k) (optional_text_at (codes "mediaTyp
 pub record ContentsShown : Type 0 where
   pub config_type : Option Text
   pub needs : List Text
+  pub names : List Text
 
 abbrev pub contents_shown : Contents → ContentsShown
-contents_shown c = record { config_type = option_map string_bytes c.config_type; needs = c.needs.items }
+contents_shown c = record {
+  config_type = option_map string_bytes c.config_type;
+  needs = c.needs.items;
+  names = c.names.items;
+}
 
 abbrev pub image_contents : DescriptorShown → List DescriptorShown → ContentsShown
 image_contents config layers = record {
   config_type = Some config.media_type;
   needs = needed (config ∷ layers);
+  names = digests_of (config ∷ layers);
 }
 
 abbrev pub index_contents : List DescriptorShown → ContentsShown
-index_contents manifests = record { config_type = None; needs = [] }
+index_contents manifests = record { config_type = None; needs = []; names = [] }
 
--- each is a descriptor; an index needs no blob
+-- each is a descriptor; an index needs no blob, and names none
 abbrev pub contents_of : BodyShown → Option ContentsShown
 contents_of (image config layers) =
     option_and_then (λ first. option_map (image_contents first) (descriptors_of layers))
@@ -111,6 +117,7 @@ pub record ManifestShown : Type 0 where
   pub kind : Kind
   pub artifact_type : Option Text
   pub needs : List Text
+  pub names : List Text
   pub subject : Option Text
   pub annotations : Pairs
 
@@ -119,6 +126,7 @@ shown m = record {
   kind = m.kind;
   artifact_type = option_map string_bytes m.artifact_type;
   needs = m.needs.items;
+  names = m.names.items;
   subject = m.subject;
   annotations = pairs_of m.annotations.entries;
 }
@@ -138,6 +146,7 @@ manifest_of d = do
     kind = body_kind body;
     artifact_type = artifact_type_of artifact_type contents.config_type;
     needs = contents.needs;
+    names = contents.names;
     subject = subject;
     annotations = annotations;
   })

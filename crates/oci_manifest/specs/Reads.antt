@@ -10,7 +10,7 @@ use Rattle.oci_names.specs.Digest.{is_digest}
 use Rattle.oci_manifest.specs.declared.kind.Kind.{Kind}
 use Rattle.oci_manifest.specs.Kind.{media_type_of}
 use Rattle.oci_manifest.specs.Member.{Pairs, text_items, text_members}
-use Rattle.oci_manifest.specs.Descriptor.{DescriptorShown, needed}
+use Rattle.oci_manifest.specs.Descriptor.{DescriptorShown, digests_of, needed}
 use Rattle.oci_manifest.specs.Manifest.{BodyShown, image, index, body_kind, ContentsShown, ManifestShown}
 
 -- ---- members of an object
@@ -77,16 +77,17 @@ HasBody d (image config layers) =
 HasBody d (index manifests) =
     Lacks d (codes "config") × HasList d (codes "manifests") manifests × Lacks d (codes "layers")
 
--- its descriptors say this; the needed digests are those of the config and the layers, and an index needs
--- none (profile)
+-- its descriptors say this; the digests named, and those needed, are of the config and the layers, and an
+-- index has none of either (profile)
 abbrev pub Holds : BodyShown → ContentsShown → Type 0
 Holds (image config layers) c =
     (first : DescriptorShown) × (others : List DescriptorShown) × IsDescriptor config first
     × AreDescriptors layers others
     × (c.config_type ≡ Some first.media_type) × (c.needs ≡ needed (first ∷ others))
+    × (c.names ≡ digests_of (first ∷ others))
 Holds (index manifests) c =
     (others : List DescriptorShown) × AreDescriptors manifests others × (c.config_type ≡ None)
-    × (c.needs ≡ [])
+    × (c.needs ≡ []) × (c.names ≡ [])
 
 -- when used, it is the kind's media type; an empty one counts as not used (profile)
 abbrev pub FitsKind : Kind → Option Text → Type 0
@@ -119,6 +120,7 @@ pub record Says (d : Data) (m : ManifestShown) : Type 0 where
   pub contents : ContentsShown
   pub holds : Holds body contents
   pub needs : m.needs ≡ contents.needs
+  pub names : m.names ≡ contents.names
   pub annotations : HasTexts d (codes "annotations") m.annotations
   pub subject : HasSubject d m.subject
   pub artifact_type : (own : Option Text) × HasText d (codes "artifactType") own

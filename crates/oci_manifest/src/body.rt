@@ -3,7 +3,7 @@
 ghost use Rattle.std.specs.Prelude.{◌≡◌, ◌++◌, OnOk};
 ghost use Rattle.serde_json.specs.View.{view};
 ghost use Rattle.oci_manifest.specs.Part.{Finds};
-ghost use Rattle.oci_manifest.specs.Descriptor.{descriptor_shown, descriptors_shown, needed};
+ghost use Rattle.oci_manifest.specs.Descriptor.{descriptor_shown, descriptors_shown, digests_of, needed};
 ghost use Rattle.oci_manifest.specs.Manifest.{body_shown, body_kind, body_of, contents_shown, contents_of};
 
 use crate::descriptor::{Descriptor, read_descriptor, read_descriptors};
@@ -43,6 +43,8 @@ pub(crate) struct Contents {
     pub(crate) config_type: Option<String>,
     /// The digests whose content has to be there.
     pub(crate) needs: Vec<Digest>,
+    /// The digests of the config and the layers.
+    pub(crate) names: Vec<Digest>,
 }
 
 /// With a config it is an image manifest, without one an index; neither has the other's list.
@@ -65,6 +67,17 @@ pub(crate) fn read_body(value: &Value) -> Result<Body<'_>, ManifestFault>
             Ok(Body::Index { manifests })
         }
     }
+}
+
+/// Adds the descriptors' digests, in their order.
+fn push_named(names: &mut Vec<Digest>, descriptors: &[Descriptor]) -> Result<(), AllocError>
+    ensures { OnOk result (names.new.items
+        ≡ names.old.items ++ digests_of (descriptors_shown descriptors.now)) }
+{
+    for descriptor in descriptors {
+        names.push(descriptor.digest.clone()?)?;
+    }
+    Ok(())
 }
 
 /// Adds the descriptors' digests, in their order, without those whose content lies elsewhere.
@@ -90,10 +103,13 @@ pub(crate) fn read_contents(alloc: Global, body: &Body<'_>) -> Result<Contents, 
     ensures { Finds ManifestFault.Descriptor contents_shown result (contents_of (body_shown body.now)) }
 {
     let mut needs = Vec::new(alloc);
+    let mut names = Vec::new(alloc);
     match body {
         Body::Image { config, layers } => {
             let config = read_descriptor(alloc, ManifestFault::Descriptor, config)?;
             let layers = read_descriptors(alloc, ManifestFault::Descriptor, layers)?;
+            names.push(config.digest.clone()?)?;
+            push_named(&mut names, &layers)?;
             let Descriptor {
                 media_type,
                 digest,
@@ -106,6 +122,7 @@ pub(crate) fn read_contents(alloc: Global, body: &Body<'_>) -> Result<Contents, 
             Ok(Contents {
                 config_type: Some(media_type),
                 needs,
+                names,
             })
         }
         Body::Index { manifests } => {
@@ -113,6 +130,7 @@ pub(crate) fn read_contents(alloc: Global, body: &Body<'_>) -> Result<Contents, 
             Ok(Contents {
                 config_type: None,
                 needs,
+                names,
             })
         }
     }

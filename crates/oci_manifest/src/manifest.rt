@@ -27,6 +27,8 @@ pub struct Manifest {
     pub artifact_type: Option<String>,
     /// The blobs that have to be there: config, then layers, without those that have URLs.
     pub needs: Vec<Digest>,
+    /// The blobs that it names: config, then layers, also those that have URLs; none of an index.
+    pub names: Vec<Digest>,
     /// The digest of the manifest that this one refers to.
     pub subject: Option<Digest>,
     /// The manifest's own annotations.
@@ -127,6 +129,7 @@ fn read_rules(alloc: Global, value: &Value) -> Result<Manifest, ManifestFault>
         kind,
         artifact_type,
         needs: contents.needs,
+        names: contents.names,
         subject,
         annotations,
     })

@@ -9,7 +9,7 @@ use Rattle.registry_model.specs.declared.level.Level.{Level}
 use Rattle.registry_model.specs.declared.level.Level.TheVariants.{Pull, Push, Delete}
 use Rattle.registry_model.specs.declared.quota.Quota.{Quota}
 use Rattle.registry_orders.specs.declared.orders.Change.{Change}
-use Rattle.registry_orders.specs.declared.orders.Change.TheVariants.{AddRepo, SetQuota, DropRepo, DropSessions, Grant, Revoke, Clear}
+use Rattle.registry_orders.specs.declared.orders.Change.TheVariants.{AddRepo, SetQuota, DropRepo, DropSessions, Prune, Grant, Revoke, Clear}
 use Rattle.registry_orders.specs.declared.orders.Order.{Order}
 use Rattle.registry_orders.specs.declared.orders.Order.TheVariants as order
 use Rattle.order_messages.specs.Lines.{digit_of, words_of_change, words_of, line_of, IsProperChange, IsProper, Spells, SpellsNone}
@@ -38,6 +38,7 @@ change_length (AddRepo name quota) h = omega (arith, length-append {A = ℕ}, na
 change_length (SetQuota name quota) h = omega (arith, length-append {A = ℕ}, name_length name h, quota_length quota)
 change_length (DropRepo name) h = omega (arith, length-append {A = ℕ}, name_length name h)
 change_length (DropSessions name) h = omega (arith, length-append {A = ℕ}, name_length name h)
+change_length (Prune name) h = omega (arith, length-append {A = ℕ}, name_length name h)
 change_length (Grant token name level) h =
     omega (arith, length-append {A = ℕ}, name_length name h.0, digit_length level, token_length token h.1)
 change_length (Revoke token name) h = omega (arith, length-append {A = ℕ}, name_length name h.0, token_length token h.1)
@@ -83,6 +84,7 @@ change_same (AddRepo m q) (AddRepo n r) e = let same = quota_from_text q r cc in
 change_same (SetQuota m q) (SetQuota n r) e = let same = quota_from_text q r cc in cc
 change_same (DropRepo m) (DropRepo n) e = cc
 change_same (DropSessions m) (DropSessions n) e = cc
+change_same (Prune m) (Prune n) e = cc
 change_same (Grant t m l) (Grant u n k) e = let same = level_from_digit l k cc in cc
 change_same (Revoke t m) (Revoke u n) e = cc
 change_same Clear Clear e = refl
@@ -93,6 +95,7 @@ not_usage (AddRepo m q) e = omega arith
 not_usage (SetQuota m q) e = omega arith
 not_usage (DropRepo m) e = omega arith
 not_usage (DropSessions m) e = omega arith
+not_usage (Prune m) e = omega arith
 not_usage (Grant t m l) e = omega arith
 not_usage (Revoke t m) e = omega arith
 not_usage Clear e = omega arith

@@ -10,7 +10,7 @@ use Rattle.registry_model.specs.declared.level.Level.{Level}
 use Rattle.registry_model.specs.declared.level.Level.TheVariants.{Pull, Push, Delete}
 use Rattle.registry_model.specs.declared.quota.Quota.{Quota}
 use Rattle.registry_orders.specs.declared.orders.Change.{Change}
-use Rattle.registry_orders.specs.declared.orders.Change.TheVariants.{AddRepo, SetQuota, DropRepo, DropSessions, Grant, Revoke, Clear}
+use Rattle.registry_orders.specs.declared.orders.Change.TheVariants.{AddRepo, SetQuota, DropRepo, DropSessions, Prune, Grant, Revoke, Clear}
 use Rattle.registry_orders.specs.declared.orders.Order.{Order}
 use Rattle.registry_orders.specs.declared.orders.Order.TheVariants as order
 use Rattle.order_messages.specs.declared.reading.Unread.{Unread}
@@ -67,6 +67,7 @@ plain_change (AddRepo name quota) h = one_more (plain name) (plain (decimal quot
 plain_change (SetQuota name quota) h = one_more (plain name) (plain (decimal quota.bytes) && true) (plain_name name h) (one_more (plain (decimal quota.bytes)) true (plain_quota quota) refl)
 plain_change (DropRepo name) h = one_more (plain name) true (plain_name name h) refl
 plain_change (DropSessions name) h = one_more (plain name) true (plain_name name h) refl
+plain_change (Prune name) h = one_more (plain name) true (plain_name name h) refl
 plain_change (Grant token name level) h =
     one_more (plain name) (plain (digit_of level) && (plain token && true)) (plain_name name h.0)
     (one_more (plain (digit_of level)) (plain token && true) (plain_digit level) (one_more (plain token) true (plain_token token h.1) refl))
@@ -86,6 +87,7 @@ some_words (order.Change (AddRepo name quota)) e = cc
 some_words (order.Change (SetQuota name quota)) e = cc
 some_words (order.Change (DropRepo name)) e = cc
 some_words (order.Change (DropSessions name)) e = cc
+some_words (order.Change (Prune name)) e = cc
 some_words (order.Change (Grant token name level)) e = cc
 some_words (order.Change (Revoke token name)) e = cc
 some_words (order.Change Clear) e = cc

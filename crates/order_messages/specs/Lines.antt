@@ -7,7 +7,7 @@ use Rattle.oci_names.specs.Token.{is_token}
 use Rattle.registry_model.specs.declared.level.Level.{Level}
 use Rattle.registry_model.specs.declared.level.Level.TheVariants.{Pull, Push, Delete}
 use Rattle.registry_orders.specs.declared.orders.Change.{Change}
-use Rattle.registry_orders.specs.declared.orders.Change.TheVariants.{AddRepo, SetQuota, DropRepo, DropSessions, Grant, Revoke, Clear}
+use Rattle.registry_orders.specs.declared.orders.Change.TheVariants.{AddRepo, SetQuota, DropRepo, DropSessions, Prune, Grant, Revoke, Clear}
 use Rattle.registry_orders.specs.declared.orders.Order.{Order}
 use Rattle.registry_orders.specs.declared.orders.Order.TheVariants as order
 
@@ -22,6 +22,7 @@ words_of_change (AddRepo name quota) = codes "repo" ∷ name ∷ decimal quota.b
 words_of_change (SetQuota name quota) = codes "quota" ∷ name ∷ decimal quota.bytes ∷ []
 words_of_change (DropRepo name) = codes "drop" ∷ name ∷ []
 words_of_change (DropSessions name) = codes "sessions" ∷ name ∷ []
+words_of_change (Prune name) = codes "prune" ∷ name ∷ []
 words_of_change (Grant token name level) = codes "grant" ∷ name ∷ digit_of level ∷ token ∷ []
 words_of_change (Revoke token name) = codes "revoke" ∷ name ∷ token ∷ []
 words_of_change Clear = codes "clear" ∷ []
@@ -43,6 +44,7 @@ IsProperChange (AddRepo name quota) = is_repo_name name ≡ true
 IsProperChange (SetQuota name quota) = is_repo_name name ≡ true
 IsProperChange (DropRepo name) = is_repo_name name ≡ true
 IsProperChange (DropSessions name) = is_repo_name name ≡ true
+IsProperChange (Prune name) = is_repo_name name ≡ true
 IsProperChange (Grant token name level) = (is_repo_name name ≡ true) × (is_token token ≡ true)
 IsProperChange (Revoke token name) = (is_repo_name name ≡ true) × (is_token token ≡ true)
 IsProperChange Clear = Unit {0}

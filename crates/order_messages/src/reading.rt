@@ -103,6 +103,9 @@ fn order_of_name(alloc: Global, word: &str, name: &str) -> Result<Order, Unread>
         "sessions" => Ok(Order::Change(Change::DropSessions {
             name: RepoName::parse(alloc, name)?,
         })),
+        "prune" => Ok(Order::Change(Change::Prune {
+            name: RepoName::parse(alloc, name)?,
+        })),
         _ => Err(Unread::Malformed),
     }
 }

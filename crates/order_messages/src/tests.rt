@@ -29,7 +29,7 @@ const ONE_ROW: &str =
      \x20                  0                2000         0         0         0         0 team/app\n";
 
 /// Lines, one after the other, and the answer to each.
-const TALK: [(&str, &str); 16] = [
+const TALK: [(&str, &str); 18] = [
     ("usage", NO_ROWS),
     ("drop team/app", NO_REPO),
     ("repo team/app 1000", DONE),
@@ -43,13 +43,15 @@ const TALK: [(&str, &str); 16] = [
     ("revoke team/app t1", DONE),
     ("revoke team/app t1", NO_GRANT),
     ("sessions team/app", DONE),
+    ("prune team/app", DONE),
+    ("prune team/other", NO_REPO),
     ("clear", DONE),
     ("drop team/app", DONE),
     ("usage", NO_ROWS),
 ];
 
 /// Lines that spell no order.
-const MALFORMED_LINES: [&[u8]; 24] = [
+const MALFORMED_LINES: [&[u8]; 26] = [
     b"",
     b" ",
     b"usage ",
@@ -66,6 +68,8 @@ const MALFORMED_LINES: [&[u8]; 24] = [
     b"drop team/App",
     b"drop team/app\0",
     b"drop team/\xff",
+    b"prune",
+    b"prune team/app team/app",
     b"quota team/app 01",
     b"quota team/app +1",
     b"quota team/app -1",

@@ -40,6 +40,7 @@ impl<'a> fmt::Display for ChangeLine<'a> {
             }
             Change::DropRepo { name } => write!(f, "drop {}", name.as_str()),
             Change::DropSessions { name } => write!(f, "sessions {}", name.as_str()),
+            Change::Prune { name } => write!(f, "prune {}", name.as_str()),
             Change::Grant { token, name, level } => {
                 let digit = digit_of(*level);
                 write!(f, "grant {} {digit} {}", name.as_str(), token.as_str())

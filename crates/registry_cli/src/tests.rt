@@ -238,6 +238,19 @@ fn an_order_changes_the_keeper(rt: HostRuntime) -> Result<(), Fail> {
     Ok(())
 }
 
+/// A blob that no manifest names is taken away.
+#[test]
+fn a_keeper_is_pruned(rt: HostRuntime) -> Result<(), Fail> {
+    let alloc = rt.alloc();
+    let team = RepoName::parse(alloc, "team/app")?;
+    let mut keeper = prepared(alloc)?;
+    same(&rt, keeper.usage(&team)?.blobs, 1);
+    let name = RepoName::parse(alloc, "team/app")?;
+    let mut pruned = ordered(alloc, keeper, Change::Prune { name })?;
+    same(&rt, pruned.usage(&team)?.blobs, 0);
+    Ok(())
+}
+
 /// Serves the same requests so many times, and then takes no further connection.
 #[derive(Drop)]
 struct Door {

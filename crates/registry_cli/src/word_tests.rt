@@ -27,6 +27,7 @@ const TOLD: [(u8, &[u8], &str); 20] = [
         quota --db f --name team/app --quota 0
         drop --db f --name team/app
         sessions --db f --name team/app
+        prune --db f --name team/app
         grant --db f --token=-x --name team/app --level 3
         revoke --db f --token t1 --name team/app
         clear --db f
@@ -46,6 +47,7 @@ const TOLD: [(u8, &[u8], &str); 20] = [
         quota --db f --name team/lib --quota 0
         drop --db f --name nowhere
         sessions --db f --name nowhere
+        prune --db f --name nowhere
         grant --db f --token t1 --name nowhere --level 1",
     ),
     (

@@ -30,7 +30,7 @@ fn same<T: PartialEq + Debug + Drop>(rt: &impl Abort, place: usize, found: T, wa
 fn add(alloc: Global, registry: &mut Service<MapKeeper>) -> Result<(), Fail> {
     let name = RepoName::parse(alloc, "team/app")?;
     let quota = Quota::new(1000).ok_or("a quota")?;
-    registry.admin(&AdminCommand::AddRepo { name: &name, quota })?;
+    registry.admin(alloc, &AdminCommand::AddRepo { name: &name, quota })?;
     Ok(())
 }
 
@@ -38,11 +38,14 @@ fn add(alloc: Global, registry: &mut Service<MapKeeper>) -> Result<(), Fail> {
 fn grant(alloc: Global, registry: &mut Service<MapKeeper>) -> Result<(), Fail> {
     let token = Token::parse(alloc, "t1")?;
     let name = RepoName::parse(alloc, "team/app")?;
-    registry.admin(&AdminCommand::Grant {
-        token: &token,
-        name: &name,
-        level: Level::Delete,
-    })?;
+    registry.admin(
+        alloc,
+        &AdminCommand::Grant {
+            token: &token,
+            name: &name,
+            level: Level::Delete,
+        },
+    )?;
     Ok(())
 }
 

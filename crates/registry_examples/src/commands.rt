@@ -4,7 +4,7 @@ use registry_model::{AdminCommand, AdminFault, Keeper, Level, Quota};
 use registry_service::Service;
 use std::alloc::Global;
 
-/// Carries out `repo NAME QUOTA`, `quota NAME QUOTA`, `drop NAME`, `sessions NAME`,
+/// Carries out `repo NAME QUOTA`, `quota NAME QUOTA`, `drop NAME`, `sessions NAME`, `prune NAME`,
 /// `grant TOKEN NAME LEVEL`, `revoke TOKEN NAME` or `clear`. The inner result is the registry's.
 pub fn carry_out<K: Keeper>(
     alloc: Global,
@@ -12,33 +12,45 @@ pub fn carry_out<K: Keeper>(
     words: &[&str],
 ) -> Result<Result<(), AdminFault>> {
     let done = match words {
-        ["repo", name, quota] => registry.admin(&AdminCommand::AddRepo {
-            name: &name_of(alloc, name)?,
-            quota: quota_of(quota)?,
-        }),
-        ["quota", name, quota] => registry.admin(&AdminCommand::SetQuota {
-            name: &name_of(alloc, name)?,
-            quota: quota_of(quota)?,
-        }),
-        ["drop", name] => registry.admin(&AdminCommand::DropRepo {
-            name: &name_of(alloc, name)?,
-        }),
-        ["sessions", name] => registry.admin(&AdminCommand::DropSessions {
-            name: &name_of(alloc, name)?,
-        }),
-        ["grant", token, name, level] => registry.admin(&AdminCommand::Grant {
-            token: &token_of(alloc, token)?,
-            name: &name_of(alloc, name)?,
-            level: level_of(level)?,
-        }),
-        ["revoke", token, name] => registry.admin(&AdminCommand::Revoke {
-            token: &token_of(alloc, token)?,
-            name: &name_of(alloc, name)?,
-        }),
-        ["clear"] => registry.admin(&AdminCommand::Clear),
+        ["repo", name, quota] => {
+            let name = &name_of(alloc, name)?;
+            let quota = quota_of(quota)?;
+            registry.admin(alloc, &AdminCommand::AddRepo { name, quota })
+        }
+        ["quota", name, quota] => {
+            let name = &name_of(alloc, name)?;
+            let quota = quota_of(quota)?;
+            registry.admin(alloc, &AdminCommand::SetQuota { name, quota })
+        }
+        ["grant", token, name, level] => {
+            let token = &token_of(alloc, token)?;
+            let name = &name_of(alloc, name)?;
+            let level = level_of(level)?;
+            registry.admin(alloc, &AdminCommand::Grant { token, name, level })
+        }
+        ["revoke", token, name] => {
+            let token = &token_of(alloc, token)?;
+            let name = &name_of(alloc, name)?;
+            registry.admin(alloc, &AdminCommand::Revoke { token, name })
+        }
+        ["clear"] => registry.admin(alloc, &AdminCommand::Clear),
+        [word, name] => {
+            let name = &name_of(alloc, name)?;
+            registry.admin(alloc, &command_on(word, name)?)
+        }
         _ => bail!("no such command"),
     };
     Ok(done)
+}
+
+/// `drop`, `sessions` or `prune` on a repository.
+fn command_on<'a>(word: &str, name: &'a RepoName) -> Result<AdminCommand<'a>> {
+    Ok(match word {
+        "drop" => AdminCommand::DropRepo { name },
+        "sessions" => AdminCommand::DropSessions { name },
+        "prune" => AdminCommand::Prune { name },
+        _ => bail!("no such command"),
+    })
 }
 
 /// How many bytes a repository uses.

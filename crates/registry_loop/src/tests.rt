@@ -33,7 +33,7 @@ const BAD_REQUEST: &[u8] =
 fn add(alloc: Global, service: &mut Service<MapKeeper>) -> Result<(), Fail> {
     let name = RepoName::parse(alloc, "team/app")?;
     let quota = Quota::new(1000).ok_or("a quota")?;
-    service.admin(&AdminCommand::AddRepo { name: &name, quota })?;
+    service.admin(alloc, &AdminCommand::AddRepo { name: &name, quota })?;
     Ok(())
 }
 
@@ -41,11 +41,14 @@ fn add(alloc: Global, service: &mut Service<MapKeeper>) -> Result<(), Fail> {
 fn grant(alloc: Global, service: &mut Service<MapKeeper>) -> Result<(), Fail> {
     let token = Token::parse(alloc, "t1")?;
     let name = RepoName::parse(alloc, "team/app")?;
-    service.admin(&AdminCommand::Grant {
-        token: &token,
-        name: &name,
-        level: Level::Delete,
-    })?;
+    service.admin(
+        alloc,
+        &AdminCommand::Grant {
+            token: &token,
+            name: &name,
+            level: Level::Delete,
+        },
+    )?;
     Ok(())
 }
 

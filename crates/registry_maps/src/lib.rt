@@ -5,6 +5,7 @@
 mod kept_manifest;
 mod levels;
 mod map_keeper;
+mod memory;
 mod repository;
 
 pub use map_keeper::MapKeeper;

@@ -5,9 +5,10 @@ ghost use Rattle.registry_model.specs.Doing.{keeps};
 ghost use Rattle.registry_model.specs.Limits.{largest};
 ghost use Rattle.registry_model.specs.Lookups.{usages_of};
 ghost use Rattle.registry_model.specs.Keeping.{usages_shown};
-ghost use Rattle.registry_maps.specs.Maps.{world_of, or_memory};
+ghost use Rattle.registry_maps.specs.Maps.{world_of};
 
 use crate::levels::{set_level, take_level};
+use crate::memory::or_memory;
 use crate::repository::Repository;
 use oci_manifest::{Kind, Manifest};
 use oci_names::{Digest, Fault, RepoName, Tag, Token};
@@ -21,16 +22,6 @@ pub struct MapKeeper {
     alloc: Global,
     repos: BTreeMap<RepoName, Repository>,
     grants: BTreeMap<Token, BTreeMap<RepoName, Level>>,
-}
-
-/// The only fault is want of memory.
-fn or_memory<T>(made: Result<T, AllocError>) -> Result<T, Fault>
-    ensures { result ≡ or_memory made }
-{
-    match made {
-        Ok(value) => Ok(value),
-        Err(_) => Err(Fault::Memory),
-    }
 }
 
 impl MapKeeper {
@@ -227,6 +218,20 @@ impl Keeper for MapKeeper {
         or_memory(self.all_usages(alloc))
     }
 
+    fn blob_digests(&mut self, alloc: Global, repo: &RepoName) -> Result<Vec<Digest>, Fault> {
+        match self.repos.get(repo) {
+            Some(repository) => or_memory(repository.blob_digests(alloc)),
+            None => Ok(Vec::new(alloc)),
+        }
+    }
+
+    fn manifest_digests(&mut self, alloc: Global, repo: &RepoName) -> Result<Vec<Digest>, Fault> {
+        match self.repos.get(repo) {
+            Some(repository) => or_memory(repository.manifest_digests(alloc)),
+            None => Ok(Vec::new(alloc)),
+        }
+    }
+
     fn put_blob(&mut self, repo: &RepoName, digest: &Digest, bytes: &[u8]) -> Result<(), Fault> {
         let alloc = self.alloc;
         match self.repos.get_mut(repo) {
@@ -311,6 +316,13 @@ impl Keeper for MapKeeper {
     fn delete_blob(&mut self, repo: &RepoName, digest: &Digest) -> Result<(), Fault> {
         if let Some(repository) = self.repos.get_mut(repo) {
             repository.delete_blob(digest);
+        }
+        Ok(())
+    }
+
+    fn delete_blobs(&mut self, repo: &RepoName, digests: &[Digest]) -> Result<(), Fault> {
+        if let Some(repository) = self.repos.get_mut(repo) {
+            repository.delete_blobs(digests);
         }
         Ok(())
     }

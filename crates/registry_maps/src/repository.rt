@@ -7,6 +7,7 @@ ghost use Rattle.registry_model.specs.Ask.{text_in};
 ghost use Rattle.registry_model.specs.World.{new_repo};
 ghost use Rattle.registry_model.specs.Limits.{largest};
 ghost use Rattle.registry_model.specs.Blobs.{with_blob, without_blob};
+ghost use Rattle.registry_model.specs.Pruning.{without_blobs};
 ghost use Rattle.registry_model.specs.Sessions.{opened, appended, finished};
 ghost use Rattle.registry_model.specs.Manifests.{with_bytes, with_tag, with_manifest, without_tag, without_manifest};
 ghost use Rattle.registry_model.specs.Lookups.{bytes_or_none};
@@ -72,6 +73,15 @@ impl Repository {
         ensures { repo_of self.new ≡ without_blob (repo_of self.old) digest.now }
     {
         self.blobs.remove(digest);
+    }
+
+    /// Takes blobs away, one after the other; a digest of which there is no blob changes nothing.
+    pub fn delete_blobs(&mut self, digests: &[Digest])
+        ensures { repo_of self.new ≡ without_blobs (repo_of self.old) digests.now }
+    {
+        for digest in digests {
+            self.delete_blob(digest);
+        }
     }
 
     /// Opens an empty upload session under the next number, and answers it.

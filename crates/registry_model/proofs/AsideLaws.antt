@@ -8,7 +8,7 @@ use Rattle.oci_names.specs.Text.{Text}
 use Rattle.oci_names.specs.Token.{is_token}
 use Rattle.registry_model.specs.declared.level.Level.{Level}
 use Rattle.registry_model.specs.declared.admin.AdminCommand.{AdminCommand}
-use Rattle.registry_model.specs.declared.admin.AdminCommand.TheVariants.{AddRepo, SetQuota, DropRepo, Grant, Revoke, DropSessions, Clear}
+use Rattle.registry_model.specs.declared.admin.AdminCommand.TheVariants.{AddRepo, SetQuota, DropRepo, Grant, Revoke, DropSessions, Prune, Clear}
 use Rattle.registry_model.specs.declared.admin.AdminFault.{AdminFault}
 use Rattle.registry_model.specs.declared.refusal.Refusal.TheVariants.{TokenRequired}
 use Rattle.registry_model.specs.World.{text_cmp, Repo, Grants, World, repo_at, level_at, update_repo}
@@ -16,6 +16,7 @@ use Rattle.registry_model.specs.Ask.{Ask}
 use Rattle.registry_model.specs.Decision.{refuses}
 use Rattle.registry_model.specs.Operation.{addressed, rank, rank_of}
 use Rattle.registry_model.specs.Command.{with_quota, grant, revoke, drop_repo, without_sessions, refusal_of, carried_out, after_command}
+use Rattle.registry_model.specs.Pruning.{pruned}
 use Rattle.registry_model.specs.Judging.{decision, judged, changed, after_request}
 use Rattle.registry_model.specs.Team.{Team, IsTeamOf, view, Step, asks, orders, is_reading, GivesNoPush, NeverPushes, MayNotPush, IsElsewhere, OwnOrAside}
 use Rattle.registry_model.specs.Runs.{after}
@@ -37,7 +38,7 @@ same_grants w None (Some r) = refl
 same_grants w (Some t) None = refl
 same_grants w (Some t) (Some r) = refl
 
-updated_grants : (w : World) (name : Text) (change : Repo → Repo) (o : Option Repo) → (update_repo w name change o).grants ≡ w.grants
+pub updated_grants : (w : World) (name : Text) (change : Repo → Repo) (o : Option Repo) → (update_repo w name change o).grants ≡ w.grants
 updated_grants w name change None = refl
 updated_grants w name change (Some r) = refl
 
@@ -115,6 +116,7 @@ module _ (first : World) (all : List Step) (team : Team) (mine : IsTeamOf first 
   since_order (Grant token name level) h gives = since_grant token.now name.now level h gives
   since_order (Revoke token name) h gives = since_revoke token.now name.now h
   since_order (DropSessions name) h gives = kept_grants first all team w _ (updated_grants w name.now without_sessions (repo_at w name.now)) s
+  since_order (Prune name) h gives = kept_grants first all team w _ (updated_grants w name.now pruned (repo_at w name.now)) s
   since_order Clear h gives = s
 
   pub since : (st : Step) → OwnOrAside first all team st → ((u n : Text) → All (GivesNoPush u n) all → GivesNoPush u n st) → Since first all team (after w st)
@@ -171,6 +173,7 @@ module _ (first : World) (all : List Step) (team : Team) (mine : IsTeamOf first 
   carried_aside (Grant token name level) h = with_grants_outside w team token.now (insert (w.grants token.now) name.now level) h
   carried_aside (Revoke token name) h = with_grants_outside w team token.now (remove (w.grants token.now) name.now) h
   carried_aside (DropSessions name) h = updated_outside w team name.now without_sessions (repo_at w name.now) h
+  carried_aside (Prune name) h = updated_outside w team name.now pruned (repo_at w name.now) h
   carried_aside Clear h = refl
 
   pub aside_order : (a : AdminCommand) → OwnOrAside first all team (orders a) → view (after w (orders a)) team ≡ view w team

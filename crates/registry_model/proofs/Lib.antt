@@ -8,6 +8,8 @@ pub mod AsideLaws
 pub mod RunLaws
 pub mod ChangedMaps
 pub mod SoundRepositories
+pub mod BlobsTakenAway
+pub mod PruningLaws
 pub mod SoundOperations
 pub mod SoundWorlds
 pub mod RefusalsKeepWorlds

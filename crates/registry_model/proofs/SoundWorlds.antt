@@ -10,7 +10,7 @@ use Rattle.registry_model.specs.declared.quota.Quota.{Quota}
 use Rattle.registry_model.specs.declared.request.Verb.{Verb}
 use Rattle.registry_model.specs.declared.request.Verb.TheVariants as verb
 use Rattle.registry_model.specs.declared.admin.AdminCommand.{AdminCommand}
-use Rattle.registry_model.specs.declared.admin.AdminCommand.TheVariants.{AddRepo, SetQuota, DropRepo, Grant, Revoke, DropSessions, Clear}
+use Rattle.registry_model.specs.declared.admin.AdminCommand.TheVariants.{AddRepo, SetQuota, DropRepo, Grant, Revoke, DropSessions, Prune, Clear}
 use Rattle.registry_model.specs.declared.admin.AdminFault.{AdminFault}
 use Rattle.registry_model.specs.declared.admin.AdminFault.TheVariants.{NoRepo}
 use Rattle.registry_model.specs.World.{text_cmp, Repo, Grants, World, no_world, repo_at, has_repo, is_known, with_repo, update_repo, with_grants}
@@ -22,11 +22,13 @@ use Rattle.registry_model.specs.Operation.{Operation, operation_of, addressed}
 use Rattle.registry_model.specs.Decision.{in_repo}
 use Rattle.registry_model.specs.Judging.{operate, allows, granted, decide, at_base, served_on, decision, judged, changed, after_request}
 use Rattle.registry_model.specs.Command.{with_quota, set_repo, grant, revoke, drop_repo, without_sessions, refusal_of, after_command}
+use Rattle.registry_model.specs.Pruning.{pruned}
 use Rattle.registry_model.specs.Team.{Step, asks, orders}
 use Rattle.registry_model.specs.Runs.{Outcome, after, after_all}
 use Rattle.registry_model.proofs.TextOrder.{text_total, exact_texts}
 use Rattle.registry_model.proofs.ChangedMaps.{not_Some, got_insert, stays_there, got_remove, left_there}
 use Rattle.registry_model.proofs.SoundRepositories.{sound_new, sound_quota, sound_without_sessions}
+use Rattle.registry_model.proofs.PruningLaws.{sound_pruned}
 use Rattle.registry_model.proofs.SoundOperations.{IsSoundDecision, by_test, sound_operation}
 
 -- ---- requests
@@ -123,9 +125,10 @@ module _ (w : World) (s : IsSound w) where
         left_there text_total exact_texts w.repos name other (s.grants token other level k.0) k.1;
   }
 
-  sound_update : (name : Text) (o : Option Repo) → repo_at w name ≡ o → IsSound (update_repo w name without_sessions o)
-  sound_update name None e = s
-  sound_update name (Some r) e = sound_with_repo name (without_sessions r) (sound_without_sessions r (s.repos name r e))
+  sound_update : (name : Text) (change : Repo → Repo) → ((r : Repo) → IsSoundRepo r → IsSoundRepo (change r)) → (o : Option Repo) → repo_at w name ≡ o
+      → IsSound (update_repo w name change o)
+  sound_update name change kept None e = s
+  sound_update name change kept (Some r) e = sound_with_repo name (change r) (kept r (s.repos name r e))
 
   -- unless it is refused
   unless : (o : Option AdminFault) (v : World) → (o ≡ None → IsSound v) → IsSound (elim o as (λ _. World) [ None ↦ v | Some e ↦ w ])
@@ -145,7 +148,8 @@ module _ (w : World) (s : IsSound w) where
   sound_after_command (DropRepo name) = unless (refusal_of w (DropRepo name)) _ (λ _. sound_drop name.now)
   sound_after_command (Grant token name level) = unless (refusal_of w (Grant token name level)) _ (λ e. sound_grant token.now name.now level (is_there (has_repo w name.now) e))
   sound_after_command (Revoke token name) = unless (refusal_of w (Revoke token name)) _ (λ _. sound_revoke token.now name.now)
-  sound_after_command (DropSessions name) = unless (refusal_of w (DropSessions name)) _ (λ _. sound_update name.now (repo_at w name.now) refl)
+  sound_after_command (DropSessions name) = unless (refusal_of w (DropSessions name)) _ (λ _. sound_update name.now without_sessions sound_without_sessions (repo_at w name.now) refl)
+  sound_after_command (Prune name) = unless (refusal_of w (Prune name)) _ (λ _. sound_update name.now pruned sound_pruned (repo_at w name.now) refl)
   sound_after_command Clear = s
 
 -- ---- from the empty world on

@@ -4,10 +4,11 @@ use Rattle.std.specs.FinMap.{insert, remove, empty}
 use Rattle.oci_names.specs.Text.{Text}
 use Rattle.registry_model.specs.declared.level.Level.{Level}
 use Rattle.registry_model.specs.declared.admin.AdminCommand.{AdminCommand}
-use Rattle.registry_model.specs.declared.admin.AdminCommand.TheVariants.{AddRepo, SetQuota, DropRepo, Grant, Revoke, DropSessions, Clear}
+use Rattle.registry_model.specs.declared.admin.AdminCommand.TheVariants.{AddRepo, SetQuota, DropRepo, Grant, Revoke, DropSessions, Prune, Clear}
 use Rattle.registry_model.specs.declared.admin.AdminFault.{AdminFault}
 use Rattle.registry_model.specs.declared.admin.AdminFault.TheVariants.{NoRepo, NoGrant, RepoThere}
 use Rattle.registry_model.specs.World.{Repo, World, repo_at, has_repo, level_at, new_repo, with_repo, update_repo, with_grants}
+use Rattle.registry_model.specs.Pruning.{prune}
 
 -- a repository that is there keeps all but its quota
 abbrev pub with_quota : Option Repo → ℕ → Repo
@@ -48,6 +49,7 @@ refusal_of w (DropRepo name) = unless_there w name.now
 refusal_of w (Grant token name level) = unless_there w name.now
 refusal_of w (Revoke token name) = if is_some (level_at w token.now name.now) then None else Some NoGrant
 refusal_of w (DropSessions name) = unless_there w name.now
+refusal_of w (Prune name) = unless_there w name.now
 refusal_of w Clear = None
 
 -- what a command that is not refused makes of the world; what `Clear` removes is in no world
@@ -58,6 +60,7 @@ carried_out w (DropRepo name) = drop_repo w name.now
 carried_out w (Grant token name level) = grant w token.now name.now level
 carried_out w (Revoke token name) = revoke w token.now name.now
 carried_out w (DropSessions name) = drop_sessions w name.now
+carried_out w (Prune name) = prune w name.now
 carried_out w Clear = w
 
 abbrev pub after_command : World → AdminCommand → World

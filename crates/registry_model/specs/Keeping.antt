@@ -57,3 +57,6 @@ entries_shown v = map (λ p. (p.0, p.1.items)) v.items
 
 abbrev pub usages_shown : Vec (Text × Usage) Global → List (Text × Usage)
 usages_shown v = v.items
+
+abbrev pub digests_shown : Vec Text Global → List Text
+digests_shown v = v.items

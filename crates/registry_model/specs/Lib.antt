@@ -20,6 +20,7 @@ pub mod Lookups
 pub mod Operation
 pub mod Judging
 pub mod Heads
+pub mod Pruning
 pub mod Command
 pub mod Keeping
 pub mod Closing

@@ -2,7 +2,7 @@
 -- not there, and a write to one that is not there makes nothing.
 use Rattle.std.specs.Prelude.{ℕ, List, [], ◌++◌, map, false, Option, Some, None, length, option_map}
 use Rattle.std.specs.Option.{option_and_then, option_map_or}
-use Rattle.std.specs.FinMap.{get, len, entries}
+use Rattle.std.specs.FinMap.{get, len, keys, entries}
 use Rattle.oci_names.specs.Text.{Text}
 use Rattle.oci_manifest.specs.declared.kind.Kind.{Kind}
 use Rattle.registry_model.specs.declared.quota.Usage.{Usage}
@@ -66,6 +66,13 @@ usage_at w name = option_map_or usage_of (repo_at w name) no_usage
 -- in byte order of names
 abbrev pub usages_of : World → List (Text × Usage)
 usages_of w = map (λ e. (e.0, usage_of e.1)) (entries w.repos)
+
+-- the digests, in byte order
+abbrev pub blob_digests_at : World → Text → List Text
+blob_digests_at w name = option_map_or (λ r. keys r.blobs) (repo_at w name) []
+
+abbrev pub manifest_digests_at : World → Text → List Text
+manifest_digests_at w name = option_map_or (λ r. keys r.manifests) (repo_at w name) []
 
 -- ---- writes
 

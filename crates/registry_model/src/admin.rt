@@ -33,6 +33,11 @@ pub enum AdminCommand<'a> {
     DropSessions {
         name: &'a RepoName,
     },
+    /// Takes away the blobs of a repository that none of its manifests names. An upload in flight may lose
+    /// blobs whose manifest has not come yet.
+    Prune {
+        name: &'a RepoName,
+    },
     /// Frees what no repository holds any more; no reply changes by it.
     Clear,
 }

@@ -3,10 +3,11 @@ ghost use Rattle.oci_names.specs.Digest.{matches};
 ghost use Rattle.oci_manifest.specs.Manifest.{shown, manifest_in};
 ghost use Rattle.registry_model.specs.Limits.{largest, largest_blob, largest_manifest, most_sessions};
 ghost use Rattle.registry_model.specs.World.{is_known, has_repo, level_at};
-ghost use Rattle.registry_model.specs.Lookups.{blob_at, blob_size_at, manifest_at, manifest_size_at, tag_at, page_at, manifests_on_at, session_at, session_size_at, sessions_open_at, last_number_at, usage_at, usages_of, bytes_or_none, put_blob, open_session, append, finish, mount, put_manifest, delete_blob, delete_manifest, delete_tag};
+ghost use Rattle.registry_model.specs.Lookups.{blob_at, blob_size_at, manifest_at, manifest_size_at, tag_at, page_at, manifests_on_at, session_at, session_size_at, sessions_open_at, last_number_at, usage_at, usages_of, blob_digests_at, manifest_digests_at, bytes_or_none, put_blob, open_session, append, finish, mount, put_manifest, delete_blob, delete_manifest, delete_tag};
 ghost use Rattle.registry_model.specs.Command.{set_repo, drop_repo, grant, revoke, drop_sessions};
+ghost use Rattle.registry_model.specs.Pruning.{delete_blobs};
 ghost use Rattle.registry_model.specs.Ask.{text_in};
-ghost use Rattle.registry_model.specs.Keeping.{State, Reads, ReadsBy, Writes, WritesBy, Spends, bytes_in, manifest_shown, page_shown, entries_shown, usages_shown};
+ghost use Rattle.registry_model.specs.Keeping.{State, Reads, ReadsBy, Writes, WritesBy, Spends, bytes_in, manifest_shown, page_shown, entries_shown, usages_shown, digests_shown};
 ghost use Rattle.registry_model.specs.Closing.{session_matches, finish_as_is, WritesWhereSo};
 
 use crate::{Level, Quota, Usage};
@@ -33,8 +34,7 @@ pub trait Keeper {
 
     /// Whether the token has a grant.
     fn known(&mut self, token: &Token) -> Result<bool, Fault>
-        ensures found { is_honest self.new
-            → Reads result (is_known ((state self.old).world.grants token.now))
+        ensures found { is_honest self.new → Reads result (is_known ((state self.old).world.grants token.now))
             (state self.old) (state self.new) }
         ensures spends { Spends result (state self.old) (state self.new) }
         ensures honest { is_honest self.new → is_honest self.old };
@@ -48,8 +48,7 @@ pub trait Keeper {
 
     /// The level of a token on a repository, where it has one.
     fn level(&mut self, token: &Token, repo: &RepoName) -> Result<Option<Level>, Fault>
-        ensures found { is_honest self.new
-            → Reads result (level_at (state self.old).world token.now repo.now)
+        ensures found { is_honest self.new → Reads result (level_at (state self.old).world token.now repo.now)
             (state self.old) (state self.new) }
         ensures spends { Spends result (state self.old) (state self.new) }
         ensures honest { is_honest self.new → is_honest self.old };
@@ -102,8 +101,7 @@ pub trait Keeper {
 
     /// The digest that a tag names.
     fn tag(&mut self, alloc: Global, repo: &RepoName, tag: &Tag) -> Result<Option<Digest>, Fault>
-        ensures found { is_honest self.new
-            → Reads result (tag_at (state self.old).world repo.now tag.now)
+        ensures found { is_honest self.new → Reads result (tag_at (state self.old).world repo.now tag.now)
             (state self.old) (state self.new) }
         ensures spends { Spends result (state self.old) (state self.new) }
         ensures honest { is_honest self.new → is_honest self.old };
@@ -160,16 +158,14 @@ pub trait Keeper {
 
     /// How many upload sessions are open; 0 where the repository is not there.
     fn sessions_open(&mut self, repo: &RepoName) -> Result<u64, Fault>
-        ensures found { is_honest self.new
-            → Reads result (sessions_open_at (state self.old).world repo.now)
+        ensures found { is_honest self.new → Reads result (sessions_open_at (state self.old).world repo.now)
             (state self.old) (state self.new) }
         ensures spends { Spends result (state self.old) (state self.new) }
         ensures honest { is_honest self.new → is_honest self.old };
 
     /// The last number that an upload session got; 0 where none did.
     fn last_number(&mut self, repo: &RepoName) -> Result<u64, Fault>
-        ensures found { is_honest self.new
-            → Reads result (last_number_at (state self.old).world repo.now)
+        ensures found { is_honest self.new → Reads result (last_number_at (state self.old).world repo.now)
             (state self.old) (state self.new) }
         ensures spends { Spends result (state self.old) (state self.new) }
         ensures honest { is_honest self.new → is_honest self.old };
@@ -183,15 +179,29 @@ pub trait Keeper {
 
     /// What each repository holds and may hold, in byte order of names.
     fn usages(&mut self, alloc: Global) -> Result<Vec<(RepoName, Usage)>, Fault>
+        ensures found { is_honest self.new → ReadsBy usages_shown result (usages_of (state self.old).world)
+            (state self.old) (state self.new) }
+        ensures spends { Spends result (state self.old) (state self.new) }
+        ensures honest { is_honest self.new → is_honest self.old };
+
+    /// The digests of a repository's blobs, in byte order. Reads no blob.
+    fn blob_digests(&mut self, alloc: Global, repo: &RepoName) -> Result<Vec<Digest>, Fault>
         ensures found { is_honest self.new
-            → ReadsBy usages_shown result (usages_of (state self.old).world)
+            → ReadsBy digests_shown result (blob_digests_at (state self.old).world repo.now)
+            (state self.old) (state self.new) }
+        ensures spends { Spends result (state self.old) (state self.new) }
+        ensures honest { is_honest self.new → is_honest self.old };
+
+    /// The digests of a repository's manifests, in byte order. Reads no manifest.
+    fn manifest_digests(&mut self, alloc: Global, repo: &RepoName) -> Result<Vec<Digest>, Fault>
+        ensures found { is_honest self.new
+            → ReadsBy digests_shown result (manifest_digests_at (state self.old).world repo.now)
             (state self.old) (state self.new) }
         ensures spends { Spends result (state self.old) (state self.new) }
         ensures honest { is_honest self.new → is_honest self.old };
 
     /// Adds a blob to a repository that is there (`has_repo` tells), under a digest that the bytes
-    /// match (`Digest::verifies` tells); of at most 67,108,864 bytes. A digest that is there keeps its
-    /// bytes.
+    /// match (`Digest::verifies` tells); of at most 67,108,864 bytes. A digest that is there keeps its bytes.
     fn put_blob(&mut self, repo: &RepoName, digest: &Digest, bytes: &[u8]) -> Result<(), Fault>
         requires there { is_honest self.old → (state self.old).spent ≡ false
             → has_repo (state self.old).world repo.now ≡ true }
@@ -291,8 +301,7 @@ pub trait Keeper {
         requires matching { matches digest.now bytes.now ≡ true }
         requires reads { manifest_in bytes.now ≡ Ok (shown manifest.now) }
         requires fits { length bytes.now ≤ largest_manifest }
-        ensures made { is_honest self.new
-            → Writes result
+        ensures made { is_honest self.new → Writes result
             (put_manifest (state self.old).world repo.now digest.now bytes.now (text_in tag.entry))
             (state self.old) (state self.new) }
         ensures spends { Spends result (state self.old) (state self.new) }
@@ -304,6 +313,16 @@ pub trait Keeper {
             → is_some (blob_at (state self.old).world repo.now digest.now) ≡ true }
         ensures made { is_honest self.new
             → Writes result (delete_blob (state self.old).world repo.now digest.now)
+            (state self.old) (state self.new) }
+        ensures spends { Spends result (state self.old) (state self.new) }
+        ensures honest { is_honest self.new → is_honest self.old };
+
+    /// Takes blobs away, all or none; a digest of which there is no blob changes nothing.
+    fn delete_blobs(&mut self, repo: &RepoName, digests: &[Digest]) -> Result<(), Fault>
+        requires there { is_honest self.old → (state self.old).spent ≡ false
+            → has_repo (state self.old).world repo.now ≡ true }
+        ensures made { is_honest self.new
+            → Writes result (delete_blobs (state self.old).world repo.now digests.now)
             (state self.old) (state self.new) }
         ensures spends { Spends result (state self.old) (state self.new) }
         ensures honest { is_honest self.new → is_honest self.old };
@@ -322,8 +341,7 @@ pub trait Keeper {
     fn delete_tag(&mut self, repo: &RepoName, tag: &Tag) -> Result<(), Fault>
         requires there { is_honest self.old → (state self.old).spent ≡ false
             → is_some (tag_at (state self.old).world repo.now tag.now) ≡ true }
-        ensures made { is_honest self.new
-            → Writes result (delete_tag (state self.old).world repo.now tag.now)
+        ensures made { is_honest self.new → Writes result (delete_tag (state self.old).world repo.now tag.now)
             (state self.old) (state self.new) }
         ensures spends { Spends result (state self.old) (state self.new) }
         ensures honest { is_honest self.new → is_honest self.old };
@@ -359,8 +377,7 @@ pub trait Keeper {
     fn revoke(&mut self, token: &Token, name: &RepoName) -> Result<(), Fault>
         requires granted { is_honest self.old → (state self.old).spent ≡ false
             → is_some (level_at (state self.old).world token.now name.now) ≡ true }
-        ensures made { is_honest self.new
-            → Writes result (revoke (state self.old).world token.now name.now)
+        ensures made { is_honest self.new → Writes result (revoke (state self.old).world token.now name.now)
             (state self.old) (state self.new) }
         ensures spends { Spends result (state self.old) (state self.new) }
         ensures honest { is_honest self.new → is_honest self.old };
@@ -369,8 +386,7 @@ pub trait Keeper {
     fn drop_sessions(&mut self, name: &RepoName) -> Result<(), Fault>
         requires there { is_honest self.old → (state self.old).spent ≡ false
             → has_repo (state self.old).world name.now ≡ true }
-        ensures made { is_honest self.new
-            → Writes result (drop_sessions (state self.old).world name.now)
+        ensures made { is_honest self.new → Writes result (drop_sessions (state self.old).world name.now)
             (state self.old) (state self.new) }
         ensures spends { Spends result (state self.old) (state self.new) }
         ensures honest { is_honest self.new → is_honest self.old };

@@ -1,13 +1,16 @@
 //! Laws of the definitions, each the contract of a function that does nothing: the crates above cite
 //! them.
 
-ghost use Rattle.std.specs.Prelude.{◌≡◌, ◌≤◌, ℕ, true, false, List, [], ◌∷◌, All, is_some, length, take};
+ghost use Rattle.std.specs.Prelude.{◌≡◌, ◌≢◌, ◌≤◌, ℕ, true, false, List, [], ◌∷◌, All, Some, None, Ok, is_some, option_map, length, take};
 ghost use Rattle.oci_names.specs.Text.{Text};
-ghost use Rattle.registry_model.specs.World.{World, Grants, Repo};
+ghost use Rattle.oci_manifest.specs.Manifest.{ManifestShown, manifest_in};
+ghost use Rattle.registry_model.specs.World.{World, Grants, Repo, repo_at};
 ghost use Rattle.registry_model.specs.Ask.{Ask};
 ghost use Rattle.registry_model.specs.Heads.{as_head, as_get, without_content};
 ghost use Rattle.registry_model.specs.Judging.{decision, reply_to, after_request};
 ghost use Rattle.registry_model.specs.Command.{after_command};
+ghost use Rattle.registry_model.specs.Manifests.{has_needs};
+ghost use Rattle.registry_model.specs.Pruning.{is_named, pruned, prune};
 ghost use Rattle.registry_model.specs.declared.admin.AdminCommand.{AdminCommand};
 ghost use Rattle.registry_model.specs.Keeping.{State};
 ghost use Rattle.registry_model.specs.Team.{Team, IsTeamOf, team_of_token, view, Step, asks, orders, is_own, OwnOrAside};
@@ -51,6 +54,24 @@ pub fn a_step_aside_leaves_the_view()
         → OwnOrAside w (asks q ∷ []) team (asks q) → view (after_request w q) team ≡ view w team }
     ensures command { (w : World) (team : Team) (a : AdminCommand) → IsTeamOf w team
         → OwnOrAside w (orders a ∷ []) team (orders a) → view (after_command w a) team ≡ view w team }
+{}
+
+/// Pruning changes one repository, and of that its blobs alone. A blob that some manifest of the
+/// repository names stays as it is, and no other is left; so each manifest has of what it needs what
+/// it had before.
+pub fn pruning_keeps_what_is_named()
+    ensures kept { (r : Repo) (digest : Text) → is_named r digest ≡ true
+        → get (pruned r).blobs digest ≡ get r.blobs digest }
+    ensures gone { (r : Repo) (digest : Text) → is_named r digest ≡ false
+        → get (pruned r).blobs digest ≡ None }
+    ensures needs { (r : Repo) (digest bytes : Text) (shown : ManifestShown)
+        → get r.manifests digest ≡ Some bytes → manifest_in bytes ≡ Ok shown
+        → has_needs (pruned r) shown.needs ≡ has_needs r shown.needs }
+    ensures here { (w : World) (name : Text)
+        → repo_at (prune w name) name ≡ option_map pruned (repo_at w name) }
+    ensures elsewhere { (w : World) (name other : Text) → name ≢ other
+        → repo_at (prune w name) other ≡ repo_at w other }
+    ensures grants { (w : World) (name : Text) → (prune w name).grants ≡ w.grants }
 {}
 
 /// Steps one after the other: one outcome for each, the definitions' up to a storage failure, and to

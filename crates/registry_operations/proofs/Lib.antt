@@ -8,3 +8,4 @@ pub mod MountLemmas
 pub mod ManifestLemmas
 pub mod PushLemmas
 pub mod ListingLemmas
+pub mod PruningLemmas

@@ -6,3 +6,4 @@ pub mod Mounting
 pub mod Finding
 pub mod Push
 pub mod Listing
+pub mod Pruning

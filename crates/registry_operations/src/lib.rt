@@ -11,7 +11,10 @@ pub mod listing;
 pub mod manifest_push;
 pub mod manifests;
 pub mod mounting;
+mod pruning;
 mod quota;
 mod replies;
 pub mod session_close;
 pub mod uploads;
+
+pub use pruning::prune;

@@ -101,7 +101,7 @@ grant = subcommand (codes "grant") (db ∷ orders ∷ token ∷ token_file ∷ n
 
 abbrev pub repo_commands : List Shape
 repo_commands = over_quota (codes "repo") ∷ over_quota (codes "quota") ∷ over_repo (codes "drop")
-    ∷ over_repo (codes "sessions") ∷ []
+    ∷ over_repo (codes "sessions") ∷ over_repo (codes "prune") ∷ []
 
 abbrev pub other_commands : List Shape
 other_commands = grant ∷ over_token (codes "revoke") ∷ ordering (codes "clear") ∷ ordering (codes "usage")

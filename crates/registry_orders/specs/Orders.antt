@@ -9,7 +9,7 @@ use Rattle.registry_model.specs.Keeping.{State}
 use Rattle.registry_model.specs.Doing.{CarriesOut}
 use Rattle.registry_orders.specs.declared.failure.Failure.{Failure}
 use Rattle.registry_orders.specs.declared.orders.Change.{Change}
-use Rattle.registry_orders.specs.declared.orders.Change.TheVariants.{AddRepo, SetQuota, DropRepo, DropSessions, Grant, Revoke, Clear}
+use Rattle.registry_orders.specs.declared.orders.Change.TheVariants.{AddRepo, SetQuota, DropRepo, DropSessions, Prune, Grant, Revoke, Clear}
 use Rattle.registry_orders.specs.declared.orders.TokenChange.{TokenChange}
 use Rattle.registry_orders.specs.declared.orders.TokenChange.TheVariants as but_token
 use Rattle.registry_orders.specs.declared.orders.Order.{Order}
@@ -23,6 +23,7 @@ IsCommandOf (AddRepo name quota) (command.AddRepo n q) = (n.now ≡ name) × (q 
 IsCommandOf (SetQuota name quota) (command.SetQuota n q) = (n.now ≡ name) × (q ≡ quota)
 IsCommandOf (DropRepo name) (command.DropRepo n) = n.now ≡ name
 IsCommandOf (DropSessions name) (command.DropSessions n) = n.now ≡ name
+IsCommandOf (Prune name) (command.Prune n) = n.now ≡ name
 IsCommandOf (Grant token name level) (command.Grant t n l) = (t.now ≡ token) × (n.now ≡ name) × (l ≡ level)
 IsCommandOf (Revoke token name) (command.Revoke t n) = (t.now ≡ token) × (n.now ≡ name)
 IsCommandOf Clear command.Clear = Unit {0}
@@ -48,6 +49,7 @@ IsChangeIn word options (SetQuota name quota) =
     × IsNumberOf (one_of (codes "quota") options) quota.bytes
 IsChangeIn word options (DropRepo name) = (word ≡ codes "drop") × HasValue options (codes "name") name
 IsChangeIn word options (DropSessions name) = (word ≡ codes "sessions") × HasValue options (codes "name") name
+IsChangeIn word options (Prune name) = (word ≡ codes "prune") × HasValue options (codes "name") name
 IsChangeIn word options (Grant token name level) =
     (word ≡ codes "grant") × HasValue options (codes "name") name × HasToken options token
     × IsLevelOf (one_of (codes "level") options) level

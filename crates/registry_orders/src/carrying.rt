@@ -23,13 +23,17 @@ pub struct Ended<K: Keeper> {
 
 /// Makes a change.
 #[tactic(auto, using(crate::proofs::OrderStatuses::of_fault))]
-fn make_change<K: Keeper>(service: &mut Service<K>, change: &Change) -> Result<(), Failure>
+fn make_change<K: Keeper>(
+    alloc: Global,
+    service: &mut Service<K>,
+    change: &Change,
+) -> Result<(), Failure>
     ensures honest { K.is_honest service.new → K.is_honest service.old }
     ensures obeys { K.is_honest service.new
         → Obeys (K.state service.old) change.now result (K.state service.new) }
     ensures told { IfErr result IsOfOrder }
 {
-    match service.admin(&change.command()) {
+    match service.admin(alloc, &change.command()) {
         Ok(()) => Ok(()),
         Err(fault) => Err(of_command(fault)),
     }
@@ -72,7 +76,7 @@ pub fn carry_over<K: Keeper, W: Write>(
     ensures told { IfErr result IsOfOrder }
 {
     match order {
-        Order::Change(change) => make_change(service, change),
+        Order::Change(change) => make_change(alloc, service, change),
         Order::Usage => show_usage(alloc, service, out),
     }
 }

@@ -215,7 +215,10 @@ fn with_repo_commands<'a>(alloc: Global, command: Command<'a>) -> Result<Command
     let dropping = "Drop a repository with its grants";
     let command = with(command, over_repo(alloc, "drop", dropping))?;
     let ending = "End a repository's open uploads";
-    with(command, over_repo(alloc, "sessions", ending))
+    let command = with(command, over_repo(alloc, "sessions", ending))?;
+    let pruning =
+        "Take away the blobs of a repository that none of its manifests names; clear then frees their bytes";
+    with(command, over_repo(alloc, "prune", pruning))
 }
 
 fn with_other_commands<'a>(alloc: Global, command: Command<'a>) -> Result<Command<'a>, AllocError>

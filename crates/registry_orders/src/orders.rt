@@ -34,6 +34,10 @@ pub enum Change {
     DropSessions {
         name: RepoName,
     },
+    /// Takes away the blobs of a repository that none of its manifests names.
+    Prune {
+        name: RepoName,
+    },
     /// Gives a token a level on a repository.
     Grant {
         token: Token,
@@ -94,6 +98,7 @@ impl Change {
             },
             Change::DropRepo { name } => AdminCommand::DropRepo { name },
             Change::DropSessions { name } => AdminCommand::DropSessions { name },
+            Change::Prune { name } => AdminCommand::Prune { name },
             Change::Grant { token, name, level } => AdminCommand::Grant {
                 token,
                 name,
@@ -165,6 +170,7 @@ fn change_of_repo(alloc: Global, word: &str, matches: &ArgMatches) -> Result<Cha
         }),
         "drop" => Ok(Change::DropRepo { name }),
         "sessions" => Ok(Change::DropSessions { name }),
+        "prune" => Ok(Change::Prune { name }),
         _ => Err(Failure::InvalidOptions),
     }
 }

@@ -15,7 +15,11 @@ use std::alloc::Global;
 use std::io::{Read, Write};
 
 /// Makes the repositories.
-fn make_repos<K: Keeper>(service: &mut Service<K>, repos: &[RepoOption]) -> Result<(), Failure>
+fn make_repos<K: Keeper>(
+    alloc: Global,
+    service: &mut Service<K>,
+    repos: &[RepoOption],
+) -> Result<(), Failure>
     ensures honest { K.is_honest service.new → K.is_honest service.old }
     ensures made { K.is_honest service.new
         → SetsUp (with_repos (K.state service.old).world repos.now) result (K.state service.new) }
@@ -25,7 +29,7 @@ fn make_repos<K: Keeper>(service: &mut Service<K>, repos: &[RepoOption]) -> Resu
             name: &repo.name,
             quota: repo.quota,
         };
-        match service.admin(&command) {
+        match service.admin(alloc, &command) {
             Ok(()) => {}
             Err(fault) => return Err(of_command(fault)),
         }
@@ -34,7 +38,11 @@ fn make_repos<K: Keeper>(service: &mut Service<K>, repos: &[RepoOption]) -> Resu
 }
 
 /// Gives the levels.
-fn give_levels<K: Keeper>(service: &mut Service<K>, grants: &[GrantOption]) -> Result<(), Failure>
+fn give_levels<K: Keeper>(
+    alloc: Global,
+    service: &mut Service<K>,
+    grants: &[GrantOption],
+) -> Result<(), Failure>
     ensures honest { K.is_honest service.new → K.is_honest service.old }
     ensures given { K.is_honest service.new
         → SetsUp (with_levels (K.state service.old).world grants.now) result (K.state service.new) }
@@ -45,7 +53,7 @@ fn give_levels<K: Keeper>(service: &mut Service<K>, grants: &[GrantOption]) -> R
             name: &grant.name,
             level: grant.level,
         };
-        match service.admin(&command) {
+        match service.admin(alloc, &command) {
             Ok(()) => {}
             Err(fault) => return Err(of_command(fault)),
         }
@@ -54,13 +62,13 @@ fn give_levels<K: Keeper>(service: &mut Service<K>, grants: &[GrantOption]) -> R
 }
 
 /// Makes the repositories, then gives the levels.
-fn set_up<K: Keeper>(service: &mut Service<K>, setup: &Setup) -> Result<(), Failure>
+fn set_up<K: Keeper>(alloc: Global, service: &mut Service<K>, setup: &Setup) -> Result<(), Failure>
     ensures honest { K.is_honest service.new → K.is_honest service.old }
     ensures begins { K.is_honest service.new
         → SetsUp (world_from (K.state service.old).world setup.now) result (K.state service.new) }
 {
-    match make_repos(service, &setup.repos) {
-        Ok(()) => give_levels(service, &setup.grants),
+    match make_repos(alloc, service, &setup.repos) {
+        Ok(()) => give_levels(alloc, service, &setup.grants),
         Err(failure) => Err(failure),
     }
 }
@@ -124,7 +132,7 @@ pub fn serve_memory<R: Read, W: Write, E: Write>(
         (W.contents out.old) (W.contents out.new)) }
 {
     let mut service = Service::new(MapKeeper::new(alloc));
-    match set_up(&mut service, setup) {
+    match set_up(alloc, &mut service, setup) {
         Ok(()) => serve_stdio(alloc, &mut service, reader, out, err),
         Err(failure) => say(err, failure),
     }

@@ -33,7 +33,7 @@ fn bounds(at_once: usize) -> Bounds {
 fn add(alloc: Global, registry: &mut Service<MapKeeper>, name: &str) -> Result<(), Fail> {
     let name = RepoName::parse(alloc, name)?;
     let quota = Quota::new(1000).ok_or("a quota")?;
-    registry.admin(&AdminCommand::AddRepo { name: &name, quota })?;
+    registry.admin(alloc, &AdminCommand::AddRepo { name: &name, quota })?;
     Ok(())
 }
 
@@ -41,11 +41,14 @@ fn add(alloc: Global, registry: &mut Service<MapKeeper>, name: &str) -> Result<(
 fn grant(alloc: Global, registry: &mut Service<MapKeeper>, name: &str) -> Result<(), Fail> {
     let token = Token::parse(alloc, "t1")?;
     let name = RepoName::parse(alloc, name)?;
-    registry.admin(&AdminCommand::Grant {
-        token: &token,
-        name: &name,
-        level: Level::Delete,
-    })?;
+    registry.admin(
+        alloc,
+        &AdminCommand::Grant {
+            token: &token,
+            name: &name,
+            level: Level::Delete,
+        },
+    )?;
     Ok(())
 }
 

@@ -4,6 +4,8 @@ ghost use Rattle.registry_model.specs.Doing.{CarriesOut, SpendsAs, course_of_res
 
 use oci_names::Fault;
 use registry_model::{AdminCommand, AdminFault, Keeper};
+use registry_operations::prune;
+use std::alloc::Global;
 
 /// The fault of a command whose keeper gave up.
 fn given_up(fault: Fault) -> AdminFault
@@ -16,7 +18,11 @@ fn given_up(fault: Fault) -> AdminFault
 }
 
 /// Carries out a command, or refuses it.
-pub fn apply_command<K: Keeper>(keeper: &mut K, command: &AdminCommand) -> Result<(), AdminFault>
+pub fn apply_command<K: Keeper>(
+    alloc: Global,
+    keeper: &mut K,
+    command: &AdminCommand,
+) -> Result<(), AdminFault>
     ensures does { K.is_honest keeper.new →
         CarriesOut (K.state keeper.old) command.now result (K.state keeper.new) }
     ensures spends { SpendsAs (course_of_result result) (K.state keeper.old) (K.state keeper.new) }
@@ -48,6 +54,10 @@ pub fn apply_command<K: Keeper>(keeper: &mut K, command: &AdminCommand) -> Resul
         },
         AdminCommand::DropSessions { name } => match keeper.has_repo(name).map_err(given_up)? {
             true => keeper.drop_sessions(name).map_err(given_up),
+            false => Err(AdminFault::NoRepo),
+        },
+        AdminCommand::Prune { name } => match keeper.has_repo(name).map_err(given_up)? {
+            true => prune(alloc, keeper, name).map_err(given_up),
             false => Err(AdminFault::NoRepo),
         },
         AdminCommand::Clear => keeper.clear().map_err(given_up),

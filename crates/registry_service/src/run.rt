@@ -32,7 +32,7 @@ impl<K: Keeper> Service<K> {
     {
         match step {
             Step::Request(request) => Outcome::Reply(self.handle(alloc, request)),
-            Step::Admin(command) => Outcome::Admin(self.admin(command)),
+            Step::Admin(command) => Outcome::Admin(self.admin(alloc, command)),
         }
     }
 

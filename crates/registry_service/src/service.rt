@@ -86,12 +86,12 @@ impl<K: Keeper> Service<K> {
     /// Carries out one command.
     ///
     /// A command that is refused, or for which memory was wanting, changes nothing.
-    pub fn admin(&mut self, command: &AdminCommand) -> Result<(), AdminFault>
+    pub fn admin(&mut self, alloc: Global, command: &AdminCommand) -> Result<(), AdminFault>
         ensures does { K.is_honest self.new →
             CarriesOut (K.state self.old) command.now result (K.state self.new) }
         ensures spends { SpendsAs (course_of_result result) (K.state self.old) (K.state self.new) }
         ensures honest { K.is_honest self.new → K.is_honest self.old }
     {
-        apply_command(&mut self.keeper, command)
+        apply_command(alloc, &mut self.keeper, command)
     }
 }

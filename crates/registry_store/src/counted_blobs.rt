@@ -4,6 +4,7 @@ ghost use Rattle.oci_names.specs.Digest.{matches};
 ghost use Rattle.registry_model.specs.Limits.{largest_blob};
 ghost use Rattle.registry_model.specs.World.{has_repo};
 ghost use Rattle.registry_model.specs.Lookups.{put_blob, mount, delete_blob};
+ghost use Rattle.registry_model.specs.Pruning.{delete_blobs};
 ghost use Rattle.store_statements.specs.Clauses.{Lasts, MakesWorld, Settled, StaysOnMemory, WorldHas};
 ghost use Rattle.registry_store.specs.Usages.{IsKnown, StaysKnown};
 
@@ -89,4 +90,22 @@ pub(crate) fn delete_blob<S: Alter>(
 {
     known.forget(repo);
     store_writes::delete_blob(conn, repo, digest)
+}
+
+/// Takes blobs away, all or none, and forgets what was known of their repository.
+pub(crate) fn delete_blobs<S: Alter>(
+    conn: &mut Connection<S>,
+    known: &mut KnownUsages,
+    name: &RepoName,
+    digests: &[Digest],
+) -> Result<(), Fault>
+    requires settled { Settled S.Store conn.old }
+    requires known { IsKnown S.Store conn.old known.old }
+    ensures made { MakesWorld S.Store conn.old conn.new result (λ w. delete_blobs w name.now digests.now) }
+    ensures memory { StaysOnMemory S.Store conn.old conn.new result }
+    ensures survives { Lasts S.Store conn.old conn.new }
+    ensures known { StaysKnown S.Store conn.new known.new result }
+{
+    known.forget(name);
+    store_writes::delete_blobs(conn, name, digests)
 }

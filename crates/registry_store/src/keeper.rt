@@ -152,6 +152,17 @@ impl<S: Alter> Keeper for Store<S> {
         unless_spent!(self, store_reads::usages(alloc, &mut self.conn))
     }
 
+    fn blob_digests(&mut self, alloc: Global, repo: &RepoName) -> Result<Vec<Digest>, Fault> {
+        unless_spent!(self, store_reads::blob_digests(alloc, &mut self.conn, repo))
+    }
+
+    fn manifest_digests(&mut self, alloc: Global, repo: &RepoName) -> Result<Vec<Digest>, Fault> {
+        unless_spent!(
+            self,
+            store_reads::manifest_digests(alloc, &mut self.conn, repo)
+        )
+    }
+
     fn put_blob(&mut self, repo: &RepoName, digest: &Digest, bytes: &[u8]) -> Result<(), Fault> {
         unless_spent!(
             self,
@@ -261,6 +272,13 @@ impl<S: Alter> Keeper for Store<S> {
         unless_spent!(
             self,
             counted_blobs::delete_blob(&mut self.conn, &mut self.known, repo, digest)
+        )
+    }
+
+    fn delete_blobs(&mut self, repo: &RepoName, digests: &[Digest]) -> Result<(), Fault> {
+        unless_spent!(
+            self,
+            counted_blobs::delete_blobs(&mut self.conn, &mut self.known, repo, digests)
         )
     }
 

@@ -78,7 +78,7 @@ fn after(
     for (script, clears) in scripts {
         play(rt, alloc, &mut registry, script)?;
         if *clears {
-            registry.admin(&AdminCommand::Clear)?;
+            registry.admin(alloc, &AdminCommand::Clear)?;
         }
     }
     counted(registry)

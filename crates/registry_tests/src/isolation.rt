@@ -190,11 +190,11 @@ fn among_many_others<M: Maker>(rt: &impl Abort, alloc: Global) -> Result<Service
     play(rt, alloc, &mut registry, OTHER)?;
     let name = RepoName::parse(alloc, "other")?;
     let quota = Quota::new(2000).ok_or("a quota")?;
-    registry.admin(&AdminCommand::SetQuota { name: &name, quota })?;
+    registry.admin(alloc, &AdminCommand::SetQuota { name: &name, quota })?;
     add(alloc, &mut registry, "third", 1000)?;
     grant(alloc, &mut registry, "t3", "third", Level::Delete)?;
     grant(alloc, &mut registry, "t3", "team/app", Level::Pull)?;
-    registry.admin(&AdminCommand::Clear)?;
+    registry.admin(alloc, &AdminCommand::Clear)?;
     Ok(registry)
 }
 

@@ -73,7 +73,7 @@ pub fn add<K: Keeper>(
 ) -> Result<(), Fail> {
     let name = RepoName::parse(alloc, name)?;
     let quota = Quota::new(quota).ok_or("a quota")?;
-    registry.admin(&AdminCommand::AddRepo { name: &name, quota })?;
+    registry.admin(alloc, &AdminCommand::AddRepo { name: &name, quota })?;
     Ok(())
 }
 
@@ -87,11 +87,14 @@ pub fn grant<K: Keeper>(
 ) -> Result<(), Fail> {
     let token = Token::parse(alloc, token)?;
     let name = RepoName::parse(alloc, name)?;
-    registry.admin(&AdminCommand::Grant {
-        token: &token,
-        name: &name,
-        level,
-    })?;
+    registry.admin(
+        alloc,
+        &AdminCommand::Grant {
+            token: &token,
+            name: &name,
+            level,
+        },
+    )?;
     Ok(())
 }
 

@@ -57,6 +57,7 @@ unfolding understood everything same_name blob_links_stand
 blob_texts = record {
   find = record { is = refl; plain = (refl, refl); unlisted = refl };
   sizes = record { is = refl; plain = (refl, refl); unlisted = refl };
+  digests = record { is = refl; plain = (refl, refl); unlisted = refl };
   contents = record { is = refl; plain = (refl, refl); unlisted = refl };
   add = record { is = refl; plain = (refl, refl); unlisted = refl };
   take = record { is = refl; plain = (refl, refl); unlisted = refl };
@@ -69,6 +70,7 @@ manifest_texts = record {
   find = record { is = refl; plain = (refl, refl); unlisted = refl };
   subject = record { is = refl; plain = (refl, refl); unlisted = refl };
   sizes = record { is = refl; plain = (refl, refl); unlisted = refl };
+  digests = record { is = refl; plain = (refl, refl); unlisted = refl };
   contents = record { is = refl; plain = (refl, refl); unlisted = refl };
   add = record { is = refl; plain = (refl, refl); unlisted = refl };
   take = record { is = refl; plain = (refl, refl); unlisted = refl };

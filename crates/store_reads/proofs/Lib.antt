@@ -5,3 +5,4 @@ pub mod UsageReads
 pub mod NamedUsages
 pub mod SessionBytes
 pub mod ReferrerBytes
+pub mod DigestsFound

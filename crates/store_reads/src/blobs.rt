@@ -1,14 +1,14 @@
 //! The blobs of repositories.
 ghost use Rattle.std.specs.Prelude.{◌≡◌};
-ghost use Rattle.registry_model.specs.Lookups.{blob_at, blob_size_at};
-ghost use Rattle.registry_model.specs.Keeping.{bytes_in};
+ghost use Rattle.registry_model.specs.Lookups.{blob_at, blob_size_at, blob_digests_at};
+ghost use Rattle.registry_model.specs.Keeping.{bytes_in, digests_shown};
 ghost use Rattle.store_statements.specs.Clauses.{Lasts, Settled, Stays, Tells};
 
 use crate::contents::content;
 use oci_names::{Digest, Fault, RepoName};
 use sqlite::{Alter, Connection};
 use std::alloc::Global;
-use store_statements::blobs::find_blob_link;
+use store_statements::blobs::{find_blob_link, list_blob_digests};
 
 /// The length of a blob in bytes. Reads no blob.
 pub fn blob_size<S: Alter>(
@@ -47,6 +47,24 @@ pub fn blob<S: Alter>(
             Err(fault) => Err(fault),
         },
         Ok(None) => Ok(None),
+        Err(fault) => Err(fault),
+    }
+}
+
+/// The digests of a repository's blobs, in byte order. Reads no blob.
+pub fn blob_digests<S: Alter>(
+    alloc: Global,
+    conn: &mut Connection<S>,
+    repo: &RepoName,
+) -> Result<Vec<Digest>, Fault>
+    requires { Settled S.Store conn.old }
+    ensures found { Tells S.Store conn.old conn.new result
+        (λ w digests. digests_shown digests ≡ blob_digests_at w repo.now) }
+    ensures settled { Stays S.Store conn.old conn.new result }
+    ensures survives { Lasts S.Store conn.old conn.new }
+{
+    match list_blob_digests(alloc, conn, repo.as_str()) {
+        Ok(digests) => Ok(digests),
         Err(fault) => Err(fault),
     }
 }

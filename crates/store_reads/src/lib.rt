@@ -14,9 +14,9 @@ mod tags;
 mod tallies;
 mod uploads;
 
-pub use blobs::{blob, blob_size};
+pub use blobs::{blob, blob_digests, blob_size};
 pub use grants::{known, level};
-pub use manifests::{manifest, manifest_size};
+pub use manifests::{manifest, manifest_digests, manifest_size};
 pub use pages::tags_after;
 pub use referrers::manifests_of_subject;
 pub use repo_usages::{usage, usages};

@@ -1,7 +1,7 @@
 //! The manifests of repositories.
 ghost use Rattle.std.specs.Prelude.{◌≡◌};
-ghost use Rattle.registry_model.specs.Lookups.{manifest_at, manifest_size_at};
-ghost use Rattle.registry_model.specs.Keeping.{manifest_shown};
+ghost use Rattle.registry_model.specs.Lookups.{manifest_at, manifest_size_at, manifest_digests_at};
+ghost use Rattle.registry_model.specs.Keeping.{manifest_shown, digests_shown};
 ghost use Rattle.store_statements.specs.Clauses.{Lasts, Settled, Stays, Tells};
 
 use crate::contents::content;
@@ -9,7 +9,7 @@ use oci_manifest::Kind;
 use oci_names::{Digest, Fault, RepoName};
 use sqlite::{Alter, Connection};
 use std::alloc::Global;
-use store_statements::manifests::find_manifest_link;
+use store_statements::manifests::{find_manifest_link, list_manifest_digests};
 
 /// The kind of a manifest, and its length in bytes. Reads no manifest.
 pub fn manifest_size<S: Alter>(
@@ -49,6 +49,24 @@ pub fn manifest<S: Alter>(
             Err(fault) => Err(fault),
         },
         Ok(None) => Ok(None),
+        Err(fault) => Err(fault),
+    }
+}
+
+/// The digests of a repository's manifests, in byte order. Reads no manifest.
+pub fn manifest_digests<S: Alter>(
+    alloc: Global,
+    conn: &mut Connection<S>,
+    repo: &RepoName,
+) -> Result<Vec<Digest>, Fault>
+    requires { Settled S.Store conn.old }
+    ensures found { Tells S.Store conn.old conn.new result
+        (λ w digests. digests_shown digests ≡ manifest_digests_at w repo.now) }
+    ensures settled { Stays S.Store conn.old conn.new result }
+    ensures survives { Lasts S.Store conn.old conn.new }
+{
+    match list_manifest_digests(alloc, conn, repo.as_str()) {
+        Ok(digests) => Ok(digests),
         Err(fault) => Err(fault),
     }
 }

@@ -25,3 +25,4 @@ pub mod InOrder
 pub mod PageRows
 pub mod ContentRows
 pub mod ContentDigests
+pub mod DigestReads

@@ -7,13 +7,16 @@ use Rattle.sqlite.specs.Source.TheVariants.{Values}
 use Rattle.sqlite.specs.Command.TheVariants.{Insert}
 use Rattle.store_schema.specs.Schema.{blob_links_table}
 use Rattle.store_schema.specs.Layout.{Stands, Means, equals}
-use Rattle.store_schema.specs.Commands.{deletes, selects}
+use Rattle.store_schema.specs.Commands.{deletes, selects, selects_ordered}
 
 abbrev pub blob_find : List ℕ
 blob_find = codes "SELECT size, content FROM registry_blob_links WHERE repo = ?1 AND digest = ?2"
 
 abbrev pub blob_sizes : List ℕ
 blob_sizes = codes "SELECT size FROM registry_blob_links WHERE repo = ?1"
+
+abbrev pub blob_digests : List ℕ
+blob_digests = codes "SELECT digest FROM registry_blob_links WHERE repo = ?1 ORDER BY digest"
 
 abbrev pub blob_contents : List ℕ
 blob_contents = codes "SELECT content FROM registry_blob_links"
@@ -33,6 +36,8 @@ pub record KnowsBlobTexts (schema : Schema) (stands : Stands schema blob_links_t
       (codes "size" ∷ codes "content" ∷ []))
   pub sizes : Means schema blob_sizes
       (selects schema blob_links_table (equals 1 0 ∷ []) (col 1 3 ∷ []) (codes "size" ∷ []))
+  pub digests : Means schema blob_digests
+      (selects_ordered schema blob_links_table (equals 1 0 ∷ []) (col 1 2 ∷ []) 2 (codes "digest" ∷ []))
   pub contents : Means schema blob_contents
       (selects schema blob_links_table [] (col 1 4 ∷ []) (codes "content" ∷ []))
   pub add : Means schema blob_add

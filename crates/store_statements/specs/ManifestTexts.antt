@@ -21,6 +21,9 @@ manifest_subject =
 abbrev pub manifest_sizes : List ℕ
 manifest_sizes = codes "SELECT size FROM registry_manifest_links WHERE repo = ?1"
 
+abbrev pub manifest_digests : List ℕ
+manifest_digests = codes "SELECT digest FROM registry_manifest_links WHERE repo = ?1 ORDER BY digest"
+
 abbrev pub manifest_contents : List ℕ
 manifest_contents = codes "SELECT content FROM registry_manifest_links"
 
@@ -44,6 +47,8 @@ pub record KnowsManifestTexts (schema : Schema) (stands : Stands schema manifest
       (codes "digest" ∷ codes "content" ∷ []))
   pub sizes : Means schema manifest_sizes
       (selects schema manifest_links_table (equals 1 0 ∷ []) (col 1 3 ∷ []) (codes "size" ∷ []))
+  pub digests : Means schema manifest_digests
+      (selects_ordered schema manifest_links_table (equals 1 0 ∷ []) (col 1 2 ∷ []) 2 (codes "digest" ∷ []))
   pub contents : Means schema manifest_contents
       (selects schema manifest_links_table [] (col 1 6 ∷ []) (codes "content" ∷ []))
   pub add : Means schema manifest_add

@@ -3,17 +3,19 @@ ghost use Rattle.std.specs.Prelude.{◌≡◌, ◌<◌, ◌^◌, ◌∷◌, [], 
 ghost use Rattle.std.specs.Option.{option_to_list};
 ghost use Rattle.std.specs.List.Sorted.{IsPermutation};
 ghost use Rattle.sqlite.specs.Order.{column};
-ghost use Rattle.store_schema.specs.Rows.{natural_at};
+ghost use Rattle.sqlite_keyed.specs.Lists.{sort_by};
+ghost use Rattle.store_schema.specs.Rows.{bytes_at, natural_at};
 ghost use Rattle.store_world.specs.Keys.{of_first, has_key};
 ghost use Rattle.store_world.specs.Changes.{manifest_columns};
 ghost use Rattle.store_statements.specs.Clauses.{Adds, Changes, ChangesNothing, ChangesNothingInside, FailsAsWas, Finds, FindsInside, KeepsInside, Lasts, LastsUncommitted, Settled, Stays};
 ghost use Rattle.store_statements.specs.Steps.{manifests_without, ManifestComes};
-ghost use Rattle.store_statements.specs.ManifestShown.{link_shown, manifest_link, manifest_content};
+ghost use Rattle.store_statements.specs.ManifestShown.{by_second, link_shown, manifest_link, manifest_content};
 
 use crate::columns::{contents_in, numbers_in};
+use crate::names::digests_in;
 use crate::open_check::checked_fault;
 use oci_manifest::Kind;
-use oci_names::Fault;
+use oci_names::{Digest, Fault};
 use sqlite::{Alter, Connection, Error, ErrorCode, Row, Transaction, params};
 use std::alloc::Global;
 use store_contents::{ContentId, fault_of};
@@ -239,6 +241,60 @@ pub fn manifest_sizes<S: Alter>(
     match select_sizes(alloc, conn, repo) {
         Ok(found) => Ok(found),
         Err(error) => Err(checked_fault(conn, fault_of(error))),
+    }
+}
+
+/// The digest of each manifest of the repository, in byte order.
+fn manifest_digest_rows<S: Alter>(conn: &mut Connection<S>, repo: &str) -> Result<Vec<Row>, Error>
+    requires settled { Settled S.Store conn.old }
+    ensures shown { Finds S.Store conn.old conn.new result
+        (λ t rows. rows.items ≡ map (λ r. column r 2 ∷ [])
+        (sort_by by_second (filter (of_first repo.now) t.manifests))) }
+    ensures same { ChangesNothing S.Store conn.old conn.new result }
+    ensures err { FailsAsWas S.Store conn.old conn.new result }
+    ensures survives { LastsUncommitted S.Store conn.old conn.new }
+{
+    conn.query_all(
+        "SELECT digest FROM registry_manifest_links WHERE repo = ?1 ORDER BY digest",
+        params![repo],
+    )
+}
+
+fn select_manifest_digests<S: Alter>(
+    alloc: Global,
+    conn: &mut Connection<S>,
+    repo: &str,
+) -> Result<Vec<Digest>, Fault>
+    requires settled { Settled S.Store conn.old }
+    ensures found { Finds S.Store conn.old conn.new result
+        (λ t digests. digests.items ≡ map (λ r. bytes_at r 2)
+        (sort_by by_second (filter (of_first repo.now) t.manifests))) }
+    ensures same { ChangesNothing S.Store conn.old conn.new result }
+    ensures err { FailsAsWas S.Store conn.old conn.new result }
+    ensures survives { LastsUncommitted S.Store conn.old conn.new }
+{
+    match manifest_digest_rows(conn, repo) {
+        Ok(rows) => digests_in(alloc, &rows),
+        Err(error) => Err(fault_of(error)),
+    }
+}
+
+/// The digest of each manifest of the repository, in byte order.
+pub fn list_manifest_digests<S: Alter>(
+    alloc: Global,
+    conn: &mut Connection<S>,
+    repo: &str,
+) -> Result<Vec<Digest>, Fault>
+    requires settled { Settled S.Store conn.old }
+    ensures found { Finds S.Store conn.old conn.new result
+        (λ t digests. digests.items ≡ map (λ r. bytes_at r 2)
+        (sort_by by_second (filter (of_first repo.now) t.manifests))) }
+    ensures settled { Stays S.Store conn.old conn.new result }
+    ensures survives { Lasts S.Store conn.old conn.new }
+{
+    match select_manifest_digests(alloc, conn, repo) {
+        Ok(found) => Ok(found),
+        Err(fault) => Err(checked_fault(conn, fault)),
     }
 }
 

@@ -1,5 +1,5 @@
 //! Names that the columns of a row show.
-ghost use Rattle.std.specs.Prelude.{◌≡◌, IfOk, option_map, slice_get};
+ghost use Rattle.std.specs.Prelude.{◌≡◌, ◌∷◌, ◌++◌, [], IfOk, OnOk, map, option_map, slice_get};
 ghost use Rattle.store_schema.specs.Rows.{bytes_at};
 
 use oci_names::{Digest, Fault, NameFault, Tag};
@@ -48,4 +48,25 @@ pub(crate) fn first_digest(alloc: Global, rows: &[Row]) -> Result<Option<Digest>
         },
         None => Ok(None),
     }
+}
+
+fn push_digest(digests: &mut Vec<Digest>, digest: Digest) -> Result<(), Fault>
+    ensures { OnOk result (digests.new.items ≡ digests.old.items ++ digest ∷ []) }
+{
+    match digests.push(digest) {
+        Ok(()) => Ok(()),
+        Err(_) => Err(Fault::Memory),
+    }
+}
+
+/// The digest in each row's first column, in the order of the rows.
+pub(crate) fn digests_in(alloc: Global, rows: &[Row]) -> Result<Vec<Digest>, Fault>
+    ensures { IfOk result (λ digests. digests.items ≡ map (λ row. bytes_at row 0) rows.now) }
+{
+    let mut digests = Vec::new(alloc);
+    for row in rows {
+        let digest = digest_at(alloc, row, 0)?;
+        push_digest(&mut digests, digest)?;
+    }
+    Ok(digests)
 }

@@ -11,3 +11,4 @@ pub mod SessionWrites
 pub mod KnownEnds
 pub mod ContentNaming
 pub mod ContentsFreed
+pub mod SeveralBlobs

@@ -1,9 +1,11 @@
 //! What is deleted: tags, manifests and blobs.
 ghost use Rattle.std.specs.Prelude.{◌≡◌};
 ghost use Rattle.registry_model.specs.Lookups.{delete_blob, delete_manifest, delete_tag};
+ghost use Rattle.registry_model.specs.Pruning.{delete_blobs};
 ghost use Rattle.store_world.specs.Keys.{has_key};
 ghost use Rattle.store_statements.specs.Clauses.{Changes, CommitsTables, GoesBack, KeepsInside, Lasts, LastsUncommitted, MakesWorld, Settled, StaysOnMemory};
 ghost use Rattle.store_statements.specs.Steps.{blobs_without, tags_without, without_manifest};
+ghost use Rattle.store_writes.specs.Deleting.{without_blob_links};
 
 use crate::transaction::{alone, checked};
 use oci_names::{Digest, Fault, RepoName, Tag};
@@ -66,6 +68,52 @@ pub fn delete_blob<S: Alter>(
         conn,
         take_blob_link_alone(conn, repo.as_str(), digest.as_str())
     )
+}
+
+/// Takes the links to the blobs out, where they are there.
+fn take_links_to<S: Alter>(
+    tx: &mut Transaction<'_, S>,
+    repo: &str,
+    digests: &[Digest],
+) -> Result<(), Fault>
+    ensures taken { Changes S.Store tx.old.conn.now tx.new.conn.now result
+        (without_blob_links repo.now digests.now) }
+    ensures kept { KeepsInside S.Store tx.old.conn.now tx.new.conn.now }
+    ensures same_reference { tx.new.conn.ghost_name ≡ tx.old.conn.ghost_name }
+    ensures survives { LastsUncommitted S.Store tx.old.conn.now tx.new.conn.now }
+{
+    for digest in digests {
+        take_blob_link(tx, repo, digest.as_str())?;
+    }
+    Ok(())
+}
+
+/// The same, in a transaction of its own.
+fn take_links_to_alone<S: Alter>(
+    conn: &mut Connection<S>,
+    repo: &str,
+    digests: &[Digest],
+) -> Result<(), Fault>
+    requires settled { Settled S.Store conn.old }
+    ensures made { CommitsTables S.Store conn.old conn.new result (without_blob_links repo.now digests.now) }
+    ensures back { GoesBack S.Store conn.old conn.new result }
+    ensures survives { Lasts S.Store conn.old conn.new }
+{
+    alone!(conn, tx, take_links_to(&mut tx, repo, digests))
+}
+
+/// Takes blobs away, all or none; their contents stay until they are cleared.
+pub fn delete_blobs<S: Alter>(
+    conn: &mut Connection<S>,
+    repo: &RepoName,
+    digests: &[Digest],
+) -> Result<(), Fault>
+    requires settled { Settled S.Store conn.old }
+    ensures made { MakesWorld S.Store conn.old conn.new result (λ w. delete_blobs w repo.now digests.now) }
+    ensures memory { StaysOnMemory S.Store conn.old conn.new result }
+    ensures survives { Lasts S.Store conn.old conn.new }
+{
+    checked!(conn, take_links_to_alone(conn, repo.as_str(), digests))
 }
 
 /// Takes the link to a manifest out, and the tags that name it.

@@ -1,13 +1,13 @@
 //! What a repository tells.
 ghost use Rattle.std.specs.Prelude.{◌≡◌, ◌+◌, length, option_map, sum_by, IfOk};
-ghost use Rattle.std.specs.FinMap.{get, len};
+ghost use Rattle.std.specs.FinMap.{get, keys, len};
 ghost use Rattle.std.specs.BTreeMap.{values, IsOrdered};
 ghost use Rattle.registry_model.specs.World.{text_cmp};
 ghost use Rattle.registry_model.specs.Usage.{in_64_bits, used, usage_of};
 ghost use Rattle.registry_model.specs.Manifests.{kind_in};
 ghost use Rattle.registry_model.specs.TagPage.{tags_behind, page_behind};
 ghost use Rattle.registry_model.specs.Referrers.{manifests_on};
-ghost use Rattle.registry_model.specs.Keeping.{bytes_in, manifest_shown, page_shown, entries_shown};
+ghost use Rattle.registry_model.specs.Keeping.{bytes_in, manifest_shown, page_shown, entries_shown, digests_shown};
 ghost use Rattle.registry_maps.specs.Maps.{repo_of};
 
 use crate::kept_manifest::KeptManifest;
@@ -148,6 +148,28 @@ impl Repository {
             if kept.has_subject(digest) {
                 found.push((name.clone()?, kept.to_vec(alloc)?))?;
             }
+        }
+        Ok(found)
+    }
+
+    /// The digests of the blobs, in byte order.
+    pub fn blob_digests(&self, alloc: Global) -> Result<Vec<Digest>, AllocError>
+        ensures { IfOk result (λ found. digests_shown found ≡ keys (repo_of self.now).blobs) }
+    {
+        let mut found = Vec::new(alloc);
+        for digest in self.blobs.keys() {
+            found.push(digest.clone()?)?;
+        }
+        Ok(found)
+    }
+
+    /// The digests of the manifests, in byte order.
+    pub fn manifest_digests(&self, alloc: Global) -> Result<Vec<Digest>, AllocError>
+        ensures { IfOk result (λ found. digests_shown found ≡ keys (repo_of self.now).manifests) }
+    {
+        let mut found = Vec::new(alloc);
+        for digest in self.manifests.keys() {
+            found.push(digest.clone()?)?;
         }
         Ok(found)
     }

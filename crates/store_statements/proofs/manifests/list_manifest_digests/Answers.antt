@@ -1,0 +1,16 @@
+use Rattle.std.proofs.Common.{ℕ, arith}
+use Rattle.sqlite.specs.State.{HasCleanDisk}
+use Rattle.sqlite.specs.Held.{state}
+use Rattle.store_statements.proofs.SettledAfter.{stays_read, stays_failed, is_memory}
+use Rattle.store_statements.proofs.manifests.list_manifest_digests.Goals as goal
+
+pub returns-in-Ok-clause-settled : goal.returns-in-Ok-clause-settled
+returns-in-Ok-clause-settled g c clean unspent =
+    let early : HasCleanDisk (state g.S.Store c.args.conn.now) = omega (arith, c.select_manifest_digests.ensures.survives.clean) in
+    stays_read (state g.S.Store c.args.conn.now) (state g.S.Store c.select_manifest_digests.new.conn) (c.requires.settled early) (c.in-Ok.ensures.same clean)
+
+pub returns-in-Err-clause-settled : goal.returns-in-Err-clause-settled
+returns-in-Err-clause-settled g c clean unspent =
+    let mid : HasCleanDisk (state g.S.Store c.select_manifest_digests.new.conn) = omega (arith, c.checked_fault.ensures.survives.clean) in
+    let early : HasCleanDisk (state g.S.Store c.args.conn.now) = omega (arith, c.checked_fault.ensures.survives.clean, c.select_manifest_digests.ensures.survives.clean) in
+    stays_failed (state g.S.Store c.args.conn.now) (state g.S.Store c.select_manifest_digests.new.conn) (state g.S.Store c.checked_fault.new.conn) (c.requires.settled early) (c.in-Err.ensures.err mid) (c.checked_fault.ensures.memory clean (is_memory ℕ _ unspent))

@@ -1,0 +1,23 @@
+use Rattle.std.proofs.Common.{◌∙◌, ◌<◌, length, arith, refl, subst}
+use Rattle.std.proofs.lemmas.List.{take_all}
+use Rattle.sqlite.specs.Held.{state}
+use Rattle.store_statements.specs.Held.{Becomes, held}
+use Rattle.store_writes.specs.Deleting.{without_blob_links}
+use Rattle.store_writes.proofs.SeveralBlobs.{so_far_none, so_far_more}
+use Rattle.store_writes.proofs.deletions.take_links_to.Goals as goal
+
+pub loop-digest-init : goal.loop-digest-init
+loop-digest-init g c = record { taken = so_far_none (state g.S.Store c.args.tx.now.conn.now) c.args.repo.now; same_reference = refl }
+
+pub loop-digest-preserved : goal.loop-digest-preserved
+loop-digest-preserved g c =
+    let low : c.loop-digest.digest-index < length c.args.digests.now = omega arith in
+    record {
+      taken = so_far_more (state g.S.Store c.args.tx.now.conn.now) (state g.S.Store c.loop-digest.tx.conn.now) (state g.S.Store c.take_blob_link.new.tx.conn.now) c.args.repo.now c.args.digests.now c.loop-digest.digest-index _ low c.loop-digest.invariant.taken
+          (rw (c.as_str.ensures.text, c.digest-item.is) at c.in_ok-take_blob_link.ensures.taken) c.take_blob_link.ensures.kept c.take_blob_link.ensures.survives;
+      same_reference = c.take_blob_link.ensures.same_reference ∙ c.loop-digest.invariant.same_reference;
+    }
+
+pub returns-clause-taken : goal.returns-clause-taken
+returns-clause-taken g c clean is =
+    subst (λ l. Becomes (state g.S.Store c.loop-digest.tx.conn.now) (without_blob_links c.args.repo.now l (held (state g.S.Store c.args.tx.now.conn.now)))) (take_all c.loop-digest.digest-index c.args.digests.now (omega arith)) (c.loop-digest.invariant.taken.taken clean is)
