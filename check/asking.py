@@ -26,8 +26,9 @@ class Check:
 
     # what a client says that has neither name nor token
     refused_as_nobody = "unauthorized", "token required", "401", "password unknown"
-    # and one whose layer is too large
-    refused_as_large = "64 MiB", "413"
+    # and one whose layer is too large (the connection ends with the reply: who still writes may find that first,
+    # and look at no reply)
+    refused_as_large = "64 MiB", "413", "connection reset by peer", "broken pipe", "closed pipe"
 
     def __init__(self, front, client, layouts):
         self.front, self.client = front, client

@@ -40,8 +40,6 @@ class StraightCtr(Ctr):
 
 class StraightCheck(Check):
     refused_as_nobody = *Check.refused_as_nobody, NO_PLACE
-    # (the connection ends with the reply: who still writes may find that first, and look at no reply)
-    refused_as_large = *Check.refused_as_large, "connection reset by peer", "broken pipe"
 
     def push_many_layers(self):
         seed = f"{self.client.name}-{LAYERS}"
