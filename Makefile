@@ -20,7 +20,7 @@ help:
 	@echo 'make build           proves the program and all below it; leaves build/registry (an hour and a half of a'
 	@echo '                     processor, on all there are; up to 12 GB)'
 	@echo 'make test            the merge gate: proofs, edits, tests; the first time on a machine all of them from nothing'
-	@echo '                     (three and a half hours of a processor, on four at most; up to 16 GB)'
+	@echo '                     (more than three hours of a processor, on four at most; up to 16 GB)'
 	@echo 'make try ARGS=".."   runs the program unproved, for a first look: make try ARGS="--help" (3 min, 2 GB)'
 	@echo 'make check CRATE=x   proves one crate over what earlier checks kept (seconds after an edit)'
 	@echo 'make edits CRATE=x   tries the must-fail edits of one crate (20 to 60 s each)'
