@@ -17,7 +17,8 @@ for below in "$crate" "$@"; do
 done
 begun=$(date +%s)
 (cd "$room/crates/$crate" && rt lib --jobs "${JOBS:-2}")
-# (the second line of `times` is what the commands took of the processors)
-echo "$crate took $(($(date +%s) - begun)) s; of a processor, user and system: $(times | tail -n 1)"
+# (the second line of `times` is what the commands took of the processors; a subshell has none of its own)
+times > "$room/times"
+echo "$crate took $(($(date +%s) - begun)) s; of a processor, user and system: $(tail -n 1 "$room/times")"
 rm -rf "$top/crates/$crate/out"
 mv "$room/crates/$crate/out" "$top/crates/$crate/out"

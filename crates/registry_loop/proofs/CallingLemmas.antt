@@ -1,5 +1,5 @@
 -- Those who give orders, one after the other.
-use Rattle.std.proofs.Common.{◌≡◌, ℕ, zero, suc, inl, inr, Bool, true, false, ◌≤◌, ◌==◌, min, nat_le, arith, Option, option_map, position, List, [], ◌∷◌, ◌++◌, set, take, drop, ◌+◌, ◌<◌, length, get_or, map, Some, All, refl, sym, ap, ◌∙◌, subst, append-nil, append_assoc}
+use Rattle.std.proofs.Common.{◌≡◌, ℕ, zero, suc, inl, inr, Bool, true, false, ◌≤◌, ◌==◌, min, nat_le, arith, Option, option_map, position, List, [], ◌∷◌, ◌++◌, set, take, drop, ◌+◌, ◌<◌, length, get_or, Some, refl, sym, ap, ◌∙◌, subst, append-nil, append_assoc}
 use Rattle.std.specs.List.{remove}
 use Rattle.std.proofs.lemmas.List.{map-append, map-set, set-get_or, take_more, take_more_set, take_all, take-map, drop-map, drop_more, drop-set-lt}
 use Rattle.std.specs.Prelude.{MatchOption}

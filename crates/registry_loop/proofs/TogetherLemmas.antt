@@ -1,5 +1,5 @@
 -- Connections that are served together, from none on.
-use Rattle.std.proofs.Common.{◌≡◌, ℕ, [], ◌∷◌, inl, inr, refl, sym, subst}
+use Rattle.std.proofs.Common.{ℕ, [], ◌∷◌, inl, inr, refl, sym, subst}
 use Rattle.registry_model.specs.Keeping.{State}
 use Rattle.registry_model.specs.Team.{orders}
 use Rattle.registry_model.specs.Runs.{did}

@@ -1,7 +1,8 @@
 -- Connections that are served together (profile).
-use Rattle.std.specs.Prelude.{◌≡◌, ◌/◌, ℕ, List, ◌++◌}
+use Rattle.std.specs.Prelude.{◌≡◌, ◌/◌, ◌*◌, ℕ, min, List, ◌++◌}
 use Rattle.registry_model.specs.Keeping.{State}
 use Rattle.registry_server.specs.declared.bounds.Bounds.{Bounds}
+use Rattle.registry_orders.specs.declared.limits.Limits.{Limits}
 use Rattle.registry_server.specs.Open.{Open, none}
 use Rattle.registry_server.specs.Room.{HoldsWithin}
 use Rattle.registry_server.specs.Events.{Event, Passes, OneLedger, Leads}
@@ -9,6 +10,10 @@ use Rattle.registry_server.specs.Events.{Event, Passes, OneLedger, Leads}
 -- half of the buffer is for requests that are coming, and half for replies that are going
 abbrev pub bounds_of : ℕ → ℕ → Bounds
 bounds_of at_once buffer = record { at_once = at_once; coming = buffer / 2; going = buffer / 2 }
+
+-- for how many milliseconds a connection may be silent; a number of 64 bits
+abbrev pub most_silence : Limits → ℕ
+most_silence limits = min (limits.idle * 1000) 18446744073709551615
 
 -- some connections were served, at most so many at once and within these bounds: calls of them led from the
 -- one state to the other, and one ledger of all that the service did explains the states and every connection

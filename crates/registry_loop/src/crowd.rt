@@ -1,14 +1,15 @@
 //! Many sockets by readiness, in one thread.
-ghost use Rattle.std.specs.Prelude.{◌≡◌};
+ghost use Rattle.std.specs.Prelude.{◌≡◌, OnOk};
 ghost use Rattle.registry_server.specs.Events.{Carries, Leads};
 ghost use Rattle.registry_server.specs.Showing.{connected};
-ghost use Rattle.registry_loop.specs.Together.{LeadsBeside, bounds_of};
+ghost use Rattle.registry_server.specs.Lives.{NoneSilent};
+ghost use Rattle.registry_loop.specs.Together.{LeadsBeside, bounds_of, most_silence};
 
 use crate::callers::Callers;
 use crate::gathering::Gathering;
 use crate::log::Log;
 use crate::peer::Peer;
-use crate::peers::{is_any_ready, leaves, note};
+use crate::peers::{forget, is_any_ready, leaves, note};
 use mio::net::TcpListener;
 use mio::{Events, Interest, Poll, Token};
 use registry_model::Keeper;
@@ -158,10 +159,8 @@ impl<'a, T: Clock, E: Write> Crowd<'a, T, E> {
         for peer in self.peers.iter_mut() {
             let may = peer.may_speak(connections);
             self.pending = self.pending || may;
-            peer.hear_if(may, connections, &mut self.room, now);
-            if peer.drains() {
-                peer.drain(&mut self.room, now);
-            }
+            peer.hear_if(may, connections, &mut self.room);
+            peer.drain_if(connections, &mut self.room, now);
         }
     }
 
@@ -169,11 +168,10 @@ impl<'a, T: Clock, E: Write> Crowd<'a, T, E> {
     fn tell_all(&mut self, connections: &mut Connections)
         ensures { Carries (connected connections.old) (connected connections.new) }
     {
-        let now = self.now;
         for peer in self.peers.iter_mut() {
             let takes = peer.listens();
             self.pending = self.pending || takes;
-            peer.tell_if(takes, connections, now);
+            peer.tell_if(takes, connections);
         }
     }
 
@@ -181,9 +179,8 @@ impl<'a, T: Clock, E: Write> Crowd<'a, T, E> {
     fn tell_of(&mut self, connections: &mut Connections, turn: Turn)
         ensures { Carries (connected connections.old) (connected connections.new) }
     {
-        let now = self.now;
         for peer in self.peers.iter_mut() {
-            peer.tell_of(&turn, connections, now);
+            peer.tell_of(&turn, connections);
         }
     }
 
@@ -237,9 +234,9 @@ impl<'a, T: Clock, E: Write> Crowd<'a, T, E> {
     }
 
     /// Whether the connection at a place is to go.
-    fn is_to_go(&self, at: usize, pressed: bool) -> bool {
+    fn is_to_go(&self, connections: &Connections, at: usize, pressed: bool) -> bool {
         match self.peers.get(at) {
-            Some(peer) => leaves(peer, self.now, self.limits.idle, pressed),
+            Some(peer) => leaves(peer, connections, self.now, pressed),
             None => false,
         }
     }
@@ -254,15 +251,27 @@ impl<'a, T: Clock, E: Write> Crowd<'a, T, E> {
     ) -> usize
         ensures { Carries (connected connections.old) (connected connections.new) }
     {
-        if self.is_to_go(at, pressed) {
+        if self.is_to_go(connections, at, pressed) {
             self.dismiss(connections, at);
             return at;
         }
-        let now = self.now;
         if let Some(peer) = self.peers.get_mut(at) {
-            peer.rest(alloc, connections, now);
+            peer.rest(alloc, connections);
         }
         at.saturating_add(1)
+    }
+
+    /// Lets those go that have been silent for as long as may be.
+    fn dismiss_silent(&mut self, connections: &mut Connections)
+        ensures leads { Carries (connected connections.old) (connected connections.new) }
+        ensures none { NoneSilent (most_silence self.old.limits) connections.new }
+        ensures same { self.new.limits ≡ self.old.limits }
+    {
+        let limit = self.limits.idle.saturating_mul(1_000);
+        while let Some(number) = connections.silent(limit) {
+            let _ = connections.close(number);
+            forget(&mut self.peers, number);
+        }
     }
 
     /// Lets those go that are to go.
@@ -299,7 +308,7 @@ impl<'a, T: Clock, E: Write> Crowd<'a, T, E> {
     }
 
     /// One round: takes those who came, reads, has requests answered and orders carried out, writes, and lets
-    /// go.
+    /// go. Behind it none is open that has been silent for as long as may be.
     fn serve_round<K: Keeper>(
         &mut self,
         alloc: Global,
@@ -310,14 +319,17 @@ impl<'a, T: Clock, E: Write> Crowd<'a, T, E> {
         ensures honest { K.is_honest service.new → K.is_honest service.old }
         ensures leads { K.is_honest service.new → Leads (connected connections.old) (K.state service.old)
             (connected connections.new) (K.state service.new) }
+        ensures none { OnOk result (NoneSilent (most_silence self.new.limits) connections.new) }
     {
         self.wait(connections)?;
+        connections.tick(u64::try_from(self.now.as_millis()).unwrap_or(u64::MAX));
         self.accept_all(alloc, connections, at_once)?;
         self.hear_all(connections);
         self.answer_all(alloc, connections, service);
         self.take_orders(alloc, service);
         self.tell_all(connections);
         self.dismiss_all(alloc, connections);
+        self.dismiss_silent(connections);
         Ok(())
     }
 }

@@ -14,20 +14,17 @@ use std::io::{ErrorKind, Read, Write};
 use std::net::Shutdown;
 use std::time::Duration;
 
-/// So many bytes that moved are a sign of life.
-const SIGN_OF_LIFE: usize = 65_536;
-
 /// So often a socket is written to, before others have their turn.
 const WRITES: usize = 16;
 
 /// So often what is let fall is read.
 const READS: usize = 16;
 
-/// After so many seconds of rest room is given back.
-const REST: u64 = 1;
+/// After so many milliseconds of rest room is given back.
+const REST: u64 = 1_000;
 
-/// One who was refused is heard on until it was silent for so many seconds, and so many at most.
-const LINGER: u64 = 2;
+/// One who was refused is heard on until it was silent for so many milliseconds, and so many seconds at most.
+const LINGER: u64 = 2_000;
 
 const MOST_LINGER: u64 = 30;
 
@@ -54,13 +51,10 @@ pub struct Peer {
     pub wants: Option<Wants>,
     pub coming: usize,
     pub going: usize,
-    /// When there was a sign of life last, and how many bytes moved since.
-    pub since: Duration,
-    moved: usize,
 }
 
 impl Peer {
-    pub fn new(number: u64, stream: TcpStream, now: Duration) -> Peer {
+    pub fn new(number: u64, stream: TcpStream) -> Peer {
         Peer {
             number,
             stream,
@@ -74,8 +68,6 @@ impl Peer {
             wants: Some(Wants::Bytes),
             coming: 0,
             going: 0,
-            since: now,
-            moved: 0,
         }
     }
 
@@ -101,34 +93,16 @@ impl Peer {
     }
 
     /// Whether one who was refused is heard on.
-    fn is_heard_on(&self, now: Duration) -> bool {
+    fn is_heard_on(&self, connections: &Connections, now: Duration) -> bool {
         let begun = self.lingers.unwrap_or(now);
         self.refused
-            && self.silent(now) < Duration::from_secs(LINGER)
+            && connections.silence(self.number) < LINGER
             && now.saturating_sub(begun) < Duration::from_secs(MOST_LINGER)
     }
 
     /// It failed, or all is said, and it is not heard on.
-    pub fn ended(&self, now: Duration) -> bool {
-        self.failed || (self.wants == Some(Wants::Nothing) && !self.is_heard_on(now))
-    }
-
-    /// Nothing was heard from it or taken by it for so long.
-    pub fn silent(&self, now: Duration) -> Duration {
-        now.saturating_sub(self.since)
-    }
-
-    /// A sign of life.
-    pub fn lives(&mut self, now: Duration) {
-        self.moved = 0;
-        self.since = now;
-    }
-
-    fn moves(&mut self, count: usize, now: Duration) {
-        self.moved = self.moved.saturating_add(count);
-        if self.moved >= SIGN_OF_LIFE {
-            self.lives(now);
-        }
+    pub fn ended(&self, connections: &Connections, now: Duration) -> bool {
+        self.failed || (self.wants == Some(Wants::Nothing) && !self.is_heard_on(connections, now))
     }
 
     /// Notes what it was found ready for.
@@ -149,8 +123,7 @@ impl Peer {
     }
 
     /// Bytes came, as many as there was room for or fewer.
-    fn heard(&mut self, count: usize, whole: bool, now: Duration) {
-        self.moves(count, now);
+    fn heard(&mut self, whole: bool) {
         // Fewer were all; the end of the input is told with an event.
         self.readable = self.closed || whole;
         self.keeps_room = true;
@@ -175,7 +148,7 @@ impl Peer {
     }
 
     /// Reads once, at most as many bytes as its connection takes.
-    fn read_once(&mut self, connections: &mut Connections, room: &mut [u8], now: Duration)
+    fn read_once(&mut self, connections: &mut Connections, room: &mut [u8])
         ensures { Carries (connected connections.old) (connected connections.new) }
     {
         let most = connections.room(self.number).min(room.len());
@@ -192,7 +165,7 @@ impl Peer {
                     // No more was read than there is room for.
                     Receipt::NoRoom => unreachable!(),
                 }
-                self.heard(count, count == most, now);
+                self.heard(count == most);
             }
             Err(error) => self.read_failed(error.kind()),
         }
@@ -200,7 +173,9 @@ impl Peer {
 
     /// Ends the output to one who was refused, and lets fall what it still sends: a connection that is closed
     /// before all that came was read takes with it what the other side was told (RFC 9112, section 9.6).
-    pub fn drain(&mut self, room: &mut [u8], now: Duration) {
+    fn drain(&mut self, connections: &mut Connections, room: &mut [u8], now: Duration)
+        ensures { connected connections.new ≡ connected connections.old }
+    {
         if self.lingers.is_none() {
             self.lingers = Some(now);
             let _ = self.stream.shutdown(Shutdown::Write);
@@ -208,7 +183,7 @@ impl Peer {
         for _ in 0..READS {
             match self.stream.read(room) {
                 Ok(0) => self.failed = true,
-                Ok(count) => self.moves(count, now),
+                Ok(count) => connections.note_moved(self.number, count),
                 Err(error) => self.read_failed(error.kind()),
             }
             if !self.readable || self.failed {
@@ -217,18 +192,21 @@ impl Peer {
         }
     }
 
+    /// The same, if it is one whose words are let fall.
+    pub fn drain_if(&mut self, connections: &mut Connections, room: &mut [u8], now: Duration)
+        ensures { connected connections.new ≡ connected connections.old }
+    {
+        if self.drains() {
+            self.drain(connections, room, now);
+        }
+    }
+
     /// Reads once, if it may.
-    pub fn hear_if(
-        &mut self,
-        may: bool,
-        connections: &mut Connections,
-        room: &mut [u8],
-        now: Duration,
-    )
+    pub fn hear_if(&mut self, may: bool, connections: &mut Connections, room: &mut [u8])
         ensures { Carries (connected connections.old) (connected connections.new) }
     {
         if may {
-            self.read_once(connections, room, now);
+            self.read_once(connections, room);
             self.look(connections);
         }
     }
@@ -257,7 +235,7 @@ impl Peer {
     }
 
     /// Writes what is to go out, as far as it is taken, but not for ever.
-    fn write_out(&mut self, connections: &mut Connections, now: Duration)
+    fn write_out(&mut self, connections: &mut Connections)
         ensures { Carries (connected connections.old) (connected connections.new) }
     {
         for _ in 0..WRITES {
@@ -265,45 +243,41 @@ impl Peer {
                 return;
             };
             let _ = connections.sent(self.number, count);
-            self.moves(count, now);
         }
     }
 
-    /// The same, and looks whether all went, which is a sign of life.
-    fn tell(&mut self, connections: &mut Connections, now: Duration)
+    /// The same, and looks what is left.
+    fn tell(&mut self, connections: &mut Connections)
         ensures { Carries (connected connections.old) (connected connections.new) }
     {
-        self.write_out(connections, now);
+        self.write_out(connections);
         self.look(connections);
-        if self.going == 0 {
-            self.lives(now);
-        }
     }
 
     /// The same, if it is to be written to.
-    pub fn tell_if(&mut self, takes: bool, connections: &mut Connections, now: Duration)
+    pub fn tell_if(&mut self, takes: bool, connections: &mut Connections)
         ensures { Carries (connected connections.old) (connected connections.new) }
     {
         if takes {
-            self.tell(connections, now);
+            self.tell(connections);
         }
     }
 
     /// Sends what came of a turn, if it was its own.
-    pub fn tell_of(&mut self, turn: &Turn, connections: &mut Connections, now: Duration)
+    pub fn tell_of(&mut self, turn: &Turn, connections: &mut Connections)
         ensures { Carries (connected connections.old) (connected connections.new) }
     {
         if self.number == turn.number {
             self.refused = matches!(turn.step, Step::Ended(End::Refused(_)));
-            self.tell(connections, now);
+            self.tell(connections);
         }
     }
 
     /// Where it rests for some time, gives back the room that its connection keeps.
-    pub fn rest(&mut self, alloc: Global, connections: &mut Connections, now: Duration)
+    pub fn rest(&mut self, alloc: Global, connections: &mut Connections)
         ensures { connected connections.new ≡ connected connections.old }
     {
-        if self.keeps_room && self.rests() && self.silent(now) >= Duration::from_secs(REST) {
+        if self.keeps_room && self.rests() && connections.silence(self.number) >= REST {
             self.keeps_room = false;
             connections.give_back(alloc, self.number);
         }

@@ -5,9 +5,9 @@ use mio::event::Event;
 use registry_server::Connections;
 use std::time::Duration;
 
-/// How many seconds a connection that rests stays where another waits to be taken, and one that takes nothing
-/// where there is no room for replies.
-const PATIENCE: u64 = 5;
+/// How many milliseconds a connection that rests stays where another waits to be taken, and one that takes
+/// nothing where there is no room for replies.
+const PATIENCE: u64 = 5_000;
 
 /// Whether any may be read, so that its connection takes what comes, or written to.
 pub fn is_any_ready(peers: &[Peer], connections: &Connections) -> bool {
@@ -30,22 +30,38 @@ pub fn note(peers: &mut [Peer], event: &Event) {
 }
 
 /// The one that has rested longest, if it has for some time.
-pub fn oldest(peers: &[Peer], now: Duration) -> Option<usize> {
+pub fn oldest(peers: &[Peer], connections: &Connections) -> Option<usize> {
     let mut oldest = None;
-    let mut longest = Duration::from_secs(PATIENCE);
+    let mut longest = PATIENCE;
     for (at, peer) in peers.iter().enumerate() {
-        let silent = peer.silent(now);
-        if peer.rests() && silent >= longest {
-            oldest = Some(at);
-            longest = silent;
+        if peer.rests() {
+            let silence = connections.silence(peer.number);
+            if silence >= longest {
+                oldest = Some(at);
+                longest = silence;
+            }
         }
     }
     oldest
 }
 
-/// It is to go: it ended, or was silent for so many seconds, or takes nothing where there is no room.
-pub fn leaves(peer: &Peer, now: Duration, idle: u64, pressed: bool) -> bool {
-    let silent = peer.silent(now);
-    let stalls = pressed && peer.going > 0 && silent >= Duration::from_secs(PATIENCE);
-    peer.ended(now) || stalls || silent >= Duration::from_secs(idle)
+/// It is to go: it ended, or takes nothing where there is no room.
+pub fn leaves(peer: &Peer, connections: &Connections, now: Duration, pressed: bool) -> bool {
+    let stalls = pressed && peer.going > 0 && connections.silence(peer.number) >= PATIENCE;
+    stalls || peer.ended(connections, now)
+}
+
+/// Forgets the one of this number.
+pub fn forget(peers: &mut Vec<Peer>, number: u64) {
+    let mut found = None;
+    for (at, peer) in peers.iter().enumerate() {
+        if peer.number == number {
+            found = Some(at);
+        }
+    }
+    if let Some(at) = found {
+        if at < peers.len() {
+            peers.remove(at);
+        }
+    }
 }

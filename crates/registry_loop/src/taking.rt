@@ -24,7 +24,7 @@ impl<'a, T: Clock, E: Write> Crowd<'a, T, E> {
         if self.peers.len() < at_once {
             return true;
         }
-        match oldest(&self.peers, self.now) {
+        match oldest(&self.peers, connections) {
             Some(at) => {
                 self.dismiss(connections, at);
                 self.peers.len() < at_once
@@ -49,7 +49,7 @@ impl<'a, T: Clock, E: Write> Crowd<'a, T, E> {
         let token = Token(number as usize);
         let registered = self.poll.registry().register(&mut stream, token, interest);
         let kept = match registered {
-            Ok(()) => self.peers.push(Peer::new(number, stream, self.now)).is_ok(),
+            Ok(()) => self.peers.push(Peer::new(number, stream)).is_ok(),
             Err(_) => false,
         };
         if !kept {

@@ -6,3 +6,4 @@ pub mod LedgerLemmas
 pub mod TurnLemmas
 pub mod CallLemmas
 pub mod RoomLemmas
+pub mod LifeLemmas

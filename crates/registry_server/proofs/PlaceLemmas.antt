@@ -160,6 +160,16 @@ found_is n at xs x is f =
     ∙ of_same n f.slot f.back f.numbered
     ∙ ap (λ (s : Slot). Some s.conversation) (slot_is at xs x f.front f.back f.slot (within_found at xs f.front f.back f.slot f.was f.place) is f.was f.place)
 
+-- what is found there after the write of a changed connection
+pub changed_is : (n at : ℕ) (xs : List Connection) (x y : Connection) → x ≡ get_or xs at x → FoundAt n at (slots_of xs) → y.number ≡ x.number
+    → conversation_of n (slots_of (set xs at y)) ≡ Some (slot_of y).conversation
+changed_is n at xs x y is f same =
+    let lt = within_found at xs f.front f.back f.slot f.was f.place in
+    let e = slot_is at xs x f.front f.back f.slot lt is f.was f.place in
+    ap (conversation_of n) (set_is at xs y f.front f.back f.slot f.was f.place)
+    ∙ skip n f.front (slot_of y ∷ f.back) f.first
+    ∙ of_same n (slot_of y) f.back (same ∙ ap (λ (s : Slot). s.number) (sym e) ∙ f.numbered)
+
 -- ---- one connection goes, or goes behind the others
 
 removed : (front : List Slot) (c : Slot) (back : List Slot) → remove (front ++ c ∷ back) (length front) ≡ front ++ back

@@ -5,3 +5,4 @@ pub mod Showing
 pub mod Accounts
 pub mod Events
 pub mod Turns
+pub mod Lives

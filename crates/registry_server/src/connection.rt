@@ -1,9 +1,11 @@
-ghost use Rattle.std.specs.Prelude.{◌≡◌, ◌<◌, ◌≤◌, false, length, min, None, IfSome, IfNone, All};
+ghost use Rattle.std.specs.Prelude.{◌≡◌, ◌<◌, ◌≤◌, ◌-◌, ◌==◌, false, length, get_or, min, None, IfSome, IfNone, All};
 ghost use Rattle.registry_server.specs.Open.{FoundAt, StirredAt, conversation_of};
 ghost use Rattle.registry_server.specs.Room.{over_sum, going_sum};
 ghost use Rattle.registry_server.specs.Slots.{slots_of, IsMoved};
+ghost use Rattle.registry_server.specs.declared.connection.Connection.{Connection};
 
 use crate::bounds::SHARE;
+use crate::life::Life;
 use crate::turn::Turn;
 use registry_conversation::{Conversation, Step};
 use registry_model::Keeper;
@@ -18,6 +20,7 @@ pub struct Connection {
     /// Nothing is to go out on it, and something came for it that it was not asked about yet, or its last
     /// reply has gone out.
     pub stirred: bool,
+    pub life: Life,
 }
 
 impl Connection {
@@ -26,20 +29,24 @@ impl Connection {
     ghost use Rattle.registry_conversation.specs.Showing.{shown};
     ghost use Rattle.registry_server.specs.Open.{Becomes, Hears, Finishes, Sends, hears, sends, goes_on};
     ghost use Rattle.registry_server.specs.Slots.{slot_of};
+    ghost use Rattle.registry_server.specs.Lives.{moved_by, sent_by};
 
     /// These bytes came on it.
-    pub fn receive(&mut self, bytes: &[u8])
-        ensures { Becomes (Hears bytes.now) (hears (slot_of self.old)) (slot_of self.old)
+    pub fn receive(&mut self, bytes: &[u8], time: u64)
+        ensures becomes { Becomes (Hears bytes.now) (hears (slot_of self.old)) (slot_of self.old)
             (slot_of self.new) }
+        ensures lives { self.new.life ≡ moved_by (length bytes.now) time self.old.life }
     {
         let heard = self.conversation.listens() && self.conversation.outgoing().is_empty();
         self.conversation.receive(bytes);
         self.stirred = heard || self.stirred;
+        self.life = self.life.moved(bytes.len(), time);
     }
 
     /// Its input has ended.
     pub fn finish(&mut self)
-        ensures { Becomes Finishes (hears (slot_of self.old)) (slot_of self.old) (slot_of self.new) }
+        ensures becomes { Becomes Finishes (hears (slot_of self.old)) (slot_of self.old) (slot_of self.new) }
+        ensures lives { self.new.life ≡ self.old.life }
     {
         let heard = self.conversation.listens() && self.conversation.outgoing().is_empty();
         self.conversation.finish();
@@ -47,18 +54,31 @@ impl Connection {
     }
 
     /// So many of its bytes that were to go out went.
-    pub fn sent(&mut self, count: usize)
+    pub fn sent(&mut self, count: usize, time: u64)
         requires { count ≤ length (slot_of self.old).conversation.going }
-        ensures { Becomes (Sends count) (sends count (slot_of self.old)) (slot_of self.old)
+        ensures becomes { Becomes (Sends count) (sends count (slot_of self.old)) (slot_of self.old)
             (slot_of self.new) }
+        ensures lives { self.new.life
+            ≡ sent_by count (length (slot_of self.new).conversation.going == 0) time self.old.life }
     {
         self.conversation.sent(count);
-        self.stirred = self.conversation.outgoing().is_empty() || self.stirred;
+        let whole = self.conversation.outgoing().is_empty();
+        self.stirred = whole || self.stirred;
+        self.life = self.life.sent(count, whole, time);
+    }
+
+    /// So many bytes moved that it is not told of.
+    pub fn note_moved(&mut self, count: usize, time: u64)
+        ensures same { slot_of self.new ≡ slot_of self.old }
+        ensures lives { self.new.life ≡ moved_by count time self.old.life }
+    {
+        self.life = self.life.moved(count, time);
     }
 
     /// Gives back the room that holds nothing.
     pub fn give_back(&mut self, alloc: Global)
-        ensures { slot_of self.new ≡ slot_of self.old }
+        ensures same { slot_of self.new ≡ slot_of self.old }
+        ensures lives { self.new.life ≡ self.old.life }
     {
         self.conversation.give_back(alloc);
     }
@@ -71,6 +91,7 @@ impl Connection {
             → Happens (acted result.step) c (K.state service.old) c' (K.state service.new))
             (goes_on result.step (slot_of self.new).conversation) (slot_of self.old) (slot_of self.new) }
         ensures fewer { coming_len (shown self.new.conversation) ≤ coming_len (shown self.old.conversation) }
+        ensures lives { self.new.life ≡ self.old.life }
     {
         let step = self.conversation.answer_next(alloc, service);
         self.stirred = matches!(step, Step::Answered) && self.conversation.outgoing().is_empty();
@@ -101,6 +122,20 @@ pub fn find_stirred(connections: &[Connection]) -> Option<usize>
 {
     for (i, connection) in connections.iter().enumerate() {
         if connection.stirred {
+            return Some(i);
+        }
+    }
+    None
+}
+
+/// Where the first connection stands that has been silent for so long.
+pub fn find_silent(connections: &[Connection], time: u64, limit: u64) -> Option<usize>
+    ensures found { IfSome result (λ at. (at < length connections.now)
+        × (c : Connection) × (c ≡ get_or connections.now at c) × (limit ≤ time - c.life.since)) }
+    ensures none { IfNone result (All (λ c. time - c.life.since < limit) connections.now) }
+{
+    for (i, connection) in connections.iter().enumerate() {
+        if time.saturating_sub(connection.life.since) >= limit {
             return Some(i);
         }
     }

@@ -1,10 +1,11 @@
-ghost use Rattle.std.specs.Prelude.{◌≡◌, true, false, ◌<◌, ◌≤◌, ◌⊎◌, ◌↔◌, length, option_map, All, IsTrue, IfOk, IfErr, IfSome, IfNone};
+ghost use Rattle.std.specs.Prelude.{◌≡◌, true, false, ◌<◌, ◌≤◌, ◌⊎◌, ◌↔◌, length, option_map, ◌==◌, Some, None, All, IsTrue, IfOk, IfErr, IfSome, IfNone};
 ghost use Rattle.registry_server.specs.Open.{are_numbered};
 ghost use Rattle.registry_server.specs.Room.{IsWithin};
 ghost use Rattle.registry_server.specs.Slots.{slots_of};
 
 use crate::bounds::{Bounds, pool, room_beside};
-use crate::connection::{Connection, find, find_stirred, going, over, to_back};
+use crate::connection::{Connection, find, find_silent, find_stirred, going, over, to_back};
+use crate::life::Life;
 use crate::receipt::Receipt;
 use crate::refusal::Refusal;
 use crate::turn::Turn;
@@ -25,6 +26,8 @@ pub struct Connections {
     next: u64,
     /// How many may be open at once, and how much they may hold.
     bounds: Bounds,
+    /// The time that was handed in last, in milliseconds.
+    time: u64,
     ghost numbered: { are_numbered next (slots_of connections.items) ≡ true },
     ghost within: { IsWithin bounds (slots_of connections.items) },
 }
@@ -36,24 +39,39 @@ impl Connections {
     ghost use Rattle.registry_server.specs.Room.{going_sum, room_of, IsReceived};
     ghost use Rattle.registry_server.specs.Events.{Leads, Carries};
     ghost use Rattle.registry_server.specs.Showing.{connected};
+    ghost use Rattle.registry_server.specs.Lives.{alive_at, moved_by, sent_by, life_of, silence_of};
+    ghost use Rattle.registry_server.specs.Lives.{LivesBut, LivesAt, LivesOn, LivesThrough, NoneSilent, IsSilent};
 
-    /// No connection; they may take so much together.
+    /// No connection; they may take so much together. The time is 0.
     pub fn new(alloc: Global, bounds: Bounds) -> Connections
-        ensures { connected result ≡ none bounds }
+        ensures none { connected result ≡ none bounds }
+        ensures time { result.time ≡ 0 }
     {
         Connections {
             connections: Vec::new(alloc),
             next: 0,
             bounds,
+            time: 0,
         }
     }
 
+    /// It is this time, in milliseconds from whenever.
+    pub fn tick(&mut self, time: u64)
+        ensures same { connected self.new ≡ connected self.old }
+        ensures lives { LivesAt time self.old self.new }
+    {
+        self.time = time;
+    }
+
     /// A connection came. Answers its number, which no connection had before. Where it is refused nothing
-    /// has changed.
+    /// has changed. That it came is a sign of life.
     pub fn open(&mut self, alloc: Global) -> Result<u64, Refusal>
         ensures opens { IfOk result (λ number. Opens number (connected self.old) (connected self.new)) }
+        ensures begins { IfOk result (λ number.
+            LivesBut number (Some (alive_at self.old.time)) self.old self.new) }
         ensures refuses { IfErr result (λ refusal. Refuses refusal (connected self.old)
             × (connected self.new ≡ connected self.old)) }
+        ensures lives { IfErr result (λ refusal. LivesOn self.old self.new) }
         ensures leads { Carries (connected self.old) (connected self.new) }
     {
         if self.connections.len() >= self.bounds.at_once {
@@ -70,6 +88,7 @@ impl Connections {
             number,
             conversation,
             stirred: false,
+            life: Life::at(self.time),
         };
         let Ok(()) = self.connections.push(connection) else {
             return Err(Refusal::Memory);
@@ -100,6 +119,7 @@ impl Connections {
     /// they are no more than `room` says. Where they are not taken nothing has changed.
     pub fn receive(&mut self, number: u64, bytes: &[u8]) -> Receipt
         ensures receives { IsReceived result number bytes.now (connected self.old) (connected self.new) }
+        ensures lives { LivesThrough result number bytes.now self.old self.new }
         ensures leads { Carries (connected self.old) (connected self.new) }
     {
         let room = self.room(number);
@@ -108,7 +128,7 @@ impl Connections {
                 if bytes.len() > room {
                     return Receipt::NoRoom;
                 }
-                self.connections[at].receive(bytes);
+                self.connections[at].receive(bytes, self.time);
                 Receipt::Taken
             }
             None => Receipt::NotOpen,
@@ -119,6 +139,7 @@ impl Connections {
     pub fn finish(&mut self, number: u64) -> bool
         ensures finishes { IfOpen result number (Changes number Finishes hears)
             (connected self.old) (connected self.new) }
+        ensures lives { LivesOn self.old self.new }
         ensures leads { Carries (connected self.old) (connected self.new) }
     {
         match find(&self.connections, number) {
@@ -140,20 +161,56 @@ impl Connections {
         }
     }
 
-    /// So many of the bytes that were to go out on a connection went. Says whether it is open.
+    /// So many of the bytes that were to go out on a connection went. Says whether it is open. The last byte
+    /// of a reply is a sign of life.
     pub fn sent(&mut self, number: u64, count: usize) -> bool
         requires { count ≤ length (outgoing_of number (connected self.old).slots) }
         ensures sends { IfOpen result number (Changes number (Sends count) (sends count))
             (connected self.old) (connected self.new) }
+        ensures lives { LivesBut number (option_map
+            (sent_by count (length (outgoing_of number (connected self.new).slots) == 0) self.old.time)
+            (life_of number self.old)) self.old self.new }
         ensures leads { Carries (connected self.old) (connected self.new) }
     {
         match find(&self.connections, number) {
             Some(at) => {
-                self.connections[at].sent(count);
+                self.connections[at].sent(count, self.time);
                 true
             }
             None => false,
         }
+    }
+
+    /// So many bytes moved on a connection beside those that are told of here: they were read and let fall.
+    pub fn note_moved(&mut self, number: u64, count: usize)
+        ensures same { connected self.new ≡ connected self.old }
+        ensures lives { LivesBut number (option_map (moved_by count self.old.time) (life_of number self.old))
+            self.old self.new }
+    {
+        let time = self.time;
+        if let Some(at) = find(&self.connections, number) {
+            self.connections[at].note_moved(count, time);
+        }
+    }
+
+    /// For how many milliseconds there was no sign of life on a connection; 0 where it is not open. These are
+    /// signs of life: that it came, 65,536 bytes that came or went, and the last byte of a reply.
+    pub fn silence(&self, number: u64) -> u64
+        ensures { result ≡ silence_of number self.now }
+    {
+        match find(&self.connections, number) {
+            Some(at) => self.time.saturating_sub(self.connections[at].life.since),
+            None => 0,
+        }
+    }
+
+    /// One that has been silent for so many milliseconds; none where none has.
+    pub fn silent(&self, limit: u64) -> Option<u64>
+        ensures silent { IfSome result (λ number. IsSilent limit number self.now) }
+        ensures none { IfNone result (NoneSilent limit self.now) }
+    {
+        let at = find_silent(&self.connections, self.time, limit)?;
+        Some(self.connections[at].number)
     }
 
     /// What a connection waits for, once it has no turn to take; `None` where it is not open.
@@ -187,7 +244,8 @@ impl Connections {
 
     /// Gives back the room of a connection that holds nothing, as `Conversation::give_back` does.
     pub fn give_back(&mut self, alloc: Global, number: u64)
-        ensures { connected self.new ≡ connected self.old }
+        ensures same { connected self.new ≡ connected self.old }
+        ensures lives { LivesOn self.old self.new }
     {
         if let Some(at) = find(&self.connections, number) {
             self.connections[at].give_back(alloc);
@@ -198,6 +256,7 @@ impl Connections {
     /// whether it was open.
     pub fn close(&mut self, number: u64) -> bool
         ensures closes { IfOpen result number (Closes number) (connected self.old) (connected self.new) }
+        ensures lives { LivesBut number None self.old self.new }
         ensures leads { Carries (connected self.old) (connected self.new) }
     {
         match find(&self.connections, number) {
@@ -234,6 +293,7 @@ impl Connections {
         ensures idle { IfNone result ((connected self.new ≡ connected self.old) × (service.new ≡ service.old)
             × (All (λ s. s.stirred ≡ false) (connected self.old).slots
             ⊎ ((connected self.old).bounds.going ≤ going_sum (connected self.old).slots))) }
+        ensures lives { LivesOn self.old self.new }
         ensures leads { K.is_honest service.new → Leads (connected self.old) (K.state service.old)
             (connected self.new) (K.state service.new) }
     {

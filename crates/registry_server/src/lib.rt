@@ -8,6 +8,7 @@ pub mod bounds;
 pub mod connection;
 pub mod connections;
 pub mod laws;
+pub mod life;
 pub mod receipt;
 pub mod refusal;
 pub mod turn;
@@ -18,5 +19,7 @@ pub use receipt::Receipt;
 pub use refusal::Refusal;
 pub use turn::Turn;
 
+#[cfg(test)]
+mod silence_tests;
 #[cfg(test)]
 mod tests;

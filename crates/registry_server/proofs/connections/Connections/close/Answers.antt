@@ -2,6 +2,8 @@ use Rattle.std.proofs.Common.{true, refl}
 use Rattle.registry_server.proofs.PlaceLemmas.{found_on, closes, closed_numbers}
 use Rattle.registry_server.specs.Slots.{slots_of}
 use Rattle.registry_server.proofs.RoomLemmas.{within_closed}
+use Rattle.registry_server.proofs.SlotLemmas.{opened}
+use Rattle.registry_server.proofs.LifeLemmas.{closed_life, no_life_on}
 use Rattle.registry_server.proofs.CallLemmas.{carries_none, of_closed}
 use Rattle.registry_server.proofs.connections.Connections.close.Goals as goal
 
@@ -27,3 +29,14 @@ returns-in-Some-clause-leads c = of_closed true c.args.number _ _ (returns-in-So
 
 pub returns-in-None-clause-leads : goal.returns-in-None-clause-leads
 returns-in-None-clause-leads c = carries_none _
+
+pub returns-in-Some-clause-lives : goal.returns-in-Some-clause-lives
+returns-in-Some-clause-lives c =
+    let items = c.args.self.now.connections.items in
+    let but = closed_life c.args.self.now.next c.args.number c.in-Some.at items c.remove.new.self.items
+    (found_on c.args.number c.in-Some.at c.deref.result.now c.args.self.now.connections.items c.deref.ensures.value c.in-Some.ensures.found)
+    (opened c.args.self.now.next (slots_of items) c.args.self.now.numbered) c.remove.ensures.items in
+    record { time = refl; is = but.is; others = but.others }
+
+pub returns-in-None-clause-lives : goal.returns-in-None-clause-lives
+returns-in-None-clause-lives c = record { time = refl; is = no_life_on c.args.number c.args.self.now.connections.items c.deref.result.now c.deref.ensures.value c.in-None.ensures.none; others = λ m ne. refl }

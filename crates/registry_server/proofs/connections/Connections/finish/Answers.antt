@@ -3,23 +3,24 @@ use Rattle.registry_server.specs.Open.{Slot, Finishes, hears}
 use Rattle.registry_server.proofs.PlaceLemmas.{found_on, changed, changed_numbers}
 use Rattle.registry_server.specs.Slots.{slots_of}
 use Rattle.registry_server.proofs.RoomLemmas.{within_changed, as_many_ended}
+use Rattle.registry_server.proofs.LifeLemmas.{same_lives}
 use Rattle.registry_server.proofs.CallLemmas.{carries_none, of_finished}
 use Rattle.registry_server.proofs.connections.Connections.finish.Goals as goal
 
 pub invariant_of-self : goal.invariant_of-self
 invariant_of-self c = record {
   numbered = changed_numbers c.args.self.now.next c.args.number c.in-Some.at c.args.self.now.connections.items c.index_mut.result.now c.finish.new.self
-      c.index_mut.ensures.value (found_on c.args.number c.in-Some.at c.deref.result.now c.args.self.now.connections.items c.deref.ensures.value c.in-Some.ensures.found) (ap (λ (s : Slot). s.number) c.finish.ensures.1) c.args.self.now.numbered;
+      c.index_mut.ensures.value (found_on c.args.number c.in-Some.at c.deref.result.now c.args.self.now.connections.items c.deref.ensures.value c.in-Some.ensures.found) (ap (λ (s : Slot). s.number) c.finish.ensures.becomes.1) c.args.self.now.numbered;
   within = within_changed c.args.self.now.bounds c.args.number (Finishes) hears (slots_of c.args.self.now.connections.items) _ (λ a b h. as_many_ended a b h)
       (changed c.args.number c.in-Some.at (Finishes) hears c.args.self.now.connections.items c.index_mut.result.now c.finish.new.self
-      c.index_mut.ensures.value (found_on c.args.number c.in-Some.at c.deref.result.now c.args.self.now.connections.items c.deref.ensures.value c.in-Some.ensures.found) c.finish.ensures)
+      c.index_mut.ensures.value (found_on c.args.number c.in-Some.at c.deref.result.now c.args.self.now.connections.items c.deref.ensures.value c.in-Some.ensures.found) c.finish.ensures.becomes)
       c.args.self.now.within;
 }
 
 pub returns-in-Some-clause-finishes : goal.returns-in-Some-clause-finishes
 returns-in-Some-clause-finishes c = (
   changed c.args.number c.in-Some.at (Finishes) hears c.args.self.now.connections.items c.index_mut.result.now c.finish.new.self
-      c.index_mut.ensures.value (found_on c.args.number c.in-Some.at c.deref.result.now c.args.self.now.connections.items c.deref.ensures.value c.in-Some.ensures.found) c.finish.ensures,
+      c.index_mut.ensures.value (found_on c.args.number c.in-Some.at c.deref.result.now c.args.self.now.connections.items c.deref.ensures.value c.in-Some.ensures.found) c.finish.ensures.becomes,
   refl,
 )
 
@@ -28,3 +29,14 @@ returns-in-Some-clause-leads c = of_finished true c.args.number _ _ (returns-in-
 
 pub returns-in-None-clause-leads : goal.returns-in-None-clause-leads
 returns-in-None-clause-leads c = carries_none _
+
+pub returns-in-Some-clause-lives : goal.returns-in-Some-clause-lives
+returns-in-Some-clause-lives c = record {
+  time = refl;
+  all = same_lives c.args.number c.in-Some.at c.args.self.now.connections.items c.index_mut.result.now c.finish.new.self c.index_mut.ensures.value
+      (found_on c.args.number c.in-Some.at c.deref.result.now c.args.self.now.connections.items c.deref.ensures.value c.in-Some.ensures.found)
+      (ap (λ (s : Slot). s.number) c.finish.ensures.becomes.1) c.finish.ensures.lives;
+}
+
+pub returns-in-None-clause-lives : goal.returns-in-None-clause-lives
+returns-in-None-clause-lives c = record { time = refl; all = λ n. refl }

@@ -1,10 +1,13 @@
-use Rattle.std.proofs.Common.{false, refl, sym, subst, arith}
+use Rattle.std.proofs.Common.{false, Some, refl, sym, ap, ◌∙◌, subst, arith}
 use Rattle.std.proofs.lemmas.List.{length-map}
 use Rattle.registry_conversation.specs.Shown.{begun}
 use Rattle.registry_server.specs.Room.{IsWithin}
 use Rattle.registry_server.specs.Slots.{slot_of, slots_of}
+use Rattle.registry_server.specs.declared.life.Life.{Life}
 use Rattle.registry_server.proofs.RoomLemmas.{one_comes}
 use Rattle.registry_server.proofs.PlaceLemmas.{came_slots, came_numbers, opens}
+use Rattle.registry_server.proofs.SlotLemmas.{opened}
+use Rattle.registry_server.proofs.LifeLemmas.{came_life}
 use Rattle.registry_server.proofs.CallLemmas.{of_opened}
 use Rattle.registry_server.proofs.connections.Connections.open.Goals as goal
 
@@ -26,3 +29,10 @@ returns-clause-opens c =
 
 pub returns-clause-leads : goal.returns-clause-leads
 returns-clause-leads c = of_opened c.args.self.now.next _ _ (returns-clause-opens c)
+
+pub returns-clause-begins : goal.returns-clause-begins
+returns-clause-begins c =
+    let items = c.args.self.now.connections.items in
+    let but = came_life c.args.self.now.next items c.push.new.self.items _ c.in-Ok-push.ensures.items refl
+    (opened c.args.self.now.next (slots_of items) c.args.self.now.numbered) in
+    record { time = refl; is = but.is ∙ ap (λ (l : Life). Some l) c.at.ensures; others = but.others }

@@ -5,6 +5,8 @@ use Rattle.registry_server.specs.Showing.{connected}
 use Rattle.registry_server.specs.declared.receipt.Receipt.TheVariants.{Taken}
 use Rattle.registry_server.proofs.PlaceLemmas.{found_on, found_there, changed, changed_numbers}
 use Rattle.registry_server.proofs.RoomLemmas.{within_received}
+use Rattle.registry_server.proofs.LifeLemmas.{changed_life}
+use Rattle.registry_server.specs.Lives.{moved_by}
 use Rattle.registry_server.proofs.CallLemmas.{carries_none, of_received}
 use Rattle.registry_server.proofs.connections.Connections.receive.Goals as goal
 
@@ -15,9 +17,9 @@ invariant_of-self c =
     let room : length c.args.bytes.now ≤ room_of c.args.number (connected c.args.self.now) = omega (arith, c.room-room.ensures, c.if-bytes-room.false) in
     record {
       numbered = changed_numbers c.args.self.now.next c.args.number c.in-Some.at items c.index_mut.result.now c.receive.new.self
-          c.index_mut.ensures.value f (ap (λ (s : Slot). s.number) c.receive.ensures.1) c.args.self.now.numbered;
+          c.index_mut.ensures.value f (ap (λ (s : Slot). s.number) c.receive.ensures.becomes.1) c.args.self.now.numbered;
       within = within_received (connected c.args.self.now) c.args.number c.args.bytes.now (Hears c.args.bytes.now) _ (λ a b h. h.2)
-          (changed c.args.number c.in-Some.at (Hears c.args.bytes.now) hears items c.index_mut.result.now c.receive.new.self c.index_mut.ensures.value f c.receive.ensures)
+          (changed c.args.number c.in-Some.at (Hears c.args.bytes.now) hears items c.index_mut.result.now c.receive.new.self c.index_mut.ensures.value f c.receive.ensures.becomes)
           room c.args.self.now.within;
     }
 
@@ -25,7 +27,7 @@ pub returns-else-bytes-room-clause-receives : goal.returns-else-bytes-room-claus
 returns-else-bytes-room-clause-receives c =
     let items = c.args.self.now.connections.items in
     let f = found_on c.args.number c.in-Some.at c.deref.result.now items c.deref.ensures.value c.in-Some.ensures.found in (
-      changed c.args.number c.in-Some.at (Hears c.args.bytes.now) hears items c.index_mut.result.now c.receive.new.self c.index_mut.ensures.value f c.receive.ensures,
+      changed c.args.number c.in-Some.at (Hears c.args.bytes.now) hears items c.index_mut.result.now c.receive.new.self c.index_mut.ensures.value f c.receive.ensures.becomes,
       refl,
       omega (arith, c.room-room.ensures, c.if-bytes-room.false),
     )
@@ -43,3 +45,17 @@ returns-then-bytes-room-clause-leads c = carries_none _
 
 pub returns-in-None-clause-leads : goal.returns-in-None-clause-leads
 returns-in-None-clause-leads c = carries_none _
+
+pub returns-else-bytes-room-clause-lives : goal.returns-else-bytes-room-clause-lives
+returns-else-bytes-room-clause-lives c =
+    let items = c.args.self.now.connections.items in
+    let but = changed_life c.args.number c.in-Some.at (moved_by (length c.args.bytes.now) c.args.self.now.time) items c.index_mut.result.now c.receive.new.self
+    c.index_mut.ensures.value (found_on c.args.number c.in-Some.at c.deref.result.now items c.deref.ensures.value c.in-Some.ensures.found)
+    (ap (λ (s : Slot). s.number) c.receive.ensures.becomes.1) c.receive.ensures.lives in
+    record { time = refl; is = but.is; others = but.others }
+
+pub returns-then-bytes-room-clause-lives : goal.returns-then-bytes-room-clause-lives
+returns-then-bytes-room-clause-lives c = record { time = refl; all = λ n. refl }
+
+pub returns-in-None-clause-lives : goal.returns-in-None-clause-lives
+returns-in-None-clause-lives c = record { time = refl; all = λ n. refl }

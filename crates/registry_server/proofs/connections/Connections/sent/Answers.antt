@@ -1,9 +1,12 @@
-use Rattle.std.proofs.Common.{true, refl, ap, ◌≤◌, Option, length, subst}
+use Rattle.std.proofs.Common.{true, refl, sym, ap, ◌∙◌, ◌==◌, ◌≤◌, Option, length, set, subst}
+use Rattle.std.specs.Prelude.{option_map}
 use Rattle.registry_conversation.specs.Shown.{Shown}
-use Rattle.registry_server.specs.Open.{Slot, going_in, Sends, sends}
-use Rattle.registry_server.proofs.PlaceLemmas.{found_on, changed, changed_numbers, found_is}
+use Rattle.registry_server.specs.Open.{Slot, conversation_of, going_in, outgoing_of, Sends, sends}
+use Rattle.registry_server.proofs.PlaceLemmas.{found_on, changed, changed_numbers, changed_is, found_is}
 use Rattle.registry_server.specs.Slots.{slots_of}
 use Rattle.registry_server.proofs.RoomLemmas.{within_changed, as_many_told}
+use Rattle.registry_server.proofs.LifeLemmas.{changed_life, no_life_on}
+use Rattle.registry_server.specs.Lives.{sent_by}
 use Rattle.registry_server.proofs.CallLemmas.{carries_none, of_sent}
 use Rattle.registry_server.proofs.connections.Connections.sent.Goals as goal
 
@@ -15,17 +18,17 @@ sent-requires c =
 pub invariant_of-self : goal.invariant_of-self
 invariant_of-self c = record {
   numbered = changed_numbers c.args.self.now.next c.args.number c.in-Some.at c.args.self.now.connections.items c.index_mut.result.now c.sent.new.self
-      c.index_mut.ensures.value (found_on c.args.number c.in-Some.at c.deref.result.now c.args.self.now.connections.items c.deref.ensures.value c.in-Some.ensures.found) (ap (λ (s : Slot). s.number) c.sent.ensures.1) c.args.self.now.numbered;
+      c.index_mut.ensures.value (found_on c.args.number c.in-Some.at c.deref.result.now c.args.self.now.connections.items c.deref.ensures.value c.in-Some.ensures.found) (ap (λ (s : Slot). s.number) c.sent.ensures.becomes.1) c.args.self.now.numbered;
   within = within_changed c.args.self.now.bounds c.args.number (Sends c.args.count) (sends c.args.count) (slots_of c.args.self.now.connections.items) _ (λ a b h. as_many_told c.args.count a b h)
       (changed c.args.number c.in-Some.at (Sends c.args.count) (sends c.args.count) c.args.self.now.connections.items c.index_mut.result.now c.sent.new.self
-      c.index_mut.ensures.value (found_on c.args.number c.in-Some.at c.deref.result.now c.args.self.now.connections.items c.deref.ensures.value c.in-Some.ensures.found) c.sent.ensures)
+      c.index_mut.ensures.value (found_on c.args.number c.in-Some.at c.deref.result.now c.args.self.now.connections.items c.deref.ensures.value c.in-Some.ensures.found) c.sent.ensures.becomes)
       c.args.self.now.within;
 }
 
 pub returns-in-Some-clause-sends : goal.returns-in-Some-clause-sends
 returns-in-Some-clause-sends c = (
   changed c.args.number c.in-Some.at (Sends c.args.count) (sends c.args.count) c.args.self.now.connections.items c.index_mut.result.now c.sent.new.self
-      c.index_mut.ensures.value (found_on c.args.number c.in-Some.at c.deref.result.now c.args.self.now.connections.items c.deref.ensures.value c.in-Some.ensures.found) c.sent.ensures,
+      c.index_mut.ensures.value (found_on c.args.number c.in-Some.at c.deref.result.now c.args.self.now.connections.items c.deref.ensures.value c.in-Some.ensures.found) c.sent.ensures.becomes,
   refl,
 )
 
@@ -34,3 +37,21 @@ returns-in-Some-clause-leads c = of_sent true c.args.number c.args.count _ _ (re
 
 pub returns-in-None-clause-leads : goal.returns-in-None-clause-leads
 returns-in-None-clause-leads c = carries_none _
+
+pub returns-in-Some-clause-lives : goal.returns-in-Some-clause-lives
+returns-in-Some-clause-lives c =
+    let items = c.args.self.now.connections.items in
+    let y = c.sent.new.self in
+    let number = ap (λ (s : Slot). s.number) c.sent.ensures.becomes.1 in
+    let f = found_on c.args.number c.in-Some.at c.deref.result.now items c.deref.ensures.value c.in-Some.ensures.found in
+    let whole = ap (λ (o : Option Shown). length (going_in o) == 0) (changed_is c.args.number c.in-Some.at items c.index_mut.result.now y c.index_mut.ensures.value f number) in
+    let but = changed_life c.args.number c.in-Some.at (sent_by c.args.count (length (going_in (conversation_of c.args.number (slots_of (set items c.in-Some.at y)))) == 0) c.args.self.now.time)
+    items c.index_mut.result.now y c.index_mut.ensures.value f number
+    (c.sent.ensures.lives ∙ (λ i. sent_by c.args.count (sym whole i) c.args.self.now.time c.index_mut.result.now.life)) in
+    record { time = refl; is = but.is; others = but.others }
+
+pub returns-in-None-clause-lives : goal.returns-in-None-clause-lives
+returns-in-None-clause-lives c =
+    let none = no_life_on c.args.number c.args.self.now.connections.items c.deref.result.now c.deref.ensures.value c.in-None.ensures.none in
+    let f = sent_by c.args.count (length (outgoing_of c.args.number (slots_of c.args.self.now.connections.items)) == 0) c.args.self.now.time in
+    record { time = refl; is = none ∙ sym (ap (option_map f) none); others = λ m ne. refl }

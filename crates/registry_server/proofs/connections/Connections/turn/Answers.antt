@@ -4,6 +4,8 @@ use Rattle.registry_server.specs.Open.{Slot}
 use Rattle.registry_server.specs.Slots.{slots_of}
 use Rattle.registry_server.proofs.PlaceLemmas.{stirred_on, within_found, moved_in, turned, turned_numbers}
 use Rattle.registry_server.proofs.RoomLemmas.{within_turned}
+use Rattle.registry_server.proofs.SlotLemmas.{opened}
+use Rattle.registry_server.proofs.LifeLemmas.{turned_lives}
 use Rattle.registry_server.proofs.CallLemmas.{of_turn}
 use Rattle.registry_server.proofs.connections.Connections.turn.Goals as goal
 
@@ -42,3 +44,17 @@ pub returns-clause-leads : goal.returns-clause-leads
 returns-clause-leads g c honest =
     let t = returns-clause-takes g c in
     of_turn c.answer_next-turn.result.number c.answer_next-turn.result.step _ _ _ _ t.0 t.1 t.2 honest
+
+pub returns-clause-lives : goal.returns-clause-lives
+returns-clause-lives g c =
+    let items = c.args.self.now.connections.items in
+    let f = stirred_on c.in_ok-at.at c.deref.result.now items c.deref.ensures.value c.in_ok-at.ensures.found in
+    let y = c.answer_next-turn.new.self in
+    let lt = within_found c.in_ok-at.at items f.front f.back f.slot f.was f.place in record {
+      time = refl;
+      all = turned_lives c.args.self.now.next c.in_ok-at.at items _ c.index_mut.result.now y c.index_mut.ensures.value lt
+          (opened c.args.self.now.next (slots_of items) c.args.self.now.numbered)
+          (ap (λ (s : Slot). s.number) c.answer_next-turn.ensures.acts.1) c.answer_next-turn.ensures.lives
+          (moved_in c.in_ok-at.at c.args.self.now.connections.len items c.deref_mut.result.now c.to_back.new.connections y
+          c.deref_mut.ensures.value c.deref_mut.ensures.len lt c.to_back.ensures);
+    }

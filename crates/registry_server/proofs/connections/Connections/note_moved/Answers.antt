@@ -1,0 +1,34 @@
+use Rattle.std.proofs.Common.{◌≡◌, List, true, refl, ap, sym, ◌∙◌, subst}
+use Rattle.std.specs.Prelude.{option_map}
+use Rattle.registry_server.specs.Open.{Slot, are_numbered}
+use Rattle.registry_server.specs.Room.{IsWithin}
+use Rattle.registry_server.proofs.PlaceLemmas.{found_on, unchanged}
+use Rattle.registry_server.proofs.LifeLemmas.{changed_life, no_life_on}
+use Rattle.registry_server.specs.Lives.{moved_by}
+use Rattle.registry_server.proofs.connections.Connections.note_moved.Goals as goal
+
+pub invariant_of-self : goal.invariant_of-self
+invariant_of-self c = record {
+  numbered = subst (λ (ys : List Slot). are_numbered c.args.self.now.next ys ≡ true)
+      (sym (unchanged c.in-Some.at c.args.self.now.connections.items c.index_mut.result.now c.note_moved.new.self c.index_mut.ensures.value c.note_moved.ensures.same)) c.args.self.now.numbered;
+  within = subst (IsWithin c.args.self.now.bounds)
+      (sym (unchanged c.in-Some.at c.args.self.now.connections.items c.index_mut.result.now c.note_moved.new.self c.index_mut.ensures.value c.note_moved.ensures.same)) c.args.self.now.within;
+}
+
+pub returns-in-Some-clause-same : goal.returns-in-Some-clause-same
+returns-in-Some-clause-same c =
+    ap (λ (ys : List Slot). record { slots = ys; next = c.args.self.now.next; bounds = c.args.self.now.bounds })
+    (unchanged c.in-Some.at c.args.self.now.connections.items c.index_mut.result.now c.note_moved.new.self c.index_mut.ensures.value c.note_moved.ensures.same)
+
+pub returns-in-Some-clause-lives : goal.returns-in-Some-clause-lives
+returns-in-Some-clause-lives c =
+    let but = changed_life c.args.number c.in-Some.at (moved_by c.args.count c.args.self.now.time) c.args.self.now.connections.items c.index_mut.result.now c.note_moved.new.self
+    c.index_mut.ensures.value
+    (found_on c.args.number c.in-Some.at c.deref.result.now c.args.self.now.connections.items c.deref.ensures.value c.in-Some.ensures.found)
+    (ap (λ (s : Slot). s.number) c.note_moved.ensures.same) c.note_moved.ensures.lives in
+    record { time = refl; is = but.is; others = but.others }
+
+pub returns-in_default-clause-lives : goal.returns-in_default-clause-lives
+returns-in_default-clause-lives c =
+    let none = no_life_on c.args.number c.args.self.now.connections.items c.deref.result.now c.deref.ensures.value c.in_default.ensures.none in
+    record { time = refl; is = none ∙ sym (ap (option_map (moved_by c.args.count c.args.self.now.time)) none); others = λ m ne. refl }
