@@ -12,7 +12,7 @@ use Rattle.registry_model.specs.declared.quota.Usage.{Usage}
 use Rattle.registry_model.specs.World.{Repo, World, text_cmp, repo_at}
 use Rattle.registry_model.specs.Usage.{used}
 use Rattle.registry_model.specs.Lookups.{usage_at, tag_at}
-use Rattle.store_statements.specs.Held.{world_in, is_storage}
+use Rattle.store_statements.specs.Held.{IsSettled, world_in, is_storage}
 use Rattle.registry_store.specs.declared.usage_change.Change.{Change}
 use Rattle.registry_store.specs.declared.known_usages.KnownUsages.{KnownUsages}
 
@@ -25,14 +25,15 @@ known_at known name = get text_cmp known.usages name
 abbrev pub Knows : KnownUsages → World → Type 0
 Knows known w = (name : Text) (u : Usage) → known_at known name ≡ Some u → u ≡ usage_at w name
 
-module _ {S : Type 0} (g : Ghosts S) (conn : Held S) (known : KnownUsages) where
-  -- each known usage is that of the tables' world
-  abbrev pub IsKnown : Type 0
-  IsKnown = HasCleanDisk (state g conn) → Knows known (world_in (state g conn))
+-- each known usage is that of the tables' world
+abbrev pub IsKnown : {S : Type 0} → Ghosts S → Held S → KnownUsages → Type 0
+IsKnown g conn known = HasCleanDisk (state g conn) → Knows known (world_in (state g conn))
 
-  -- and so it is after a call, unless the storage failed
-  abbrev pub StaysKnown : {A : Type 0} → Result A Fault → Type 0
-  StaysKnown r = HasCleanDisk (state g conn) → is_storage r ≡ false → Knows known (world_in (state g conn))
+-- and so it is after a call over tables that were settled, unless the storage failed
+abbrev pub StaysKnown : {S A : Type 0} → Ghosts S → Held S → Held S → KnownUsages → Result A Fault → Type 0
+StaysKnown g old new known r =
+    HasCleanDisk (state g new) → IsSettled (state g old) → is_storage r ≡ false
+    → Knows known (world_in (state g new))
 
 -- what is known of the one name is so, and what is known of any other was known before
 pub record Sets (old new : KnownUsages) (name : Text) (IsSo : Usage → Type 0) : Type 0 where

@@ -7,7 +7,8 @@ ghost use Rattle.registry_model.specs.Blobs.{with_blob};
 ghost use Rattle.registry_model.specs.Sessions.{finished};
 ghost use Rattle.registry_model.specs.Manifests.{with_manifest};
 ghost use Rattle.registry_model.specs.Lookups.{blob_at, blob_size_at, session_at, session_size_at, bytes_or_none, with_mounted};
-ghost use Rattle.store_statements.specs.Clauses.{Lasts, Settled, Stays, Tells, WorldHas};
+ghost use Rattle.store_statements.specs.Between.{Stays, Tells};
+ghost use Rattle.store_statements.specs.Clauses.{Lasts, WorldHas};
 ghost use Rattle.registry_store.specs.Usages.{Foretells, new_tags, or_untold};
 
 use crate::usage_change::{Change, NO_CHANGE};
@@ -33,7 +34,6 @@ pub(crate) fn put_change<S: Alter>(
     digest: &Digest,
     bytes: &[u8],
 ) -> Result<Option<Change>, Fault>
-    requires { Settled S.Store conn.old }
     ensures found { Tells S.Store conn.old conn.new result
         (λ w change. IfSome change (Foretells w repo.now (λ r. with_blob r digest.now bytes.now))) }
     ensures settled { Stays S.Store conn.old conn.new result }
@@ -57,9 +57,8 @@ fn source_change<S: Alter>(
     to: &RepoName,
     digest: &Digest,
 ) -> Result<Option<Change>, Fault>
-    requires settled { Settled S.Store conn.old }
-    requires fresh { WorldHas S.Store conn.old (λ w. blob_size_at w to.now digest.now ≡ None) }
-    ensures found { Tells S.Store conn.old conn.new result
+    ensures found { WorldHas S.Store conn.old (λ w. blob_size_at w to.now digest.now ≡ None)
+        → Tells S.Store conn.old conn.new result
         (λ w change. IfSome change
         (Foretells w to.now (with_mounted digest.now (blob_at w from.now digest.now)))) }
     ensures settled { Stays S.Store conn.old conn.new result }
@@ -83,7 +82,6 @@ pub(crate) fn mount_change<S: Alter>(
     to: &RepoName,
     digest: &Digest,
 ) -> Result<Option<Change>, Fault>
-    requires { Settled S.Store conn.old }
     ensures found { Tells S.Store conn.old conn.new result
         (λ w change. IfSome change
         (Foretells w to.now (with_mounted digest.now (blob_at w from.now digest.now)))) }
@@ -106,9 +104,8 @@ fn end_change<S: Alter>(
     digest: &Digest,
     added: u64,
 ) -> Result<Option<Change>, Fault>
-    requires settled { Settled S.Store conn.old }
-    requires sized { WorldHas S.Store conn.old (λ w. session_size_at w repo.now number ≡ Some size) }
-    ensures found { (bytes : Text) → length bytes ≡ added → Tells S.Store conn.old conn.new result
+    ensures found { WorldHas S.Store conn.old (λ w. session_size_at w repo.now number ≡ Some size)
+        → (bytes : Text) → length bytes ≡ added → Tells S.Store conn.old conn.new result
         (λ w change. IfSome change
         (Foretells w repo.now (λ r. finished r number digest.now bytes))) }
     ensures settled { Stays S.Store conn.old conn.new result }
@@ -138,7 +135,6 @@ pub(crate) fn finish_change<S: Alter>(
     digest: &Digest,
     bytes: &[u8],
 ) -> Result<Option<Change>, Fault>
-    requires { Settled S.Store conn.old }
     ensures found { Tells S.Store conn.old conn.new result
         (λ w change. IfSome change
         (Foretells w repo.now (λ r. finished r number digest.now bytes.now))) }
@@ -159,7 +155,6 @@ pub(crate) fn known_finish_change<S: Alter>(
     number: u64,
     digest: &Digest,
 ) -> Result<Option<Change>, Fault>
-    requires { Settled S.Store conn.old }
     ensures found { Tells S.Store conn.old conn.new result
         (λ w change. IfSome change (Foretells w repo.now
         (λ r. finished r number digest.now (bytes_or_none (session_at w repo.now number))))) }
@@ -180,7 +175,6 @@ fn count_new_tags<S: Alter>(
     repo: &RepoName,
     tag: Option<&Tag>,
 ) -> Result<u64, Fault>
-    requires { Settled S.Store conn.old }
     ensures found { Tells S.Store conn.old conn.new result
         (λ w n. n ≡ new_tags w repo.now (text_in tag.entry)) }
     ensures settled { Stays S.Store conn.old conn.new result }
@@ -205,9 +199,8 @@ fn tagged_change<S: Alter>(
     tag: Option<&Tag>,
     tags: u64,
 ) -> Result<Option<Change>, Fault>
-    requires settled { Settled S.Store conn.old }
-    requires tagged { WorldHas S.Store conn.old (λ w. tags ≡ new_tags w repo.now (text_in tag)) }
-    ensures found { Tells S.Store conn.old conn.new result
+    ensures found { WorldHas S.Store conn.old (λ w. tags ≡ new_tags w repo.now (text_in tag.entry))
+        → Tells S.Store conn.old conn.new result
         (λ w change. IfSome change
         (Foretells w repo.now (λ r. with_manifest r digest.now bytes.now (text_in tag.entry)))) }
     ensures settled { Stays S.Store conn.old conn.new result }
@@ -234,7 +227,6 @@ pub(crate) fn manifest_change<S: Alter>(
     bytes: &[u8],
     tag: Option<&Tag>,
 ) -> Result<Option<Change>, Fault>
-    requires { Settled S.Store conn.old }
     ensures found { Tells S.Store conn.old conn.new result
         (λ w change. IfSome change
         (Foretells w repo.now (λ r. with_manifest r digest.now bytes.now (text_in tag.entry)))) }

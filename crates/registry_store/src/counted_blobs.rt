@@ -5,7 +5,8 @@ ghost use Rattle.registry_model.specs.Limits.{largest_blob};
 ghost use Rattle.registry_model.specs.World.{has_repo};
 ghost use Rattle.registry_model.specs.Lookups.{put_blob, mount, delete_blob};
 ghost use Rattle.registry_model.specs.Pruning.{delete_blobs};
-ghost use Rattle.store_statements.specs.Clauses.{Lasts, MakesWorld, Settled, StaysOnMemory, WorldHas};
+ghost use Rattle.store_statements.specs.Between.{MakesWorld, StaysOnMemory};
+ghost use Rattle.store_statements.specs.Clauses.{Lasts, WorldHas};
 ghost use Rattle.registry_store.specs.Usages.{IsKnown, StaysKnown};
 
 use crate::change_lookups::{mount_change, or_untold, put_change};
@@ -23,16 +24,16 @@ pub(crate) fn put_blob<S: Alter>(
     digest: &Digest,
     bytes: &[u8],
 ) -> Result<(), Fault>
-    requires settled { Settled S.Store conn.old }
-    requires known { IsKnown S.Store conn.old known.old }
-    requires there { WorldHas S.Store conn.old (λ w. has_repo w repo.now ≡ true) }
     requires matching { matches digest.now bytes.now ≡ true }
     requires fits { length bytes.now ≤ largest_blob }
-    ensures made { MakesWorld S.Store conn.old conn.new result
+    ensures made { WorldHas S.Store conn.old (λ w. has_repo w repo.now ≡ true)
+        → MakesWorld S.Store conn.old conn.new result
         (λ w. put_blob w repo.now digest.now bytes.now) }
     ensures memory { StaysOnMemory S.Store conn.old conn.new result }
     ensures survives { Lasts S.Store conn.old conn.new }
-    ensures known { StaysKnown S.Store conn.new known.new result }
+    ensures known { IsKnown S.Store conn.old known.old
+        → WorldHas S.Store conn.old (λ w. has_repo w repo.now ≡ true)
+        → StaysKnown S.Store conn.old conn.new known.new result }
 {
     let Ok(change) = or_untold(put_change(conn, repo, digest, bytes)) else {
         return Err(Fault::Storage);
@@ -54,13 +55,13 @@ pub(crate) fn mount<S: Alter>(
     to: &RepoName,
     digest: &Digest,
 ) -> Result<(), Fault>
-    requires settled { Settled S.Store conn.old }
-    requires known { IsKnown S.Store conn.old known.old }
-    requires there { WorldHas S.Store conn.old (λ w. has_repo w to.now ≡ true) }
-    ensures made { MakesWorld S.Store conn.old conn.new result (λ w. mount w from.now to.now digest.now) }
+    ensures made { WorldHas S.Store conn.old (λ w. has_repo w to.now ≡ true)
+        → MakesWorld S.Store conn.old conn.new result (λ w. mount w from.now to.now digest.now) }
     ensures memory { StaysOnMemory S.Store conn.old conn.new result }
     ensures survives { Lasts S.Store conn.old conn.new }
-    ensures known { StaysKnown S.Store conn.new known.new result }
+    ensures known { IsKnown S.Store conn.old known.old
+        → WorldHas S.Store conn.old (λ w. has_repo w to.now ≡ true)
+        → StaysKnown S.Store conn.old conn.new known.new result }
 {
     let Ok(change) = or_untold(mount_change(conn, from, to, digest)) else {
         return Err(Fault::Storage);
@@ -81,12 +82,11 @@ pub(crate) fn delete_blob<S: Alter>(
     repo: &RepoName,
     digest: &Digest,
 ) -> Result<(), Fault>
-    requires settled { Settled S.Store conn.old }
-    requires known { IsKnown S.Store conn.old known.old }
     ensures made { MakesWorld S.Store conn.old conn.new result (λ w. delete_blob w repo.now digest.now) }
     ensures memory { StaysOnMemory S.Store conn.old conn.new result }
     ensures survives { Lasts S.Store conn.old conn.new }
-    ensures known { StaysKnown S.Store conn.new known.new result }
+    ensures known { IsKnown S.Store conn.old known.old
+        → StaysKnown S.Store conn.old conn.new known.new result }
 {
     known.forget(repo);
     store_writes::delete_blob(conn, repo, digest)
@@ -99,12 +99,11 @@ pub(crate) fn delete_blobs<S: Alter>(
     name: &RepoName,
     digests: &[Digest],
 ) -> Result<(), Fault>
-    requires settled { Settled S.Store conn.old }
-    requires known { IsKnown S.Store conn.old known.old }
     ensures made { MakesWorld S.Store conn.old conn.new result (λ w. delete_blobs w name.now digests.now) }
     ensures memory { StaysOnMemory S.Store conn.old conn.new result }
     ensures survives { Lasts S.Store conn.old conn.new }
-    ensures known { StaysKnown S.Store conn.new known.new result }
+    ensures known { IsKnown S.Store conn.old known.old
+        → StaysKnown S.Store conn.old conn.new known.new result }
 {
     known.forget(name);
     store_writes::delete_blobs(conn, name, digests)

@@ -6,7 +6,8 @@ ghost use Rattle.registry_model.specs.Ask.{text_in};
 ghost use Rattle.registry_model.specs.Limits.{largest_manifest};
 ghost use Rattle.registry_model.specs.World.{has_repo};
 ghost use Rattle.registry_model.specs.Lookups.{put_manifest, delete_manifest, delete_tag};
-ghost use Rattle.store_statements.specs.Clauses.{Lasts, MakesWorld, Settled, StaysOnMemory, WorldHas};
+ghost use Rattle.store_statements.specs.Between.{MakesWorld, StaysOnMemory};
+ghost use Rattle.store_statements.specs.Clauses.{Lasts, WorldHas};
 ghost use Rattle.registry_store.specs.Usages.{IsKnown, StaysKnown};
 
 use crate::change_lookups::{manifest_change, or_untold};
@@ -27,17 +28,18 @@ pub(crate) fn put_manifest<S: Alter>(
     manifest: &Manifest,
     tag: Option<&Tag>,
 ) -> Result<(), Fault>
-    requires settled { Settled S.Store conn.old }
-    requires known { IsKnown S.Store conn.old known.old }
-    requires there { WorldHas S.Store conn.old (λ w. has_repo w repo.now ≡ true) }
     requires matching { matches digest.now bytes.now ≡ true }
     requires reads { manifest_in bytes.now ≡ Ok (shown manifest.now) }
     requires fits { length bytes.now ≤ largest_manifest }
-    ensures made { MakesWorld S.Store conn.old conn.new result
+    ensures made { WorldHas S.Store conn.old (λ w. has_repo w repo.now ≡ true)
+        → MakesWorld S.Store conn.old conn.new result
         (λ w. put_manifest w repo.now digest.now bytes.now (text_in tag.entry)) }
-    ensures memory { StaysOnMemory S.Store conn.old conn.new result }
+    ensures memory { WorldHas S.Store conn.old (λ w. has_repo w repo.now ≡ true)
+        → StaysOnMemory S.Store conn.old conn.new result }
     ensures survives { Lasts S.Store conn.old conn.new }
-    ensures known { StaysKnown S.Store conn.new known.new result }
+    ensures known { IsKnown S.Store conn.old known.old
+        → WorldHas S.Store conn.old (λ w. has_repo w repo.now ≡ true)
+        → StaysKnown S.Store conn.old conn.new known.new result }
 {
     let Ok(change) = or_untold(manifest_change(alloc, conn, repo, digest, bytes, tag)) else {
         return Err(Fault::Storage);
@@ -58,12 +60,11 @@ pub(crate) fn delete_manifest<S: Alter>(
     repo: &RepoName,
     digest: &Digest,
 ) -> Result<(), Fault>
-    requires settled { Settled S.Store conn.old }
-    requires known { IsKnown S.Store conn.old known.old }
     ensures made { MakesWorld S.Store conn.old conn.new result (λ w. delete_manifest w repo.now digest.now) }
     ensures memory { StaysOnMemory S.Store conn.old conn.new result }
     ensures survives { Lasts S.Store conn.old conn.new }
-    ensures known { StaysKnown S.Store conn.new known.new result }
+    ensures known { IsKnown S.Store conn.old known.old
+        → StaysKnown S.Store conn.old conn.new known.new result }
 {
     known.forget(repo);
     store_writes::delete_manifest(conn, repo, digest)
@@ -76,12 +77,11 @@ pub(crate) fn delete_tag<S: Alter>(
     repo: &RepoName,
     tag: &Tag,
 ) -> Result<(), Fault>
-    requires settled { Settled S.Store conn.old }
-    requires known { IsKnown S.Store conn.old known.old }
     ensures made { MakesWorld S.Store conn.old conn.new result (λ w. delete_tag w repo.now tag.now) }
     ensures memory { StaysOnMemory S.Store conn.old conn.new result }
     ensures survives { Lasts S.Store conn.old conn.new }
-    ensures known { StaysKnown S.Store conn.new known.new result }
+    ensures known { IsKnown S.Store conn.old known.old
+        → StaysKnown S.Store conn.old conn.new known.new result }
 {
     known.forget(repo);
     store_writes::delete_tag(conn, repo, tag)

@@ -2,7 +2,8 @@
 ghost use Rattle.std.specs.Prelude.{◌≡◌};
 ghost use Rattle.registry_model.specs.Lookups.{usage_at};
 ghost use Rattle.registry_model.specs.Command.{set_repo, drop_repo};
-ghost use Rattle.store_statements.specs.Clauses.{Lasts, MakesWorld, Settled, Stays, StaysOnMemory, Tells};
+ghost use Rattle.store_statements.specs.Between.{MakesWorld, Stays, StaysOnMemory, Tells};
+ghost use Rattle.store_statements.specs.Clauses.{Lasts};
 ghost use Rattle.registry_store.specs.Usages.{IsKnown, StaysKnown};
 
 use crate::known_usages::KnownUsages;
@@ -19,12 +20,12 @@ pub(crate) fn usage<S: Alter>(
     known: &mut KnownUsages,
     repo: &RepoName,
 ) -> Result<Usage, Fault>
-    requires settled { Settled S.Store conn.old }
-    requires known { IsKnown S.Store conn.old known.old }
-    ensures found { Tells S.Store conn.old conn.new result (λ w u. u ≡ usage_at w repo.now) }
+    ensures found { IsKnown S.Store conn.old known.old
+        → Tells S.Store conn.old conn.new result (λ w u. u ≡ usage_at w repo.now) }
     ensures settled { Stays S.Store conn.old conn.new result }
     ensures survives { Lasts S.Store conn.old conn.new }
-    ensures known { StaysKnown S.Store conn.new known.new result }
+    ensures known { IsKnown S.Store conn.old known.old
+        → StaysKnown S.Store conn.old conn.new known.new result }
 {
     if let Some(usage) = known.usage(repo) {
         return Ok(usage);
@@ -45,12 +46,11 @@ pub(crate) fn set_repo<S: Alter>(
     name: &RepoName,
     quota: Quota,
 ) -> Result<(), Fault>
-    requires settled { Settled S.Store conn.old }
-    requires known { IsKnown S.Store conn.old known.old }
     ensures made { MakesWorld S.Store conn.old conn.new result (λ w. set_repo w name.now quota.bytes) }
     ensures memory { StaysOnMemory S.Store conn.old conn.new result }
     ensures survives { Lasts S.Store conn.old conn.new }
-    ensures known { StaysKnown S.Store conn.new known.new result }
+    ensures known { IsKnown S.Store conn.old known.old
+        → StaysKnown S.Store conn.old conn.new known.new result }
 {
     known.forget(name);
     store_writes::set_repo(conn, name, quota)
@@ -62,12 +62,11 @@ pub(crate) fn drop_repo<S: Alter>(
     known: &mut KnownUsages,
     name: &RepoName,
 ) -> Result<(), Fault>
-    requires settled { Settled S.Store conn.old }
-    requires known { IsKnown S.Store conn.old known.old }
     ensures made { MakesWorld S.Store conn.old conn.new result (λ w. drop_repo w name.now) }
     ensures memory { StaysOnMemory S.Store conn.old conn.new result }
     ensures survives { Lasts S.Store conn.old conn.new }
-    ensures known { StaysKnown S.Store conn.new known.new result }
+    ensures known { IsKnown S.Store conn.old known.old
+        → StaysKnown S.Store conn.old conn.new known.new result }
 {
     known.forget(name);
     store_writes::drop_repo(conn, name)

@@ -3,13 +3,14 @@ ghost use Rattle.std.specs.Prelude.{◌≡◌, ◌≤◌, ◌<◌, ◌+◌, true
 ghost use Rattle.sqlite.specs.State.{HasCleanDisk};
 ghost use Rattle.sqlite.specs.Held.{state};
 ghost use Rattle.oci_names.specs.Digest.{matches};
-ghost use Rattle.registry_model.specs.Limits.{largest, largest_blob};
+ghost use Rattle.registry_model.specs.Limits.{largest_blob};
 ghost use Rattle.registry_model.specs.World.{has_repo};
-ghost use Rattle.registry_model.specs.Lookups.{session_at, bytes_or_none, last_number_at, open_session, append, finish};
+ghost use Rattle.registry_model.specs.Lookups.{session_at, last_number_at, open_session, append, finish};
 ghost use Rattle.registry_model.specs.Closing.{session_matches, finish_as_is};
 ghost use Rattle.registry_model.specs.Command.{drop_sessions};
-ghost use Rattle.store_statements.specs.Held.{SettlesOn, world_in};
-ghost use Rattle.store_statements.specs.Clauses.{Lasts, MakesWorld, Settled, StaysOnMemory, WorldHas};
+ghost use Rattle.store_statements.specs.Held.{IsSettled, SettlesOn, world_in};
+ghost use Rattle.store_statements.specs.Between.{MakesWorld, StaysOnMemory};
+ghost use Rattle.store_statements.specs.Clauses.{Lasts, WorldHas};
 ghost use Rattle.store_writes.specs.Whole.{DoneWhereSo};
 ghost use Rattle.registry_store.specs.Usages.{IsKnown, StaysKnown};
 
@@ -26,17 +27,15 @@ pub(crate) fn open_session<S: Alter>(
     known: &mut KnownUsages,
     repo: &RepoName,
 ) -> Result<u64, Fault>
-    requires settled { Settled S.Store conn.old }
-    requires known { IsKnown S.Store conn.old known.old }
-    requires there { WorldHas S.Store conn.old (λ w. has_repo w repo.now ≡ true) }
-    requires below { WorldHas S.Store conn.old (λ w. last_number_at w repo.now < largest) }
-    ensures made { HasCleanDisk (state S.Store conn.new)
+    ensures made { HasCleanDisk (state S.Store conn.new) → IsSettled (state S.Store conn.old)
         → IfOk result
         (λ n. (n ≡ last_number_at (world_in (state S.Store conn.old)) repo.now + 1) × SettlesOn
         (state S.Store conn.new) (open_session (world_in (state S.Store conn.old)) repo.now)) }
     ensures memory { StaysOnMemory S.Store conn.old conn.new result }
     ensures survives { Lasts S.Store conn.old conn.new }
-    ensures known { StaysKnown S.Store conn.new known.new result }
+    ensures known { IsKnown S.Store conn.old known.old
+        → WorldHas S.Store conn.old (λ w. has_repo w repo.now ≡ true)
+        → StaysKnown S.Store conn.old conn.new known.new result }
 {
     match store_writes::open_session(conn, repo) {
         Ok(number) => {
@@ -60,15 +59,13 @@ pub(crate) fn append<S: Alter>(
     number: u64,
     bytes: &[u8],
 ) -> Result<(), Fault>
-    requires settled { Settled S.Store conn.old }
-    requires known { IsKnown S.Store conn.old known.old }
-    requires is_open { WorldHas S.Store conn.old (λ w. is_some (session_at w repo.now number) ≡ true) }
-    requires fits { WorldHas S.Store conn.old
-        (λ w. length (bytes_or_none (session_at w repo.now number)) + length bytes.now ≤ largest_blob) }
-    ensures made { MakesWorld S.Store conn.old conn.new result (λ w. append w repo.now number bytes.now) }
+    ensures made { WorldHas S.Store conn.old (λ w. is_some (session_at w repo.now number) ≡ true)
+        → MakesWorld S.Store conn.old conn.new result (λ w. append w repo.now number bytes.now) }
     ensures memory { StaysOnMemory S.Store conn.old conn.new result }
     ensures survives { Lasts S.Store conn.old conn.new }
-    ensures known { StaysKnown S.Store conn.new known.new result }
+    ensures known { IsKnown S.Store conn.old known.old
+        → WorldHas S.Store conn.old (λ w. is_some (session_at w repo.now number) ≡ true)
+        → StaysKnown S.Store conn.old conn.new known.new result }
 {
     match store_writes::append(alloc, conn, repo, number, bytes) {
         Ok(()) => {
@@ -93,16 +90,16 @@ pub(crate) fn finish<S: Alter>(
     digest: &Digest,
     bytes: &[u8],
 ) -> Result<(), Fault>
-    requires settled { Settled S.Store conn.old }
-    requires known { IsKnown S.Store conn.old known.old }
-    requires is_open { WorldHas S.Store conn.old (λ w. is_some (session_at w repo.now number) ≡ true) }
     requires matching { matches digest.now bytes.now ≡ true }
     requires fits { length bytes.now ≤ largest_blob }
-    ensures made { MakesWorld S.Store conn.old conn.new result
+    ensures made { WorldHas S.Store conn.old (λ w. is_some (session_at w repo.now number) ≡ true)
+        → MakesWorld S.Store conn.old conn.new result
         (λ w. finish w repo.now number digest.now bytes.now) }
     ensures memory { StaysOnMemory S.Store conn.old conn.new result }
     ensures survives { Lasts S.Store conn.old conn.new }
-    ensures known { StaysKnown S.Store conn.new known.new result }
+    ensures known { IsKnown S.Store conn.old known.old
+        → WorldHas S.Store conn.old (λ w. is_some (session_at w repo.now number) ≡ true)
+        → StaysKnown S.Store conn.old conn.new known.new result }
 {
     let Ok(change) = or_untold(finish_change(conn, repo, number, digest, bytes)) else {
         return Err(Fault::Storage);
@@ -126,16 +123,15 @@ pub(crate) fn finish_known<S: Alter>(
     number: u64,
     digest: &Digest,
 ) -> Result<bool, Fault>
-    requires settled { Settled S.Store conn.old }
-    requires known { IsKnown S.Store conn.old known.old }
-    ensures made { HasCleanDisk (state S.Store conn.new)
+    ensures made { HasCleanDisk (state S.Store conn.new) → IsSettled (state S.Store conn.old)
         → IfOk result
         (λ done. DoneWhereSo done (state S.Store conn.old) (state S.Store conn.new)
         (λ w. session_matches w repo.now number digest.now)
         (λ w. finish_as_is w repo.now number digest.now)) }
     ensures memory { StaysOnMemory S.Store conn.old conn.new result }
     ensures survives { Lasts S.Store conn.old conn.new }
-    ensures known { StaysKnown S.Store conn.new known.new result }
+    ensures known { IsKnown S.Store conn.old known.old
+        → StaysKnown S.Store conn.old conn.new known.new result }
 {
     let Ok(change) = or_untold(known_finish_change(conn, repo, number, digest)) else {
         return Err(Fault::Storage);
@@ -156,12 +152,11 @@ pub(crate) fn drop_sessions<S: Alter>(
     known: &mut KnownUsages,
     repo: &RepoName,
 ) -> Result<(), Fault>
-    requires settled { Settled S.Store conn.old }
-    requires known { IsKnown S.Store conn.old known.old }
     ensures made { MakesWorld S.Store conn.old conn.new result (λ w. drop_sessions w repo.now) }
     ensures memory { StaysOnMemory S.Store conn.old conn.new result }
     ensures survives { Lasts S.Store conn.old conn.new }
-    ensures known { StaysKnown S.Store conn.new known.new result }
+    ensures known { IsKnown S.Store conn.old known.old
+        → StaysKnown S.Store conn.old conn.new known.new result }
 {
     known.forget(repo);
     store_writes::drop_sessions(conn, repo)

@@ -1,10 +1,9 @@
 //! The store as a keeper: each call asks the tables, and what is said of rows is said of the world.
-ghost use Rattle.std.specs.Prelude.{◌≡◌, ℤ, None, if◌then◌else◌};
+ghost use Rattle.std.specs.Prelude.{◌≡◌, ℤ, None, OnOk, if◌then◌else◌};
 ghost use Rattle.sqlite.specs.State.{HasCleanDisk};
 ghost use Rattle.sqlite.specs.Held.{state};
 ghost use Rattle.registry_model.specs.Keeping.{Writes, Spends};
-ghost use Rattle.store_statements.specs.Held.{world_in};
-ghost use Rattle.store_statements.specs.Clauses.{Relates};
+ghost use Rattle.store_statements.specs.Held.{held, world_in};
 ghost use Rattle.store_writes.specs.Naming.{is_named};
 ghost use Rattle.registry_store.specs.Kept.{shown};
 
@@ -336,8 +335,11 @@ impl<S: Alter> Keeper for Store<S> {
         ensures spends { Spends result (shown S.Store self.old) (shown S.Store self.new) }
         ensures honest { HasCleanDisk (state S.Store self.new.conn)
             → HasCleanDisk (state S.Store self.old.conn) }
-        ensures freed { Relates S.Store self.old.conn self.new.conn result
-            (λ t u. (id : ℤ) → u.contents id ≡ (if is_named t id then t.contents id else None)) }
+        ensures freed { HasCleanDisk (state S.Store self.new.conn)
+            → OnOk result
+            ((id : ℤ) → (held (state S.Store self.new.conn)).contents id
+            ≡ (if is_named (held (state S.Store self.old.conn)) id
+            then (held (state S.Store self.old.conn)).contents id else None)) }
     {
         unless_spent!(self, store_writes::clear(self.alloc, &mut self.conn))
     }

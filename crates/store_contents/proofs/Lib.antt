@@ -7,3 +7,4 @@ pub mod RemoveLemmas
 pub mod ReadLemmas
 pub mod ListingLemmas
 pub mod Told
+pub mod Lasting

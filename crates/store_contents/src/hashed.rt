@@ -1,5 +1,5 @@
 //! Whether a content has a digest, without its bytes.
-ghost use Rattle.std.specs.Prelude.{◌≡◌, ◌⊎◌, ◌∷◌, [], map, filter, IfOk, IfErr, OnOk};
+ghost use Rattle.std.specs.Prelude.{◌≡◌, ◌⊎◌, ◌∷◌, [], map, filter, IfOk, IfErr, OnOk, ⊤};
 ghost use Rattle.std.specs.List.{list_any};
 ghost use Rattle.std.specs.List.Sorted.{IsPermutation};
 ghost use Rattle.sqlite.specs.State.{HasCleanDisk, IsUnchanged, IsRolledBack, Survives};
@@ -29,6 +29,7 @@ fn ids_hashed<S: Alter>(conn: &mut Connection<S>, sha256: &str) -> Result<Vec<Ro
         (state S.Store conn.old) (state S.Store conn.new)) }
     ensures survives { (HasCleanDisk (state S.Store conn.old) → HoldsContents (state S.Store conn.old).now)
         → Survives (state S.Store conn.old) (state S.Store conn.new) (λ _. ⊥) }
+    ensures lasts { Survives (state S.Store conn.old) (state S.Store conn.new) (λ _. ⊤) }
 {
     conn.query_all(
         "SELECT id FROM registry_contents WHERE sha256 = ?1",
@@ -60,6 +61,7 @@ fn select<S: Alter>(conn: &mut Connection<S>, id: i64, sha256: &str) -> Result<b
         (state S.Store conn.old) (state S.Store conn.new)) }
     ensures survives { (HasCleanDisk (state S.Store conn.old) → HoldsContents (state S.Store conn.old).now)
         → Survives (state S.Store conn.old) (state S.Store conn.new) (λ _. ⊥) }
+    ensures lasts { Survives (state S.Store conn.old) (state S.Store conn.new) (λ _. ⊤) }
 {
     let rows = ids_hashed(conn, sha256)?;
     show_id(&rows, id)
@@ -83,6 +85,7 @@ pub fn is_hashed<S: Alter>(
         (state S.Store conn.old) (state S.Store conn.new)) }
     ensures survives { (HasCleanDisk (state S.Store conn.old) → HoldsContents (state S.Store conn.old).now)
         → Survives (state S.Store conn.old) (state S.Store conn.new) (λ _. ⊥) }
+    ensures lasts { Survives (state S.Store conn.old) (state S.Store conn.new) (λ _. ⊤) }
 {
     match select(conn, id.get(), sha256) {
         Ok(found) => Ok(found),

@@ -1,5 +1,5 @@
 //! The bytes of a content.
-ghost use Rattle.std.specs.Prelude.{◌≡◌, ◌⊎◌, ◌∷◌, [], false, map, find, option_map, IfOk, IfErr, OnOk};
+ghost use Rattle.std.specs.Prelude.{◌≡◌, ◌⊎◌, ◌∷◌, [], false, map, find, option_map, IfOk, IfErr, OnOk, ⊤};
 ghost use Rattle.std.specs.Option.{option_to_list};
 ghost use Rattle.sqlite.specs.State.{HasCleanDisk, IsUnchanged, IsRolledBack, KeepsCommit, Survives};
 ghost use Rattle.sqlite.specs.Held.{state};
@@ -105,6 +105,7 @@ fn peek<S: Alter>(
         → (state S.Store conn.new).in_transaction ≡ false }
     ensures survives { (HasCleanDisk (state S.Store conn.old) → HoldsContents (state S.Store conn.old).now)
         → Survives (state S.Store conn.old) (state S.Store conn.new) (λ _. ⊥) }
+    ensures lasts { Survives (state S.Store conn.old) (state S.Store conn.new) (λ _. ⊤) }
 {
     let mut rows = conn.query(
         "SELECT bytes FROM registry_contents WHERE id = ?1",
@@ -151,6 +152,7 @@ pub fn read_bytes<S: Alter>(
         → (state S.Store conn.new).in_transaction ≡ false }
     ensures survives { (HasCleanDisk (state S.Store conn.old) → HoldsContents (state S.Store conn.old).now)
         → Survives (state S.Store conn.old) (state S.Store conn.new) (λ _. ⊥) }
+    ensures lasts { Survives (state S.Store conn.old) (state S.Store conn.new) (λ _. ⊤) }
 {
     match peek(alloc, conn, id.get()) {
         Ok(found) => Ok(found),

@@ -2,7 +2,8 @@
 ghost use Rattle.std.specs.Prelude.{◌≡◌};
 ghost use Rattle.registry_model.specs.Lookups.{blob_at, blob_size_at, blob_digests_at};
 ghost use Rattle.registry_model.specs.Keeping.{bytes_in, digests_shown};
-ghost use Rattle.store_statements.specs.Clauses.{Lasts, Settled, Stays, Tells};
+ghost use Rattle.store_statements.specs.Between.{Stays, Tells};
+ghost use Rattle.store_statements.specs.Clauses.{Lasts};
 
 use crate::contents::content;
 use oci_names::{Digest, Fault, RepoName};
@@ -16,7 +17,6 @@ pub fn blob_size<S: Alter>(
     repo: &RepoName,
     digest: &Digest,
 ) -> Result<Option<u64>, Fault>
-    requires { Settled S.Store conn.old }
     ensures found { Tells S.Store conn.old conn.new result (λ w v. v ≡ blob_size_at w repo.now digest.now) }
     ensures settled { Stays S.Store conn.old conn.new result }
     ensures survives { Lasts S.Store conn.old conn.new }
@@ -35,7 +35,6 @@ pub fn blob<S: Alter>(
     repo: &RepoName,
     digest: &Digest,
 ) -> Result<Option<Vec<u8>>, Fault>
-    requires { Settled S.Store conn.old }
     ensures found { Tells S.Store conn.old conn.new result
         (λ w v. bytes_in v ≡ blob_at w repo.now digest.now) }
     ensures settled { Stays S.Store conn.old conn.new result }
@@ -57,7 +56,6 @@ pub fn blob_digests<S: Alter>(
     conn: &mut Connection<S>,
     repo: &RepoName,
 ) -> Result<Vec<Digest>, Fault>
-    requires { Settled S.Store conn.old }
     ensures found { Tells S.Store conn.old conn.new result
         (λ w digests. digests_shown digests ≡ blob_digests_at w repo.now) }
     ensures settled { Stays S.Store conn.old conn.new result }

@@ -2,7 +2,8 @@
 ghost use Rattle.std.specs.Prelude.{◌≡◌, ◌++◌, [], map, IfOk, Some};
 ghost use Rattle.std.specs.List.{concat};
 ghost use Rattle.store_world.specs.World.{content_at};
-ghost use Rattle.store_statements.specs.Clauses.{Finds, Lasts, Relates, Settled, Stays};
+ghost use Rattle.store_statements.specs.Between.{Finds, Relates, Stays};
+ghost use Rattle.store_statements.specs.Clauses.{Lasts};
 
 use oci_names::Fault;
 use sqlite::{Alter, Connection};
@@ -16,7 +17,6 @@ pub(crate) fn content<S: Alter>(
     conn: &mut Connection<S>,
     id: ContentId,
 ) -> Result<Vec<u8>, Fault>
-    requires { Settled S.Store conn.old }
     ensures found { Finds S.Store conn.old conn.new result (λ t bytes. t.contents id.id ≡ Some bytes.items) }
     ensures settled { Stays S.Store conn.old conn.new result }
     ensures survives { Lasts S.Store conn.old conn.new }
@@ -44,7 +44,6 @@ fn append<S: Alter>(
     id: ContentId,
     bytes: &mut Vec<u8>,
 ) -> Result<(), Fault>
-    requires { Settled S.Store conn.old }
     ensures added { Relates S.Store conn.old conn.new result
         (λ t _. bytes.new.items ≡ bytes.old.items ++ content_at t.contents id.id) }
     ensures settled { Stays S.Store conn.old conn.new result }
@@ -64,7 +63,6 @@ pub(crate) fn joined<S: Alter>(
     ids: &[ContentId],
     size: u64,
 ) -> Result<Vec<u8>, Fault>
-    requires { Settled S.Store conn.old }
     ensures found { Finds S.Store conn.old conn.new result
         (λ t bytes. bytes.items ≡ concat (map (λ id. content_at t.contents id.id) ids.now)) }
     ensures settled { Stays S.Store conn.old conn.new result }

@@ -1,7 +1,8 @@
 //! Who may do what.
 ghost use Rattle.std.specs.Prelude.{◌≡◌};
 ghost use Rattle.registry_model.specs.World.{is_known, level_at};
-ghost use Rattle.store_statements.specs.Clauses.{Lasts, Settled, Stays, Tells};
+ghost use Rattle.store_statements.specs.Between.{Stays, Tells};
+ghost use Rattle.store_statements.specs.Clauses.{Lasts};
 
 use oci_names::{Fault, RepoName, Token};
 use registry_model::Level;
@@ -10,7 +11,6 @@ use store_statements::grants::{find_level, is_known};
 
 /// Whether the token has a grant.
 pub fn known<S: Alter>(conn: &mut Connection<S>, token: &Token) -> Result<bool, Fault>
-    requires { Settled S.Store conn.old }
     ensures found { Tells S.Store conn.old conn.new result (λ w v. v ≡ is_known (w.grants token.now)) }
     ensures settled { Stays S.Store conn.old conn.new result }
     ensures survives { Lasts S.Store conn.old conn.new }
@@ -24,7 +24,6 @@ pub fn level<S: Alter>(
     token: &Token,
     repo: &RepoName,
 ) -> Result<Option<Level>, Fault>
-    requires { Settled S.Store conn.old }
     ensures found { Tells S.Store conn.old conn.new result (λ w v. v ≡ level_at w token.now repo.now) }
     ensures settled { Stays S.Store conn.old conn.new result }
     ensures survives { Lasts S.Store conn.old conn.new }

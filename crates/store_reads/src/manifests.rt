@@ -2,7 +2,8 @@
 ghost use Rattle.std.specs.Prelude.{◌≡◌};
 ghost use Rattle.registry_model.specs.Lookups.{manifest_at, manifest_size_at, manifest_digests_at};
 ghost use Rattle.registry_model.specs.Keeping.{manifest_shown, digests_shown};
-ghost use Rattle.store_statements.specs.Clauses.{Lasts, Settled, Stays, Tells};
+ghost use Rattle.store_statements.specs.Between.{Stays, Tells};
+ghost use Rattle.store_statements.specs.Clauses.{Lasts};
 
 use crate::contents::content;
 use oci_manifest::Kind;
@@ -17,7 +18,6 @@ pub fn manifest_size<S: Alter>(
     repo: &RepoName,
     digest: &Digest,
 ) -> Result<Option<(Kind, u64)>, Fault>
-    requires { Settled S.Store conn.old }
     ensures found { Tells S.Store conn.old conn.new result
         (λ w v. v ≡ manifest_size_at w repo.now digest.now) }
     ensures settled { Stays S.Store conn.old conn.new result }
@@ -37,7 +37,6 @@ pub fn manifest<S: Alter>(
     repo: &RepoName,
     digest: &Digest,
 ) -> Result<Option<(Kind, Vec<u8>)>, Fault>
-    requires { Settled S.Store conn.old }
     ensures found { Tells S.Store conn.old conn.new result
         (λ w v. manifest_shown v ≡ manifest_at w repo.now digest.now) }
     ensures settled { Stays S.Store conn.old conn.new result }
@@ -59,7 +58,6 @@ pub fn manifest_digests<S: Alter>(
     conn: &mut Connection<S>,
     repo: &RepoName,
 ) -> Result<Vec<Digest>, Fault>
-    requires { Settled S.Store conn.old }
     ensures found { Tells S.Store conn.old conn.new result
         (λ w digests. digests_shown digests ≡ manifest_digests_at w repo.now) }
     ensures settled { Stays S.Store conn.old conn.new result }

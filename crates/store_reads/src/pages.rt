@@ -2,7 +2,8 @@
 ghost use Rattle.std.specs.Prelude.{◌≡◌};
 ghost use Rattle.registry_model.specs.Keeping.{page_shown};
 ghost use Rattle.registry_model.specs.Lookups.{page_at};
-ghost use Rattle.store_statements.specs.Clauses.{Lasts, Settled, Stays, Tells};
+ghost use Rattle.store_statements.specs.Between.{Stays, Tells};
+ghost use Rattle.store_statements.specs.Clauses.{Lasts};
 
 use oci_names::{Fault, RepoName, Tag};
 use sqlite::{Alter, Connection};
@@ -18,7 +19,6 @@ pub fn tags_after<S: Alter>(
     last: &str,
     n: Option<u64>,
 ) -> Result<(Vec<Tag>, bool), Fault>
-    requires settled { Settled S.Store conn.old }
     ensures found { Tells S.Store conn.old conn.new result
         (λ w page. page_shown page ≡ page_at w repo.now last.now n) }
     ensures settled { Stays S.Store conn.old conn.new result }

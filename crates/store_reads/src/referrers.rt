@@ -3,7 +3,8 @@ ghost use Rattle.std.specs.Prelude.{◌≡◌, ◌∷◌, ◌++◌, [], map, OnO
 ghost use Rattle.registry_model.specs.Keeping.{entries_shown};
 ghost use Rattle.registry_model.specs.Lookups.{manifests_on_at};
 ghost use Rattle.store_world.specs.World.{content_at};
-ghost use Rattle.store_statements.specs.Clauses.{Finds, Lasts, Relates, Settled, Stays, Tells};
+ghost use Rattle.store_statements.specs.Between.{Finds, Relates, Stays, Tells};
+ghost use Rattle.store_statements.specs.Clauses.{Lasts};
 
 use crate::contents::content;
 use oci_names::{Digest, Fault, RepoName};
@@ -30,7 +31,6 @@ fn append<S: Alter>(
     id: ContentId,
     entries: &mut Vec<(Digest, Vec<u8>)>,
 ) -> Result<(), Fault>
-    requires { Settled S.Store conn.old }
     ensures added { Relates S.Store conn.old conn.new result
         (λ t _. entries_shown entries.new ≡ entries_shown entries.old ++ (digest, content_at t.contents id.id)
         ∷ []) }
@@ -47,7 +47,6 @@ fn with_bytes<S: Alter>(
     conn: &mut Connection<S>,
     referrers: Vec<(Digest, ContentId)>,
 ) -> Result<Vec<(Digest, Vec<u8>)>, Fault>
-    requires { Settled S.Store conn.old }
     ensures found { Finds S.Store conn.old conn.new result
         (λ t entries. entries_shown entries ≡ map
         (λ referrer. (referrer.0, content_at t.contents referrer.1.id)) referrers.items) }
@@ -69,7 +68,6 @@ pub fn manifests_of_subject<S: Alter>(
     repo: &RepoName,
     digest: &Digest,
 ) -> Result<Vec<(Digest, Vec<u8>)>, Fault>
-    requires settled { Settled S.Store conn.old }
     ensures found { Tells S.Store conn.old conn.new result
         (λ w entries. entries_shown entries ≡ manifests_on_at w repo.now digest.now) }
     ensures settled { Stays S.Store conn.old conn.new result }

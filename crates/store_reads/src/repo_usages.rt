@@ -5,8 +5,9 @@ ghost use Rattle.sqlite.specs.Held.{state};
 ghost use Rattle.registry_model.specs.Keeping.{usages_shown};
 ghost use Rattle.registry_model.specs.Lookups.{usage_at, usages_of};
 ghost use Rattle.store_world.specs.Keys.{of_first};
-ghost use Rattle.store_statements.specs.Clauses.{Finds, Lasts, Settled, Stays, Tells};
-ghost use Rattle.store_statements.specs.Held.{world_in};
+ghost use Rattle.store_statements.specs.Between.{Finds, Stays, Tells};
+ghost use Rattle.store_statements.specs.Clauses.{Lasts};
+ghost use Rattle.store_statements.specs.Held.{IsSettled, world_in};
 ghost use Rattle.store_reads.specs.Tallies.{holdings_in, usage_from, named_usage};
 
 use crate::tallies::{Holdings, read_holdings};
@@ -54,7 +55,6 @@ fn usage_under<S: Alter>(
     repo: &RepoName,
     quota: u64,
 ) -> Result<Usage, Fault>
-    requires { Settled S.Store conn.old }
     ensures found { Finds S.Store conn.old conn.new result
         (λ t u. u ≡ usage_from (holdings_in t repo.now) (length (filter (of_first repo.now) t.tags)) quota) }
     ensures settled { Stays S.Store conn.old conn.new result }
@@ -71,7 +71,6 @@ pub fn usage<S: Alter>(
     conn: &mut Connection<S>,
     repo: &RepoName,
 ) -> Result<Usage, Fault>
-    requires { Settled S.Store conn.old }
     ensures found { Tells S.Store conn.old conn.new result (λ w u. u ≡ usage_at w repo.now) }
     ensures settled { Stays S.Store conn.old conn.new result }
     ensures survives { Lasts S.Store conn.old conn.new }
@@ -99,8 +98,7 @@ fn push_usage<S: Alter>(
     repo: RepoName,
     all: &mut Vec<(RepoName, Usage)>,
 ) -> Result<(), Fault>
-    requires { Settled S.Store conn.old }
-    ensures added { HasCleanDisk (state S.Store conn.new)
+    ensures added { HasCleanDisk (state S.Store conn.new) → IsSettled (state S.Store conn.old)
         → OnOk result
         (all.new.items ≡ all.old.items ++ named_usage (world_in (state S.Store conn.old)) repo ∷ []) }
     ensures settled { Stays S.Store conn.old conn.new result }
@@ -115,7 +113,6 @@ fn usages_named<S: Alter>(
     conn: &mut Connection<S>,
     names: Vec<RepoName>,
 ) -> Result<Vec<(RepoName, Usage)>, Fault>
-    requires { Settled S.Store conn.old }
     ensures found { Tells S.Store conn.old conn.new result
         (λ w all. all.items ≡ map (named_usage w) names.items) }
     ensures settled { Stays S.Store conn.old conn.new result }
@@ -133,7 +130,6 @@ pub fn usages<S: Alter>(
     alloc: Global,
     conn: &mut Connection<S>,
 ) -> Result<Vec<(RepoName, Usage)>, Fault>
-    requires { Settled S.Store conn.old }
     ensures found { Tells S.Store conn.old conn.new result (λ w all. usages_shown all ≡ usages_of w) }
     ensures settled { Stays S.Store conn.old conn.new result }
     ensures survives { Lasts S.Store conn.old conn.new }

@@ -2,7 +2,8 @@
 ghost use Rattle.std.specs.Prelude.{◌≡◌};
 ghost use Rattle.registry_model.specs.World.{has_repo};
 ghost use Rattle.registry_model.specs.Lookups.{last_number_at};
-ghost use Rattle.store_statements.specs.Clauses.{Lasts, Settled, Stays, Tells};
+ghost use Rattle.store_statements.specs.Between.{Stays, Tells};
+ghost use Rattle.store_statements.specs.Clauses.{Lasts};
 
 use oci_names::{Fault, RepoName};
 use sqlite::{Alter, Connection};
@@ -10,7 +11,6 @@ use store_statements::repos::find_repo;
 
 /// Whether the repository is there.
 pub fn has_repo<S: Alter>(conn: &mut Connection<S>, repo: &RepoName) -> Result<bool, Fault>
-    requires { Settled S.Store conn.old }
     ensures found { Tells S.Store conn.old conn.new result (λ w v. v ≡ has_repo w repo.now) }
     ensures settled { Stays S.Store conn.old conn.new result }
     ensures survives { Lasts S.Store conn.old conn.new }
@@ -24,7 +24,6 @@ pub fn has_repo<S: Alter>(conn: &mut Connection<S>, repo: &RepoName) -> Result<b
 
 /// The last number that an upload session got; 0 where none did.
 pub fn last_number<S: Alter>(conn: &mut Connection<S>, repo: &RepoName) -> Result<u64, Fault>
-    requires { Settled S.Store conn.old }
     ensures found { Tells S.Store conn.old conn.new result (λ w v. v ≡ last_number_at w repo.now) }
     ensures settled { Stays S.Store conn.old conn.new result }
     ensures survives { Lasts S.Store conn.old conn.new }

@@ -3,7 +3,8 @@ ghost use Rattle.std.specs.Prelude.{◌≡◌, ◌<◌, ◌^◌};
 ghost use Rattle.registry_model.specs.Keeping.{bytes_in};
 ghost use Rattle.registry_model.specs.Lookups.{session_at};
 ghost use Rattle.store_world.specs.World.{pieces_of, joined};
-ghost use Rattle.store_statements.specs.Clauses.{Finds, Lasts, Settled, Stays, Tells};
+ghost use Rattle.store_statements.specs.Between.{Finds, Stays, Tells};
+ghost use Rattle.store_statements.specs.Clauses.{Lasts};
 
 use crate::contents;
 use crate::uploads::expect_no_session;
@@ -22,7 +23,6 @@ fn session_bytes<S: Alter>(
     number: u64,
     size: u64,
 ) -> Result<Vec<u8>, Fault>
-    requires settled { Settled S.Store conn.old }
     requires fits { number < 2 ^ 63 }
     ensures found { Finds S.Store conn.old conn.new result
         (λ t bytes. bytes.items ≡ joined t.contents (pieces_of t.pieces repo.now number)) }
@@ -41,7 +41,6 @@ pub(crate) fn session<S: Alter>(
     repo: &RepoName,
     number: u64,
 ) -> Result<Option<Vec<u8>>, Fault>
-    requires settled { Settled S.Store conn.old }
     requires fits { number < 2 ^ 63 }
     ensures found { Tells S.Store conn.old conn.new result
         (λ w o. bytes_in o ≡ session_at w repo.now number) }
@@ -62,7 +61,6 @@ pub fn session_numbered<S: Alter>(
     repo: &RepoName,
     number: u64,
 ) -> Result<Option<Vec<u8>>, Fault>
-    requires { Settled S.Store conn.old }
     ensures found { Tells S.Store conn.old conn.new result
         (λ w o. bytes_in o ≡ session_at w repo.now number) }
     ensures settled { Stays S.Store conn.old conn.new result }

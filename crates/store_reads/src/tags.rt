@@ -1,7 +1,8 @@
 //! The tags of repositories.
 ghost use Rattle.std.specs.Prelude.{◌≡◌};
 ghost use Rattle.registry_model.specs.Lookups.{tag_at};
-ghost use Rattle.store_statements.specs.Clauses.{Lasts, Settled, Stays, Tells};
+ghost use Rattle.store_statements.specs.Between.{Stays, Tells};
+ghost use Rattle.store_statements.specs.Clauses.{Lasts};
 
 use oci_names::{Digest, Fault, RepoName, Tag};
 use sqlite::{Alter, Connection};
@@ -15,7 +16,6 @@ pub fn tag<S: Alter>(
     repo: &RepoName,
     tag: &Tag,
 ) -> Result<Option<Digest>, Fault>
-    requires { Settled S.Store conn.old }
     ensures found { Tells S.Store conn.old conn.new result (λ w v. v ≡ tag_at w repo.now tag.now) }
     ensures settled { Stays S.Store conn.old conn.new result }
     ensures survives { Lasts S.Store conn.old conn.new }

@@ -1,6 +1,7 @@
 //! How many blobs, manifests and upload sessions a repository has, and how many bytes.
 ghost use Rattle.std.specs.Prelude.{◌≡◌};
-ghost use Rattle.store_statements.specs.Clauses.{Finds, Lasts, Settled, Stays};
+ghost use Rattle.store_statements.specs.Between.{Finds, Stays};
+ghost use Rattle.store_statements.specs.Clauses.{Lasts};
 ghost use Rattle.store_reads.specs.Tallies.{tally_of, tally_in, holdings_in};
 
 use oci_names::{Fault, RepoName};
@@ -45,7 +46,6 @@ fn tally_blobs<S: Alter>(
     conn: &mut Connection<S>,
     repo: &RepoName,
 ) -> Result<Tally, Fault>
-    requires { Settled S.Store conn.old }
     ensures found { Finds S.Store conn.old conn.new result (λ t tally. tally ≡ tally_in t.blobs repo.now) }
     ensures settled { Stays S.Store conn.old conn.new result }
     ensures survives { Lasts S.Store conn.old conn.new }
@@ -62,7 +62,6 @@ fn tally_manifests<S: Alter>(
     conn: &mut Connection<S>,
     repo: &RepoName,
 ) -> Result<Tally, Fault>
-    requires { Settled S.Store conn.old }
     ensures found { Finds S.Store conn.old conn.new result
         (λ t tally. tally ≡ tally_in t.manifests repo.now) }
     ensures settled { Stays S.Store conn.old conn.new result }
@@ -80,7 +79,6 @@ fn tally_sessions<S: Alter>(
     conn: &mut Connection<S>,
     repo: &RepoName,
 ) -> Result<Tally, Fault>
-    requires { Settled S.Store conn.old }
     ensures found { Finds S.Store conn.old conn.new result (λ t tally. tally ≡ tally_in t.uploads repo.now) }
     ensures settled { Stays S.Store conn.old conn.new result }
     ensures survives { Lasts S.Store conn.old conn.new }
@@ -97,7 +95,6 @@ pub(crate) fn read_holdings<S: Alter>(
     conn: &mut Connection<S>,
     repo: &RepoName,
 ) -> Result<Holdings, Fault>
-    requires { Settled S.Store conn.old }
     ensures found { Finds S.Store conn.old conn.new result (λ t h. h ≡ holdings_in t repo.now) }
     ensures settled { Stays S.Store conn.old conn.new result }
     ensures survives { Lasts S.Store conn.old conn.new }

@@ -3,8 +3,9 @@ ghost use Rattle.std.specs.Prelude.{◌≡◌, OnOk, None};
 ghost use Rattle.sqlite.specs.State.{HasCleanDisk};
 ghost use Rattle.sqlite.specs.Held.{state};
 ghost use Rattle.registry_model.specs.Lookups.{session_at, session_size_at, sessions_open_at};
-ghost use Rattle.store_statements.specs.Clauses.{Lasts, Settled, Stays, Tells};
-ghost use Rattle.store_statements.specs.Held.{world_in};
+ghost use Rattle.store_statements.specs.Between.{Stays, Tells};
+ghost use Rattle.store_statements.specs.Clauses.{Lasts};
+ghost use Rattle.store_statements.specs.Held.{IsSettled, world_in};
 
 use crate::repos::last_number;
 use oci_names::{Fault, RepoName};
@@ -14,7 +15,6 @@ use store_statements::uploads::{count_uploads, find_upload};
 
 /// How many upload sessions are open; 0 where the repository is not there.
 pub fn sessions_open<S: Alter>(conn: &mut Connection<S>, repo: &RepoName) -> Result<u64, Fault>
-    requires { Settled S.Store conn.old }
     ensures found { Tells S.Store conn.old conn.new result (λ w v. v ≡ sessions_open_at w repo.now) }
     ensures settled { Stays S.Store conn.old conn.new result }
     ensures survives { Lasts S.Store conn.old conn.new }
@@ -32,8 +32,7 @@ pub(crate) fn expect_no_session<S: Alter>(
     repo: &RepoName,
     number: u64,
 ) -> Result<(), Fault>
-    requires { Settled S.Store conn.old }
-    ensures found { HasCleanDisk (state S.Store conn.new)
+    ensures found { HasCleanDisk (state S.Store conn.new) → IsSettled (state S.Store conn.old)
         → OnOk result (session_at (world_in (state S.Store conn.old)) repo.now number ≡ None) }
     ensures settled { Stays S.Store conn.old conn.new result }
     ensures survives { Lasts S.Store conn.old conn.new }
@@ -51,7 +50,6 @@ pub fn session_size<S: Alter>(
     repo: &RepoName,
     number: u64,
 ) -> Result<Option<u64>, Fault>
-    requires { Settled S.Store conn.old }
     ensures found { Tells S.Store conn.old conn.new result (λ w v. v ≡ session_size_at w repo.now number) }
     ensures settled { Stays S.Store conn.old conn.new result }
     ensures survives { Lasts S.Store conn.old conn.new }

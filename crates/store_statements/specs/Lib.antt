@@ -8,6 +8,7 @@ pub mod PieceTexts
 pub mod VersionTexts
 pub mod Known
 pub mod Held
+pub mod Between
 pub mod Clauses
 pub mod Steps
 pub mod Shown

@@ -7,7 +7,8 @@ ghost use Rattle.sqlite_keyed.specs.Lists.{sort_by};
 ghost use Rattle.store_schema.specs.Rows.{bytes_at, natural_at};
 ghost use Rattle.store_world.specs.Keys.{of_first, has_key};
 ghost use Rattle.store_world.specs.Changes.{blob_columns};
-ghost use Rattle.store_statements.specs.Clauses.{Adds, Changes, ChangesNothing, ChangesNothingInside, FailsAsWas, Finds, FindsInside, KeepsInside, Lasts, LastsUncommitted, Settled, Stays};
+ghost use Rattle.store_statements.specs.Between.{ChangesNothing, FailsAsWas, Finds, Stays};
+ghost use Rattle.store_statements.specs.Clauses.{Adds, Changes, ChangesNothingInside, FindsInside, KeepsInside, Lasts, LastsUncommitted};
 ghost use Rattle.store_statements.specs.ManifestShown.{by_second};
 ghost use Rattle.store_statements.specs.Shown.{blob_link, content_named};
 ghost use Rattle.store_statements.specs.Steps.{blobs_without, BlobComes};
@@ -96,13 +97,12 @@ fn blob_link_rows<S: Alter>(
     repo: &str,
     digest: &str,
 ) -> Result<Vec<Row>, Error>
-    requires { Settled S.Store conn.old }
     ensures shown { Finds S.Store conn.old conn.new result
         (λ t rows. rows.items ≡ map (λ r. column r 3 ∷ column r 4 ∷ [])
         (option_to_list (find (has_key repo.now digest.now) t.blobs))) }
     ensures same { ChangesNothing S.Store conn.old conn.new result }
     ensures err { FailsAsWas S.Store conn.old conn.new result }
-    ensures survives { LastsUncommitted S.Store conn.old conn.new }
+    ensures survives { Lasts S.Store conn.old conn.new }
 {
     conn.query_all(
         "SELECT size, content FROM registry_blob_links WHERE repo = ?1 AND digest = ?2",
@@ -115,12 +115,11 @@ fn select_blob_link<S: Alter>(
     repo: &str,
     digest: &str,
 ) -> Result<Option<BlobLink>, Error>
-    requires { Settled S.Store conn.old }
     ensures found { Finds S.Store conn.old conn.new result
         (λ t o. o ≡ option_map blob_link (find (has_key repo.now digest.now) t.blobs)) }
     ensures same { ChangesNothing S.Store conn.old conn.new result }
     ensures err { FailsAsWas S.Store conn.old conn.new result }
-    ensures survives { LastsUncommitted S.Store conn.old conn.new }
+    ensures survives { Lasts S.Store conn.old conn.new }
 {
     let rows = blob_link_rows(conn, repo, digest)?;
     match rows.first() {
@@ -140,7 +139,6 @@ pub fn find_blob_link<S: Alter>(
     repo: &str,
     digest: &str,
 ) -> Result<Option<BlobLink>, Fault>
-    requires { Settled S.Store conn.old }
     ensures found { Finds S.Store conn.old conn.new result
         (λ t o. o ≡ option_map blob_link (find (has_key repo.now digest.now) t.blobs)) }
     ensures settled { Stays S.Store conn.old conn.new result }
@@ -154,13 +152,12 @@ pub fn find_blob_link<S: Alter>(
 
 /// The size of each blob of the repository.
 fn blob_size_rows<S: Alter>(conn: &mut Connection<S>, repo: &str) -> Result<Vec<Row>, Error>
-    requires { Settled S.Store conn.old }
     ensures shown { Finds S.Store conn.old conn.new result
         (λ t rows. IsPermutation (map (λ r. column r 3 ∷ []) (filter (of_first repo.now) t.blobs))
         rows.items) }
     ensures same { ChangesNothing S.Store conn.old conn.new result }
     ensures err { FailsAsWas S.Store conn.old conn.new result }
-    ensures survives { LastsUncommitted S.Store conn.old conn.new }
+    ensures survives { Lasts S.Store conn.old conn.new }
 {
     conn.query_all(
         "SELECT size FROM registry_blob_links WHERE repo = ?1",
@@ -173,13 +170,12 @@ fn select_blob_sizes<S: Alter>(
     conn: &mut Connection<S>,
     repo: &str,
 ) -> Result<Vec<u64>, Error>
-    requires { Settled S.Store conn.old }
     ensures found { Finds S.Store conn.old conn.new result
         (λ t sizes. IsPermutation (map (λ r. natural_at r 3) (filter (of_first repo.now) t.blobs))
         sizes.items) }
     ensures same { ChangesNothing S.Store conn.old conn.new result }
     ensures err { FailsAsWas S.Store conn.old conn.new result }
-    ensures survives { LastsUncommitted S.Store conn.old conn.new }
+    ensures survives { Lasts S.Store conn.old conn.new }
 {
     let rows = blob_size_rows(conn, repo)?;
     let sizes = numbers_in(alloc, &rows)?;
@@ -192,7 +188,6 @@ pub fn blob_sizes<S: Alter>(
     conn: &mut Connection<S>,
     repo: &str,
 ) -> Result<Vec<u64>, Fault>
-    requires { Settled S.Store conn.old }
     ensures found { Finds S.Store conn.old conn.new result
         (λ t sizes. IsPermutation (map (λ r. natural_at r 3) (filter (of_first repo.now) t.blobs))
         sizes.items) }
@@ -207,13 +202,12 @@ pub fn blob_sizes<S: Alter>(
 
 /// The digest of each blob of the repository, in byte order.
 fn blob_digest_rows<S: Alter>(conn: &mut Connection<S>, repo: &str) -> Result<Vec<Row>, Error>
-    requires { Settled S.Store conn.old }
     ensures shown { Finds S.Store conn.old conn.new result
         (λ t rows. rows.items ≡ map (λ r. column r 2 ∷ [])
         (sort_by by_second (filter (of_first repo.now) t.blobs))) }
     ensures same { ChangesNothing S.Store conn.old conn.new result }
     ensures err { FailsAsWas S.Store conn.old conn.new result }
-    ensures survives { LastsUncommitted S.Store conn.old conn.new }
+    ensures survives { Lasts S.Store conn.old conn.new }
 {
     conn.query_all(
         "SELECT digest FROM registry_blob_links WHERE repo = ?1 ORDER BY digest",
@@ -226,13 +220,12 @@ fn select_blob_digests<S: Alter>(
     conn: &mut Connection<S>,
     repo: &str,
 ) -> Result<Vec<Digest>, Fault>
-    requires { Settled S.Store conn.old }
     ensures found { Finds S.Store conn.old conn.new result
         (λ t digests. digests.items ≡ map (λ r. bytes_at r 2)
         (sort_by by_second (filter (of_first repo.now) t.blobs))) }
     ensures same { ChangesNothing S.Store conn.old conn.new result }
     ensures err { FailsAsWas S.Store conn.old conn.new result }
-    ensures survives { LastsUncommitted S.Store conn.old conn.new }
+    ensures survives { Lasts S.Store conn.old conn.new }
 {
     match blob_digest_rows(conn, repo) {
         Ok(rows) => digests_in(alloc, &rows),
@@ -246,7 +239,6 @@ pub fn list_blob_digests<S: Alter>(
     conn: &mut Connection<S>,
     repo: &str,
 ) -> Result<Vec<Digest>, Fault>
-    requires { Settled S.Store conn.old }
     ensures found { Finds S.Store conn.old conn.new result
         (λ t digests. digests.items ≡ map (λ r. bytes_at r 2)
         (sort_by by_second (filter (of_first repo.now) t.blobs))) }

@@ -3,7 +3,8 @@ ghost use Rattle.std.specs.Prelude.{◌≡◌, true, IfOk};
 ghost use Rattle.sqlite.specs.State.{HasCleanDisk};
 ghost use Rattle.sqlite.specs.Held.{state};
 ghost use Rattle.oci_names.specs.Digest.{matches};
-ghost use Rattle.store_statements.specs.Clauses.{Finds, KeepsInside, Lasts, LastsUncommitted, Settled, Stays};
+ghost use Rattle.store_statements.specs.Between.{Finds, Stays};
+ghost use Rattle.store_statements.specs.Clauses.{KeepsInside, Lasts, LastsUncommitted};
 ghost use Rattle.store_statements.specs.ContentShown.{has_sha256_digest};
 ghost use Rattle.store_statements.specs.Held.{IsReady, held};
 ghost use Rattle.store_statements.specs.Steps.{ContentKept};
@@ -62,7 +63,6 @@ pub fn has_digest<S: Alter>(
     content: ContentId,
     digest: &str,
 ) -> Result<bool, Fault>
-    requires { Settled S.Store conn.old }
     ensures found { Finds S.Store conn.old conn.new result
         (λ t has. has ≡ has_sha256_digest (t.contents content.id) digest.now) }
     ensures settled { Stays S.Store conn.old conn.new result }

@@ -7,7 +7,8 @@ ghost use Rattle.store_schema.specs.Rows.{natural_at};
 ghost use Rattle.store_world.specs.Keys.{has_key, of_first, of_second};
 ghost use Rattle.store_world.specs.Tables.{level_number, level_of};
 ghost use Rattle.store_world.specs.Changes.{with_level, grant_columns};
-ghost use Rattle.store_statements.specs.Clauses.{Adds, Changes, ChangesNothing, FailsAsWas, Finds, FindsInside, KeepsInside, Lasts, LastsUncommitted, Settled, Stays};
+ghost use Rattle.store_statements.specs.Between.{ChangesNothing, FailsAsWas, Finds, Stays};
+ghost use Rattle.store_statements.specs.Clauses.{Adds, Changes, FindsInside, KeepsInside, Lasts, LastsUncommitted};
 ghost use Rattle.store_statements.specs.Steps.{grants_without, grants_changed, GrantComes};
 
 use crate::open_check::checked_fault;
@@ -115,13 +116,12 @@ fn level_rows<S: Alter>(
     token: &str,
     repo: &str,
 ) -> Result<Vec<Row>, Error>
-    requires { Settled S.Store conn.old }
     ensures shown { Finds S.Store conn.old conn.new result
         (λ t rows. rows.items ≡ map (λ r. column r 3 ∷ [])
         (option_to_list (find (has_key token.now repo.now) t.grants))) }
     ensures same { ChangesNothing S.Store conn.old conn.new result }
     ensures err { FailsAsWas S.Store conn.old conn.new result }
-    ensures survives { LastsUncommitted S.Store conn.old conn.new }
+    ensures survives { Lasts S.Store conn.old conn.new }
 {
     conn.query_all(
         "SELECT level FROM registry_grants WHERE token = ?1 AND repo = ?2",
@@ -145,13 +145,12 @@ fn select_level<S: Alter>(
     token: &str,
     repo: &str,
 ) -> Result<Option<Level>, Error>
-    requires { Settled S.Store conn.old }
     ensures found { Finds S.Store conn.old conn.new result
         (λ t o. o ≡ option_map (λ r. level_of (natural_at r 3))
         (find (has_key token.now repo.now) t.grants)) }
     ensures same { ChangesNothing S.Store conn.old conn.new result }
     ensures err { FailsAsWas S.Store conn.old conn.new result }
-    ensures survives { LastsUncommitted S.Store conn.old conn.new }
+    ensures survives { Lasts S.Store conn.old conn.new }
 {
     let rows = level_rows(conn, token, repo)?;
     match rows.first() {
@@ -169,7 +168,6 @@ pub fn find_level<S: Alter>(
     token: &str,
     repo: &str,
 ) -> Result<Option<Level>, Fault>
-    requires { Settled S.Store conn.old }
     ensures found { Finds S.Store conn.old conn.new result
         (λ t o. o ≡ option_map (λ r. level_of (natural_at r 3))
         (find (has_key token.now repo.now) t.grants)) }
@@ -184,13 +182,12 @@ pub fn find_level<S: Alter>(
 
 /// The level of each grant to a token.
 fn known_rows<S: Alter>(conn: &mut Connection<S>, token: &str) -> Result<Vec<Row>, Error>
-    requires { Settled S.Store conn.old }
     ensures shown { Finds S.Store conn.old conn.new result
         (λ t rows. IsPermutation (map (λ r. column r 3 ∷ []) (filter (of_first token.now) t.grants))
         rows.items) }
     ensures same { ChangesNothing S.Store conn.old conn.new result }
     ensures err { FailsAsWas S.Store conn.old conn.new result }
-    ensures survives { LastsUncommitted S.Store conn.old conn.new }
+    ensures survives { Lasts S.Store conn.old conn.new }
 {
     conn.query_all(
         "SELECT level FROM registry_grants WHERE token = ?1",
@@ -200,7 +197,6 @@ fn known_rows<S: Alter>(conn: &mut Connection<S>, token: &str) -> Result<Vec<Row
 
 /// Whether the token has a grant on some repository.
 pub fn is_known<S: Alter>(conn: &mut Connection<S>, token: &str) -> Result<bool, Fault>
-    requires { Settled S.Store conn.old }
     ensures found { Finds S.Store conn.old conn.new result
         (λ t known. known ≡ nat_lt 0 (length (filter (of_first token.now) t.grants))) }
     ensures settled { Stays S.Store conn.old conn.new result }

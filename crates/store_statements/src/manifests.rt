@@ -7,7 +7,8 @@ ghost use Rattle.sqlite_keyed.specs.Lists.{sort_by};
 ghost use Rattle.store_schema.specs.Rows.{bytes_at, natural_at};
 ghost use Rattle.store_world.specs.Keys.{of_first, has_key};
 ghost use Rattle.store_world.specs.Changes.{manifest_columns};
-ghost use Rattle.store_statements.specs.Clauses.{Adds, Changes, ChangesNothing, ChangesNothingInside, FailsAsWas, Finds, FindsInside, KeepsInside, Lasts, LastsUncommitted, Settled, Stays};
+ghost use Rattle.store_statements.specs.Between.{ChangesNothing, FailsAsWas, Finds, Stays};
+ghost use Rattle.store_statements.specs.Clauses.{Adds, Changes, ChangesNothingInside, FindsInside, KeepsInside, Lasts, LastsUncommitted};
 ghost use Rattle.store_statements.specs.Steps.{manifests_without, ManifestComes};
 ghost use Rattle.store_statements.specs.ManifestShown.{by_second, link_shown, manifest_link, manifest_content};
 
@@ -108,13 +109,12 @@ fn link_rows<S: Alter>(
     repo: &str,
     digest: &str,
 ) -> Result<Vec<Row>, Error>
-    requires settled { Settled S.Store conn.old }
     ensures shown { Finds S.Store conn.old conn.new result
         (λ t rows. rows.items ≡ map (λ r. column r 3 ∷ column r 4 ∷ column r 6 ∷ [])
         (option_to_list (find (has_key repo.now digest.now) t.manifests))) }
     ensures same { ChangesNothing S.Store conn.old conn.new result }
     ensures err { FailsAsWas S.Store conn.old conn.new result }
-    ensures survives { LastsUncommitted S.Store conn.old conn.new }
+    ensures survives { Lasts S.Store conn.old conn.new }
 {
     conn.query_all(
         "SELECT size, kind, content FROM registry_manifest_links WHERE repo = ?1 AND digest = ?2",
@@ -159,12 +159,11 @@ fn select_link<S: Alter>(
     repo: &str,
     digest: &str,
 ) -> Result<Option<ManifestLink>, Fault>
-    requires settled { Settled S.Store conn.old }
     ensures found { Finds S.Store conn.old conn.new result
         (λ t o. o ≡ option_map manifest_link (find (has_key repo.now digest.now) t.manifests)) }
     ensures same { ChangesNothing S.Store conn.old conn.new result }
     ensures err { FailsAsWas S.Store conn.old conn.new result }
-    ensures survives { LastsUncommitted S.Store conn.old conn.new }
+    ensures survives { Lasts S.Store conn.old conn.new }
 {
     match link_rows(conn, repo, digest) {
         Ok(rows) => first_link(&rows),
@@ -178,7 +177,6 @@ pub fn find_manifest_link<S: Alter>(
     repo: &str,
     digest: &str,
 ) -> Result<Option<ManifestLink>, Fault>
-    requires settled { Settled S.Store conn.old }
     ensures found { Finds S.Store conn.old conn.new result
         (λ t o. o ≡ option_map manifest_link (find (has_key repo.now digest.now) t.manifests)) }
     ensures settled { Stays S.Store conn.old conn.new result }
@@ -192,13 +190,12 @@ pub fn find_manifest_link<S: Alter>(
 
 /// The sizes of the manifests of the repository, in any order.
 fn size_rows<S: Alter>(conn: &mut Connection<S>, repo: &str) -> Result<Vec<Row>, Error>
-    requires settled { Settled S.Store conn.old }
     ensures shown { Finds S.Store conn.old conn.new result
         (λ t rows. IsPermutation (map (λ r. column r 3 ∷ []) (filter (of_first repo.now) t.manifests))
         rows.items) }
     ensures same { ChangesNothing S.Store conn.old conn.new result }
     ensures err { FailsAsWas S.Store conn.old conn.new result }
-    ensures survives { LastsUncommitted S.Store conn.old conn.new }
+    ensures survives { Lasts S.Store conn.old conn.new }
 {
     conn.query_all(
         "SELECT size FROM registry_manifest_links WHERE repo = ?1",
@@ -211,13 +208,12 @@ fn select_sizes<S: Alter>(
     conn: &mut Connection<S>,
     repo: &str,
 ) -> Result<Vec<u64>, Error>
-    requires settled { Settled S.Store conn.old }
     ensures found { Finds S.Store conn.old conn.new result
         (λ t sizes. IsPermutation (map (λ r. natural_at r 3) (filter (of_first repo.now) t.manifests))
         sizes.items) }
     ensures same { ChangesNothing S.Store conn.old conn.new result }
     ensures err { FailsAsWas S.Store conn.old conn.new result }
-    ensures survives { LastsUncommitted S.Store conn.old conn.new }
+    ensures survives { Lasts S.Store conn.old conn.new }
 {
     match size_rows(conn, repo) {
         Ok(rows) => numbers_in(alloc, &rows),
@@ -231,7 +227,6 @@ pub fn manifest_sizes<S: Alter>(
     conn: &mut Connection<S>,
     repo: &str,
 ) -> Result<Vec<u64>, Fault>
-    requires settled { Settled S.Store conn.old }
     ensures found { Finds S.Store conn.old conn.new result
         (λ t sizes. IsPermutation (map (λ r. natural_at r 3) (filter (of_first repo.now) t.manifests))
         sizes.items) }
@@ -246,13 +241,12 @@ pub fn manifest_sizes<S: Alter>(
 
 /// The digest of each manifest of the repository, in byte order.
 fn manifest_digest_rows<S: Alter>(conn: &mut Connection<S>, repo: &str) -> Result<Vec<Row>, Error>
-    requires settled { Settled S.Store conn.old }
     ensures shown { Finds S.Store conn.old conn.new result
         (λ t rows. rows.items ≡ map (λ r. column r 2 ∷ [])
         (sort_by by_second (filter (of_first repo.now) t.manifests))) }
     ensures same { ChangesNothing S.Store conn.old conn.new result }
     ensures err { FailsAsWas S.Store conn.old conn.new result }
-    ensures survives { LastsUncommitted S.Store conn.old conn.new }
+    ensures survives { Lasts S.Store conn.old conn.new }
 {
     conn.query_all(
         "SELECT digest FROM registry_manifest_links WHERE repo = ?1 ORDER BY digest",
@@ -265,13 +259,12 @@ fn select_manifest_digests<S: Alter>(
     conn: &mut Connection<S>,
     repo: &str,
 ) -> Result<Vec<Digest>, Fault>
-    requires settled { Settled S.Store conn.old }
     ensures found { Finds S.Store conn.old conn.new result
         (λ t digests. digests.items ≡ map (λ r. bytes_at r 2)
         (sort_by by_second (filter (of_first repo.now) t.manifests))) }
     ensures same { ChangesNothing S.Store conn.old conn.new result }
     ensures err { FailsAsWas S.Store conn.old conn.new result }
-    ensures survives { LastsUncommitted S.Store conn.old conn.new }
+    ensures survives { Lasts S.Store conn.old conn.new }
 {
     match manifest_digest_rows(conn, repo) {
         Ok(rows) => digests_in(alloc, &rows),
@@ -285,7 +278,6 @@ pub fn list_manifest_digests<S: Alter>(
     conn: &mut Connection<S>,
     repo: &str,
 ) -> Result<Vec<Digest>, Fault>
-    requires settled { Settled S.Store conn.old }
     ensures found { Finds S.Store conn.old conn.new result
         (λ t digests. digests.items ≡ map (λ r. bytes_at r 2)
         (sort_by by_second (filter (of_first repo.now) t.manifests))) }

@@ -5,7 +5,8 @@ ghost use Rattle.sqlite.specs.Order.{column};
 ghost use Rattle.store_world.specs.Keys.{of_first, of_session, has_start};
 ghost use Rattle.store_world.specs.Changes.{piece_columns};
 ghost use Rattle.store_world.specs.World.{pieces_of};
-ghost use Rattle.store_statements.specs.Clauses.{Adds, Changes, ChangesNothing, ChangesNothingInside, FailsAsWas, Finds, FindsInside, KeepsInside, Lasts, LastsUncommitted, Settled, Stays};
+ghost use Rattle.store_statements.specs.Between.{ChangesNothing, FailsAsWas, Finds, Stays};
+ghost use Rattle.store_statements.specs.Clauses.{Adds, Changes, ChangesNothingInside, FindsInside, KeepsInside, Lasts, LastsUncommitted};
 ghost use Rattle.store_statements.specs.Shown.{content_named};
 ghost use Rattle.store_statements.specs.Steps.{pieces_without, PieceComes};
 
@@ -92,13 +93,12 @@ fn piece_rows<S: Alter>(
     repo: &str,
     number: u64,
 ) -> Result<Vec<Row>, Error>
-    requires settled { Settled S.Store conn.old }
     requires fits { number < 2 ^ 63 }
     ensures shown { Finds S.Store conn.old conn.new result
         (λ t rows. rows.items ≡ map (λ r. column r 5 ∷ []) (pieces_of t.pieces repo.now number)) }
     ensures same { ChangesNothing S.Store conn.old conn.new result }
     ensures err { FailsAsWas S.Store conn.old conn.new result }
-    ensures survives { LastsUncommitted S.Store conn.old conn.new }
+    ensures survives { Lasts S.Store conn.old conn.new }
 {
     conn.query_all(
         "SELECT content FROM registry_pieces WHERE repo = ?1 AND number = ?2 ORDER BY start",
@@ -112,13 +112,12 @@ fn select_pieces<S: Alter>(
     repo: &str,
     number: u64,
 ) -> Result<Vec<ContentId>, Error>
-    requires settled { Settled S.Store conn.old }
     requires fits { number < 2 ^ 63 }
     ensures found { Finds S.Store conn.old conn.new result
         (λ t ids. ids.items ≡ map (content_named 5) (pieces_of t.pieces repo.now number)) }
     ensures same { ChangesNothing S.Store conn.old conn.new result }
     ensures err { FailsAsWas S.Store conn.old conn.new result }
-    ensures survives { LastsUncommitted S.Store conn.old conn.new }
+    ensures survives { Lasts S.Store conn.old conn.new }
 {
     let rows = piece_rows(conn, repo, number)?;
     let ids = contents_in(alloc, &rows)?;
@@ -132,7 +131,6 @@ pub fn pieces_in_order<S: Alter>(
     repo: &str,
     number: u64,
 ) -> Result<Vec<ContentId>, Fault>
-    requires settled { Settled S.Store conn.old }
     requires fits { number < 2 ^ 63 }
     ensures found { Finds S.Store conn.old conn.new result
         (λ t ids. ids.items ≡ map (content_named 5) (pieces_of t.pieces repo.now number)) }

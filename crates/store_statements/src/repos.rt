@@ -8,7 +8,8 @@ ghost use Rattle.store_schema.specs.Rows.{bytes_at};
 ghost use Rattle.sqlite.specs.Held.{state};
 ghost use Rattle.store_world.specs.Keys.{of_first};
 ghost use Rattle.store_world.specs.Changes.{with_quota, with_last, repo_columns};
-ghost use Rattle.store_statements.specs.Clauses.{Adds, Changes, ChangesNothing, FailsAsWas, Finds, FindsInside, KeepsInside, Lasts, LastsUncommitted, Settled, Stays};
+ghost use Rattle.store_statements.specs.Between.{ChangesNothing, FailsAsWas, Finds, Stays};
+ghost use Rattle.store_statements.specs.Clauses.{Adds, Changes, FindsInside, KeepsInside, Lasts, LastsUncommitted};
 ghost use Rattle.store_statements.specs.Held.{IsReady, Becomes, held};
 ghost use Rattle.store_statements.specs.Shown.{repo_row, by_name};
 ghost use Rattle.store_statements.specs.Steps.{repos_without, repos_changed, RepoComes};
@@ -114,13 +115,12 @@ pub fn take_repo<S: Alter>(tx: &mut Transaction<'_, S>, name: &str) -> Result<()
 
 /// The quota and the last number of the repository: one row, or none.
 fn repo_rows<S: Alter>(conn: &mut Connection<S>, name: &str) -> Result<Vec<Row>, Error>
-    requires { Settled S.Store conn.old }
     ensures shown { Finds S.Store conn.old conn.new result
         (λ t rows. rows.items ≡ map (λ r. column r 2 ∷ column r 3 ∷ [])
         (option_to_list (find (of_first name.now) t.repos))) }
     ensures same { ChangesNothing S.Store conn.old conn.new result }
     ensures err { FailsAsWas S.Store conn.old conn.new result }
-    ensures survives { LastsUncommitted S.Store conn.old conn.new }
+    ensures survives { Lasts S.Store conn.old conn.new }
 {
     conn.query_all(
         "SELECT quota, last_session FROM registry_repos WHERE name = ?1",
@@ -129,12 +129,11 @@ fn repo_rows<S: Alter>(conn: &mut Connection<S>, name: &str) -> Result<Vec<Row>,
 }
 
 fn select_repo<S: Alter>(conn: &mut Connection<S>, name: &str) -> Result<Option<RepoRow>, Error>
-    requires { Settled S.Store conn.old }
     ensures found { Finds S.Store conn.old conn.new result
         (λ t o. o ≡ option_map repo_row (find (of_first name.now) t.repos)) }
     ensures same { ChangesNothing S.Store conn.old conn.new result }
     ensures err { FailsAsWas S.Store conn.old conn.new result }
-    ensures survives { LastsUncommitted S.Store conn.old conn.new }
+    ensures survives { Lasts S.Store conn.old conn.new }
 {
     let rows = repo_rows(conn, name)?;
     match rows.first() {
@@ -149,7 +148,6 @@ fn select_repo<S: Alter>(conn: &mut Connection<S>, name: &str) -> Result<Option<
 
 /// What the row of the repository has, if there is one.
 pub fn find_repo<S: Alter>(conn: &mut Connection<S>, name: &str) -> Result<Option<RepoRow>, Fault>
-    requires { Settled S.Store conn.old }
     ensures found { Finds S.Store conn.old conn.new result
         (λ t o. o ≡ option_map repo_row (find (of_first name.now) t.repos)) }
     ensures settled { Stays S.Store conn.old conn.new result }
@@ -163,12 +161,11 @@ pub fn find_repo<S: Alter>(conn: &mut Connection<S>, name: &str) -> Result<Optio
 
 /// The name of each repository, in the order of their bytes.
 fn name_rows<S: Alter>(conn: &mut Connection<S>) -> Result<Vec<Row>, Error>
-    requires { Settled S.Store conn.old }
     ensures shown { Finds S.Store conn.old conn.new result
         (λ t rows. rows.items ≡ map (λ r. column r 1 ∷ []) (sort_by by_name t.repos)) }
     ensures same { ChangesNothing S.Store conn.old conn.new result }
     ensures err { FailsAsWas S.Store conn.old conn.new result }
-    ensures survives { LastsUncommitted S.Store conn.old conn.new }
+    ensures survives { Lasts S.Store conn.old conn.new }
 {
     conn.query_all("SELECT name FROM registry_repos ORDER BY name", &[])
 }
@@ -197,12 +194,11 @@ fn names_in(alloc: Global, rows: &[Row]) -> Result<Vec<RepoName>, Error>
 }
 
 fn select_names<S: Alter>(alloc: Global, conn: &mut Connection<S>) -> Result<Vec<RepoName>, Error>
-    requires { Settled S.Store conn.old }
     ensures found { Finds S.Store conn.old conn.new result
         (λ t names. names.items ≡ map (λ r. bytes_at r 1) (sort_by by_name t.repos)) }
     ensures same { ChangesNothing S.Store conn.old conn.new result }
     ensures err { FailsAsWas S.Store conn.old conn.new result }
-    ensures survives { LastsUncommitted S.Store conn.old conn.new }
+    ensures survives { Lasts S.Store conn.old conn.new }
 {
     let rows = name_rows(conn)?;
     let names = names_in(alloc, &rows)?;
@@ -211,7 +207,6 @@ fn select_names<S: Alter>(alloc: Global, conn: &mut Connection<S>) -> Result<Vec
 
 /// The name of each repository, in the order of their bytes.
 pub fn list_repos<S: Alter>(alloc: Global, conn: &mut Connection<S>) -> Result<Vec<RepoName>, Fault>
-    requires { Settled S.Store conn.old }
     ensures found { Finds S.Store conn.old conn.new result
         (λ t names. names.items ≡ map (λ r. bytes_at r 1) (sort_by by_name t.repos)) }
     ensures settled { Stays S.Store conn.old conn.new result }

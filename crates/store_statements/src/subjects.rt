@@ -4,7 +4,8 @@ ghost use Rattle.sqlite.specs.Order.{column};
 ghost use Rattle.sqlite_keyed.specs.Lists.{sort_by};
 ghost use Rattle.oci_names.specs.Digest.{is_digest};
 ghost use Rattle.store_world.specs.Keys.{on_subject};
-ghost use Rattle.store_statements.specs.Clauses.{ChangesNothing, FailsAsWas, Finds, Lasts, LastsUncommitted, Settled, Stays};
+ghost use Rattle.store_statements.specs.Between.{ChangesNothing, FailsAsWas, Finds, Stays};
+ghost use Rattle.store_statements.specs.Clauses.{Lasts};
 ghost use Rattle.store_statements.specs.ManifestShown.{by_second, referrer, referrer_shown};
 
 use crate::names::digest_at;
@@ -20,14 +21,13 @@ fn subject_rows<S: Alter>(
     repo: &str,
     digest: &str,
 ) -> Result<Vec<Row>, Error>
-    requires settled { Settled S.Store conn.old }
     requires digest { is_digest digest.now ≡ true }
     ensures shown { Finds S.Store conn.old conn.new result
         (λ t rows. rows.items ≡ map (λ r. column r 2 ∷ column r 6 ∷ [])
         (sort_by by_second (filter (on_subject repo.now digest.now) t.manifests))) }
     ensures same { ChangesNothing S.Store conn.old conn.new result }
     ensures err { FailsAsWas S.Store conn.old conn.new result }
-    ensures survives { LastsUncommitted S.Store conn.old conn.new }
+    ensures survives { Lasts S.Store conn.old conn.new }
 {
     conn.query_all(
         "SELECT digest, content FROM registry_manifest_links WHERE repo = ?1 AND subject = ?2 \
@@ -79,14 +79,13 @@ fn select_referrers<S: Alter>(
     repo: &str,
     digest: &str,
 ) -> Result<Vec<(Digest, ContentId)>, Fault>
-    requires settled { Settled S.Store conn.old }
     requires digest { is_digest digest.now ≡ true }
     ensures found { Finds S.Store conn.old conn.new result
         (λ t found. found.items ≡ map referrer
         (sort_by by_second (filter (on_subject repo.now digest.now) t.manifests))) }
     ensures same { ChangesNothing S.Store conn.old conn.new result }
     ensures err { FailsAsWas S.Store conn.old conn.new result }
-    ensures survives { LastsUncommitted S.Store conn.old conn.new }
+    ensures survives { Lasts S.Store conn.old conn.new }
 {
     match subject_rows(conn, repo, digest) {
         Ok(rows) => referrers_in(alloc, &rows),
@@ -102,7 +101,6 @@ pub fn manifests_on_subject<S: Alter>(
     repo: &str,
     digest: &str,
 ) -> Result<Vec<(Digest, ContentId)>, Fault>
-    requires settled { Settled S.Store conn.old }
     requires digest { is_digest digest.now ≡ true }
     ensures found { Finds S.Store conn.old conn.new result
         (λ t found. found.items ≡ map referrer

@@ -6,7 +6,8 @@ ghost use Rattle.sqlite.specs.Query.{limited, as_count};
 ghost use Rattle.sqlite_keyed.specs.Lists.{sort_by};
 ghost use Rattle.registry_model.specs.TagPage.{first_of, more_than};
 ghost use Rattle.store_schema.specs.Rows.{bytes_at};
-ghost use Rattle.store_statements.specs.Clauses.{ChangesNothing, FailsAsWas, Finds, Lasts, LastsUncommitted, Settled, Stays};
+ghost use Rattle.store_statements.specs.Between.{ChangesNothing, FailsAsWas, Finds, Stays};
+ghost use Rattle.store_statements.specs.Clauses.{Lasts};
 ghost use Rattle.store_statements.specs.ManifestShown.{by_second};
 ghost use Rattle.store_statements.specs.TagPages.{tag_behind, tags_behind, IsEnough, first_rows, are_more};
 
@@ -42,13 +43,12 @@ fn page_rows<S: Alter>(
     last: &str,
     limit: i64,
 ) -> Result<Vec<Row>, Error>
-    requires settled { Settled S.Store conn.old }
     ensures shown { Finds S.Store conn.old conn.new result
         (λ t rows. rows.items ≡ limited (as_count (Int limit))
         (map (λ r. column r 2 ∷ []) (sort_by by_second (filter (tag_behind repo.now last.now) t.tags)))) }
     ensures same { ChangesNothing S.Store conn.old conn.new result }
     ensures err { FailsAsWas S.Store conn.old conn.new result }
-    ensures survives { LastsUncommitted S.Store conn.old conn.new }
+    ensures survives { Lasts S.Store conn.old conn.new }
 {
     conn.query_all(
         "SELECT tag FROM registry_tags WHERE repo = ?1 AND tag > ?2 ORDER BY tag LIMIT ?3",
@@ -114,13 +114,12 @@ fn select_page<S: Alter>(
     last: &str,
     n: Option<u64>,
 ) -> Result<TagPage, Fault>
-    requires settled { Settled S.Store conn.old }
     ensures found { Finds S.Store conn.old conn.new result
         (λ t page. (page.tags.items ≡ first_of n (tags_behind t.tags repo.now last.now)) ×
         (page.more ≡ more_than n (tags_behind t.tags repo.now last.now))) }
     ensures same { ChangesNothing S.Store conn.old conn.new result }
     ensures err { FailsAsWas S.Store conn.old conn.new result }
-    ensures survives { LastsUncommitted S.Store conn.old conn.new }
+    ensures survives { Lasts S.Store conn.old conn.new }
 {
     match page_rows(conn, repo, last, rows_for(n)) {
         Ok(rows) => page_in(alloc, &rows, n),
@@ -137,7 +136,6 @@ pub fn tags_page<S: Alter>(
     last: &str,
     n: Option<u64>,
 ) -> Result<TagPage, Fault>
-    requires settled { Settled S.Store conn.old }
     ensures found { Finds S.Store conn.old conn.new result
         (λ t page. (page.tags.items ≡ first_of n (tags_behind t.tags repo.now last.now)) ×
         (page.more ≡ more_than n (tags_behind t.tags repo.now last.now))) }

@@ -6,7 +6,8 @@ ghost use Rattle.sqlite.specs.Order.{column};
 ghost use Rattle.store_schema.specs.Rows.{bytes_at};
 ghost use Rattle.store_world.specs.Keys.{of_first, has_key};
 ghost use Rattle.store_world.specs.Changes.{with_digest, tag_columns};
-ghost use Rattle.store_statements.specs.Clauses.{Adds, Changes, ChangesNothing, FailsAsWas, Finds, FindsInside, KeepsInside, Lasts, LastsUncommitted, Settled, Stays};
+ghost use Rattle.store_statements.specs.Between.{ChangesNothing, FailsAsWas, Finds, Stays};
+ghost use Rattle.store_statements.specs.Clauses.{Adds, Changes, FindsInside, KeepsInside, Lasts, LastsUncommitted};
 ghost use Rattle.store_statements.specs.Steps.{names_digest, tags_without, tags_changed, TagComes};
 
 use crate::names::first_digest;
@@ -117,13 +118,12 @@ pub fn take_tags<S: Alter>(tx: &mut Transaction<'_, S>, repo: &str) -> Result<()
 
 /// The digest of the tag: one row, or none.
 fn digest_rows<S: Alter>(conn: &mut Connection<S>, repo: &str, tag: &str) -> Result<Vec<Row>, Error>
-    requires { Settled S.Store conn.old }
     ensures shown { Finds S.Store conn.old conn.new result
         (λ t rows. rows.items ≡ map (λ r. column r 3 ∷ [])
         (option_to_list (find (has_key repo.now tag.now) t.tags))) }
     ensures same { ChangesNothing S.Store conn.old conn.new result }
     ensures err { FailsAsWas S.Store conn.old conn.new result }
-    ensures survives { LastsUncommitted S.Store conn.old conn.new }
+    ensures survives { Lasts S.Store conn.old conn.new }
 {
     conn.query_all(
         "SELECT digest FROM registry_tags WHERE repo = ?1 AND tag = ?2",
@@ -137,12 +137,11 @@ fn select_tag<S: Alter>(
     repo: &str,
     tag: &str,
 ) -> Result<Option<Digest>, Fault>
-    requires { Settled S.Store conn.old }
     ensures found { Finds S.Store conn.old conn.new result
         (λ t o. o ≡ option_map (λ r. bytes_at r 3) (find (has_key repo.now tag.now) t.tags)) }
     ensures same { ChangesNothing S.Store conn.old conn.new result }
     ensures err { FailsAsWas S.Store conn.old conn.new result }
-    ensures survives { LastsUncommitted S.Store conn.old conn.new }
+    ensures survives { Lasts S.Store conn.old conn.new }
 {
     match digest_rows(conn, repo, tag) {
         Ok(rows) => first_digest(alloc, &rows),
@@ -157,7 +156,6 @@ pub fn find_tag<S: Alter>(
     repo: &str,
     tag: &str,
 ) -> Result<Option<Digest>, Fault>
-    requires { Settled S.Store conn.old }
     ensures found { Finds S.Store conn.old conn.new result
         (λ t o. o ≡ option_map (λ r. bytes_at r 3) (find (has_key repo.now tag.now) t.tags)) }
     ensures settled { Stays S.Store conn.old conn.new result }
@@ -171,13 +169,12 @@ pub fn find_tag<S: Alter>(
 
 /// The tags of the repository, in any order.
 fn tag_rows<S: Alter>(conn: &mut Connection<S>, repo: &str) -> Result<Vec<Row>, Error>
-    requires { Settled S.Store conn.old }
     ensures shown { Finds S.Store conn.old conn.new result
         (λ t rows. IsPermutation (map (λ r. column r 2 ∷ []) (filter (of_first repo.now) t.tags))
         rows.items) }
     ensures same { ChangesNothing S.Store conn.old conn.new result }
     ensures err { FailsAsWas S.Store conn.old conn.new result }
-    ensures survives { LastsUncommitted S.Store conn.old conn.new }
+    ensures survives { Lasts S.Store conn.old conn.new }
 {
     conn.query_all(
         "SELECT tag FROM registry_tags WHERE repo = ?1",
@@ -186,12 +183,11 @@ fn tag_rows<S: Alter>(conn: &mut Connection<S>, repo: &str) -> Result<Vec<Row>, 
 }
 
 fn select_count<S: Alter>(conn: &mut Connection<S>, repo: &str) -> Result<usize, Fault>
-    requires { Settled S.Store conn.old }
     ensures found { Finds S.Store conn.old conn.new result
         (λ t n. n ≡ length (filter (of_first repo.now) t.tags)) }
     ensures same { ChangesNothing S.Store conn.old conn.new result }
     ensures err { FailsAsWas S.Store conn.old conn.new result }
-    ensures survives { LastsUncommitted S.Store conn.old conn.new }
+    ensures survives { Lasts S.Store conn.old conn.new }
 {
     match tag_rows(conn, repo) {
         Ok(rows) => Ok(rows.len()),
@@ -201,7 +197,6 @@ fn select_count<S: Alter>(conn: &mut Connection<S>, repo: &str) -> Result<usize,
 
 /// How many tags the repository has.
 pub fn count_tags<S: Alter>(conn: &mut Connection<S>, repo: &str) -> Result<usize, Fault>
-    requires { Settled S.Store conn.old }
     ensures found { Finds S.Store conn.old conn.new result
         (λ t n. n ≡ length (filter (of_first repo.now) t.tags)) }
     ensures settled { Stays S.Store conn.old conn.new result }

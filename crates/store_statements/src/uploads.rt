@@ -6,7 +6,8 @@ ghost use Rattle.sqlite.specs.Order.{column};
 ghost use Rattle.store_schema.specs.Rows.{natural_at};
 ghost use Rattle.store_world.specs.Keys.{of_first, of_session};
 ghost use Rattle.store_world.specs.Changes.{with_size, upload_columns};
-ghost use Rattle.store_statements.specs.Clauses.{Adds, Changes, ChangesNothing, FailsAsWas, Finds, FindsInside, KeepsInside, Lasts, LastsUncommitted, Settled, Stays};
+ghost use Rattle.store_statements.specs.Between.{ChangesNothing, FailsAsWas, Finds, Stays};
+ghost use Rattle.store_statements.specs.Clauses.{Adds, Changes, FindsInside, KeepsInside, Lasts, LastsUncommitted};
 ghost use Rattle.store_statements.specs.Steps.{uploads_without, uploads_changed, UploadComes};
 
 use crate::columns::numbers_in;
@@ -110,14 +111,13 @@ fn upload_rows<S: Alter>(
     repo: &str,
     number: u64,
 ) -> Result<Vec<Row>, Error>
-    requires settled { Settled S.Store conn.old }
     requires fits { number < 2 ^ 63 }
     ensures shown { Finds S.Store conn.old conn.new result
         (λ t rows. rows.items ≡ map (λ r. column r 3 ∷ [])
         (option_to_list (find (of_session repo.now number) t.uploads))) }
     ensures same { ChangesNothing S.Store conn.old conn.new result }
     ensures err { FailsAsWas S.Store conn.old conn.new result }
-    ensures survives { LastsUncommitted S.Store conn.old conn.new }
+    ensures survives { Lasts S.Store conn.old conn.new }
 {
     conn.query_all(
         "SELECT size FROM registry_uploads WHERE repo = ?1 AND number = ?2",
@@ -130,13 +130,12 @@ fn select_upload<S: Alter>(
     repo: &str,
     number: u64,
 ) -> Result<Option<u64>, Error>
-    requires settled { Settled S.Store conn.old }
     requires fits { number < 2 ^ 63 }
     ensures found { Finds S.Store conn.old conn.new result
         (λ t o. o ≡ option_map (λ r. natural_at r 3) (find (of_session repo.now number) t.uploads)) }
     ensures same { ChangesNothing S.Store conn.old conn.new result }
     ensures err { FailsAsWas S.Store conn.old conn.new result }
-    ensures survives { LastsUncommitted S.Store conn.old conn.new }
+    ensures survives { Lasts S.Store conn.old conn.new }
 {
     let rows = upload_rows(conn, repo, number)?;
     match rows.first() {
@@ -154,7 +153,6 @@ pub fn find_upload<S: Alter>(
     repo: &str,
     number: u64,
 ) -> Result<Option<u64>, Fault>
-    requires settled { Settled S.Store conn.old }
     requires fits { number < 2 ^ 63 }
     ensures found { Finds S.Store conn.old conn.new result
         (λ t o. o ≡ option_map (λ r. natural_at r 3) (find (of_session repo.now number) t.uploads)) }
@@ -169,13 +167,12 @@ pub fn find_upload<S: Alter>(
 
 /// The size of each session of the repository.
 fn upload_size_rows<S: Alter>(conn: &mut Connection<S>, repo: &str) -> Result<Vec<Row>, Error>
-    requires { Settled S.Store conn.old }
     ensures shown { Finds S.Store conn.old conn.new result
         (λ t rows. IsPermutation (map (λ r. column r 3 ∷ []) (filter (of_first repo.now) t.uploads))
         rows.items) }
     ensures same { ChangesNothing S.Store conn.old conn.new result }
     ensures err { FailsAsWas S.Store conn.old conn.new result }
-    ensures survives { LastsUncommitted S.Store conn.old conn.new }
+    ensures survives { Lasts S.Store conn.old conn.new }
 {
     conn.query_all(
         "SELECT size FROM registry_uploads WHERE repo = ?1",
@@ -185,7 +182,6 @@ fn upload_size_rows<S: Alter>(conn: &mut Connection<S>, repo: &str) -> Result<Ve
 
 /// How many sessions of the repository are open.
 pub fn count_uploads<S: Alter>(conn: &mut Connection<S>, repo: &str) -> Result<usize, Fault>
-    requires { Settled S.Store conn.old }
     ensures found { Finds S.Store conn.old conn.new result
         (λ t n. n ≡ length (filter (of_first repo.now) t.uploads)) }
     ensures settled { Stays S.Store conn.old conn.new result }
@@ -202,13 +198,12 @@ fn select_upload_sizes<S: Alter>(
     conn: &mut Connection<S>,
     repo: &str,
 ) -> Result<Vec<u64>, Error>
-    requires { Settled S.Store conn.old }
     ensures found { Finds S.Store conn.old conn.new result
         (λ t sizes. IsPermutation (map (λ r. natural_at r 3) (filter (of_first repo.now) t.uploads))
         sizes.items) }
     ensures same { ChangesNothing S.Store conn.old conn.new result }
     ensures err { FailsAsWas S.Store conn.old conn.new result }
-    ensures survives { LastsUncommitted S.Store conn.old conn.new }
+    ensures survives { Lasts S.Store conn.old conn.new }
 {
     let rows = upload_size_rows(conn, repo)?;
     let sizes = numbers_in(alloc, &rows)?;
@@ -221,7 +216,6 @@ pub fn upload_sizes<S: Alter>(
     conn: &mut Connection<S>,
     repo: &str,
 ) -> Result<Vec<u64>, Fault>
-    requires { Settled S.Store conn.old }
     ensures found { Finds S.Store conn.old conn.new result
         (λ t sizes. IsPermutation (map (λ r. natural_at r 3) (filter (of_first repo.now) t.uploads))
         sizes.items) }

@@ -3,7 +3,8 @@ ghost use Rattle.std.specs.Prelude.{◌≡◌, ◌<◌, ◌^◌, true, None, fin
 ghost use Rattle.registry_model.specs.World.{has_repo};
 ghost use Rattle.registry_model.specs.Lookups.{mount};
 ghost use Rattle.store_world.specs.Keys.{has_key};
-ghost use Rattle.store_statements.specs.Clauses.{GoesBack, IsCommitted, Lasts, MakesWorld, Relates, Settled, StaysOnMemory, TablesHave, WorldHas};
+ghost use Rattle.store_statements.specs.Between.{GoesBack, IsCommitted, MakesWorld, Relates, StaysOnMemory};
+ghost use Rattle.store_statements.specs.Clauses.{Lasts, TablesHave, WorldHas};
 ghost use Rattle.store_writes.specs.Puts.{LinkIsPut};
 
 use crate::transaction::{alone, checked};
@@ -21,12 +22,13 @@ fn add_blob_link_alone<S: Alter>(
     content: ContentId,
 ) -> Result<(), Fault>
     requires fits { size < 2 ^ 63 }
-    requires settled { Settled S.Store conn.old }
-    requires fresh { TablesHave S.Store conn.old (λ t. find (has_key repo.now digest.now) t.blobs ≡ None) }
-    ensures committed { IsCommitted S.Store conn.new result }
-    ensures put { Relates S.Store conn.old conn.new result
+    ensures committed { TablesHave S.Store conn.old (λ t. find (has_key repo.now digest.now) t.blobs ≡ None)
+        → IsCommitted S.Store conn.old conn.new result }
+    ensures put { TablesHave S.Store conn.old (λ t. find (has_key repo.now digest.now) t.blobs ≡ None)
+        → Relates S.Store conn.old conn.new result
         (λ t u. LinkIsPut t u repo.now digest.now size content.id) }
-    ensures back { GoesBack S.Store conn.old conn.new result }
+    ensures back { TablesHave S.Store conn.old (λ t. find (has_key repo.now digest.now) t.blobs ≡ None)
+        → GoesBack S.Store conn.old conn.new result }
     ensures survives { Lasts S.Store conn.old conn.new }
 {
     alone!(
@@ -43,11 +45,11 @@ fn mount_link<S: Alter>(
     to: &str,
     digest: &str,
 ) -> Result<(), Fault>
-    requires settled { Settled S.Store conn.old }
-    requires there { WorldHas S.Store conn.old (λ w. has_repo w to.now ≡ true) }
-    requires fresh { TablesHave S.Store conn.old (λ t. find (has_key to.now digest.now) t.blobs ≡ None) }
-    ensures made { MakesWorld S.Store conn.old conn.new result (λ w. mount w from.now to.now digest.now) }
-    ensures memory { StaysOnMemory S.Store conn.old conn.new result }
+    ensures made { WorldHas S.Store conn.old (λ w. has_repo w to.now ≡ true)
+        → TablesHave S.Store conn.old (λ t. find (has_key to.now digest.now) t.blobs ≡ None)
+        → MakesWorld S.Store conn.old conn.new result (λ w. mount w from.now to.now digest.now) }
+    ensures memory { TablesHave S.Store conn.old (λ t. find (has_key to.now digest.now) t.blobs ≡ None)
+        → StaysOnMemory S.Store conn.old conn.new result }
     ensures survives { Lasts S.Store conn.old conn.new }
 {
     match find_blob_link(conn, from, digest) {
@@ -71,9 +73,8 @@ pub fn mount<S: Alter>(
     to: &RepoName,
     digest: &Digest,
 ) -> Result<(), Fault>
-    requires settled { Settled S.Store conn.old }
-    requires there { WorldHas S.Store conn.old (λ w. has_repo w to.now ≡ true) }
-    ensures made { MakesWorld S.Store conn.old conn.new result (λ w. mount w from.now to.now digest.now) }
+    ensures made { WorldHas S.Store conn.old (λ w. has_repo w to.now ≡ true)
+        → MakesWorld S.Store conn.old conn.new result (λ w. mount w from.now to.now digest.now) }
     ensures memory { StaysOnMemory S.Store conn.old conn.new result }
     ensures survives { Lasts S.Store conn.old conn.new }
 {

@@ -6,7 +6,8 @@ ghost use Rattle.registry_model.specs.World.{has_repo};
 ghost use Rattle.registry_model.specs.Lookups.{put_blob};
 ghost use Rattle.store_world.specs.Keys.{has_key};
 ghost use Rattle.store_writes.specs.Worlds.{StepsFrom};
-ghost use Rattle.store_statements.specs.Clauses.{CommitsStep, GoesBack, KeepsInside, Lasts, LastsUncommitted, MakesWorld, Settled, StaysOnMemory, TablesHave, WorldHas};
+ghost use Rattle.store_statements.specs.Between.{CommitsStep, GoesBack, MakesWorld, StaysOnMemory};
+ghost use Rattle.store_statements.specs.Clauses.{KeepsInside, Lasts, LastsUncommitted, TablesHave, WorldHas};
 ghost use Rattle.store_statements.specs.Steps.{BlobStored};
 
 use crate::transaction::{alone, checked};
@@ -47,13 +48,13 @@ fn store_blob_alone<S: Alter>(
     digest: &str,
     bytes: &[u8],
 ) -> Result<(), Fault>
-    requires settled { Settled S.Store conn.old }
     requires matching { matches digest.now bytes.now ≡ true }
     requires fits { length bytes.now < 2 ^ 63 }
-    requires fresh { TablesHave S.Store conn.old (λ t. find (has_key repo.now digest.now) t.blobs ≡ None) }
-    ensures made { CommitsStep S.Store conn.old conn.new result
+    ensures made { TablesHave S.Store conn.old (λ t. find (has_key repo.now digest.now) t.blobs ≡ None)
+        → CommitsStep S.Store conn.old conn.new result
         (λ t u. BlobStored t u repo.now digest.now bytes.now) }
-    ensures back { GoesBack S.Store conn.old conn.new result }
+    ensures back { TablesHave S.Store conn.old (λ t. find (has_key repo.now digest.now) t.blobs ≡ None)
+        → GoesBack S.Store conn.old conn.new result }
     ensures survives { Lasts S.Store conn.old conn.new }
 {
     alone!(conn, tx, store_blob(alloc, &mut tx, repo, digest, bytes))
@@ -67,11 +68,10 @@ pub fn put_blob<S: Alter>(
     digest: &Digest,
     bytes: &[u8],
 ) -> Result<(), Fault>
-    requires settled { Settled S.Store conn.old }
-    requires there { WorldHas S.Store conn.old (λ w. has_repo w repo.now ≡ true) }
     requires matching { matches digest.now bytes.now ≡ true }
     requires fits { length bytes.now ≤ largest_blob }
-    ensures made { MakesWorld S.Store conn.old conn.new result
+    ensures made { WorldHas S.Store conn.old (λ w. has_repo w repo.now ≡ true)
+        → MakesWorld S.Store conn.old conn.new result
         (λ w. put_blob w repo.now digest.now bytes.now) }
     ensures memory { StaysOnMemory S.Store conn.old conn.new result }
     ensures survives { Lasts S.Store conn.old conn.new }

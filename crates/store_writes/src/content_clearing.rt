@@ -2,7 +2,8 @@
 ghost use Rattle.std.specs.Prelude.{◌≡◌, ◌||◌, ◌∷◌, [], ℤ, None, OnOk, if◌then◌else◌};
 ghost use Rattle.std.specs.BTreeSet.{keys};
 ghost use Rattle.std.specs.Ordering.{int_eq};
-ghost use Rattle.store_statements.specs.Clauses.{ChangesNothingInside, CommitsStep, FindsInside, GoesBack, KeepsInside, Lasts, LastsUncommitted, MakesWorld, Relates, RelatesInside, Settled, StaysOnMemory, StepsInside};
+ghost use Rattle.store_statements.specs.Between.{CommitsStep, GoesBack, MakesWorld, Relates, StaysOnMemory};
+ghost use Rattle.store_statements.specs.Clauses.{ChangesNothingInside, FindsInside, KeepsInside, Lasts, LastsUncommitted, RelatesInside, StepsInside};
 ghost use Rattle.store_writes.specs.Naming.{is_among, is_in_column, is_named, ContentsGone, Cleared};
 
 use crate::transaction::{alone, checked};
@@ -144,7 +145,6 @@ fn clear_contents<S: Alter>(alloc: Global, tx: &mut Transaction<'_, S>) -> Resul
 
 /// The same, in a transaction of its own.
 fn clear_contents_alone<S: Alter>(alloc: Global, conn: &mut Connection<S>) -> Result<(), Fault>
-    requires settled { Settled S.Store conn.old }
     ensures made { CommitsStep S.Store conn.old conn.new result (λ t u. Cleared t u) }
     ensures back { GoesBack S.Store conn.old conn.new result }
     ensures survives { Lasts S.Store conn.old conn.new }
@@ -155,7 +155,6 @@ fn clear_contents_alone<S: Alter>(alloc: Global, conn: &mut Connection<S>) -> Re
 /// Frees each content that no blob, manifest or upload session names: exactly the others stay, and the
 /// world does not change. A failure frees nothing.
 pub fn clear<S: Alter>(alloc: Global, conn: &mut Connection<S>) -> Result<(), Fault>
-    requires settled { Settled S.Store conn.old }
     ensures made { MakesWorld S.Store conn.old conn.new result (λ w. w) }
     ensures freed { Relates S.Store conn.old conn.new result
         (λ t u. (id : ℤ) → u.contents id ≡ (if is_named t id then t.contents id else None)) }

@@ -3,7 +3,8 @@ ghost use Rattle.std.specs.Prelude.{◌≡◌};
 ghost use Rattle.registry_model.specs.Lookups.{delete_blob, delete_manifest, delete_tag};
 ghost use Rattle.registry_model.specs.Pruning.{delete_blobs};
 ghost use Rattle.store_world.specs.Keys.{has_key};
-ghost use Rattle.store_statements.specs.Clauses.{Changes, CommitsTables, GoesBack, KeepsInside, Lasts, LastsUncommitted, MakesWorld, Settled, StaysOnMemory};
+ghost use Rattle.store_statements.specs.Between.{CommitsTables, GoesBack, MakesWorld, StaysOnMemory};
+ghost use Rattle.store_statements.specs.Clauses.{Changes, KeepsInside, Lasts, LastsUncommitted};
 ghost use Rattle.store_statements.specs.Steps.{blobs_without, tags_without, without_manifest};
 ghost use Rattle.store_writes.specs.Deleting.{without_blob_links};
 
@@ -16,7 +17,6 @@ use store_statements::tags::{take_tag, take_tags_named};
 
 /// Takes a tag out, in a transaction of its own.
 fn take_tag_alone<S: Alter>(conn: &mut Connection<S>, repo: &str, tag: &str) -> Result<(), Fault>
-    requires settled { Settled S.Store conn.old }
     ensures made { CommitsTables S.Store conn.old conn.new result (tags_without (has_key repo.now tag.now)) }
     ensures back { GoesBack S.Store conn.old conn.new result }
     ensures survives { Lasts S.Store conn.old conn.new }
@@ -30,7 +30,6 @@ pub fn delete_tag<S: Alter>(
     repo: &RepoName,
     tag: &Tag,
 ) -> Result<(), Fault>
-    requires settled { Settled S.Store conn.old }
     ensures made { MakesWorld S.Store conn.old conn.new result (λ w. delete_tag w repo.now tag.now) }
     ensures memory { StaysOnMemory S.Store conn.old conn.new result }
     ensures survives { Lasts S.Store conn.old conn.new }
@@ -44,7 +43,6 @@ fn take_blob_link_alone<S: Alter>(
     repo: &str,
     digest: &str,
 ) -> Result<(), Fault>
-    requires settled { Settled S.Store conn.old }
     ensures made { CommitsTables S.Store conn.old conn.new result
         (blobs_without (has_key repo.now digest.now)) }
     ensures back { GoesBack S.Store conn.old conn.new result }
@@ -59,7 +57,6 @@ pub fn delete_blob<S: Alter>(
     repo: &RepoName,
     digest: &Digest,
 ) -> Result<(), Fault>
-    requires settled { Settled S.Store conn.old }
     ensures made { MakesWorld S.Store conn.old conn.new result (λ w. delete_blob w repo.now digest.now) }
     ensures memory { StaysOnMemory S.Store conn.old conn.new result }
     ensures survives { Lasts S.Store conn.old conn.new }
@@ -94,7 +91,6 @@ fn take_links_to_alone<S: Alter>(
     repo: &str,
     digests: &[Digest],
 ) -> Result<(), Fault>
-    requires settled { Settled S.Store conn.old }
     ensures made { CommitsTables S.Store conn.old conn.new result (without_blob_links repo.now digests.now) }
     ensures back { GoesBack S.Store conn.old conn.new result }
     ensures survives { Lasts S.Store conn.old conn.new }
@@ -108,7 +104,6 @@ pub fn delete_blobs<S: Alter>(
     repo: &RepoName,
     digests: &[Digest],
 ) -> Result<(), Fault>
-    requires settled { Settled S.Store conn.old }
     ensures made { MakesWorld S.Store conn.old conn.new result (λ w. delete_blobs w repo.now digests.now) }
     ensures memory { StaysOnMemory S.Store conn.old conn.new result }
     ensures survives { Lasts S.Store conn.old conn.new }
@@ -138,7 +133,6 @@ fn take_manifest_alone<S: Alter>(
     repo: &str,
     digest: &str,
 ) -> Result<(), Fault>
-    requires settled { Settled S.Store conn.old }
     ensures made { CommitsTables S.Store conn.old conn.new result (without_manifest repo.now digest.now) }
     ensures back { GoesBack S.Store conn.old conn.new result }
     ensures survives { Lasts S.Store conn.old conn.new }
@@ -152,7 +146,6 @@ pub fn delete_manifest<S: Alter>(
     repo: &RepoName,
     digest: &Digest,
 ) -> Result<(), Fault>
-    requires settled { Settled S.Store conn.old }
     ensures made { MakesWorld S.Store conn.old conn.new result (λ w. delete_manifest w repo.now digest.now) }
     ensures memory { StaysOnMemory S.Store conn.old conn.new result }
     ensures survives { Lasts S.Store conn.old conn.new }

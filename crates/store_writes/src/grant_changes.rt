@@ -3,7 +3,8 @@ ghost use Rattle.std.specs.Prelude.{◌≡◌, true};
 ghost use Rattle.registry_model.specs.World.{has_repo};
 ghost use Rattle.registry_model.specs.Command.{grant, revoke};
 ghost use Rattle.store_world.specs.Keys.{has_key};
-ghost use Rattle.store_statements.specs.Clauses.{CommitsTables, GoesBack, GoesOn, IsCommitted, KeepsInside, Lasts, LastsUncommitted, MakesWorld, Relates, RelatesInside, Settled, StaysOnMemory, WorldHas};
+ghost use Rattle.store_statements.specs.Between.{CommitsTables, GoesBack, IsCommitted, MakesWorld, Relates, StaysOnMemory};
+ghost use Rattle.store_statements.specs.Clauses.{GoesOn, KeepsInside, Lasts, LastsUncommitted, RelatesInside, WorldHas};
 ghost use Rattle.store_writes.specs.Puts.{LevelIsPut};
 ghost use Rattle.store_statements.specs.Steps.{grants_without};
 
@@ -19,7 +20,6 @@ fn take_grant_alone<S: Alter>(
     token: &str,
     repo: &str,
 ) -> Result<(), Fault>
-    requires settled { Settled S.Store conn.old }
     ensures made { CommitsTables S.Store conn.old conn.new result
         (grants_without (has_key token.now repo.now)) }
     ensures back { GoesBack S.Store conn.old conn.new result }
@@ -34,7 +34,6 @@ pub fn revoke<S: Alter>(
     token: &Token,
     name: &RepoName,
 ) -> Result<(), Fault>
-    requires settled { Settled S.Store conn.old }
     ensures made { MakesWorld S.Store conn.old conn.new result (λ w. revoke w token.now name.now) }
     ensures memory { StaysOnMemory S.Store conn.old conn.new result }
     ensures survives { Lasts S.Store conn.old conn.new }
@@ -71,8 +70,7 @@ fn put_level_alone<S: Alter>(
     repo: &str,
     level: Level,
 ) -> Result<(), Fault>
-    requires settled { Settled S.Store conn.old }
-    ensures committed { IsCommitted S.Store conn.new result }
+    ensures committed { IsCommitted S.Store conn.old conn.new result }
     ensures put { Relates S.Store conn.old conn.new result (λ t u. LevelIsPut t u token.now repo.now level) }
     ensures back { GoesBack S.Store conn.old conn.new result }
     ensures survives { Lasts S.Store conn.old conn.new }
@@ -87,9 +85,8 @@ pub fn grant<S: Alter>(
     name: &RepoName,
     level: Level,
 ) -> Result<(), Fault>
-    requires settled { Settled S.Store conn.old }
-    requires there { WorldHas S.Store conn.old (λ w. has_repo w name.now ≡ true) }
-    ensures made { MakesWorld S.Store conn.old conn.new result (λ w. grant w token.now name.now level) }
+    ensures made { WorldHas S.Store conn.old (λ w. has_repo w name.now ≡ true)
+        → MakesWorld S.Store conn.old conn.new result (λ w. grant w token.now name.now level) }
     ensures memory { StaysOnMemory S.Store conn.old conn.new result }
     ensures survives { Lasts S.Store conn.old conn.new }
 {

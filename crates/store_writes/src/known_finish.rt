@@ -4,7 +4,9 @@ ghost use Rattle.sqlite.specs.State.{HasCleanDisk};
 ghost use Rattle.sqlite.specs.Held.{state};
 ghost use Rattle.registry_model.specs.Closing.{session_matches, finish_as_is};
 ghost use Rattle.store_world.specs.Keys.{has_key};
-ghost use Rattle.store_statements.specs.Clauses.{CommitsStep, Finds, GoesBack, KeepsInside, Lasts, LastsUncommitted, MakesWorld, Settled, StaysOnMemory, TablesHave};
+ghost use Rattle.store_statements.specs.Between.{CommitsStep, Finds, GoesBack, MakesWorld, StaysOnMemory};
+ghost use Rattle.store_statements.specs.Clauses.{KeepsInside, Lasts, LastsUncommitted, TablesHave};
+ghost use Rattle.store_statements.specs.Held.{IsSettled};
 ghost use Rattle.store_writes.specs.Whole.{known_link, WholeEnds, DoneWhereSo};
 ghost use Rattle.store_writes.specs.Worlds.{StepsFrom};
 
@@ -48,13 +50,13 @@ fn end_whole_alone<S: Alter>(
     digest: &str,
     link: BlobLink,
 ) -> Result<(), Fault>
-    requires settled { Settled S.Store conn.old }
     requires number_fits { number < 2 ^ 63 }
     requires fits { link.size < 2 ^ 63 }
-    requires fresh { TablesHave S.Store conn.old (λ t. find (has_key repo.now digest.now) t.blobs ≡ None) }
-    ensures made { CommitsStep S.Store conn.old conn.new result
+    ensures made { TablesHave S.Store conn.old (λ t. find (has_key repo.now digest.now) t.blobs ≡ None)
+        → CommitsStep S.Store conn.old conn.new result
         (λ t u. WholeEnds t u repo.now number digest.now link) }
-    ensures back { GoesBack S.Store conn.old conn.new result }
+    ensures back { TablesHave S.Store conn.old (λ t. find (has_key repo.now digest.now) t.blobs ≡ None)
+        → GoesBack S.Store conn.old conn.new result }
     ensures survives { Lasts S.Store conn.old conn.new }
 {
     alone!(conn, tx, end_whole(&mut tx, repo, number, digest, link))
@@ -68,11 +70,9 @@ fn finish_whole<S: Alter>(
     digest: &str,
     link: BlobLink,
 ) -> Result<(), Fault>
-    requires settled { Settled S.Store conn.old }
     requires number_fits { number < 2 ^ 63 }
-    requires known { TablesHave S.Store conn.old
-        (λ t. Some link ≡ known_link t repo.now number digest.now) }
-    ensures made { MakesWorld S.Store conn.old conn.new result
+    ensures made { TablesHave S.Store conn.old (λ t. Some link ≡ known_link t repo.now number digest.now)
+        → MakesWorld S.Store conn.old conn.new result
         (λ w. finish_as_is w repo.now number digest.now) }
     ensures memory { StaysOnMemory S.Store conn.old conn.new result }
     ensures survives { Lasts S.Store conn.old conn.new }
@@ -99,8 +99,7 @@ pub fn finish_known<S: Alter>(
     number: u64,
     digest: &Digest,
 ) -> Result<bool, Fault>
-    requires { Settled S.Store conn.old }
-    ensures made { HasCleanDisk (state S.Store conn.new)
+    ensures made { HasCleanDisk (state S.Store conn.new) → IsSettled (state S.Store conn.old)
         → IfOk result
         (λ done. DoneWhereSo done (state S.Store conn.old) (state S.Store conn.new)
         (λ w. session_matches w repo.now number digest.now)

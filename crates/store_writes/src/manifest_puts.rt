@@ -11,7 +11,8 @@ ghost use Rattle.registry_model.specs.World.{has_repo};
 ghost use Rattle.store_world.specs.Keys.{has_key};
 ghost use Rattle.store_world.specs.Registry.{is_repo};
 ghost use Rattle.store_writes.specs.Worlds.{KeepsWhole, TurnsFresh, TurnsThere, IsWhole, tagged};
-ghost use Rattle.store_statements.specs.Clauses.{GoesBack, Lasts, LastsUncommitted, MakesWorld, Settled, StaysOnMemory, TablesHave, WorldHas};
+ghost use Rattle.store_statements.specs.Between.{GoesBack, MakesWorld, StaysOnMemory};
+ghost use Rattle.store_statements.specs.Clauses.{Lasts, LastsUncommitted, TablesHave, WorldHas};
 ghost use Rattle.store_statements.specs.Held.{held};
 
 use crate::transaction::{alone, checked};
@@ -140,16 +141,16 @@ fn add_tagged_alone<S: Alter>(
     manifest: &Manifest,
     tag: Option<&Tag>,
 ) -> Result<(), Fault>
-    requires settled { Settled S.Store conn.old }
-    requires there { TablesHave S.Store conn.old (λ t. is_repo t.repos repo.now ≡ true) }
-    requires fresh { TablesHave S.Store conn.old
-        (λ t. find (has_key repo.now digest.now) t.manifests ≡ None) }
     requires matching { matches digest.now bytes.now ≡ true }
     requires reads { manifest_in bytes.now ≡ Ok (shown manifest.now) }
     requires fits { length bytes.now ≤ largest_manifest }
-    ensures made { MakesWorld S.Store conn.old conn.new result
+    ensures made { TablesHave S.Store conn.old (λ t. is_repo t.repos repo.now ≡ true)
+        → TablesHave S.Store conn.old (λ t. find (has_key repo.now digest.now) t.manifests ≡ None)
+        → MakesWorld S.Store conn.old conn.new result
         (λ w. put_manifest w repo.now digest.now bytes.now (text_in tag.entry)) }
-    ensures back { GoesBack S.Store conn.old conn.new result }
+    ensures back { TablesHave S.Store conn.old (λ t. is_repo t.repos repo.now ≡ true)
+        → TablesHave S.Store conn.old (λ t. find (has_key repo.now digest.now) t.manifests ≡ None)
+        → GoesBack S.Store conn.old conn.new result }
     ensures survives { Lasts S.Store conn.old conn.new }
 {
     alone!(
@@ -166,11 +167,11 @@ fn put_tag_alone<S: Alter>(
     tag: Option<&Tag>,
     digest: &str,
 ) -> Result<(), Fault>
-    requires settled { Settled S.Store conn.old }
-    requires there { TablesHave S.Store conn.old (λ t. is_repo t.repos repo.now ≡ true) }
-    ensures made { MakesWorld S.Store conn.old conn.new result
+    ensures made { TablesHave S.Store conn.old (λ t. is_repo t.repos repo.now ≡ true)
+        → MakesWorld S.Store conn.old conn.new result
         (λ w. tagged w repo.now (text_in tag.entry) digest.now) }
-    ensures back { GoesBack S.Store conn.old conn.new result }
+    ensures back { TablesHave S.Store conn.old (λ t. is_repo t.repos repo.now ≡ true)
+        → GoesBack S.Store conn.old conn.new result }
     ensures survives { Lasts S.Store conn.old conn.new }
 {
     alone!(conn, tx, put_tag_if(&mut tx, repo, tag, digest))
@@ -183,11 +184,11 @@ fn tag_there<S: Alter>(
     tag: Option<&Tag>,
     digest: &str,
 ) -> Result<(), Fault>
-    requires settled { Settled S.Store conn.old }
-    requires there { TablesHave S.Store conn.old (λ t. is_repo t.repos repo.now ≡ true) }
-    ensures made { MakesWorld S.Store conn.old conn.new result
+    ensures made { TablesHave S.Store conn.old (λ t. is_repo t.repos repo.now ≡ true)
+        → MakesWorld S.Store conn.old conn.new result
         (λ w. tagged w repo.now (text_in tag.entry) digest.now) }
-    ensures memory { StaysOnMemory S.Store conn.old conn.new result }
+    ensures memory { TablesHave S.Store conn.old (λ t. is_repo t.repos repo.now ≡ true)
+        → StaysOnMemory S.Store conn.old conn.new result }
     ensures survives { Lasts S.Store conn.old conn.new }
 {
     checked!(conn, put_tag_alone(conn, repo, tag, digest))
@@ -203,16 +204,16 @@ fn put_new<S: Alter>(
     manifest: &Manifest,
     tag: Option<&Tag>,
 ) -> Result<(), Fault>
-    requires settled { Settled S.Store conn.old }
-    requires there { TablesHave S.Store conn.old (λ t. is_repo t.repos repo.now ≡ true) }
-    requires fresh { TablesHave S.Store conn.old
-        (λ t. find (has_key repo.now digest.now) t.manifests ≡ None) }
     requires matching { matches digest.now bytes.now ≡ true }
     requires reads { manifest_in bytes.now ≡ Ok (shown manifest.now) }
     requires fits { length bytes.now ≤ largest_manifest }
-    ensures made { MakesWorld S.Store conn.old conn.new result
+    ensures made { TablesHave S.Store conn.old (λ t. is_repo t.repos repo.now ≡ true)
+        → TablesHave S.Store conn.old (λ t. find (has_key repo.now digest.now) t.manifests ≡ None)
+        → MakesWorld S.Store conn.old conn.new result
         (λ w. put_manifest w repo.now digest.now bytes.now (text_in tag.entry)) }
-    ensures memory { StaysOnMemory S.Store conn.old conn.new result }
+    ensures memory { TablesHave S.Store conn.old (λ t. is_repo t.repos repo.now ≡ true)
+        → TablesHave S.Store conn.old (λ t. find (has_key repo.now digest.now) t.manifests ≡ None)
+        → StaysOnMemory S.Store conn.old conn.new result }
     ensures survives { Lasts S.Store conn.old conn.new }
 {
     checked!(
@@ -232,14 +233,14 @@ pub fn put_manifest<S: Alter>(
     manifest: &Manifest,
     tag: Option<&Tag>,
 ) -> Result<(), Fault>
-    requires settled { Settled S.Store conn.old }
-    requires there { WorldHas S.Store conn.old (λ w. has_repo w repo.now ≡ true) }
     requires matching { matches digest.now bytes.now ≡ true }
     requires reads { manifest_in bytes.now ≡ Ok (shown manifest.now) }
     requires fits { length bytes.now ≤ largest_manifest }
-    ensures made { MakesWorld S.Store conn.old conn.new result
+    ensures made { WorldHas S.Store conn.old (λ w. has_repo w repo.now ≡ true)
+        → MakesWorld S.Store conn.old conn.new result
         (λ w. put_manifest w repo.now digest.now bytes.now (text_in tag.entry)) }
-    ensures memory { StaysOnMemory S.Store conn.old conn.new result }
+    ensures memory { WorldHas S.Store conn.old (λ w. has_repo w repo.now ≡ true)
+        → StaysOnMemory S.Store conn.old conn.new result }
     ensures survives { Lasts S.Store conn.old conn.new }
 {
     match find_manifest_link(conn, repo.as_str(), digest.as_str()) {

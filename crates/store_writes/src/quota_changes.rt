@@ -1,7 +1,8 @@
 //! A repository is made, or its quota is set.
 ghost use Rattle.std.specs.Prelude.{◌≡◌, ◌<◌, ◌^◌};
 ghost use Rattle.registry_model.specs.Command.{set_repo};
-ghost use Rattle.store_statements.specs.Clauses.{GoesBack, GoesOn, IsCommitted, KeepsInside, Lasts, LastsUncommitted, MakesWorld, Relates, RelatesInside, Settled, StaysOnMemory};
+ghost use Rattle.store_statements.specs.Between.{GoesBack, IsCommitted, MakesWorld, Relates, StaysOnMemory};
+ghost use Rattle.store_statements.specs.Clauses.{GoesOn, KeepsInside, Lasts, LastsUncommitted, RelatesInside};
 ghost use Rattle.store_writes.specs.Puts.{QuotaIsPut};
 
 use crate::transaction::{alone, checked};
@@ -31,8 +32,7 @@ fn put_quota<S: Alter>(tx: &mut Transaction<'_, S>, name: &str, quota: u64) -> R
 /// Sets the quota or adds the repository, in a transaction of its own.
 fn put_quota_alone<S: Alter>(conn: &mut Connection<S>, name: &str, quota: u64) -> Result<(), Fault>
     requires fits { quota < 2 ^ 63 }
-    requires settled { Settled S.Store conn.old }
-    ensures committed { IsCommitted S.Store conn.new result }
+    ensures committed { IsCommitted S.Store conn.old conn.new result }
     ensures put { Relates S.Store conn.old conn.new result (λ t u. QuotaIsPut t u name.now quota) }
     ensures back { GoesBack S.Store conn.old conn.new result }
     ensures survives { Lasts S.Store conn.old conn.new }
@@ -47,7 +47,6 @@ pub fn set_repo<S: Alter>(
     name: &RepoName,
     quota: Quota,
 ) -> Result<(), Fault>
-    requires settled { Settled S.Store conn.old }
     ensures made { MakesWorld S.Store conn.old conn.new result (λ w. set_repo w name.now quota.bytes) }
     ensures memory { StaysOnMemory S.Store conn.old conn.new result }
     ensures survives { Lasts S.Store conn.old conn.new }

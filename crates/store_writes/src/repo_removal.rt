@@ -3,7 +3,8 @@ ghost use Rattle.std.specs.Prelude.{◌≡◌, OnOk};
 ghost use Rattle.sqlite.specs.State.{HasCleanDisk};
 ghost use Rattle.sqlite.specs.Held.{state};
 ghost use Rattle.registry_model.specs.Command.{drop_repo};
-ghost use Rattle.store_statements.specs.Clauses.{Changes, CommitsTables, GoesBack, KeepsInside, Lasts, LastsUncommitted, MakesWorld, Settled, StaysOnMemory};
+ghost use Rattle.store_statements.specs.Between.{CommitsTables, GoesBack, MakesWorld, StaysOnMemory};
+ghost use Rattle.store_statements.specs.Clauses.{Changes, KeepsInside, Lasts, LastsUncommitted};
 ghost use Rattle.store_world.specs.Tables.{IsEmptyBeside};
 ghost use Rattle.store_statements.specs.Held.{IsReady, Becomes, held};
 ghost use Rattle.store_statements.specs.Drops.{dropped, without_links, without_sessions, without_children};
@@ -71,7 +72,6 @@ pub(crate) fn drop_rows<S: Alter>(tx: &mut Transaction<'_, S>, name: &str) -> Re
 
 /// The same, in a transaction of its own.
 fn drop_rows_alone<S: Alter>(conn: &mut Connection<S>, name: &str) -> Result<(), Fault>
-    requires settled { Settled S.Store conn.old }
     ensures made { CommitsTables S.Store conn.old conn.new result (dropped name.now) }
     ensures back { GoesBack S.Store conn.old conn.new result }
     ensures survives { Lasts S.Store conn.old conn.new }
@@ -81,7 +81,6 @@ fn drop_rows_alone<S: Alter>(conn: &mut Connection<S>, name: &str) -> Result<(),
 
 /// Takes a repository away, with what it holds and every level on it.
 pub fn drop_repo<S: Alter>(conn: &mut Connection<S>, name: &RepoName) -> Result<(), Fault>
-    requires settled { Settled S.Store conn.old }
     ensures made { MakesWorld S.Store conn.old conn.new result (λ w. drop_repo w name.now) }
     ensures memory { StaysOnMemory S.Store conn.old conn.new result }
     ensures survives { Lasts S.Store conn.old conn.new }

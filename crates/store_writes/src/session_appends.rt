@@ -1,10 +1,10 @@
 //! Bytes come behind those of an open upload session.
-ghost use Rattle.std.specs.Prelude.{◌≡◌, ◌≤◌, ◌<◌, ◌+◌, ◌^◌, true, length, find, is_some, None};
-ghost use Rattle.registry_model.specs.Limits.{largest_blob};
-ghost use Rattle.registry_model.specs.Lookups.{append, session_at, bytes_or_none};
+ghost use Rattle.std.specs.Prelude.{◌≡◌, ◌<◌, ◌+◌, ◌^◌, true, length, find, is_some, None};
+ghost use Rattle.registry_model.specs.Lookups.{append, session_at};
 ghost use Rattle.store_world.specs.Keys.{has_start};
 ghost use Rattle.store_writes.specs.Worlds.{StepsFrom};
-ghost use Rattle.store_statements.specs.Clauses.{CommitsStep, GoesBack, KeepsInside, Lasts, LastsUncommitted, MakesWorld, Settled, StaysOnMemory, TablesHave, WorldHas};
+ghost use Rattle.store_statements.specs.Between.{CommitsStep, GoesBack, MakesWorld, StaysOnMemory};
+ghost use Rattle.store_statements.specs.Clauses.{KeepsInside, Lasts, LastsUncommitted, TablesHave, WorldHas};
 ghost use Rattle.store_statements.specs.Steps.{PieceStored, Appended};
 
 use crate::transaction::{alone, checked};
@@ -73,14 +73,13 @@ fn add_bytes_alone<S: Alter>(
     size: u64,
     bytes: &[u8],
 ) -> Result<(), Fault>
-    requires settled { Settled S.Store conn.old }
     requires number_fits { number < 2 ^ 63 }
     requires fits { size + length bytes.now < 2 ^ 63 }
-    requires fresh { TablesHave S.Store conn.old
-        (λ t. find (has_start repo.now number size) t.pieces ≡ None) }
-    ensures made { CommitsStep S.Store conn.old conn.new result
+    ensures made { TablesHave S.Store conn.old (λ t. find (has_start repo.now number size) t.pieces ≡ None)
+        → CommitsStep S.Store conn.old conn.new result
         (λ t u. Appended t u repo.now number size bytes.now) }
-    ensures back { GoesBack S.Store conn.old conn.new result }
+    ensures back { TablesHave S.Store conn.old (λ t. find (has_start repo.now number size) t.pieces ≡ None)
+        → GoesBack S.Store conn.old conn.new result }
     ensures survives { Lasts S.Store conn.old conn.new }
 {
     alone!(
@@ -98,11 +97,8 @@ pub fn append<S: Alter>(
     number: u64,
     bytes: &[u8],
 ) -> Result<(), Fault>
-    requires settled { Settled S.Store conn.old }
-    requires is_open { WorldHas S.Store conn.old (λ w. is_some (session_at w repo.now number) ≡ true) }
-    requires fits { WorldHas S.Store conn.old
-        (λ w. length (bytes_or_none (session_at w repo.now number)) + length bytes.now ≤ largest_blob) }
-    ensures made { MakesWorld S.Store conn.old conn.new result (λ w. append w repo.now number bytes.now) }
+    ensures made { WorldHas S.Store conn.old (λ w. is_some (session_at w repo.now number) ≡ true)
+        → MakesWorld S.Store conn.old conn.new result (λ w. append w repo.now number bytes.now) }
     ensures memory { StaysOnMemory S.Store conn.old conn.new result }
     ensures survives { Lasts S.Store conn.old conn.new }
 {

@@ -1,15 +1,14 @@
 //! Upload sessions: they are opened, get bytes, and end.
-ghost use Rattle.std.specs.Prelude.{◌≡◌, ◌<◌, ◌^◌, ◌+◌, true, find, None, IfOk};
+ghost use Rattle.std.specs.Prelude.{◌≡◌, ◌<◌, ◌^◌, ◌+◌, find, None, IfOk};
 ghost use Rattle.sqlite.specs.State.{HasCleanDisk};
 ghost use Rattle.sqlite.specs.Held.{state};
-ghost use Rattle.registry_model.specs.Limits.{largest};
-ghost use Rattle.registry_model.specs.World.{has_repo};
 ghost use Rattle.registry_model.specs.Lookups.{open_session, last_number_at};
 ghost use Rattle.registry_model.specs.Command.{drop_sessions};
 ghost use Rattle.store_world.specs.Keys.{of_first, of_session};
 ghost use Rattle.store_writes.specs.Worlds.{StepsFrom};
-ghost use Rattle.store_statements.specs.Clauses.{Changes, CommitsStep, CommitsTables, GoesBack, KeepsInside, Lasts, LastsUncommitted, MakesWorld, Settled, StaysOnMemory, TablesHave, WorldHas};
-ghost use Rattle.store_statements.specs.Held.{SettlesOn, world_in};
+ghost use Rattle.store_statements.specs.Between.{CommitsStep, CommitsTables, GoesBack, MakesWorld, StaysOnMemory};
+ghost use Rattle.store_statements.specs.Clauses.{Changes, KeepsInside, Lasts, LastsUncommitted, TablesHave};
+ghost use Rattle.store_statements.specs.Held.{IsSettled, SettlesOn, world_in};
 ghost use Rattle.store_statements.specs.Steps.{sessions_without, SessionOpened};
 
 use crate::transaction::{alone, checked};
@@ -37,7 +36,6 @@ fn take_sessions<S: Alter>(tx: &mut Transaction<'_, S>, repo: &str) -> Result<()
 
 /// Takes all sessions of the repository out, in a transaction of its own.
 fn take_sessions_alone<S: Alter>(conn: &mut Connection<S>, repo: &str) -> Result<(), Fault>
-    requires settled { Settled S.Store conn.old }
     ensures made { CommitsTables S.Store conn.old conn.new result (sessions_without (of_first repo.now)) }
     ensures back { GoesBack S.Store conn.old conn.new result }
     ensures survives { Lasts S.Store conn.old conn.new }
@@ -47,7 +45,6 @@ fn take_sessions_alone<S: Alter>(conn: &mut Connection<S>, repo: &str) -> Result
 
 /// Ends all upload sessions of the repository; their bytes are given up.
 pub fn drop_sessions<S: Alter>(conn: &mut Connection<S>, repo: &RepoName) -> Result<(), Fault>
-    requires settled { Settled S.Store conn.old }
     ensures made { MakesWorld S.Store conn.old conn.new result (λ w. drop_sessions w repo.now) }
     ensures memory { StaysOnMemory S.Store conn.old conn.new result }
     ensures survives { Lasts S.Store conn.old conn.new }
@@ -80,7 +77,6 @@ pub(crate) fn take_session_alone<S: Alter>(
     repo: &str,
     number: u64,
 ) -> Result<(), Fault>
-    requires settled { Settled S.Store conn.old }
     requires fits { number < 2 ^ 63 }
     ensures made { CommitsTables S.Store conn.old conn.new result
         (sessions_without (of_session repo.now number)) }
@@ -111,11 +107,11 @@ fn add_session_alone<S: Alter>(
     repo: &str,
     number: u64,
 ) -> Result<(), Fault>
-    requires settled { Settled S.Store conn.old }
     requires fits { number < 2 ^ 63 }
-    requires fresh { TablesHave S.Store conn.old (λ t. find (of_session repo.now number) t.uploads ≡ None) }
-    ensures made { CommitsStep S.Store conn.old conn.new result (λ t u. SessionOpened t u repo.now number) }
-    ensures back { GoesBack S.Store conn.old conn.new result }
+    ensures made { TablesHave S.Store conn.old (λ t. find (of_session repo.now number) t.uploads ≡ None)
+        → CommitsStep S.Store conn.old conn.new result (λ t u. SessionOpened t u repo.now number) }
+    ensures back { TablesHave S.Store conn.old (λ t. find (of_session repo.now number) t.uploads ≡ None)
+        → GoesBack S.Store conn.old conn.new result }
     ensures survives { Lasts S.Store conn.old conn.new }
 {
     alone!(conn, tx, add_session(&mut tx, repo, number))
@@ -123,10 +119,7 @@ fn add_session_alone<S: Alter>(
 
 /// Opens an empty session under the number behind the repository's last, and answers it.
 pub fn open_session<S: Alter>(conn: &mut Connection<S>, repo: &RepoName) -> Result<u64, Fault>
-    requires settled { Settled S.Store conn.old }
-    requires there { WorldHas S.Store conn.old (λ w. has_repo w repo.now ≡ true) }
-    requires below { WorldHas S.Store conn.old (λ w. last_number_at w repo.now < largest) }
-    ensures made { HasCleanDisk (state S.Store conn.new)
+    ensures made { HasCleanDisk (state S.Store conn.new) → IsSettled (state S.Store conn.old)
         → IfOk result
         (λ n. (n ≡ last_number_at (world_in (state S.Store conn.old)) repo.now + 1) × SettlesOn
         (state S.Store conn.new) (open_session (world_in (state S.Store conn.old)) repo.now)) }

@@ -5,7 +5,8 @@ ghost use Rattle.registry_model.specs.Limits.{largest_blob};
 ghost use Rattle.registry_model.specs.Lookups.{finish, session_at};
 ghost use Rattle.store_world.specs.Keys.{has_key};
 ghost use Rattle.store_writes.specs.Worlds.{StepsFrom};
-ghost use Rattle.store_statements.specs.Clauses.{CommitsStep, GoesBack, KeepsInside, Lasts, LastsUncommitted, MakesWorld, Settled, StaysOnMemory, TablesHave, WorldHas};
+ghost use Rattle.store_statements.specs.Between.{CommitsStep, GoesBack, MakesWorld, StaysOnMemory};
+ghost use Rattle.store_statements.specs.Clauses.{KeepsInside, Lasts, LastsUncommitted, TablesHave, WorldHas};
 ghost use Rattle.store_statements.specs.Steps.{Finished};
 
 use crate::blob_puts::store_blob;
@@ -51,14 +52,14 @@ fn end_session_alone<S: Alter>(
     digest: &str,
     bytes: &[u8],
 ) -> Result<(), Fault>
-    requires settled { Settled S.Store conn.old }
     requires number_fits { number < 2 ^ 63 }
     requires matching { matches digest.now bytes.now ≡ true }
     requires fits { length bytes.now < 2 ^ 63 }
-    requires fresh { TablesHave S.Store conn.old (λ t. find (has_key repo.now digest.now) t.blobs ≡ None) }
-    ensures made { CommitsStep S.Store conn.old conn.new result
+    ensures made { TablesHave S.Store conn.old (λ t. find (has_key repo.now digest.now) t.blobs ≡ None)
+        → CommitsStep S.Store conn.old conn.new result
         (λ t u. Finished t u repo.now number digest.now bytes.now) }
-    ensures back { GoesBack S.Store conn.old conn.new result }
+    ensures back { TablesHave S.Store conn.old (λ t. find (has_key repo.now digest.now) t.blobs ≡ None)
+        → GoesBack S.Store conn.old conn.new result }
     ensures survives { Lasts S.Store conn.old conn.new }
 {
     alone!(
@@ -77,11 +78,10 @@ pub fn finish<S: Alter>(
     digest: &Digest,
     bytes: &[u8],
 ) -> Result<(), Fault>
-    requires settled { Settled S.Store conn.old }
-    requires is_open { WorldHas S.Store conn.old (λ w. is_some (session_at w repo.now number) ≡ true) }
     requires matching { matches digest.now bytes.now ≡ true }
     requires fits { length bytes.now ≤ largest_blob }
-    ensures made { MakesWorld S.Store conn.old conn.new result
+    ensures made { WorldHas S.Store conn.old (λ w. is_some (session_at w repo.now number) ≡ true)
+        → MakesWorld S.Store conn.old conn.new result
         (λ w. finish w repo.now number digest.now bytes.now) }
     ensures memory { StaysOnMemory S.Store conn.old conn.new result }
     ensures survives { Lasts S.Store conn.old conn.new }

@@ -1,7 +1,8 @@
 //! Upload sessions of one piece: their bytes are those of one content, whose digest is known unread.
 ghost use Rattle.std.specs.Prelude.{◌≡◌, ◌<◌, ◌^◌, map};
 ghost use Rattle.store_world.specs.World.{pieces_of};
-ghost use Rattle.store_statements.specs.Clauses.{Finds, Lasts, Settled, Stays};
+ghost use Rattle.store_statements.specs.Between.{Finds, Stays};
+ghost use Rattle.store_statements.specs.Clauses.{Lasts};
 ghost use Rattle.store_statements.specs.Shown.{content_named};
 ghost use Rattle.store_writes.specs.Whole.{only_link, whole_link, if_digest, known_link};
 
@@ -35,7 +36,6 @@ fn piece_link<S: Alter>(
     number: u64,
     size: u64,
 ) -> Result<Option<BlobLink>, Fault>
-    requires settled { Settled S.Store conn.old }
     requires fits { number < 2 ^ 63 }
     ensures found { Finds S.Store conn.old conn.new result
         (λ t o. o ≡ only_link size (map (content_named 5) (pieces_of t.pieces repo.now number))) }
@@ -55,7 +55,6 @@ fn find_whole<S: Alter>(
     repo: &str,
     number: u64,
 ) -> Result<Option<BlobLink>, Fault>
-    requires settled { Settled S.Store conn.old }
     requires fits { number < 2 ^ 63 }
     ensures found { Finds S.Store conn.old conn.new result (λ t o. o ≡ whole_link t repo.now number) }
     ensures settled { Stays S.Store conn.old conn.new result }
@@ -74,7 +73,6 @@ fn with_digest<S: Alter>(
     digest: &str,
     link: BlobLink,
 ) -> Result<Option<BlobLink>, Fault>
-    requires { Settled S.Store conn.old }
     ensures found { Finds S.Store conn.old conn.new result (λ t o. o ≡ if_digest t digest.now link) }
     ensures settled { Stays S.Store conn.old conn.new result }
     ensures survives { Lasts S.Store conn.old conn.new }
@@ -95,7 +93,6 @@ pub(crate) fn find_known<S: Alter>(
     number: u64,
     digest: &str,
 ) -> Result<Option<BlobLink>, Fault>
-    requires settled { Settled S.Store conn.old }
     requires fits { number < 2 ^ 63 }
     ensures found { Finds S.Store conn.old conn.new result
         (λ t o. o ≡ known_link t repo.now number digest.now) }

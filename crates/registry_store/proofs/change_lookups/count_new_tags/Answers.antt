@@ -7,14 +7,14 @@ use Rattle.registry_store.proofs.Foretold.{tag_there, tag_new}
 use Rattle.registry_store.proofs.change_lookups.count_new_tags.Goals as goal
 
 pub returns-in_default-clause-settled : goal.returns-in_default-clause-settled
-returns-in_default-clause-settled g c clean unspent = (c.requires clean, refl)
+returns-in_default-clause-settled g c clean is unspent = (is, refl)
 
 pub returns-in-Ok-Some-clause-found : goal.returns-in-Ok-Some-clause-found
-returns-in-Ok-Some-clause-found g c clean =
+returns-in-Ok-Some-clause-found g c clean is =
     let w = world_in (state g.S.Store c.args.conn.now) in
-    tag_there w c.args.repo.now c.in-Some.tag.now c.in-Ok-Some.field-0-0 (sym c.in-Ok-Some.field-0-is ∙ c.in-Ok-Some.ensures.found clean) ∙ ap (λ t. new_tags w c.args.repo.now (text_in t)) (sym c.in-Some.is)
+    tag_there w c.args.repo.now c.in-Some.tag.now c.in-Ok-Some.field-0-0 (sym c.in-Ok-Some.field-0-is ∙ c.in-Ok-Some.ensures.found clean is) ∙ ap (λ t. new_tags w c.args.repo.now (text_in t)) (sym c.in-Some.is)
 
 pub returns-in-Ok-None-clause-found : goal.returns-in-Ok-None-clause-found
-returns-in-Ok-None-clause-found g c clean =
+returns-in-Ok-None-clause-found g c clean is =
     let w = world_in (state g.S.Store c.args.conn.now) in
-    tag_new w c.args.repo.now c.in-Some.tag.now (sym c.in-Ok-None.field-0-is ∙ c.in-Ok-None.ensures.found clean) ∙ ap (λ t. new_tags w c.args.repo.now (text_in t)) (sym c.in-Some.is)
+    tag_new w c.args.repo.now c.in-Some.tag.now (sym c.in-Ok-None.field-0-is ∙ c.in-Ok-None.ensures.found clean is) ∙ ap (λ t. new_tags w c.args.repo.now (text_in t)) (sym c.in-Some.is)

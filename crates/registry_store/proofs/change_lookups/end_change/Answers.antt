@@ -9,12 +9,12 @@ use Rattle.registry_store.proofs.UsageTurns.{change}
 use Rattle.registry_store.proofs.change_lookups.end_change.Goals as goal
 
 pub returns-in-Ok-Some-clause-found : goal.returns-in-Ok-Some-clause-found
-returns-in-Ok-Some-clause-found g c bytes long clean =
+returns-in-Ok-Some-clause-found g c sized bytes long clean is =
     let early : HasCleanDisk (state g.S.Store c.args.conn.now) = omega (arith, c.blob_size.ensures.survives.clean) in
-    end_kept (world_in (state g.S.Store c.args.conn.now)) c.args.repo.now c.args.digest.now bytes c.args.number c.args.size (c.requires.sized early) c.in-Ok-Some.field-0-0 (sym c.in-Ok-Some.field-0-is ∙ c.in-Ok-Some.ensures.found clean)
+    end_kept (world_in (state g.S.Store c.args.conn.now)) c.args.repo.now c.args.digest.now bytes c.args.number c.args.size (sized early) c.in-Ok-Some.field-0-0 (sym c.in-Ok-Some.field-0-is ∙ c.in-Ok-Some.ensures.found clean is)
 
 pub returns-in-Ok-None-clause-found : goal.returns-in-Ok-None-clause-found
-returns-in-Ok-None-clause-found g c bytes long clean =
+returns-in-Ok-None-clause-found g c sized bytes long clean is =
     let early : HasCleanDisk (state g.S.Store c.args.conn.now) = omega (arith, c.blob_size.ensures.survives.clean) in
     subst (λ (n : ℕ). Foretells (world_in (state g.S.Store c.args.conn.now)) c.args.repo.now (λ r. finished r c.args.number c.args.digest.now bytes) (change n c.args.size 1 0 0 0 1)) long
-    (end_added (world_in (state g.S.Store c.args.conn.now)) c.args.repo.now c.args.digest.now bytes c.args.number c.args.size (c.requires.sized early) (sym c.in-Ok-None.field-0-is ∙ c.in-Ok-None.ensures.found clean))
+    (end_added (world_in (state g.S.Store c.args.conn.now)) c.args.repo.now c.args.digest.now bytes c.args.number c.args.size (sized early) (sym c.in-Ok-None.field-0-is ∙ c.in-Ok-None.ensures.found clean is))

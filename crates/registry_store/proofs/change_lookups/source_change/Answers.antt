@@ -7,7 +7,7 @@ use Rattle.registry_store.proofs.Foretold.{mount_added}
 use Rattle.registry_store.proofs.change_lookups.source_change.Goals as goal
 
 pub returns-in-Ok-Some-clause-found : goal.returns-in-Ok-Some-clause-found
-returns-in-Ok-Some-clause-found g c clean =
+returns-in-Ok-Some-clause-found g c fresh clean is =
     let early : HasCleanDisk (state g.S.Store c.args.conn.now) = omega (arith, c.blob_size.ensures.survives.clean) in
     let w = world_in (state g.S.Store c.args.conn.now) in
-    mount_added w c.args.to.now c.args.digest.now (blob_at w c.args.from.now c.args.digest.now) c.in-Ok-Some.size (sym (c.requires.fresh early)) (sym c.in-Ok-Some.field-0-is ∙ c.in-Ok-Some.ensures.found clean)
+    mount_added w c.args.to.now c.args.digest.now (blob_at w c.args.from.now c.args.digest.now) c.in-Ok-Some.size (sym (fresh early)) (sym c.in-Ok-Some.field-0-is ∙ c.in-Ok-Some.ensures.found clean is)

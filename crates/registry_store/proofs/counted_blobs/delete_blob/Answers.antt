@@ -8,8 +8,8 @@ use Rattle.registry_store.proofs.KnownWorlds.{forgets, beside}
 use Rattle.registry_store.proofs.counted_blobs.delete_blob.Goals as goal
 
 pub returns-clause-known : goal.returns-clause-known
-returns-clause-known g c clean sound =
+returns-clause-known g c known clean is sound =
     let old = state g.S.Store c.args.conn.now in
     let early : HasCleanDisk old = omega (arith, c.delete_blob.ensures.survives.clean) in
-    forgets c.args.known.now c.forget.new.self old (state g.S.Store c.delete_blob.new.conn) c.args.repo.now (λ w. delete_blob w c.args.repo.now c.args.digest.now) c.delete_blob.result (c.requires.known early) c.forget.ensures
-    (beside (world_in old) c.args.repo.now (λ r. without_blob r c.args.digest.now)) sound (c.delete_blob.ensures.made clean) (c.delete_blob.ensures.memory clean)
+    forgets c.args.known.now c.forget.new.self old (state g.S.Store c.delete_blob.new.conn) c.args.repo.now (λ w. delete_blob w c.args.repo.now c.args.digest.now) c.delete_blob.result (known early) c.forget.ensures
+    (beside (world_in old) c.args.repo.now (λ r. without_blob r c.args.digest.now)) sound (c.delete_blob.ensures.made clean is) (c.delete_blob.ensures.memory clean is)

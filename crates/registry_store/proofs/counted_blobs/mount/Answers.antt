@@ -11,46 +11,39 @@ use Rattle.registry_store.proofs.Foretold.{earlier, later, if_told, untold_settl
 use Rattle.registry_store.proofs.KnownWorlds.{follows, unfollowed}
 use Rattle.registry_store.proofs.counted_blobs.mount.Goals as goal
 
-pub mount-requires-clause-settled : goal.mount-requires-clause-settled
-mount-requires-clause-settled g c clean = (c.mount_change.ensures.settled clean (untold_settled c.mount_change.result c.in-Ok.change c.in-Ok.ensures)).0
-
-pub mount-requires-clause-there : goal.mount-requires-clause-there
-mount-requires-clause-there g c clean =
-    let early : HasCleanDisk (state g.S.Store c.args.conn.now) = omega (arith, c.mount_change.ensures.survives.clean) in
-    later (λ w. has_repo w c.args.to.now ≡ true) (state g.S.Store c.args.conn.now) (state g.S.Store c.mount_change.new.conn)
-    (c.mount_change.ensures.settled clean (untold_settled c.mount_change.result c.in-Ok.change c.in-Ok.ensures)).1 (c.requires.there early)
-
 pub returns-in-Ok-mount-clause-made : goal.returns-in-Ok-mount-clause-made
-returns-in-Ok-mount-clause-made g c clean =
+returns-in-Ok-mount-clause-made g c there clean is =
     let mid : HasCleanDisk (state g.S.Store c.mount_change.new.conn) = omega (arith, c.mount.ensures.survives.clean) in
     earlier (λ w. SettlesOn (state g.S.Store c.mount.new.conn) (mount w c.args.from.now c.args.to.now c.args.digest.now)) (state g.S.Store c.args.conn.now) (state g.S.Store c.mount_change.new.conn)
-    (c.mount_change.ensures.settled mid (untold_settled c.mount_change.result c.in-Ok.change c.in-Ok.ensures)).1 (c.in-Ok-mount.ensures.made clean)
+    (c.mount_change.ensures.settled mid is (untold_settled c.mount_change.result c.in-Ok.change c.in-Ok.ensures)).1 (c.in-Ok-mount.ensures.made (λ clean. let early : HasCleanDisk (state g.S.Store c.args.conn.now) = omega (arith, c.mount_change.ensures.survives.clean) in
+    later (λ w. has_repo w c.args.to.now ≡ true) (state g.S.Store c.args.conn.now) (state g.S.Store c.mount_change.new.conn)
+    (c.mount_change.ensures.settled clean is (untold_settled c.mount_change.result c.in-Ok.change c.in-Ok.ensures)).1 (there early)) clean (c.mount_change.ensures.settled mid is (untold_settled c.mount_change.result c.in-Ok.change c.in-Ok.ensures)).0)
 
 pub returns-in-Ok-mount-clause-survives : goal.returns-in-Ok-mount-clause-survives
 returns-in-Ok-mount-clause-survives g c =
     survives_all (state g.S.Store c.args.conn.now) (state g.S.Store c.mount_change.new.conn) (state g.S.Store c.mount.new.conn) _ _ c.mount_change.ensures.survives c.mount.ensures.survives
 
 pub returns-in-Ok-mount-clause-known : goal.returns-in-Ok-mount-clause-known
-returns-in-Ok-mount-clause-known g c clean sound =
+returns-in-Ok-mount-clause-known g c known there clean is sound =
     let old = state g.S.Store c.args.conn.now in
     let mid : HasCleanDisk (state g.S.Store c.mount_change.new.conn) = omega (arith, c.mount.ensures.survives.clean) in
     let early : HasCleanDisk old = omega (arith, c.mount.ensures.survives.clean, c.mount_change.ensures.survives.clean) in
     let f = with_mounted c.args.digest.now (blob_at (world_in old) c.args.from.now c.args.digest.now) in
-    follows c.args.known.now c.follow.new.self (state g.S.Store c.mount.new.conn) (world_in old) c.args.to.now f c.in-Ok.change (c.requires.known early) (c.requires.there early)
-    (if_told c.mount_change.result c.in-Ok.change (Foretells (world_in old) c.args.to.now f) c.in-Ok.ensures (c.mount_change.ensures.found mid)) c.follow.ensures
-    (returns-in-Ok-mount-clause-made g c clean).1
+    follows c.args.known.now c.follow.new.self (state g.S.Store c.mount.new.conn) (world_in old) c.args.to.now f c.in-Ok.change (known early) (there early)
+    (if_told c.mount_change.result c.in-Ok.change (Foretells (world_in old) c.args.to.now f) c.in-Ok.ensures (c.mount_change.ensures.found mid is)) c.follow.ensures
+    (returns-in-Ok-mount-clause-made g c there clean is).1
 
 pub returns-in-Err-clause-memory : goal.returns-in-Err-clause-memory
-returns-in-Err-clause-memory g c clean wanting =
+returns-in-Err-clause-memory g c clean is wanting =
     let mid : HasCleanDisk (state g.S.Store c.mount_change.new.conn) = omega (arith, c.mount.ensures.survives.clean) in
     stays_then (state g.S.Store c.args.conn.now) (state g.S.Store c.mount_change.new.conn) (state g.S.Store c.mount.new.conn)
-    (c.mount_change.ensures.settled mid (untold_settled c.mount_change.result c.in-Ok.change c.in-Ok.ensures)) (c.in-Err.ensures.memory clean wanting)
+    (c.mount_change.ensures.settled mid is (untold_settled c.mount_change.result c.in-Ok.change c.in-Ok.ensures)) (c.in-Err.ensures.memory clean (c.mount_change.ensures.settled mid is (untold_settled c.mount_change.result c.in-Ok.change c.in-Ok.ensures)).0 wanting)
 
 pub returns-in-Err-clause-survives : goal.returns-in-Err-clause-survives
 returns-in-Err-clause-survives g c =
     survives_all (state g.S.Store c.args.conn.now) (state g.S.Store c.mount_change.new.conn) (state g.S.Store c.mount.new.conn) _ _ c.mount_change.ensures.survives c.mount.ensures.survives
 
 pub returns-in-Err-clause-known : goal.returns-in-Err-clause-known
-returns-in-Err-clause-known g c clean sound =
+returns-in-Err-clause-known g c known there clean is sound =
     let early : HasCleanDisk (state g.S.Store c.args.conn.now) = omega (arith, c.mount.ensures.survives.clean, c.mount_change.ensures.survives.clean) in
-    unfollowed c.args.known.now (state g.S.Store c.args.conn.now) (state g.S.Store c.mount.new.conn) c.in-Err.fault (c.requires.known early) sound (λ wanting. returns-in-Err-clause-memory g c clean wanting)
+    unfollowed c.args.known.now (state g.S.Store c.args.conn.now) (state g.S.Store c.mount.new.conn) c.in-Err.fault (known early) sound (λ wanting. returns-in-Err-clause-memory g c clean is wanting)

@@ -8,8 +8,8 @@ use Rattle.registry_store.proofs.KnownWorlds.{forgets, beside}
 use Rattle.registry_store.proofs.counted_manifests.delete_tag.Goals as goal
 
 pub returns-clause-known : goal.returns-clause-known
-returns-clause-known g c clean sound =
+returns-clause-known g c known clean is sound =
     let old = state g.S.Store c.args.conn.now in
     let early : HasCleanDisk old = omega (arith, c.delete_tag.ensures.survives.clean) in
-    forgets c.args.known.now c.forget.new.self old (state g.S.Store c.delete_tag.new.conn) c.args.repo.now (λ w. delete_tag w c.args.repo.now c.args.tag.now) c.delete_tag.result (c.requires.known early) c.forget.ensures
-    (beside (world_in old) c.args.repo.now (λ r. without_tag r c.args.tag.now)) sound (c.delete_tag.ensures.made clean) (c.delete_tag.ensures.memory clean)
+    forgets c.args.known.now c.forget.new.self old (state g.S.Store c.delete_tag.new.conn) c.args.repo.now (λ w. delete_tag w c.args.repo.now c.args.tag.now) c.delete_tag.result (known early) c.forget.ensures
+    (beside (world_in old) c.args.repo.now (λ r. without_tag r c.args.tag.now)) sound (c.delete_tag.ensures.made clean is) (c.delete_tag.ensures.memory clean is)

@@ -13,46 +13,41 @@ use Rattle.registry_store.proofs.Foretold.{earlier, later, if_told, untold_settl
 use Rattle.registry_store.proofs.KnownWorlds.{follows, unfollowed}
 use Rattle.registry_store.proofs.counted_manifests.put_manifest.Goals as goal
 
-pub put_manifest-requires-clause-settled : goal.put_manifest-requires-clause-settled
-put_manifest-requires-clause-settled g c clean = (c.manifest_change.ensures.settled clean (untold_settled c.manifest_change.result c.in-Ok.change c.in-Ok.ensures)).0
-
-pub put_manifest-requires-clause-there : goal.put_manifest-requires-clause-there
-put_manifest-requires-clause-there g c clean =
-    let early : HasCleanDisk (state g.S.Store c.args.conn.now) = omega (arith, c.manifest_change.ensures.survives.clean) in
-    later (λ w. has_repo w c.args.repo.now ≡ true) (state g.S.Store c.args.conn.now) (state g.S.Store c.manifest_change.new.conn)
-    (c.manifest_change.ensures.settled clean (untold_settled c.manifest_change.result c.in-Ok.change c.in-Ok.ensures)).1 (c.requires.there early)
-
 pub returns-in-Ok-put_manifest-clause-made : goal.returns-in-Ok-put_manifest-clause-made
-returns-in-Ok-put_manifest-clause-made g c clean =
+returns-in-Ok-put_manifest-clause-made g c there clean is =
     let mid : HasCleanDisk (state g.S.Store c.manifest_change.new.conn) = omega (arith, c.put_manifest.ensures.survives.clean) in
     earlier (λ w. SettlesOn (state g.S.Store c.put_manifest.new.conn) (put_manifest w c.args.repo.now c.args.digest.now c.args.bytes.now (text_in c.args.tag))) (state g.S.Store c.args.conn.now) (state g.S.Store c.manifest_change.new.conn)
-    (c.manifest_change.ensures.settled mid (untold_settled c.manifest_change.result c.in-Ok.change c.in-Ok.ensures)).1 (c.in-Ok-put_manifest.ensures.made clean)
+    (c.manifest_change.ensures.settled mid is (untold_settled c.manifest_change.result c.in-Ok.change c.in-Ok.ensures)).1 (c.in-Ok-put_manifest.ensures.made (λ clean. let early : HasCleanDisk (state g.S.Store c.args.conn.now) = omega (arith, c.manifest_change.ensures.survives.clean) in
+    later (λ w. has_repo w c.args.repo.now ≡ true) (state g.S.Store c.args.conn.now) (state g.S.Store c.manifest_change.new.conn)
+    (c.manifest_change.ensures.settled clean is (untold_settled c.manifest_change.result c.in-Ok.change c.in-Ok.ensures)).1 (there early)) clean (c.manifest_change.ensures.settled mid is (untold_settled c.manifest_change.result c.in-Ok.change c.in-Ok.ensures)).0)
 
 pub returns-in-Ok-put_manifest-clause-survives : goal.returns-in-Ok-put_manifest-clause-survives
 returns-in-Ok-put_manifest-clause-survives g c =
     survives_all (state g.S.Store c.args.conn.now) (state g.S.Store c.manifest_change.new.conn) (state g.S.Store c.put_manifest.new.conn) _ _ c.manifest_change.ensures.survives c.put_manifest.ensures.survives
 
 pub returns-in-Ok-put_manifest-clause-known : goal.returns-in-Ok-put_manifest-clause-known
-returns-in-Ok-put_manifest-clause-known g c clean sound =
+returns-in-Ok-put_manifest-clause-known g c known there clean is sound =
     let old = state g.S.Store c.args.conn.now in
     let mid : HasCleanDisk (state g.S.Store c.manifest_change.new.conn) = omega (arith, c.put_manifest.ensures.survives.clean) in
     let early : HasCleanDisk old = omega (arith, c.put_manifest.ensures.survives.clean, c.manifest_change.ensures.survives.clean) in
     let f = λ (r : Repo). with_manifest r c.args.digest.now c.args.bytes.now (text_in c.args.tag) in
-    follows c.args.known.now c.follow.new.self (state g.S.Store c.put_manifest.new.conn) (world_in old) c.args.repo.now f c.in-Ok.change (c.requires.known early) (c.requires.there early)
-    (if_told c.manifest_change.result c.in-Ok.change (Foretells (world_in old) c.args.repo.now f) c.in-Ok.ensures (c.manifest_change.ensures.found mid)) c.follow.ensures
-    (returns-in-Ok-put_manifest-clause-made g c clean).1
+    follows c.args.known.now c.follow.new.self (state g.S.Store c.put_manifest.new.conn) (world_in old) c.args.repo.now f c.in-Ok.change (known early) (there early)
+    (if_told c.manifest_change.result c.in-Ok.change (Foretells (world_in old) c.args.repo.now f) c.in-Ok.ensures (c.manifest_change.ensures.found mid is)) c.follow.ensures
+    (returns-in-Ok-put_manifest-clause-made g c there clean is).1
 
 pub returns-in-Err-clause-memory : goal.returns-in-Err-clause-memory
-returns-in-Err-clause-memory g c clean wanting =
+returns-in-Err-clause-memory g c there clean is wanting =
     let mid : HasCleanDisk (state g.S.Store c.manifest_change.new.conn) = omega (arith, c.put_manifest.ensures.survives.clean) in
     stays_then (state g.S.Store c.args.conn.now) (state g.S.Store c.manifest_change.new.conn) (state g.S.Store c.put_manifest.new.conn)
-    (c.manifest_change.ensures.settled mid (untold_settled c.manifest_change.result c.in-Ok.change c.in-Ok.ensures)) (c.in-Err.ensures.memory clean wanting)
+    (c.manifest_change.ensures.settled mid is (untold_settled c.manifest_change.result c.in-Ok.change c.in-Ok.ensures)) (c.in-Err.ensures.memory (λ clean. let early : HasCleanDisk (state g.S.Store c.args.conn.now) = omega (arith, c.manifest_change.ensures.survives.clean) in
+    later (λ w. has_repo w c.args.repo.now ≡ true) (state g.S.Store c.args.conn.now) (state g.S.Store c.manifest_change.new.conn)
+    (c.manifest_change.ensures.settled clean is (untold_settled c.manifest_change.result c.in-Ok.change c.in-Ok.ensures)).1 (there early)) clean (c.manifest_change.ensures.settled mid is (untold_settled c.manifest_change.result c.in-Ok.change c.in-Ok.ensures)).0 wanting)
 
 pub returns-in-Err-clause-survives : goal.returns-in-Err-clause-survives
 returns-in-Err-clause-survives g c =
     survives_all (state g.S.Store c.args.conn.now) (state g.S.Store c.manifest_change.new.conn) (state g.S.Store c.put_manifest.new.conn) _ _ c.manifest_change.ensures.survives c.put_manifest.ensures.survives
 
 pub returns-in-Err-clause-known : goal.returns-in-Err-clause-known
-returns-in-Err-clause-known g c clean sound =
+returns-in-Err-clause-known g c known there clean is sound =
     let early : HasCleanDisk (state g.S.Store c.args.conn.now) = omega (arith, c.put_manifest.ensures.survives.clean, c.manifest_change.ensures.survives.clean) in
-    unfollowed c.args.known.now (state g.S.Store c.args.conn.now) (state g.S.Store c.put_manifest.new.conn) c.in-Err.fault (c.requires.known early) sound (λ wanting. returns-in-Err-clause-memory g c clean wanting)
+    unfollowed c.args.known.now (state g.S.Store c.args.conn.now) (state g.S.Store c.put_manifest.new.conn) c.in-Err.fault (known early) sound (λ wanting. returns-in-Err-clause-memory g c there clean is wanting)

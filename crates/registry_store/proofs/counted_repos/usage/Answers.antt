@@ -6,21 +6,21 @@ use Rattle.registry_store.proofs.KnownWorlds.{keeps, unfollowed}
 use Rattle.registry_store.proofs.counted_repos.usage.Goals as goal
 
 pub returns-in-Some-clause-found : goal.returns-in-Some-clause-found
-returns-in-Some-clause-found g c clean = c.requires.known clean c.args.repo.now c.in-Some.usage (sym c.in-Some.ensures)
+returns-in-Some-clause-found g c known clean is = known clean c.args.repo.now c.in-Some.usage (sym c.in-Some.ensures)
 
 pub returns-in-Some-clause-settled : goal.returns-in-Some-clause-settled
-returns-in-Some-clause-settled g c clean sound = (c.requires.settled clean, refl)
+returns-in-Some-clause-settled g c clean is sound = (is, refl)
 
 pub returns-in-Some-clause-known : goal.returns-in-Some-clause-known
-returns-in-Some-clause-known g c clean sound = c.requires.known clean
+returns-in-Some-clause-known g c known clean is sound = known clean
 
 pub returns-in-Ok-clause-known : goal.returns-in-Ok-clause-known
-returns-in-Ok-clause-known g c clean sound =
+returns-in-Ok-clause-known g c known clean is sound =
     let early : HasCleanDisk (state g.S.Store c.args.conn.now) = omega (arith, c.usage-2.ensures.survives.clean) in
-    keeps c.args.known.now c.keep.new.self (state g.S.Store c.args.conn.now) (state g.S.Store c.usage-2.new.conn) c.args.repo.now c.in-Ok.usage (c.requires.known early) c.keep.ensures
-    (c.in-Ok.ensures.found clean) (c.in-Ok.ensures.settled clean refl).1
+    keeps c.args.known.now c.keep.new.self (state g.S.Store c.args.conn.now) (state g.S.Store c.usage-2.new.conn) c.args.repo.now c.in-Ok.usage (known early) c.keep.ensures
+    (c.in-Ok.ensures.found clean is) (c.in-Ok.ensures.settled clean is refl).1
 
 pub returns-in-Err-clause-known : goal.returns-in-Err-clause-known
-returns-in-Err-clause-known g c clean sound =
+returns-in-Err-clause-known g c known clean is sound =
     let early : HasCleanDisk (state g.S.Store c.args.conn.now) = omega (arith, c.usage-2.ensures.survives.clean) in
-    unfollowed {A = Usage} c.args.known.now (state g.S.Store c.args.conn.now) (state g.S.Store c.usage-2.new.conn) c.in-Err.fault (c.requires.known early) sound (λ wanting. c.in-Err.ensures.settled clean sound)
+    unfollowed {A = Usage} c.args.known.now (state g.S.Store c.args.conn.now) (state g.S.Store c.usage-2.new.conn) c.in-Err.fault (known early) sound (λ wanting. c.in-Err.ensures.settled clean is sound)

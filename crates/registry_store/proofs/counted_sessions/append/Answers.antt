@@ -11,13 +11,13 @@ use Rattle.registry_store.proofs.KnownWorlds.{follows, unfollowed}
 use Rattle.registry_store.proofs.counted_sessions.append.Goals as goal
 
 pub returns-in-Ok-clause-known : goal.returns-in-Ok-clause-known
-returns-in-Ok-clause-known g c clean sound =
+returns-in-Ok-clause-known g c known is_open clean is sound =
     let w = world_in (state g.S.Store c.args.conn.now) in
     let early : HasCleanDisk (state g.S.Store c.args.conn.now) = omega (arith, c.append.ensures.survives.clean) in
-    follows c.args.known.now c.follow.new.self (state g.S.Store c.append.new.conn) w c.args.repo.now (λ (r : Repo). appended r c.args.number (bytes_or_none (get r.sessions c.args.number) ++ c.args.bytes.now)) _ (c.requires.known early)
-    (session_has_repo w c.args.repo.now c.args.number (c.requires.is_open early)) (append_foretold w c.args.repo.now c.args.number c.args.bytes.now (c.requires.is_open early)) c.follow.ensures (c.in-Ok.ensures.made clean).1
+    follows c.args.known.now c.follow.new.self (state g.S.Store c.append.new.conn) w c.args.repo.now (λ (r : Repo). appended r c.args.number (bytes_or_none (get r.sessions c.args.number) ++ c.args.bytes.now)) _ (known early)
+    (session_has_repo w c.args.repo.now c.args.number (is_open early)) (append_foretold w c.args.repo.now c.args.number c.args.bytes.now (is_open early)) c.follow.ensures (c.in-Ok.ensures.made is_open clean is).1
 
 pub returns-in-Err-clause-known : goal.returns-in-Err-clause-known
-returns-in-Err-clause-known g c clean sound =
+returns-in-Err-clause-known g c known is_open clean is sound =
     let early : HasCleanDisk (state g.S.Store c.args.conn.now) = omega (arith, c.append.ensures.survives.clean) in
-    unfollowed c.args.known.now (state g.S.Store c.args.conn.now) (state g.S.Store c.append.new.conn) c.in-Err.fault (c.requires.known early) sound (λ wanting. c.in-Err.ensures.memory clean wanting)
+    unfollowed c.args.known.now (state g.S.Store c.args.conn.now) (state g.S.Store c.append.new.conn) c.in-Err.fault (known early) sound (λ wanting. c.in-Err.ensures.memory clean is wanting)

@@ -4,6 +4,7 @@ use Rattle.sqlite.specs.declared.types.Value.TheVariants.{Text}
 use Rattle.store_schema.proofs.Selects.{leaves_all, query_survives}
 use Rattle.store_contents.specs.Texts.{hash_text}
 use Rattle.store_contents.proofs.HashLemmas.{ids_shown, leaves_failed}
+use Rattle.store_contents.proofs.Lasting.{lasts}
 use Rattle.store_contents.proofs.hashed.ids_hashed.Goals as goal
 
 pub returns-clause-shown : goal.returns-clause-shown
@@ -21,3 +22,6 @@ returns-clause-failed g c clean is =
 pub returns-clause-survives : goal.returns-clause-survives
 returns-clause-survives g c is =
     query_survives hash_text (Text c.args.sha256.now ∷ []) (state g.S.Store c.args.conn.now) (state g.S.Store c.query_all.new.self) (λ early. (is early).known.texts.hash.plain) (rw c.params-to_sql.ensures at c.query_all.ensures.survives)
+
+pub returns-clause-lasts : goal.returns-clause-lasts
+returns-clause-lasts g c = lasts (state g.S.Store c.args.conn.now) (state g.S.Store c.query_all.new.self) _ c.query_all.ensures.survives

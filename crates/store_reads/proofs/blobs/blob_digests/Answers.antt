@@ -1,5 +1,4 @@
-use Rattle.std.proofs.Common.{◌∙◌, sym, arith}
-use Rattle.sqlite.specs.State.{HasCleanDisk}
+use Rattle.std.proofs.Common.{◌∙◌, sym}
 use Rattle.sqlite.specs.Held.{state}
 use Rattle.store_statements.specs.Held.{held}
 use Rattle.store_statements.proofs.Transactions.{registry}
@@ -7,7 +6,6 @@ use Rattle.store_reads.proofs.DigestsFound.{blob_digests_found}
 use Rattle.store_reads.proofs.blobs.blob_digests.Goals as goal
 
 pub returns-in-Ok-clause-found : goal.returns-in-Ok-clause-found
-returns-in-Ok-clause-found g c clean =
-    let early : HasCleanDisk (state g.S.Store c.args.conn.now) = omega (arith, c.list_blob_digests.ensures.survives.clean) in
-    (rw c.as_str.ensures.text at (c.in-Ok.ensures.found clean))
-    ∙ sym (blob_digests_found (held (state g.S.Store c.args.conn.now)) c.args.repo.now (registry (state g.S.Store c.args.conn.now) (c.requires early)))
+returns-in-Ok-clause-found g c clean is =
+    (rw c.as_str.ensures.text at (c.in-Ok.ensures.found clean is))
+    ∙ sym (blob_digests_found (held (state g.S.Store c.args.conn.now)) c.args.repo.now (registry (state g.S.Store c.args.conn.now) is))

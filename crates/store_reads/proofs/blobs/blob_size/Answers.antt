@@ -1,5 +1,4 @@
-use Rattle.std.proofs.Common.{None, Some, arith}
-use Rattle.sqlite.specs.State.{HasCleanDisk}
+use Rattle.std.proofs.Common.{None, Some}
 use Rattle.sqlite.specs.Held.{state}
 use Rattle.store_statements.specs.Held.{held}
 use Rattle.store_statements.proofs.Transactions.{registry}
@@ -7,13 +6,11 @@ use Rattle.store_reads.proofs.WorldReads.{blob_size_by}
 use Rattle.store_reads.proofs.blobs.blob_size.Goals as goal
 
 pub returns-in-Ok-Some-clause-found : goal.returns-in-Ok-Some-clause-found
-returns-in-Ok-Some-clause-found g c clean =
-    let early : HasCleanDisk (state g.S.Store c.args.conn.now) = omega (arith, c.find_blob_link.ensures.survives.clean) in
-    blob_size_by (held (state g.S.Store c.args.conn.now)) c.args.repo.now c.args.digest.now (registry (state g.S.Store c.args.conn.now) (c.requires early)) (Some c.in-Ok-Some.link)
-    (rw (c.in-Ok-Some.field-0-is, c.as_str.ensures.text, c.as_str-2.ensures.text) at (c.in-Ok-Some.ensures.found clean))
+returns-in-Ok-Some-clause-found g c clean is =
+    blob_size_by (held (state g.S.Store c.args.conn.now)) c.args.repo.now c.args.digest.now (registry (state g.S.Store c.args.conn.now) is) (Some c.in-Ok-Some.link)
+    (rw (c.in-Ok-Some.field-0-is, c.as_str.ensures.text, c.as_str-2.ensures.text) at (c.in-Ok-Some.ensures.found clean is))
 
 pub returns-in-Ok-None-clause-found : goal.returns-in-Ok-None-clause-found
-returns-in-Ok-None-clause-found g c clean =
-    let early : HasCleanDisk (state g.S.Store c.args.conn.now) = omega (arith, c.find_blob_link.ensures.survives.clean) in
-    blob_size_by (held (state g.S.Store c.args.conn.now)) c.args.repo.now c.args.digest.now (registry (state g.S.Store c.args.conn.now) (c.requires early)) None
-    (rw (c.in-Ok-None.field-0-is, c.as_str.ensures.text, c.as_str-2.ensures.text) at (c.in-Ok-None.ensures.found clean))
+returns-in-Ok-None-clause-found g c clean is =
+    blob_size_by (held (state g.S.Store c.args.conn.now)) c.args.repo.now c.args.digest.now (registry (state g.S.Store c.args.conn.now) is) None
+    (rw (c.in-Ok-None.field-0-is, c.as_str.ensures.text, c.as_str-2.ensures.text) at (c.in-Ok-None.ensures.found clean is))

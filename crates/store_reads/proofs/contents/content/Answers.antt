@@ -7,12 +7,10 @@ use Rattle.store_statements.proofs.SettledAfter.{stays_read, stays_failed, is_me
 use Rattle.store_reads.proofs.contents.content.Goals as goal
 
 pub returns-in-Ok-Some-clause-settled : goal.returns-in-Ok-Some-clause-settled
-returns-in-Ok-Some-clause-settled g c clean unspent =
-    let early : HasCleanDisk (state g.S.Store c.args.conn.now) = omega (arith, c.read_bytes.ensures.survives (λ k. (c.requires k).holds.contents)) in
-    stays_read (state g.S.Store c.args.conn.now) (state g.S.Store c.read_bytes.new.conn) (c.requires early) ((rw c.in-Ok-Some.is at c.read_bytes.ensures.same) clean (c.requires early).holds.contents)
+returns-in-Ok-Some-clause-settled g c clean is unspent =
+    stays_read (state g.S.Store c.args.conn.now) (state g.S.Store c.read_bytes.new.conn) is ((rw c.in-Ok-Some.is at c.read_bytes.ensures.same) clean is.holds.contents)
 
 pub returns-in-Err-clause-settled : goal.returns-in-Err-clause-settled
-returns-in-Err-clause-settled g c clean unspent =
+returns-in-Err-clause-settled g c clean is unspent =
     let mid : HasCleanDisk (state g.S.Store c.read_bytes.new.conn) = omega (arith, c.checked_fault.ensures.survives.clean) in
-    let early : HasCleanDisk (state g.S.Store c.args.conn.now) = omega (arith, c.checked_fault.ensures.survives.clean, (c.read_bytes.ensures.survives (λ k. (c.requires k).holds.contents)).clean) in
-    stays_failed (state g.S.Store c.args.conn.now) (state g.S.Store c.read_bytes.new.conn) (state g.S.Store c.checked_fault.new.conn) (c.requires early) (c.in-Err.ensures.failed mid (c.requires early).holds.contents) (c.checked_fault.ensures.memory clean (is_memory (Vec ℕ Global) _ unspent))
+    stays_failed (state g.S.Store c.args.conn.now) (state g.S.Store c.read_bytes.new.conn) (state g.S.Store c.checked_fault.new.conn) is (c.in-Err.ensures.failed mid is.holds.contents) (c.checked_fault.ensures.memory clean (is_memory (Vec ℕ Global) _ unspent))

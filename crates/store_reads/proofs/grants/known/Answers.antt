@@ -1,5 +1,4 @@
-use Rattle.std.proofs.Common.{arith, sym}
-use Rattle.sqlite.specs.State.{HasCleanDisk}
+use Rattle.std.proofs.Common.{sym}
 use Rattle.sqlite.specs.Held.{state}
 use Rattle.store_world.proofs.Ordered.{known_found}
 use Rattle.store_statements.specs.Held.{held}
@@ -8,6 +7,5 @@ use Rattle.store_reads.proofs.WorldReads.{told}
 use Rattle.store_reads.proofs.grants.known.Goals as goal
 
 pub returns-clause-found : goal.returns-clause-found
-returns-clause-found g c clean =
-    let early : HasCleanDisk (state g.S.Store c.args.conn.now) = omega (arith, c.is_known.ensures.survives.clean) in
-    told c.is_known.result _ _ (sym (known_found (held (state g.S.Store c.args.conn.now)) c.args.token.now (registry (state g.S.Store c.args.conn.now) (c.requires early)))) (rw c.as_str.ensures.text at (c.is_known.ensures.found clean))
+returns-clause-found g c clean is =
+    told c.is_known.result _ _ (sym (known_found (held (state g.S.Store c.args.conn.now)) c.args.token.now (registry (state g.S.Store c.args.conn.now) is))) (rw c.as_str.ensures.text at (c.is_known.ensures.found clean is))

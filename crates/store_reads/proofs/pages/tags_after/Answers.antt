@@ -1,5 +1,4 @@
-use Rattle.std.proofs.Common.{◌∙◌, sym, arith}
-use Rattle.sqlite.specs.State.{HasCleanDisk}
+use Rattle.std.proofs.Common.{◌∙◌, sym}
 use Rattle.sqlite.specs.Held.{state}
 use Rattle.store_world.proofs.Pages.{page_found}
 use Rattle.store_statements.specs.Held.{held}
@@ -7,8 +6,7 @@ use Rattle.store_statements.proofs.Transactions.{registry}
 use Rattle.store_reads.proofs.pages.tags_after.Goals as goal
 
 pub returns-in-Ok-clause-found : goal.returns-in-Ok-clause-found
-returns-in-Ok-clause-found g c clean =
-    let early : HasCleanDisk (state g.S.Store c.args.conn.now) = omega (arith, c.tags_page.ensures.survives.clean) in
-    let page = rw c.as_str.ensures.text at (c.in-Ok.ensures.found clean) in
+returns-in-Ok-clause-found g c clean is =
+    let page = rw c.as_str.ensures.text at (c.in-Ok.ensures.found clean is) in
     (λ i. record { tags = page.0 i; more = page.1 i })
-    ∙ sym (page_found (held (state g.S.Store c.args.conn.now)) c.args.repo.now c.args.last.now c.args.n (registry (state g.S.Store c.args.conn.now) (c.requires.settled early)))
+    ∙ sym (page_found (held (state g.S.Store c.args.conn.now)) c.args.repo.now c.args.last.now c.args.n (registry (state g.S.Store c.args.conn.now) is))

@@ -6,12 +6,12 @@ use Rattle.store_reads.proofs.ReadSequences.{passed_on}
 use Rattle.store_reads.proofs.referrers.append.Goals as goal
 
 pub returns-in_err-bytes-clause-settled : goal.returns-in_err-bytes-clause-settled
-returns-in_err-bytes-clause-settled g c clean unspent =
-    c.content.ensures.settled clean (passed_on c.from_residual.result c.content.result _ c.in_err-bytes.was c.from_residual.ensures.1 unspent)
+returns-in_err-bytes-clause-settled g c clean is unspent =
+    c.content.ensures.settled clean is (passed_on c.from_residual.result c.content.result _ c.in_err-bytes.was c.from_residual.ensures.1 unspent)
 
 pub returns-clause-added : goal.returns-clause-added
-returns-clause-added g c clean =
-    on_ok_weaker c.push.result (λ added. added ∙ ap (λ bytes. entries_shown c.args.entries.now ++ (c.args.digest, bytes) ∷ []) (ap (λ o. unwrap_or o []) (sym (c.in_ok-bytes.ensures.found clean)))) c.push.ensures
+returns-clause-added g c clean is =
+    on_ok_weaker c.push.result (λ added. added ∙ ap (λ bytes. entries_shown c.args.entries.now ++ (c.args.digest, bytes) ∷ []) (ap (λ o. unwrap_or o []) (sym (c.in_ok-bytes.ensures.found clean is)))) c.push.ensures
 
 pub returns-clause-settled : goal.returns-clause-settled
-returns-clause-settled g c clean unspent = c.in_ok-bytes.ensures.settled clean (refl {a = false})
+returns-clause-settled g c clean is unspent = c.in_ok-bytes.ensures.settled clean is (refl {a = false})

@@ -16,12 +16,9 @@ use Rattle.store_reads.proofs.referrers.with_bytes.Goals as goal
 pub loop-digest-init : goal.loop-digest-init
 loop-digest-init g c = record {
   survives = survives_here (state g.S.Store c.args.conn.now);
-  settled = λ clean. stays_here (state g.S.Store c.args.conn.now) (c.requires clean);
-  entries = λ clean. ap (map (λ (p : Text × Vec ℕ Global). (p.0, p.1.items))) c.new-entries.ensures.items;
+  settled = λ clean is. stays_here (state g.S.Store c.args.conn.now) is;
+  entries = λ clean is. ap (map (λ (p : Text × Vec ℕ Global). (p.0, p.1.items))) c.new-entries.ensures.items;
 }
-
-pub append-requires : goal.append-requires
-append-requires g c clean = (c.loop-digest.invariant.settled clean).0
 
 pub loop-digest-preserved : goal.loop-digest-preserved
 loop-digest-preserved g c =
@@ -30,32 +27,32 @@ loop-digest-preserved g c =
     let new = state g.S.Store c.append.new.conn in
     record {
       survives = survives_all old mid new _ _ c.loop-digest.invariant.survives c.append.ensures.survives;
-      settled = λ clean.
+      settled = λ clean is.
           let early : HasCleanDisk mid = omega (arith, c.append.ensures.survives.clean) in
-          stays_then old mid new (c.loop-digest.invariant.settled early) (c.in_ok-append.ensures.settled clean (refl {a = false}));
-      entries = λ clean.
+          stays_then old mid new (c.loop-digest.invariant.settled early is) (c.in_ok-append.ensures.settled clean (c.loop-digest.invariant.settled early is).0 (refl {a = false}));
+      entries = λ clean is.
           let early : HasCleanDisk mid = omega (arith, c.append.ensures.survives.clean) in
-          entries_more old.now mid.now c.loop-digest.yielded (c.in-Some.digest, c.in-Some.id) (entries_shown c.loop-digest.entries) (entries_shown c.append.new.entries) (c.loop-digest.invariant.settled early).1 (c.loop-digest.invariant.entries early) (c.in_ok-append.ensures.added clean);
+          entries_more old.now mid.now c.loop-digest.yielded (c.in-Some.digest, c.in-Some.id) (entries_shown c.loop-digest.entries) (entries_shown c.append.new.entries) (c.loop-digest.invariant.settled early is).1 (c.loop-digest.invariant.entries early is) (c.in_ok-append.ensures.added clean (c.loop-digest.invariant.settled early is).0);
     }
 
 pub returns-in_err-append-clause-settled : goal.returns-in_err-append-clause-settled
-returns-in_err-append-clause-settled g c clean unspent =
+returns-in_err-append-clause-settled g c clean is unspent =
     let mid : HasCleanDisk (state g.S.Store c.loop-digest.conn) = omega (arith, c.append.ensures.survives.clean) in
-    stays_then (state g.S.Store c.args.conn.now) (state g.S.Store c.loop-digest.conn) (state g.S.Store c.append.new.conn) (c.loop-digest.invariant.settled mid)
-    (c.append.ensures.settled clean (passed_on c.from_residual.result c.append.result _ c.in_err-append.was c.from_residual.ensures.1 unspent))
+    stays_then (state g.S.Store c.args.conn.now) (state g.S.Store c.loop-digest.conn) (state g.S.Store c.append.new.conn) (c.loop-digest.invariant.settled mid is)
+    (c.append.ensures.settled clean (c.loop-digest.invariant.settled mid is).0 (passed_on c.from_residual.result c.append.result _ c.in_err-append.was c.from_residual.ensures.1 unspent))
 
 pub returns-in_err-append-clause-survives : goal.returns-in_err-append-clause-survives
 returns-in_err-append-clause-survives g c =
     survives_all (state g.S.Store c.args.conn.now) (state g.S.Store c.loop-digest.conn) (state g.S.Store c.append.new.conn) _ _ c.loop-digest.invariant.survives c.append.ensures.survives
 
 pub returns-clause-found : goal.returns-clause-found
-returns-clause-found g c clean =
+returns-clause-found g c clean is =
     let given = c.into_iter-digest-iterator.ensures.into_iter_gives in
     let all = YieldsList-end (YieldsList-from_vec c.args.referrers.items given.0 (given.1 ∙ c.args.referrers.ok.0)) c.loop-digest.yielded c.loop-digest.digest-iterator c.loop-digest.yielded_by c.next.result c.next.new.self c.in-None.is c.next.ensures.steps in
-    entries_whole (state g.S.Store c.args.conn.now).now c.loop-digest.yielded c.args.referrers.items (entries_shown c.loop-digest.entries) (c.loop-digest.invariant.entries clean) all.0
+    entries_whole (state g.S.Store c.args.conn.now).now c.loop-digest.yielded c.args.referrers.items (entries_shown c.loop-digest.entries) (c.loop-digest.invariant.entries clean is) all.0
 
 pub returns-clause-settled : goal.returns-clause-settled
-returns-clause-settled g c clean unspent = c.loop-digest.invariant.settled clean
+returns-clause-settled g c clean is unspent = c.loop-digest.invariant.settled clean is
 
 pub returns-clause-survives : goal.returns-clause-survives
 returns-clause-survives g c = c.loop-digest.invariant.survives

@@ -4,7 +4,7 @@ use Rattle.sqlite.specs.State.{HasCleanDisk, Survives}
 use Rattle.sqlite.specs.Held.{state}
 use Rattle.registry_model.specs.Keeping.{entries_shown}
 use Rattle.store_world.specs.World.{content_at}
-use Rattle.store_statements.specs.Held.{StaysSettled, held}
+use Rattle.store_statements.specs.Held.{IsSettled, StaysSettled, held}
 use Rattle.store_reads.proofs.referrers.with_bytes.Given as goal
 
 -- nothing has changed, and those so far have their bytes
@@ -14,6 +14,6 @@ invariant-loop-digest g l =
     let now = state g.S.Store l.conn in
     record {
       survives : Survives old now (λ _. ⊤);
-      settled : HasCleanDisk now → StaysSettled old now;
-      entries : HasCleanDisk now → entries_shown l.entries ≡ map (λ referrer. (referrer.0, content_at (held old).contents referrer.1.id)) l.yielded;
+      settled : HasCleanDisk now → IsSettled old → StaysSettled old now;
+      entries : HasCleanDisk now → IsSettled old → entries_shown l.entries ≡ map (λ referrer. (referrer.0, content_at (held old).contents referrer.1.id)) l.yielded;
     }

@@ -9,23 +9,19 @@ use Rattle.store_reads.proofs.NamedUsages.{all_shown}
 use Rattle.store_reads.proofs.repo_usages.usages.Goals as goal
 
 pub returns-in_err-names-clause-settled : goal.returns-in_err-names-clause-settled
-returns-in_err-names-clause-settled g c clean unspent = c.list_repos.ensures.settled clean (passed_on c.from_residual.result c.list_repos.result _ c.in_err-names.was c.from_residual.ensures.1 unspent)
-
-pub usages_named-requires : goal.usages_named-requires
-usages_named-requires g c clean = (c.in_ok-names.ensures.settled clean (refl {a = false})).0
+returns-in_err-names-clause-settled g c clean is unspent = c.list_repos.ensures.settled clean is (passed_on c.from_residual.result c.list_repos.result _ c.in_err-names.was c.from_residual.ensures.1 unspent)
 
 pub returns-clause-found : goal.returns-clause-found
-returns-clause-found g c clean =
+returns-clause-found g c clean is =
     let old = state g.S.Store c.args.conn.now in
     let mid = state g.S.Store c.list_repos.new.conn in
     let late : HasCleanDisk mid = omega (arith, c.usages_named.ensures.survives.clean) in
-    let early : HasCleanDisk old = omega (arith, c.usages_named.ensures.survives.clean, c.list_repos.ensures.survives.clean) in
-    IfOk-weaker c.usages_named.result _ _ (λ all h. all_shown old mid c.in_ok-names.names.items all.items (registry old (c.requires early)) (c.in_ok-names.ensures.settled late (refl {a = false})).1 (c.in_ok-names.ensures.found late) h) (c.usages_named.ensures.found clean)
+    IfOk-weaker c.usages_named.result _ _ (λ all h. all_shown old mid c.in_ok-names.names.items all.items (registry old is) (c.in_ok-names.ensures.settled late is (refl {a = false})).1 (c.in_ok-names.ensures.found late is) h) (c.usages_named.ensures.found clean (c.in_ok-names.ensures.settled late is (refl {a = false})).0)
 
 pub returns-clause-settled : goal.returns-clause-settled
-returns-clause-settled g c clean unspent =
+returns-clause-settled g c clean is unspent =
     let mid : HasCleanDisk (state g.S.Store c.list_repos.new.conn) = omega (arith, c.usages_named.ensures.survives.clean) in
-    stays_then (state g.S.Store c.args.conn.now) (state g.S.Store c.list_repos.new.conn) (state g.S.Store c.usages_named.new.conn) (c.in_ok-names.ensures.settled mid (refl {a = false})) (c.usages_named.ensures.settled clean unspent)
+    stays_then (state g.S.Store c.args.conn.now) (state g.S.Store c.list_repos.new.conn) (state g.S.Store c.usages_named.new.conn) (c.in_ok-names.ensures.settled mid is (refl {a = false})) (c.usages_named.ensures.settled clean (c.in_ok-names.ensures.settled mid is (refl {a = false})).0 unspent)
 
 pub returns-clause-survives : goal.returns-clause-survives
 returns-clause-survives g c =

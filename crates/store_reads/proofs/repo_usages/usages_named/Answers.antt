@@ -15,12 +15,9 @@ use Rattle.store_reads.proofs.repo_usages.usages_named.Goals as goal
 pub loop-repo-init : goal.loop-repo-init
 loop-repo-init g c = record {
   survives = survives_here (state g.S.Store c.args.conn.now);
-  settled = λ clean. stays_here (state g.S.Store c.args.conn.now) (c.requires clean);
-  usages = λ clean. c.new-all.ensures.items;
+  settled = λ clean is. stays_here (state g.S.Store c.args.conn.now) is;
+  usages = λ clean is. c.new-all.ensures.items;
 }
-
-pub push_usage-requires : goal.push_usage-requires
-push_usage-requires g c clean = (c.loop-repo.invariant.settled clean).0
 
 pub loop-repo-preserved : goal.loop-repo-preserved
 loop-repo-preserved g c =
@@ -29,33 +26,33 @@ loop-repo-preserved g c =
     let new = state g.S.Store c.push_usage.new.conn in
     record {
       survives = survives_all old mid new _ _ c.loop-repo.invariant.survives c.push_usage.ensures.survives;
-      settled = λ clean.
+      settled = λ clean is.
           let early : HasCleanDisk mid = omega (arith, c.push_usage.ensures.survives.clean) in
-          stays_then old mid new (c.loop-repo.invariant.settled early) (c.in_ok-push_usage.ensures.settled clean (refl {a = false}));
-      usages = λ clean.
+          stays_then old mid new (c.loop-repo.invariant.settled early is) (c.in_ok-push_usage.ensures.settled clean (c.loop-repo.invariant.settled early is).0 (refl {a = false}));
+      usages = λ clean is.
           let early : HasCleanDisk mid = omega (arith, c.push_usage.ensures.survives.clean) in
-          one_more_named old mid c.in-Some.repo c.loop-repo.yielded c.loop-repo.all.items c.push_usage.new.all.items (c.loop-repo.invariant.settled early).1 (c.loop-repo.invariant.usages early) (c.in_ok-push_usage.ensures.added clean);
+          one_more_named old mid c.in-Some.repo c.loop-repo.yielded c.loop-repo.all.items c.push_usage.new.all.items (c.loop-repo.invariant.settled early is).1 (c.loop-repo.invariant.usages early is) (c.in_ok-push_usage.ensures.added clean (c.loop-repo.invariant.settled early is).0);
     }
 
 pub returns-in_err-push_usage-clause-settled : goal.returns-in_err-push_usage-clause-settled
-returns-in_err-push_usage-clause-settled g c clean unspent =
+returns-in_err-push_usage-clause-settled g c clean is unspent =
     let mid : HasCleanDisk (state g.S.Store c.loop-repo.conn) = omega (arith, c.push_usage.ensures.survives.clean) in
-    stays_then (state g.S.Store c.args.conn.now) (state g.S.Store c.loop-repo.conn) (state g.S.Store c.push_usage.new.conn) (c.loop-repo.invariant.settled mid)
-    (c.push_usage.ensures.settled clean (passed_on c.from_residual.result c.push_usage.result _ c.in_err-push_usage.was c.from_residual.ensures.1 unspent))
+    stays_then (state g.S.Store c.args.conn.now) (state g.S.Store c.loop-repo.conn) (state g.S.Store c.push_usage.new.conn) (c.loop-repo.invariant.settled mid is)
+    (c.push_usage.ensures.settled clean (c.loop-repo.invariant.settled mid is).0 (passed_on c.from_residual.result c.push_usage.result _ c.in_err-push_usage.was c.from_residual.ensures.1 unspent))
 
 pub returns-in_err-push_usage-clause-survives : goal.returns-in_err-push_usage-clause-survives
 returns-in_err-push_usage-clause-survives g c =
     survives_all (state g.S.Store c.args.conn.now) (state g.S.Store c.loop-repo.conn) (state g.S.Store c.push_usage.new.conn) _ _ c.loop-repo.invariant.survives c.push_usage.ensures.survives
 
 pub returns-clause-found : goal.returns-clause-found
-returns-clause-found g c clean =
+returns-clause-found g c clean is =
     let gives = c.into_iter-repo-iterator.ensures.into_iter_gives in
     let road = YieldsList-from_vec c.args.names.items gives.0 (search (rules, gives)) in
     let all = YieldsList-end road c.loop-repo.yielded c.loop-repo.repo-iterator c.loop-repo.yielded_by c.next.result c.next.new.self c.in-None.is c.next.ensures.steps in
-    c.loop-repo.invariant.usages clean ∙ ap (map (named_usage (world_in (state g.S.Store c.args.conn.now)))) (sym (map-id c.loop-repo.yielded) ∙ all.0)
+    c.loop-repo.invariant.usages clean is ∙ ap (map (named_usage (world_in (state g.S.Store c.args.conn.now)))) (sym (map-id c.loop-repo.yielded) ∙ all.0)
 
 pub returns-clause-settled : goal.returns-clause-settled
-returns-clause-settled g c clean unspent = c.loop-repo.invariant.settled clean
+returns-clause-settled g c clean is unspent = c.loop-repo.invariant.settled clean is
 
 pub returns-clause-survives : goal.returns-clause-survives
 returns-clause-survives g c = c.loop-repo.invariant.survives

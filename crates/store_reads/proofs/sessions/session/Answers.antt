@@ -8,18 +8,15 @@ use Rattle.store_reads.proofs.SessionBytes.{session_none, session_some}
 use Rattle.store_reads.proofs.sessions.session.Goals as goal
 
 pub returns-in_err-size-clause-settled : goal.returns-in_err-size-clause-settled
-returns-in_err-size-clause-settled g c clean unspent =
-    c.find_upload.ensures.settled clean (passed_on c.from_residual.result c.find_upload.result _ c.in_err-size.was c.from_residual.ensures.1 unspent)
-
-pub session_bytes-requires-clause-settled : goal.session_bytes-requires-clause-settled
-session_bytes-requires-clause-settled g c clean = (c.in_ok-size.ensures.settled clean (refl {a = false})).0
+returns-in_err-size-clause-settled g c clean is unspent =
+    c.find_upload.ensures.settled clean is (passed_on c.from_residual.result c.find_upload.result _ c.in_err-size.was c.from_residual.ensures.1 unspent)
 
 pub returns-in_err-session_bytes-in-Some-clause-settled :
     goal.returns-in_err-session_bytes-in-Some-clause-settled
-returns-in_err-session_bytes-in-Some-clause-settled g c clean unspent =
+returns-in_err-session_bytes-in-Some-clause-settled g c clean is unspent =
     let mid : HasCleanDisk (state g.S.Store c.find_upload.new.conn) = omega (arith, c.session_bytes.ensures.survives.clean) in
-    stays_then (state g.S.Store c.args.conn.now) (state g.S.Store c.find_upload.new.conn) (state g.S.Store c.session_bytes.new.conn) (c.in_ok-size.ensures.settled mid (refl {a = false}))
-    (c.session_bytes.ensures.settled clean (passed_on c.from_residual-in_err-session_bytes-in-Some.result c.session_bytes.result _ c.in_err-session_bytes-in-Some.was c.from_residual-in_err-session_bytes-in-Some.ensures.1 unspent))
+    stays_then (state g.S.Store c.args.conn.now) (state g.S.Store c.find_upload.new.conn) (state g.S.Store c.session_bytes.new.conn) (c.in_ok-size.ensures.settled mid is (refl {a = false}))
+    (c.session_bytes.ensures.settled clean (c.in_ok-size.ensures.settled mid is (refl {a = false})).0 (passed_on c.from_residual-in_err-session_bytes-in-Some.result c.session_bytes.result _ c.in_err-session_bytes-in-Some.was c.from_residual-in_err-session_bytes-in-Some.ensures.1 unspent))
 
 pub returns-in_err-session_bytes-in-Some-clause-survives :
     goal.returns-in_err-session_bytes-in-Some-clause-survives
@@ -28,18 +25,17 @@ returns-in_err-session_bytes-in-Some-clause-survives g c =
 
 pub returns-in_ok-session_bytes-in-Some-clause-found :
     goal.returns-in_ok-session_bytes-in-Some-clause-found
-returns-in_ok-session_bytes-in-Some-clause-found g c clean =
+returns-in_ok-session_bytes-in-Some-clause-found g c clean is =
     let mid : HasCleanDisk (state g.S.Store c.find_upload.new.conn) = omega (arith, c.session_bytes.ensures.survives.clean) in
-    let early : HasCleanDisk (state g.S.Store c.args.conn.now) = omega (arith, c.session_bytes.ensures.survives.clean, c.find_upload.ensures.survives.clean) in
     session_some (state g.S.Store c.args.conn.now).now (state g.S.Store c.find_upload.new.conn).now c.args.repo.now c.as_str-repo.result.now c.args.number c.in-Some.size c.in_ok-size.field-0 c.in_ok-session_bytes-in-Some.field-0.items
-    (registry (state g.S.Store c.args.conn.now) (c.requires.settled early)) c.as_str-repo.ensures.text (c.in_ok-size.ensures.settled mid (refl {a = false})).1 c.in-Some.is (c.in_ok-size.ensures.found mid) (c.in_ok-session_bytes-in-Some.ensures.found clean)
+    (registry (state g.S.Store c.args.conn.now) is) c.as_str-repo.ensures.text (c.in_ok-size.ensures.settled mid is (refl {a = false})).1 c.in-Some.is (c.in_ok-size.ensures.found mid is) (c.in_ok-session_bytes-in-Some.ensures.found clean (c.in_ok-size.ensures.settled mid is (refl {a = false})).0)
 
 pub returns-in_ok-session_bytes-in-Some-clause-settled :
     goal.returns-in_ok-session_bytes-in-Some-clause-settled
-returns-in_ok-session_bytes-in-Some-clause-settled g c clean unspent =
+returns-in_ok-session_bytes-in-Some-clause-settled g c clean is unspent =
     let mid : HasCleanDisk (state g.S.Store c.find_upload.new.conn) = omega (arith, c.session_bytes.ensures.survives.clean) in
-    stays_then (state g.S.Store c.args.conn.now) (state g.S.Store c.find_upload.new.conn) (state g.S.Store c.session_bytes.new.conn) (c.in_ok-size.ensures.settled mid (refl {a = false}))
-    (c.in_ok-session_bytes-in-Some.ensures.settled clean (refl {a = false}))
+    stays_then (state g.S.Store c.args.conn.now) (state g.S.Store c.find_upload.new.conn) (state g.S.Store c.session_bytes.new.conn) (c.in_ok-size.ensures.settled mid is (refl {a = false}))
+    (c.in_ok-session_bytes-in-Some.ensures.settled clean (c.in_ok-size.ensures.settled mid is (refl {a = false})).0 (refl {a = false}))
 
 pub returns-in_ok-session_bytes-in-Some-clause-survives :
     goal.returns-in_ok-session_bytes-in-Some-clause-survives
@@ -47,7 +43,6 @@ returns-in_ok-session_bytes-in-Some-clause-survives g c =
     survives_all (state g.S.Store c.args.conn.now) (state g.S.Store c.find_upload.new.conn) (state g.S.Store c.session_bytes.new.conn) _ _ c.find_upload.ensures.survives c.session_bytes.ensures.survives
 
 pub returns-in-None-clause-found : goal.returns-in-None-clause-found
-returns-in-None-clause-found g c clean =
-    let early : HasCleanDisk (state g.S.Store c.args.conn.now) = omega (arith, c.find_upload.ensures.survives.clean) in
+returns-in-None-clause-found g c clean is =
     session_none (state g.S.Store c.args.conn.now).now c.args.repo.now c.as_str-repo.result.now c.args.number c.in_ok-size.field-0
-    (registry (state g.S.Store c.args.conn.now) (c.requires.settled early)) c.as_str-repo.ensures.text c.in-None.is (c.in_ok-size.ensures.found clean)
+    (registry (state g.S.Store c.args.conn.now) is) c.as_str-repo.ensures.text c.in-None.is (c.in_ok-size.ensures.found clean is)

@@ -8,22 +8,19 @@ use Rattle.store_reads.proofs.SessionBytes.{pieces_joined}
 use Rattle.store_reads.proofs.sessions.session_bytes.Goals as goal
 
 pub returns-in_err-ids-clause-settled : goal.returns-in_err-ids-clause-settled
-returns-in_err-ids-clause-settled g c clean unspent =
-    c.pieces_in_order.ensures.settled clean (passed_on c.from_residual.result c.pieces_in_order.result _ c.in_err-ids.was c.from_residual.ensures.1 unspent)
-
-pub joined-requires : goal.joined-requires
-joined-requires g c clean = (c.in_ok-ids.ensures.settled clean (refl {a = false})).0
+returns-in_err-ids-clause-settled g c clean is unspent =
+    c.pieces_in_order.ensures.settled clean is (passed_on c.from_residual.result c.pieces_in_order.result _ c.in_err-ids.was c.from_residual.ensures.1 unspent)
 
 pub returns-clause-found : goal.returns-clause-found
-returns-clause-found g c clean =
+returns-clause-found g c clean is =
     let mid : HasCleanDisk (state g.S.Store c.pieces_in_order.new.conn) = omega (arith, c.joined.ensures.survives.clean) in
-    pieces_joined (state g.S.Store c.args.conn.now).now (state g.S.Store c.pieces_in_order.new.conn).now _ c.deref.result.now c.joined.result (c.in_ok-ids.ensures.settled mid (refl {a = false})).1
-    (c.deref.ensures.value ∙ c.in_ok-ids.ensures.found mid) (c.joined.ensures.found clean)
+    pieces_joined (state g.S.Store c.args.conn.now).now (state g.S.Store c.pieces_in_order.new.conn).now _ c.deref.result.now c.joined.result (c.in_ok-ids.ensures.settled mid is (refl {a = false})).1
+    (c.deref.ensures.value ∙ c.in_ok-ids.ensures.found mid is) (c.joined.ensures.found clean (c.in_ok-ids.ensures.settled mid is (refl {a = false})).0)
 
 pub returns-clause-settled : goal.returns-clause-settled
-returns-clause-settled g c clean unspent =
+returns-clause-settled g c clean is unspent =
     let mid : HasCleanDisk (state g.S.Store c.pieces_in_order.new.conn) = omega (arith, c.joined.ensures.survives.clean) in
-    stays_then (state g.S.Store c.args.conn.now) (state g.S.Store c.pieces_in_order.new.conn) (state g.S.Store c.joined.new.conn) (c.in_ok-ids.ensures.settled mid (refl {a = false})) (c.joined.ensures.settled clean unspent)
+    stays_then (state g.S.Store c.args.conn.now) (state g.S.Store c.pieces_in_order.new.conn) (state g.S.Store c.joined.new.conn) (c.in_ok-ids.ensures.settled mid is (refl {a = false})) (c.joined.ensures.settled clean (c.in_ok-ids.ensures.settled mid is (refl {a = false})).0 unspent)
 
 pub returns-clause-survives : goal.returns-clause-survives
 returns-clause-survives g c =

@@ -1,5 +1,4 @@
-use Rattle.std.proofs.Common.{arith, sym}
-use Rattle.sqlite.specs.State.{HasCleanDisk}
+use Rattle.std.proofs.Common.{sym}
 use Rattle.sqlite.specs.Held.{state}
 use Rattle.store_world.proofs.Tags.{tag_at_found}
 use Rattle.store_statements.specs.Held.{held}
@@ -8,6 +7,5 @@ use Rattle.store_reads.proofs.WorldReads.{told}
 use Rattle.store_reads.proofs.tags.tag.Goals as goal
 
 pub returns-clause-found : goal.returns-clause-found
-returns-clause-found g c clean =
-    let early : HasCleanDisk (state g.S.Store c.args.conn.now) = omega (arith, c.find_tag.ensures.survives.clean) in
-    told c.find_tag.result _ _ (sym (tag_at_found (held (state g.S.Store c.args.conn.now)) c.args.repo.now c.args.tag.now (registry (state g.S.Store c.args.conn.now) (c.requires early)))) (rw (c.as_str.ensures.text, c.as_str-2.ensures.text) at (c.find_tag.ensures.found clean))
+returns-clause-found g c clean is =
+    told c.find_tag.result _ _ (sym (tag_at_found (held (state g.S.Store c.args.conn.now)) c.args.repo.now c.args.tag.now (registry (state g.S.Store c.args.conn.now) is))) (rw (c.as_str.ensures.text, c.as_str-2.ensures.text) at (c.find_tag.ensures.found clean is))

@@ -1,6 +1,5 @@
-use Rattle.std.proofs.Common.{arith, length, ap, sym}
+use Rattle.std.proofs.Common.{length, ap, sym}
 use Rattle.std.specs.Prelude.{option_map}
-use Rattle.sqlite.specs.State.{HasCleanDisk}
 use Rattle.sqlite.specs.Held.{state}
 use Rattle.store_world.proofs.SessionReads.{session_size_found}
 use Rattle.store_statements.specs.Held.{held}
@@ -9,9 +8,8 @@ use Rattle.store_reads.proofs.WorldReads.{told}
 use Rattle.store_reads.proofs.uploads.session_size.Goals as goal
 
 pub returns-then-number-le-LARGEST-clause-found : goal.returns-then-number-le-LARGEST-clause-found
-returns-then-number-le-LARGEST-clause-found g c clean =
-    let early : HasCleanDisk (state g.S.Store c.args.conn.now) = omega (arith, c.find_upload.ensures.survives.clean) in
-    told c.find_upload.result _ _ (sym (session_size_found (held (state g.S.Store c.args.conn.now)) c.args.repo.now c.args.number (registry (state g.S.Store c.args.conn.now) (c.requires early)))) (rw c.as_str.ensures.text at (c.find_upload.ensures.found clean))
+returns-then-number-le-LARGEST-clause-found g c clean is =
+    told c.find_upload.result _ _ (sym (session_size_found (held (state g.S.Store c.args.conn.now)) c.args.repo.now c.args.number (registry (state g.S.Store c.args.conn.now) is))) (rw c.as_str.ensures.text at (c.find_upload.ensures.found clean is))
 
 pub returns-in-Ok-clause-found : goal.returns-in-Ok-clause-found
-returns-in-Ok-clause-found g c clean = ap (option_map length) (sym (c.in-Ok.ensures.found clean))
+returns-in-Ok-clause-found g c clean is = ap (option_map length) (sym (c.in-Ok.ensures.found clean is))

@@ -1,5 +1,4 @@
-use Rattle.std.proofs.Common.{◌∙◌, arith, sym}
-use Rattle.sqlite.specs.State.{HasCleanDisk}
+use Rattle.std.proofs.Common.{◌∙◌, sym}
 use Rattle.sqlite.specs.Held.{state}
 use Rattle.store_world.proofs.SessionReads.{sessions_open_found}
 use Rattle.store_statements.specs.Held.{held}
@@ -7,6 +6,5 @@ use Rattle.store_statements.proofs.Transactions.{registry}
 use Rattle.store_reads.proofs.uploads.sessions_open.Goals as goal
 
 pub returns-in-Ok-clause-found : goal.returns-in-Ok-clause-found
-returns-in-Ok-clause-found g c clean =
-    let early : HasCleanDisk (state g.S.Store c.args.conn.now) = omega (arith, c.count_uploads.ensures.survives.clean) in
-    rw c.as_str.ensures.text at (c.in-Ok.ensures.found clean) ∙ sym (sessions_open_found (held (state g.S.Store c.args.conn.now)) c.args.repo.now (registry (state g.S.Store c.args.conn.now) (c.requires early)))
+returns-in-Ok-clause-found g c clean is =
+    rw c.as_str.ensures.text at (c.in-Ok.ensures.found clean is) ∙ sym (sessions_open_found (held (state g.S.Store c.args.conn.now)) c.args.repo.now (registry (state g.S.Store c.args.conn.now) is))

@@ -1,28 +1,24 @@
-use Rattle.std.proofs.Common.{[], ◌∷◌, arith}
-use Rattle.sqlite.specs.State.{HasCleanDisk}
+use Rattle.std.proofs.Common.{[], ◌∷◌}
 use Rattle.sqlite.specs.Held.{state}
 use Rattle.sqlite.specs.declared.types.Value.TheVariants.{Text}
-use Rattle.store_schema.proofs.Selects.{leaves_all, query_survives}
+use Rattle.store_schema.proofs.Selects.{leaves_all}
 use Rattle.store_statements.specs.BlobTexts.{blob_sizes}
+use Rattle.store_contents.proofs.Lasting.{lasts}
 use Rattle.store_statements.proofs.Selected.{leaves_failed}
 use Rattle.store_statements.proofs.BlobRows.{size_rows}
 use Rattle.store_statements.proofs.blobs.blob_size_rows.Goals as goal
 
 pub returns-clause-shown : goal.returns-clause-shown
-returns-clause-shown g c clean =
-    let early : HasCleanDisk (state g.S.Store c.args.conn.now) = omega (arith, c.query_all.ensures.survives.clean) in
-    size_rows c.args.repo.now (state g.S.Store c.args.conn.now) (state g.S.Store c.query_all.new.self) c.query_all.result (c.requires early).holds (rw c.params-to_sql.ensures at (c.query_all.ensures.ok clean))
+returns-clause-shown g c clean is =
+    size_rows c.args.repo.now (state g.S.Store c.args.conn.now) (state g.S.Store c.query_all.new.self) c.query_all.result is.holds (rw c.params-to_sql.ensures at (c.query_all.ensures.ok clean))
 
 pub returns-clause-same : goal.returns-clause-same
-returns-clause-same g c clean =
-    let early : HasCleanDisk (state g.S.Store c.args.conn.now) = omega (arith, c.query_all.ensures.survives.clean) in
-    leaves_all blob_sizes (Text c.args.repo.now ∷ []) (state g.S.Store c.args.conn.now) (state g.S.Store c.query_all.new.self) c.query_all.result (c.requires early).holds.known.blob_texts.sizes.plain (rw c.params-to_sql.ensures at (c.query_all.ensures.ok clean))
+returns-clause-same g c clean is =
+    leaves_all blob_sizes (Text c.args.repo.now ∷ []) (state g.S.Store c.args.conn.now) (state g.S.Store c.query_all.new.self) c.query_all.result is.holds.known.blob_texts.sizes.plain (rw c.params-to_sql.ensures at (c.query_all.ensures.ok clean))
 
 pub returns-clause-err : goal.returns-clause-err
-returns-clause-err g c clean =
-    let early : HasCleanDisk (state g.S.Store c.args.conn.now) = omega (arith, c.query_all.ensures.survives.clean) in
-    leaves_failed blob_sizes (Text c.args.repo.now ∷ []) (state g.S.Store c.args.conn.now) (state g.S.Store c.query_all.new.self) c.query_all.result (c.requires early).holds.known.blob_texts.sizes.plain (rw c.params-to_sql.ensures at (c.query_all.ensures.err clean))
+returns-clause-err g c clean is =
+    leaves_failed blob_sizes (Text c.args.repo.now ∷ []) (state g.S.Store c.args.conn.now) (state g.S.Store c.query_all.new.self) c.query_all.result is.holds.known.blob_texts.sizes.plain (rw c.params-to_sql.ensures at (c.query_all.ensures.err clean))
 
 pub returns-clause-survives : goal.returns-clause-survives
-returns-clause-survives g c =
-    query_survives blob_sizes (Text c.args.repo.now ∷ []) (state g.S.Store c.args.conn.now) (state g.S.Store c.query_all.new.self) (λ early. (c.requires early).holds.known.blob_texts.sizes.plain) (rw c.params-to_sql.ensures at c.query_all.ensures.survives)
+returns-clause-survives g c = lasts (state g.S.Store c.args.conn.now) (state g.S.Store c.query_all.new.self) _ c.query_all.ensures.survives

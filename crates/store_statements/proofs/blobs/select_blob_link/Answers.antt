@@ -8,14 +8,14 @@ use Rattle.store_statements.proofs.Selected.{none_shown, some_shown, number_read
 use Rattle.store_statements.proofs.blobs.select_blob_link.Goals as goal
 
 pub returns-in-Some-clause-found : goal.returns-in-Some-clause-found
-returns-in-Some-clause-found g c clean =
+returns-in-Some-clause-found g c clean is =
     let first : Some c.in-Some.row.now ≡ slice_get c.in_ok-rows.rows.items 0 = search rules in
     let range : SFits w64 c.in_ok-id-in-Some.id = search rules in
     let content : c.new-content.result ≡ content_named 1 c.in-Some.row.now = ap (λ n. record { id = n }) (c.new-content.ensures ∙ to_z-of_z w64 c.in_ok-id-in-Some.id range ∙ ap integer (sym c.in_ok-id-in-Some.ensures.ok.1)) in
     ap₂ (λ size (content : ContentId). Some (record { size = size; content = content })) (number_read c.in-Some.row.now 0 c.in_ok-size-in-Some.size c.in_ok-size-in-Some.ensures.ok.1) content
-    ∙ some_shown (λ r. column r 3 ∷ column r 4 ∷ []) blob_link (λ r. record { size = natural_at r 0; content = content_named 1 r }) _ c.in_ok-rows.rows.items c.in-Some.row.now (λ r i. blob_link r) (c.in_ok-rows.ensures.shown clean) first
+    ∙ some_shown (λ r. column r 3 ∷ column r 4 ∷ []) blob_link (λ r. record { size = natural_at r 0; content = content_named 1 r }) _ c.in_ok-rows.rows.items c.in-Some.row.now (λ r i. blob_link r) (c.in_ok-rows.ensures.shown clean is) first
 
 pub returns-clause-found : goal.returns-clause-found
-returns-clause-found g c clean =
+returns-clause-found g c clean is =
     let first : None ≡ slice_get c.in_ok-rows.rows.items 0 = search rules in
-    none_shown _ blob_link _ c.in_ok-rows.rows.items (c.in_ok-rows.ensures.shown clean) first
+    none_shown _ blob_link _ c.in_ok-rows.rows.items (c.in_ok-rows.ensures.shown clean is) first

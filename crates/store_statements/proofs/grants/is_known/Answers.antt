@@ -8,17 +8,15 @@ use Rattle.store_statements.proofs.GrantReads.{known_by_rows}
 use Rattle.store_statements.proofs.grants.is_known.Goals as goal
 
 pub returns-in-Ok-clause-settled : goal.returns-in-Ok-clause-settled
-returns-in-Ok-clause-settled g c clean unspent =
-    let early : HasCleanDisk (state g.S.Store c.args.conn.now) = omega (arith, c.known_rows.ensures.survives.clean) in
-    stays_read (state g.S.Store c.args.conn.now) (state g.S.Store c.known_rows.new.conn) (c.requires early) (c.in-Ok.ensures.same clean)
+returns-in-Ok-clause-settled g c clean is unspent =
+    stays_read (state g.S.Store c.args.conn.now) (state g.S.Store c.known_rows.new.conn) is (c.in-Ok.ensures.same clean is)
 
 pub returns-in-Err-clause-settled : goal.returns-in-Err-clause-settled
-returns-in-Err-clause-settled g c clean unspent =
+returns-in-Err-clause-settled g c clean is unspent =
     let mid : HasCleanDisk (state g.S.Store c.known_rows.new.conn) = omega (arith, c.checked_fault.ensures.survives.clean) in
-    let early : HasCleanDisk (state g.S.Store c.args.conn.now) = omega (arith, c.checked_fault.ensures.survives.clean, c.known_rows.ensures.survives.clean) in
-    stays_failed (state g.S.Store c.args.conn.now) (state g.S.Store c.known_rows.new.conn) (state g.S.Store c.checked_fault.new.conn) (c.requires early) (c.in-Err.ensures.err mid) (c.checked_fault.ensures.memory clean (is_memory Bool _ unspent))
+    stays_failed (state g.S.Store c.args.conn.now) (state g.S.Store c.known_rows.new.conn) (state g.S.Store c.checked_fault.new.conn) is (c.in-Err.ensures.err mid is) (c.checked_fault.ensures.memory clean (is_memory Bool _ unspent))
 
 pub returns-in-Ok-clause-found : goal.returns-in-Ok-clause-found
-returns-in-Ok-clause-found g c clean =
+returns-in-Ok-clause-found g c clean is =
     let len : vec_len c.in-Ok.rows ≡ length c.in-Ok.rows.items = search rules in
-    ap not c.is_empty.ensures ∙ ap (λ n. not (n == 0)) len ∙ known_by_rows c.args.token.now (state g.S.Store c.args.conn.now) c.in-Ok.rows.items (c.in-Ok.ensures.shown clean)
+    ap not c.is_empty.ensures ∙ ap (λ n. not (n == 0)) len ∙ known_by_rows c.args.token.now (state g.S.Store c.args.conn.now) c.in-Ok.rows.items (c.in-Ok.ensures.shown clean is)

@@ -10,5 +10,5 @@ use Rattle.store_statements.proofs.SelectedRows.{all_of_them}
 use Rattle.store_statements.proofs.manifests.select_manifest_digests.Goals as goal
 
 pub returns-in-Ok-clause-found : goal.returns-in-Ok-clause-found
-returns-in-Ok-clause-found g c clean =
-    all_of_them (λ row. bytes_at row 0) (λ r. column r 2 ∷ []) (sort_by by_second (filter (of_first c.args.repo.now) (held (state g.S.Store c.args.conn.now)).manifests)) c.in-Ok.rows.items c.digests_in.result (c.in-Ok.ensures.shown clean) (rw c.deref.ensures.value at c.digests_in.ensures)
+returns-in-Ok-clause-found g c clean is =
+    all_of_them (λ row. bytes_at row 0) (λ r. column r 2 ∷ []) (sort_by by_second (filter (of_first c.args.repo.now) (held (state g.S.Store c.args.conn.now)).manifests)) c.in-Ok.rows.items c.digests_in.result (c.in-Ok.ensures.shown clean is) (rw c.deref.ensures.value at c.digests_in.ensures)

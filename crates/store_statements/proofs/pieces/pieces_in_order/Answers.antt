@@ -8,12 +8,10 @@ use Rattle.store_statements.proofs.SettledAfter.{stays_read, stays_failed, is_me
 use Rattle.store_statements.proofs.pieces.pieces_in_order.Goals as goal
 
 pub returns-in-Ok-clause-settled : goal.returns-in-Ok-clause-settled
-returns-in-Ok-clause-settled g c clean unspent =
-    let early : HasCleanDisk (state g.S.Store c.args.conn.now) = omega (arith, c.select_pieces.ensures.survives.clean) in
-    stays_read (state g.S.Store c.args.conn.now) (state g.S.Store c.select_pieces.new.conn) (c.requires.settled early) (c.in-Ok.ensures.same clean)
+returns-in-Ok-clause-settled g c clean is unspent =
+    stays_read (state g.S.Store c.args.conn.now) (state g.S.Store c.select_pieces.new.conn) is (c.in-Ok.ensures.same clean is)
 
 pub returns-in-Err-clause-settled : goal.returns-in-Err-clause-settled
-returns-in-Err-clause-settled g c clean unspent =
+returns-in-Err-clause-settled g c clean is unspent =
     let mid : HasCleanDisk (state g.S.Store c.select_pieces.new.conn) = omega (arith, c.checked_fault.ensures.survives.clean) in
-    let early : HasCleanDisk (state g.S.Store c.args.conn.now) = omega (arith, c.checked_fault.ensures.survives.clean, c.select_pieces.ensures.survives.clean) in
-    stays_failed (state g.S.Store c.args.conn.now) (state g.S.Store c.select_pieces.new.conn) (state g.S.Store c.checked_fault.new.conn) (c.requires.settled early) (c.in-Err.ensures.err mid) (c.checked_fault.ensures.memory clean (is_memory (Vec ContentId Global) _ unspent))
+    stays_failed (state g.S.Store c.args.conn.now) (state g.S.Store c.select_pieces.new.conn) (state g.S.Store c.checked_fault.new.conn) is (c.in-Err.ensures.err mid is) (c.checked_fault.ensures.memory clean (is_memory (Vec ContentId Global) _ unspent))

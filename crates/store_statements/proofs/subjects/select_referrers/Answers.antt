@@ -9,5 +9,5 @@ use Rattle.store_statements.proofs.SelectedRows.{all_of_them}
 use Rattle.store_statements.proofs.subjects.select_referrers.Goals as goal
 
 pub returns-in-Ok-clause-found : goal.returns-in-Ok-clause-found
-returns-in-Ok-clause-found g c clean =
-    all_of_them referrer_shown (λ r. column r 2 ∷ column r 6 ∷ []) (sort_by by_second (filter (on_subject c.args.repo.now c.args.digest.now) (held (state g.S.Store c.args.conn.now)).manifests)) c.in-Ok.rows.items c.referrers_in.result (c.in-Ok.ensures.shown clean) (rw c.deref.ensures.value at c.referrers_in.ensures)
+returns-in-Ok-clause-found g c clean is =
+    all_of_them referrer_shown (λ r. column r 2 ∷ column r 6 ∷ []) (sort_by by_second (filter (on_subject c.args.repo.now c.args.digest.now) (held (state g.S.Store c.args.conn.now)).manifests)) c.in-Ok.rows.items c.referrers_in.result (c.in-Ok.ensures.shown clean is) (rw c.deref.ensures.value at c.referrers_in.ensures)

@@ -11,7 +11,7 @@ use Rattle.store_statements.proofs.PageRows.{page_by}
 use Rattle.store_statements.proofs.tag_pages.select_page.Goals as goal
 
 pub returns-in-Ok-clause-found : goal.returns-in-Ok-clause-found
-returns-in-Ok-clause-found g c clean =
+returns-in-Ok-clause-found g c clean is =
     let range : SFits w64 c.rows_for.result = search rules in
     page_by c.args.n c.rows_for.result (λ r. column r 2 ∷ []) (λ row. bytes_at row 0) (sort_by by_second (filter (tag_behind c.args.repo.now c.args.last.now) (held (state g.S.Store c.args.conn.now)).tags)) c.in-Ok.rows.items c.page_in.result
-    c.rows_for.ensures (rw (to_z-of_z w64 c.rows_for.result range) at (c.in-Ok.ensures.shown clean)) (rw c.deref.ensures.value at c.page_in.ensures)
+    c.rows_for.ensures (rw (to_z-of_z w64 c.rows_for.result range) at (c.in-Ok.ensures.shown clean is)) (rw c.deref.ensures.value at c.page_in.ensures)

@@ -8,6 +8,6 @@ use Rattle.store_statements.proofs.SelectedRows.{counted}
 use Rattle.store_statements.proofs.tags.select_count.Goals as goal
 
 pub returns-in-Ok-clause-found : goal.returns-in-Ok-clause-found
-returns-in-Ok-clause-found g c clean =
+returns-in-Ok-clause-found g c clean is =
     let len : vec_len c.in-Ok.rows ≡ length c.in-Ok.rows.items = search rules in
-    c.len.ensures ∙ len ∙ counted (λ r. column r 2 ∷ []) (filter (of_first c.args.repo.now) (held (state g.S.Store c.args.conn.now)).tags) c.in-Ok.rows.items (c.in-Ok.ensures.shown clean)
+    c.len.ensures ∙ len ∙ counted (λ r. column r 2 ∷ []) (filter (of_first c.args.repo.now) (held (state g.S.Store c.args.conn.now)).tags) c.in-Ok.rows.items (c.in-Ok.ensures.shown clean is)

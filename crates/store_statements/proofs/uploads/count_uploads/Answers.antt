@@ -10,17 +10,15 @@ use Rattle.store_statements.proofs.SettledAfter.{stays_read, stays_failed, is_me
 use Rattle.store_statements.proofs.uploads.count_uploads.Goals as goal
 
 pub returns-in-Ok-clause-settled : goal.returns-in-Ok-clause-settled
-returns-in-Ok-clause-settled g c clean unspent =
-    let early : HasCleanDisk (state g.S.Store c.args.conn.now) = omega (arith, c.upload_size_rows.ensures.survives.clean) in
-    stays_read (state g.S.Store c.args.conn.now) (state g.S.Store c.upload_size_rows.new.conn) (c.requires early) (c.in-Ok.ensures.same clean)
+returns-in-Ok-clause-settled g c clean is unspent =
+    stays_read (state g.S.Store c.args.conn.now) (state g.S.Store c.upload_size_rows.new.conn) is (c.in-Ok.ensures.same clean is)
 
 pub returns-in-Err-clause-settled : goal.returns-in-Err-clause-settled
-returns-in-Err-clause-settled g c clean unspent =
+returns-in-Err-clause-settled g c clean is unspent =
     let mid : HasCleanDisk (state g.S.Store c.upload_size_rows.new.conn) = omega (arith, c.checked_fault.ensures.survives.clean) in
-    let early : HasCleanDisk (state g.S.Store c.args.conn.now) = omega (arith, c.checked_fault.ensures.survives.clean, c.upload_size_rows.ensures.survives.clean) in
-    stays_failed (state g.S.Store c.args.conn.now) (state g.S.Store c.upload_size_rows.new.conn) (state g.S.Store c.checked_fault.new.conn) (c.requires early) (c.in-Err.ensures.err mid) (c.checked_fault.ensures.memory clean (is_memory ℕ _ unspent))
+    stays_failed (state g.S.Store c.args.conn.now) (state g.S.Store c.upload_size_rows.new.conn) (state g.S.Store c.checked_fault.new.conn) is (c.in-Err.ensures.err mid is) (c.checked_fault.ensures.memory clean (is_memory ℕ _ unspent))
 
 pub returns-in-Ok-clause-found : goal.returns-in-Ok-clause-found
-returns-in-Ok-clause-found g c clean =
+returns-in-Ok-clause-found g c clean is =
     let len : vec_len c.in-Ok.rows ≡ length c.in-Ok.rows.items = search rules in
-    c.len.ensures ∙ len ∙ counted (λ r. column r 3 ∷ []) (filter (of_first c.args.repo.now) (held (state g.S.Store c.args.conn.now)).uploads) c.in-Ok.rows.items (c.in-Ok.ensures.shown clean)
+    c.len.ensures ∙ len ∙ counted (λ r. column r 3 ∷ []) (filter (of_first c.args.repo.now) (held (state g.S.Store c.args.conn.now)).uploads) c.in-Ok.rows.items (c.in-Ok.ensures.shown clean is)

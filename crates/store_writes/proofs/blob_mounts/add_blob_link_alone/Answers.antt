@@ -11,29 +11,29 @@ use Rattle.store_writes.proofs.PutLemmas.{commits_there, link_came}
 use Rattle.store_writes.proofs.blob_mounts.add_blob_link_alone.Goals as goal
 
 pub returns-in-Ok-clause-committed : goal.returns-in-Ok-clause-committed
-returns-in-Ok-clause-committed g c clean =
+returns-in-Ok-clause-committed g c free clean is =
     let begun = c.transaction-tx.ensures.begun in
     let same = c.conn-2-1.given.1 (sym (c.add_blob_link.ensures.same_reference ∙ c.transaction-tx.ensures.same_reference)) in
     let late : HasCleanDisk (state g.S.Store c.commit.new.self.0) = rw same at clean in
     let mid : HasCleanDisk (state g.S.Store c.add_blob_link.new.tx.conn.now) = omega (arith, c.commit.ensures.survives.clean) in
     let first : HasCleanDisk (state g.S.Store c.transaction-tx.result.conn.now) = omega (arith, c.add_blob_link.ensures.survives.clean) in
-    let settled = c.requires.settled (rw begun at first) in
+    let settled = is in
     let set : IsReady (state g.S.Store c.transaction-tx.result.conn.now) = rw begun (ready (state g.S.Store c.args.conn.now) settled) in
-    let none : find (has_key c.args.repo.now c.args.digest.now) (held (state g.S.Store c.transaction-tx.result.conn.now)).blobs ≡ None = rw begun (c.requires.fresh (rw begun at first)) in
+    let none : find (has_key c.args.repo.now c.args.digest.now) (held (state g.S.Store c.transaction-tx.result.conn.now)).blobs ≡ None = rw begun (free (rw begun at first)) in
     let it = c.in_ok-add_blob_link.ensures.added mid set none in
     rw same (commits_there (state g.S.Store c.add_blob_link.new.tx.conn.now) (state g.S.Store c.commit.new.self.0) (λ t. LinkIsPut (held (state g.S.Store c.transaction-tx.result.conn.now)) t c.args.repo.now c.args.digest.now c.args.size c.args.content.id)
     it.ready (link_came (state g.S.Store c.transaction-tx.result.conn.now) (state g.S.Store c.add_blob_link.new.tx.conn.now) c.args.repo.now c.args.digest.now c.args.size c.args.content.id it) (c.in-Ok.ensures.ok late).1).0
 
 pub returns-in-Ok-clause-put : goal.returns-in-Ok-clause-put
-returns-in-Ok-clause-put g c clean =
+returns-in-Ok-clause-put g c free clean is =
     let begun = c.transaction-tx.ensures.begun in
     let same = c.conn-2-1.given.1 (sym (c.add_blob_link.ensures.same_reference ∙ c.transaction-tx.ensures.same_reference)) in
     let late : HasCleanDisk (state g.S.Store c.commit.new.self.0) = rw same at clean in
     let mid : HasCleanDisk (state g.S.Store c.add_blob_link.new.tx.conn.now) = omega (arith, c.commit.ensures.survives.clean) in
     let first : HasCleanDisk (state g.S.Store c.transaction-tx.result.conn.now) = omega (arith, c.add_blob_link.ensures.survives.clean) in
-    let settled = c.requires.settled (rw begun at first) in
+    let settled = is in
     let set : IsReady (state g.S.Store c.transaction-tx.result.conn.now) = rw begun (ready (state g.S.Store c.args.conn.now) settled) in
-    let none : find (has_key c.args.repo.now c.args.digest.now) (held (state g.S.Store c.transaction-tx.result.conn.now)).blobs ≡ None = rw begun (c.requires.fresh (rw begun at first)) in
+    let none : find (has_key c.args.repo.now c.args.digest.now) (held (state g.S.Store c.transaction-tx.result.conn.now)).blobs ≡ None = rw begun (free (rw begun at first)) in
     let it = c.in_ok-add_blob_link.ensures.added mid set none in
     let came = link_came (state g.S.Store c.transaction-tx.result.conn.now) (state g.S.Store c.add_blob_link.new.tx.conn.now) c.args.repo.now c.args.digest.now c.args.size c.args.content.id it in
     let put : LinkIsPut (held (state g.S.Store c.args.conn.now)) (held (state g.S.Store c.add_blob_link.new.tx.conn.now)) c.args.repo.now c.args.digest.now c.args.size c.args.content.id = rw begun at came in
@@ -51,27 +51,26 @@ returns-in-Err-clause-survives g c =
     rw same (survives_all (state g.S.Store c.args.conn.now) (state g.S.Store c.add_blob_link.new.tx.conn.now) (state g.S.Store c.commit.new.self.0) _ _ (survives_begin g.S.Store c.args.conn.now (state g.S.Store c.add_blob_link.new.tx.conn.now) _ (rw (c.transaction-tx.ensures.begun) at c.add_blob_link.ensures.survives)) c.commit.ensures.survives)
 
 pub returns-in-Err-clause-back : goal.returns-in-Err-clause-back
-returns-in-Err-clause-back g c clean =
+returns-in-Err-clause-back g c free clean is =
     let begun = c.transaction-tx.ensures.begun in
     let same = c.conn-2-1.given.1 (sym (c.add_blob_link.ensures.same_reference ∙ c.transaction-tx.ensures.same_reference)) in
     let late : HasCleanDisk (state g.S.Store c.commit.new.self.0) = rw same at clean in
     let mid : HasCleanDisk (state g.S.Store c.add_blob_link.new.tx.conn.now) = omega (arith, c.commit.ensures.survives.clean) in
     let first : HasCleanDisk (state g.S.Store c.transaction-tx.result.conn.now) = omega (arith, c.add_blob_link.ensures.survives.clean) in
-    let settled = c.requires.settled (rw begun at first) in
+    let settled = is in
     let set : IsReady (state g.S.Store c.transaction-tx.result.conn.now) = rw begun (ready (state g.S.Store c.args.conn.now) settled) in
-    let none : find (has_key c.args.repo.now c.args.digest.now) (held (state g.S.Store c.transaction-tx.result.conn.now)).blobs ≡ None = rw begun (c.requires.fresh (rw begun at first)) in
+    let none : find (has_key c.args.repo.now c.args.digest.now) (held (state g.S.Store c.transaction-tx.result.conn.now)).blobs ≡ None = rw begun (free (rw begun at first)) in
     let it = c.in_ok-add_blob_link.ensures.added mid set none in
     rw same (back_failed (state g.S.Store c.args.conn.now) (state g.S.Store c.transaction-tx.result.conn.now) (state g.S.Store c.add_blob_link.new.tx.conn.now) (state g.S.Store c.commit.new.self.0) _ settled (rw begun)
     (c.add_blob_link.ensures.kept mid set) it.ready.inside (c.in-Err.ensures.err late))
 
 pub returns-in_err-add_blob_link-clause-back : goal.returns-in_err-add_blob_link-clause-back
-returns-in_err-add_blob_link-clause-back g c clean =
+returns-in_err-add_blob_link-clause-back g c free clean is =
     let begun = c.transaction-tx.ensures.begun in
     let same = c.conn-1.given.1 (sym (c.add_blob_link.ensures.same_reference ∙ c.transaction-tx.ensures.same_reference)) in
     let late : HasCleanDisk (state g.S.Store c.drop-tx.new.self.0) = rw same at clean in
     let mid : HasCleanDisk (state g.S.Store c.add_blob_link.new.tx.conn.now) = omega (arith, c.drop-tx.ensures.survives.clean) in
-    let first : HasCleanDisk (state g.S.Store c.transaction-tx.result.conn.now) = omega (arith, c.add_blob_link.ensures.survives.clean) in
-    let settled = c.requires.settled (rw begun at first) in
+    let settled = is in
     let set : IsReady (state g.S.Store c.transaction-tx.result.conn.now) = rw begun (ready (state g.S.Store c.args.conn.now) settled) in
     told_err c.from_residual.result (rw same (back_dropped (state g.S.Store c.args.conn.now) (state g.S.Store c.transaction-tx.result.conn.now) (state g.S.Store c.add_blob_link.new.tx.conn.now) (state g.S.Store c.drop-tx.new.self.0) settled (rw begun)
     (c.add_blob_link.ensures.kept mid set) (c.drop-tx.ensures.undone late)))

@@ -10,34 +10,29 @@ use Rattle.store_statements.proofs.Transactions.{stays_back, survives_all}
 use Rattle.store_writes.proofs.MountLemmas.{same_tables, no_storage, mounts}
 use Rattle.store_writes.proofs.blob_mounts.mount_link.Goals as goal
 
-pub add_blob_link_alone-requires-clause-settled : goal.add_blob_link_alone-requires-clause-settled
-add_blob_link_alone-requires-clause-settled g c clean = (c.in-Ok-Some.ensures.settled clean refl).0
-
-pub add_blob_link_alone-requires-clause-fresh : goal.add_blob_link_alone-requires-clause-fresh
-add_blob_link_alone-requires-clause-fresh g c clean =
-    let early : HasCleanDisk (state g.S.Store c.args.conn.now) = omega (arith, c.find_blob_link.ensures.survives.clean) in
-    ap (λ (t : Tables). find (has_key c.args.to.now c.args.digest.now) t.blobs) (same_tables (state g.S.Store c.args.conn.now) (state g.S.Store c.find_blob_link.new.conn) (c.in-Ok-Some.ensures.settled clean refl)) ∙ c.requires.fresh early
-
 pub returns-in-Ok-add_blob_link_alone-clause-made : goal.returns-in-Ok-add_blob_link_alone-clause-made
-returns-in-Ok-add_blob_link_alone-clause-made g c clean =
+returns-in-Ok-add_blob_link_alone-clause-made g c there fresh clean is =
     let mid : HasCleanDisk (state g.S.Store c.find_blob_link.new.conn) = omega (arith, c.add_blob_link_alone.ensures.survives.clean) in
     let early : HasCleanDisk (state g.S.Store c.args.conn.now) = omega (arith, c.find_blob_link.ensures.survives.clean) in
-    mounts (state g.S.Store c.args.conn.now) (state g.S.Store c.find_blob_link.new.conn) (state g.S.Store c.add_blob_link_alone.new.conn) c.args.from.now c.args.to.now c.args.digest.now c.in-Ok-Some.link (c.requires.settled early)
-    (c.in-Ok-Some.ensures.settled mid refl) (c.requires.there early) (let e = c.in-Ok-Some.ensures.found mid in let f = c.in-Ok-Some.field-0-is in cc) (c.requires.fresh early) (c.in-Ok-add_blob_link_alone.ensures.committed clean) (c.in-Ok-add_blob_link_alone.ensures.put clean)
+    mounts (state g.S.Store c.args.conn.now) (state g.S.Store c.find_blob_link.new.conn) (state g.S.Store c.add_blob_link_alone.new.conn) c.args.from.now c.args.to.now c.args.digest.now c.in-Ok-Some.link is
+    (c.in-Ok-Some.ensures.settled mid is refl) (there early) (let e = c.in-Ok-Some.ensures.found mid is in let f = c.in-Ok-Some.field-0-is in cc) (fresh early) (c.in-Ok-add_blob_link_alone.ensures.committed (λ clean. let early : HasCleanDisk (state g.S.Store c.args.conn.now) = omega (arith, c.find_blob_link.ensures.survives.clean) in
+    ap (λ (t : Tables). find (has_key c.args.to.now c.args.digest.now) t.blobs) (same_tables (state g.S.Store c.args.conn.now) (state g.S.Store c.find_blob_link.new.conn) (c.in-Ok-Some.ensures.settled clean is refl)) ∙ fresh early) clean (c.in-Ok-Some.ensures.settled mid is refl).0) (c.in-Ok-add_blob_link_alone.ensures.put (λ clean. let early : HasCleanDisk (state g.S.Store c.args.conn.now) = omega (arith, c.find_blob_link.ensures.survives.clean) in
+    ap (λ (t : Tables). find (has_key c.args.to.now c.args.digest.now) t.blobs) (same_tables (state g.S.Store c.args.conn.now) (state g.S.Store c.find_blob_link.new.conn) (c.in-Ok-Some.ensures.settled clean is refl)) ∙ fresh early) clean (c.in-Ok-Some.ensures.settled mid is refl).0)
 
 pub returns-in-Ok-add_blob_link_alone-clause-survives : goal.returns-in-Ok-add_blob_link_alone-clause-survives
 returns-in-Ok-add_blob_link_alone-clause-survives g c = survives_all (state g.S.Store c.args.conn.now) (state g.S.Store c.find_blob_link.new.conn) (state g.S.Store c.add_blob_link_alone.new.conn) _ _ c.find_blob_link.ensures.survives c.add_blob_link_alone.ensures.survives
 
 pub returns-in-Err-add_blob_link_alone-clause-memory : goal.returns-in-Err-add_blob_link_alone-clause-memory
-returns-in-Err-add_blob_link_alone-clause-memory g c clean memory =
+returns-in-Err-add_blob_link_alone-clause-memory g c fresh clean is memory =
     let late : HasCleanDisk (state g.S.Store c.add_blob_link_alone.new.conn) = omega (arith, c.checked_fault.ensures.survives.clean) in
     let mid : HasCleanDisk (state g.S.Store c.find_blob_link.new.conn) = omega (arith, c.add_blob_link_alone.ensures.survives.clean) in
-    let stays = c.in-Ok-Some.ensures.settled mid refl in
-    stays_then (state g.S.Store c.args.conn.now) (state g.S.Store c.find_blob_link.new.conn) (state g.S.Store c.checked_fault.new.conn) stays (stays_back (state g.S.Store c.find_blob_link.new.conn) (state g.S.Store c.add_blob_link_alone.new.conn) (state g.S.Store c.checked_fault.new.conn) stays.0 (c.in-Err-add_blob_link_alone.ensures.back late) (c.checked_fault.ensures.memory clean (let e = memory in cc)))
+    let stays = c.in-Ok-Some.ensures.settled mid is refl in
+    stays_then (state g.S.Store c.args.conn.now) (state g.S.Store c.find_blob_link.new.conn) (state g.S.Store c.checked_fault.new.conn) stays (stays_back (state g.S.Store c.find_blob_link.new.conn) (state g.S.Store c.add_blob_link_alone.new.conn) (state g.S.Store c.checked_fault.new.conn) stays.0 (c.in-Err-add_blob_link_alone.ensures.back (λ clean. let early : HasCleanDisk (state g.S.Store c.args.conn.now) = omega (arith, c.find_blob_link.ensures.survives.clean) in
+    ap (λ (t : Tables). find (has_key c.args.to.now c.args.digest.now) t.blobs) (same_tables (state g.S.Store c.args.conn.now) (state g.S.Store c.find_blob_link.new.conn) (c.in-Ok-Some.ensures.settled clean is refl)) ∙ fresh early) late (c.in-Ok-Some.ensures.settled mid is refl).0) (c.checked_fault.ensures.memory clean (let e = memory in cc)))
 
 pub returns-in-Err-add_blob_link_alone-clause-survives : goal.returns-in-Err-add_blob_link_alone-clause-survives
 returns-in-Err-add_blob_link_alone-clause-survives g c =
     survives_all (state g.S.Store c.args.conn.now) (state g.S.Store c.add_blob_link_alone.new.conn) (state g.S.Store c.checked_fault.new.conn) _ _ (survives_all (state g.S.Store c.args.conn.now) (state g.S.Store c.find_blob_link.new.conn) (state g.S.Store c.add_blob_link_alone.new.conn) _ _ c.find_blob_link.ensures.survives c.add_blob_link_alone.ensures.survives) c.checked_fault.ensures.survives
 
 pub returns-in-Err-clause-memory : goal.returns-in-Err-clause-memory
-returns-in-Err-clause-memory g c clean memory = c.in-Err.ensures.settled clean (no_storage _ (Option BlobLink) c.in-Err.fault memory)
+returns-in-Err-clause-memory g c fresh clean is memory = c.in-Err.ensures.settled clean is (no_storage _ (Option BlobLink) c.in-Err.fault memory)

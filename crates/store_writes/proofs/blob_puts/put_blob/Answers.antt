@@ -11,40 +11,33 @@ use Rattle.store_statements.proofs.Transactions.{survives_all}
 use Rattle.store_writes.proofs.WritesAfterReads.{none_found, stays_after, memory_told}
 use Rattle.store_writes.proofs.blob_puts.put_blob.Goals as goal
 
-pub store_blob_alone-requires-clause-settled : goal.store_blob_alone-requires-clause-settled
-store_blob_alone-requires-clause-settled g c clean = (c.in-Ok-None.ensures.settled clean refl).0
-
-pub store_blob_alone-requires-clause-fresh : goal.store_blob_alone-requires-clause-fresh
-store_blob_alone-requires-clause-fresh g c clean =
-    still_none (state g.S.Store c.args.conn.now) (state g.S.Store c.find_blob_link.new.conn) c.as_str-repo.result.now c.as_str-digest.result.now (c.in-Ok-None.ensures.settled clean refl) (sym c.in-Ok-None.field-0-is ∙ c.in-Ok-None.ensures.found clean)
-
 pub returns-in-Ok-Some-clause-made : goal.returns-in-Ok-Some-clause-made
-returns-in-Ok-Some-clause-made g c clean =
-    rw (c.as_str-repo.ensures.text, c.as_str-digest.ensures.text) at (puts_there (state g.S.Store c.args.conn.now) (state g.S.Store c.find_blob_link.new.conn) c.as_str-repo.result.now c.as_str-digest.result.now c.args.bytes.now c.in-Ok-Some.field-0-0 (c.in-Ok-Some.ensures.settled clean refl)
-    (sym c.in-Ok-Some.field-0-is ∙ c.in-Ok-Some.ensures.found clean))
+returns-in-Ok-Some-clause-made g c there clean is =
+    rw (c.as_str-repo.ensures.text, c.as_str-digest.ensures.text) at (puts_there (state g.S.Store c.args.conn.now) (state g.S.Store c.find_blob_link.new.conn) c.as_str-repo.result.now c.as_str-digest.result.now c.args.bytes.now c.in-Ok-Some.field-0-0 (c.in-Ok-Some.ensures.settled clean is refl)
+    (sym c.in-Ok-Some.field-0-is ∙ c.in-Ok-Some.ensures.found clean is))
 
 pub returns-in-Ok-clause-made : goal.returns-in-Ok-clause-made
-returns-in-Ok-clause-made g c clean =
+returns-in-Ok-clause-made g c there clean is =
     let mid = state g.S.Store c.find_blob_link.new.conn in
     let late : HasCleanDisk mid = omega (arith, c.store_blob_alone.ensures.survives.clean) in
     let early : HasCleanDisk (state g.S.Store c.args.conn.now) = omega (arith, c.store_blob_alone.ensures.survives.clean, c.find_blob_link.ensures.survives.clean) in
-    let none = none_found blob_link (find (has_key c.as_str-repo.result.now c.as_str-digest.result.now) (held (state g.S.Store c.args.conn.now)).blobs) (sym c.in-Ok-None.field-0-is ∙ c.in-Ok-None.ensures.found late) in
-    puts_new (state g.S.Store c.args.conn.now) mid (state g.S.Store c.store_blob_alone.new.conn) c.args.repo.now c.args.digest.now c.args.bytes.now (c.requires.settled early) (c.requires.there early) (c.in-Ok-None.ensures.settled late refl)
-    (rw (c.as_str-repo.ensures.text, c.as_str-digest.ensures.text) at none) (rw (c.as_str-repo.ensures.text, c.as_str-digest.ensures.text) at (c.in-Ok.ensures.made clean))
+    let none = none_found blob_link (find (has_key c.as_str-repo.result.now c.as_str-digest.result.now) (held (state g.S.Store c.args.conn.now)).blobs) (sym c.in-Ok-None.field-0-is ∙ c.in-Ok-None.ensures.found late is) in
+    puts_new (state g.S.Store c.args.conn.now) mid (state g.S.Store c.store_blob_alone.new.conn) c.args.repo.now c.args.digest.now c.args.bytes.now is (there early) (c.in-Ok-None.ensures.settled late is refl)
+    (rw (c.as_str-repo.ensures.text, c.as_str-digest.ensures.text) at none) (rw (c.as_str-repo.ensures.text, c.as_str-digest.ensures.text) at (c.in-Ok.ensures.made (λ clean. still_none (state g.S.Store c.args.conn.now) (state g.S.Store c.find_blob_link.new.conn) c.as_str-repo.result.now c.as_str-digest.result.now (c.in-Ok-None.ensures.settled clean is refl) (sym c.in-Ok-None.field-0-is ∙ c.in-Ok-None.ensures.found clean is)) clean (c.in-Ok-None.ensures.settled late is refl).0))
 
 pub returns-in-Ok-clause-survives : goal.returns-in-Ok-clause-survives
 returns-in-Ok-clause-survives g c = survives_all (state g.S.Store c.args.conn.now) (state g.S.Store c.find_blob_link.new.conn) (state g.S.Store c.store_blob_alone.new.conn) _ _ c.find_blob_link.ensures.survives c.store_blob_alone.ensures.survives
 
 pub returns-in-Err-store_blob_alone-clause-memory : goal.returns-in-Err-store_blob_alone-clause-memory
-returns-in-Err-store_blob_alone-clause-memory g c clean memory =
+returns-in-Err-store_blob_alone-clause-memory g c clean is memory =
     let late : HasCleanDisk (state g.S.Store c.store_blob_alone.new.conn) = omega (arith, c.checked_fault.ensures.survives.clean) in
     let early : HasCleanDisk (state g.S.Store c.find_blob_link.new.conn) = omega (arith, c.checked_fault.ensures.survives.clean, c.store_blob_alone.ensures.survives.clean) in
-    stays_after (state g.S.Store c.args.conn.now) (state g.S.Store c.find_blob_link.new.conn) (state g.S.Store c.store_blob_alone.new.conn) (state g.S.Store c.checked_fault.new.conn) (c.in-Ok-None.ensures.settled early refl)
-    (c.in-Err-store_blob_alone.ensures.back late) (c.checked_fault.ensures.memory clean (let e = memory in cc))
+    stays_after (state g.S.Store c.args.conn.now) (state g.S.Store c.find_blob_link.new.conn) (state g.S.Store c.store_blob_alone.new.conn) (state g.S.Store c.checked_fault.new.conn) (c.in-Ok-None.ensures.settled early is refl)
+    (c.in-Err-store_blob_alone.ensures.back (λ clean. still_none (state g.S.Store c.args.conn.now) (state g.S.Store c.find_blob_link.new.conn) c.as_str-repo.result.now c.as_str-digest.result.now (c.in-Ok-None.ensures.settled clean is refl) (sym c.in-Ok-None.field-0-is ∙ c.in-Ok-None.ensures.found clean is)) late (c.in-Ok-None.ensures.settled early is refl).0) (c.checked_fault.ensures.memory clean (let e = memory in cc))
 
 pub returns-in-Err-store_blob_alone-clause-survives : goal.returns-in-Err-store_blob_alone-clause-survives
 returns-in-Err-store_blob_alone-clause-survives g c =
     survives_all (state g.S.Store c.args.conn.now) (state g.S.Store c.store_blob_alone.new.conn) (state g.S.Store c.checked_fault.new.conn) _ _ (survives_all (state g.S.Store c.args.conn.now) (state g.S.Store c.find_blob_link.new.conn) (state g.S.Store c.store_blob_alone.new.conn) _ _ c.find_blob_link.ensures.survives c.store_blob_alone.ensures.survives) c.checked_fault.ensures.survives
 
 pub returns-in-Err-clause-memory : goal.returns-in-Err-clause-memory
-returns-in-Err-clause-memory g c clean memory = c.in-Err.ensures.settled clean (memory_told (Option BlobLink) c.in-Err.fault memory)
+returns-in-Err-clause-memory g c clean is memory = c.in-Err.ensures.settled clean is (memory_told (Option BlobLink) c.in-Err.fault memory)

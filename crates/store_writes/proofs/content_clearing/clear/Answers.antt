@@ -6,16 +6,14 @@ use Rattle.store_writes.proofs.ContentsFreed.{makes_cleared}
 use Rattle.store_writes.proofs.content_clearing.clear.Goals as goal
 
 pub returns-in-Ok-clause-made : goal.returns-in-Ok-clause-made
-returns-in-Ok-clause-made g c clean =
-    let early : HasCleanDisk (state g.S.Store c.args.conn.now) = omega (arith, c.clear_contents_alone.ensures.survives.clean) in
-    makes_cleared (state g.S.Store c.args.conn.now) (state g.S.Store c.clear_contents_alone.new.conn) (c.requires.settled early) (c.in-Ok.ensures.made clean)
+returns-in-Ok-clause-made g c clean is =
+    makes_cleared (state g.S.Store c.args.conn.now) (state g.S.Store c.clear_contents_alone.new.conn) is (c.in-Ok.ensures.made clean is)
 
 pub returns-in-Ok-clause-freed : goal.returns-in-Ok-clause-freed
-returns-in-Ok-clause-freed g c clean = (c.in-Ok.ensures.made clean).1.contents
+returns-in-Ok-clause-freed g c clean is = (c.in-Ok.ensures.made clean is).1.contents
 
 pub returns-in-Err-clause-memory : goal.returns-in-Err-clause-memory
-returns-in-Err-clause-memory g c clean memory =
+returns-in-Err-clause-memory g c clean is memory =
     let late : HasCleanDisk (state g.S.Store c.clear_contents_alone.new.conn) = omega (arith, c.checked_fault.ensures.survives.clean) in
-    let early : HasCleanDisk (state g.S.Store c.args.conn.now) = omega (arith, c.checked_fault.ensures.survives.clean, c.clear_contents_alone.ensures.survives.clean) in
-    stays_back (state g.S.Store c.args.conn.now) (state g.S.Store c.clear_contents_alone.new.conn) (state g.S.Store c.checked_fault.new.conn) (c.requires.settled early)
-    (c.in-Err.ensures.back late) (c.checked_fault.ensures.memory clean (let e = memory in cc))
+    stays_back (state g.S.Store c.args.conn.now) (state g.S.Store c.clear_contents_alone.new.conn) (state g.S.Store c.checked_fault.new.conn) is
+    (c.in-Err.ensures.back late is) (c.checked_fault.ensures.memory clean (let e = memory in cc))

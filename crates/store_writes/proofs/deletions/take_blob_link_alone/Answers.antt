@@ -7,13 +7,12 @@ use Rattle.store_statements.proofs.Transactions.{ready, commits, back_dropped, b
 use Rattle.store_writes.proofs.deletions.take_blob_link_alone.Goals as goal
 
 pub returns-in-Ok-clause-made : goal.returns-in-Ok-clause-made
-returns-in-Ok-clause-made g c clean =
+returns-in-Ok-clause-made g c clean is =
     let begun = c.transaction-tx.ensures.begun in
     let same = c.conn-2-1.given.1 (sym (c.take_blob_link.ensures.same_reference ∙ c.transaction-tx.ensures.same_reference)) in
     let late : HasCleanDisk (state g.S.Store c.commit.new.self.0) = rw same at clean in
     let mid : HasCleanDisk (state g.S.Store c.take_blob_link.new.tx.conn.now) = omega (arith, c.commit.ensures.survives.clean) in
-    let first : HasCleanDisk (state g.S.Store c.transaction-tx.result.conn.now) = omega (arith, c.take_blob_link.ensures.survives.clean) in
-    let settled = c.requires.settled (rw begun at first) in
+    let settled = is in
     let it = c.in_ok-take_blob_link.ensures.taken mid (rw begun (ready (state g.S.Store c.args.conn.now) settled)) in
     rw same (commits (state g.S.Store c.take_blob_link.new.tx.conn.now) (state g.S.Store c.commit.new.self.0) _ (rw begun at it) (c.in-Ok.ensures.ok late).1)
 
@@ -28,25 +27,23 @@ returns-in-Err-clause-survives g c =
     rw same (survives_all (state g.S.Store c.args.conn.now) (state g.S.Store c.take_blob_link.new.tx.conn.now) (state g.S.Store c.commit.new.self.0) _ _ (survives_begin g.S.Store c.args.conn.now (state g.S.Store c.take_blob_link.new.tx.conn.now) _ (rw (c.transaction-tx.ensures.begun) at c.take_blob_link.ensures.survives)) c.commit.ensures.survives)
 
 pub returns-in-Err-clause-back : goal.returns-in-Err-clause-back
-returns-in-Err-clause-back g c clean =
+returns-in-Err-clause-back g c clean is =
     let begun = c.transaction-tx.ensures.begun in
     let same = c.conn-2-1.given.1 (sym (c.take_blob_link.ensures.same_reference ∙ c.transaction-tx.ensures.same_reference)) in
     let late : HasCleanDisk (state g.S.Store c.commit.new.self.0) = rw same at clean in
     let mid : HasCleanDisk (state g.S.Store c.take_blob_link.new.tx.conn.now) = omega (arith, c.commit.ensures.survives.clean) in
-    let first : HasCleanDisk (state g.S.Store c.transaction-tx.result.conn.now) = omega (arith, c.take_blob_link.ensures.survives.clean) in
-    let settled = c.requires.settled (rw begun at first) in
+    let settled = is in
     let set : IsReady (state g.S.Store c.transaction-tx.result.conn.now) = rw begun (ready (state g.S.Store c.args.conn.now) settled) in
     rw same (back_failed (state g.S.Store c.args.conn.now) (state g.S.Store c.transaction-tx.result.conn.now) (state g.S.Store c.take_blob_link.new.tx.conn.now) (state g.S.Store c.commit.new.self.0) _ settled (rw begun)
     (c.take_blob_link.ensures.kept mid set) (c.in_ok-take_blob_link.ensures.taken mid set).0.inside (c.in-Err.ensures.err late))
 
 pub returns-in_err-take_blob_link-clause-back : goal.returns-in_err-take_blob_link-clause-back
-returns-in_err-take_blob_link-clause-back g c clean =
+returns-in_err-take_blob_link-clause-back g c clean is =
     let begun = c.transaction-tx.ensures.begun in
     let same = c.conn-1.given.1 (sym (c.take_blob_link.ensures.same_reference ∙ c.transaction-tx.ensures.same_reference)) in
     let late : HasCleanDisk (state g.S.Store c.drop-tx.new.self.0) = rw same at clean in
     let mid : HasCleanDisk (state g.S.Store c.take_blob_link.new.tx.conn.now) = omega (arith, c.drop-tx.ensures.survives.clean) in
-    let first : HasCleanDisk (state g.S.Store c.transaction-tx.result.conn.now) = omega (arith, c.take_blob_link.ensures.survives.clean) in
-    let settled = c.requires.settled (rw begun at first) in
+    let settled = is in
     let set : IsReady (state g.S.Store c.transaction-tx.result.conn.now) = rw begun (ready (state g.S.Store c.args.conn.now) settled) in
     told_err c.from_residual.result (rw same (back_dropped (state g.S.Store c.args.conn.now) (state g.S.Store c.transaction-tx.result.conn.now) (state g.S.Store c.take_blob_link.new.tx.conn.now) (state g.S.Store c.drop-tx.new.self.0) settled (rw begun)
     (c.take_blob_link.ensures.kept mid set) (c.drop-tx.ensures.undone late)))

@@ -8,14 +8,13 @@ use Rattle.store_writes.proofs.PutLemmas.{level_put}
 use Rattle.store_writes.proofs.grant_changes.grant.Goals as goal
 
 pub returns-in-Ok-clause-made : goal.returns-in-Ok-clause-made
-returns-in-Ok-clause-made g c clean =
+returns-in-Ok-clause-made g c there clean is =
     let early : HasCleanDisk (state g.S.Store c.args.conn.now) = omega (arith, c.put_level_alone.ensures.survives.clean) in
-    makes (state g.S.Store c.put_level_alone.new.conn) _ _ (c.in-Ok.ensures.committed clean) (level_put (held (state g.S.Store c.args.conn.now)) (held (state g.S.Store c.put_level_alone.new.conn)) c.args.token.now c.args.name.now c.args.level (registry (state g.S.Store c.args.conn.now) (c.requires.settled early))
-    (sym (has_repo_found (held (state g.S.Store c.args.conn.now)) c.args.name.now) ∙ c.requires.there early) (rw c.as_str.ensures.text at rw c.as_str-2.ensures.text at c.in-Ok.ensures.put clean))
+    makes (state g.S.Store c.put_level_alone.new.conn) _ _ (c.in-Ok.ensures.committed clean is) (level_put (held (state g.S.Store c.args.conn.now)) (held (state g.S.Store c.put_level_alone.new.conn)) c.args.token.now c.args.name.now c.args.level (registry (state g.S.Store c.args.conn.now) is)
+    (sym (has_repo_found (held (state g.S.Store c.args.conn.now)) c.args.name.now) ∙ there early) (rw c.as_str.ensures.text at rw c.as_str-2.ensures.text at c.in-Ok.ensures.put clean is))
 
 pub returns-in-Err-clause-memory : goal.returns-in-Err-clause-memory
-returns-in-Err-clause-memory g c clean memory =
+returns-in-Err-clause-memory g c clean is memory =
     let late : HasCleanDisk (state g.S.Store c.put_level_alone.new.conn) = omega (arith, c.checked_fault.ensures.survives.clean) in
-    let early : HasCleanDisk (state g.S.Store c.args.conn.now) = omega (arith, c.checked_fault.ensures.survives.clean, c.put_level_alone.ensures.survives.clean) in
-    stays_back (state g.S.Store c.args.conn.now) (state g.S.Store c.put_level_alone.new.conn) (state g.S.Store c.checked_fault.new.conn) (c.requires.settled early)
-    (c.in-Err.ensures.back late) (c.checked_fault.ensures.memory clean (let e = memory in cc))
+    stays_back (state g.S.Store c.args.conn.now) (state g.S.Store c.put_level_alone.new.conn) (state g.S.Store c.checked_fault.new.conn) is
+    (c.in-Err.ensures.back late is) (c.checked_fault.ensures.memory clean (let e = memory in cc))

@@ -10,47 +10,39 @@ use Rattle.store_writes.proofs.WritesAfterReads.{memory_told}
 use Rattle.store_writes.proofs.known_finish.finish_known.Goals as goal
 
 pub returns-then-number-gt-LARGEST-clause-made : goal.returns-then-number-gt-LARGEST-clause-made
-returns-then-number-gt-LARGEST-clause-made g c clean = (c.requires clean, refl)
-
-pub finish_whole-requires-clause-settled : goal.finish_whole-requires-clause-settled
-finish_whole-requires-clause-settled g c clean = (c.in-Ok-Some.ensures.settled clean refl).0
-
-pub finish_whole-requires-clause-known : goal.finish_whole-requires-clause-known
-finish_whole-requires-clause-known g c clean =
-    still_known (state g.S.Store c.args.conn.now) (state g.S.Store c.find_known.new.conn) (c.in-Ok-Some.ensures.settled clean refl) c.as_str-repo.result.now c.args.number c.as_str-digest.result.now c.in-Ok-Some.link
-    (sym c.in-Ok-Some.field-0-is ∙ c.in-Ok-Some.ensures.found clean)
+returns-then-number-gt-LARGEST-clause-made g c clean is = (is, refl)
 
 pub returns-in-Ok-clause-made : goal.returns-in-Ok-clause-made
-returns-in-Ok-clause-made g c clean =
+returns-in-Ok-clause-made g c clean is =
     let mid = state g.S.Store c.find_known.new.conn in
     let late : HasCleanDisk mid = omega (arith, c.finish_whole.ensures.survives.clean) in
-    let early : HasCleanDisk (state g.S.Store c.args.conn.now) = omega (arith, c.finish_whole.ensures.survives.clean, c.find_known.ensures.survives.clean) in
     rw (c.as_str-repo.ensures.text, c.as_str-digest.ensures.text) at (done (state g.S.Store c.args.conn.now) mid (state g.S.Store c.finish_whole.new.conn) c.as_str-repo.result.now c.args.number c.as_str-digest.result.now c.in-Ok-Some.link
-    (c.requires early) (c.in-Ok-Some.ensures.settled late refl) (sym c.in-Ok-Some.field-0-is ∙ c.in-Ok-Some.ensures.found late) (c.in-Ok.ensures.made clean))
+    is (c.in-Ok-Some.ensures.settled late is refl) (sym c.in-Ok-Some.field-0-is ∙ c.in-Ok-Some.ensures.found late is) (c.in-Ok.ensures.made (λ clean. still_known (state g.S.Store c.args.conn.now) (state g.S.Store c.find_known.new.conn) (c.in-Ok-Some.ensures.settled clean is refl) c.as_str-repo.result.now c.args.number c.as_str-digest.result.now c.in-Ok-Some.link
+    (sym c.in-Ok-Some.field-0-is ∙ c.in-Ok-Some.ensures.found clean is)) clean (c.in-Ok-Some.ensures.settled late is refl).0))
 
 pub returns-in-Ok-clause-known : goal.returns-in-Ok-clause-known
-returns-in-Ok-clause-known g c fits clean =
+returns-in-Ok-clause-known g c fits clean is =
     let late : HasCleanDisk (state g.S.Store c.find_known.new.conn) = omega (arith, c.finish_whole.ensures.survives.clean) in
-    rw (c.as_str-repo.ensures.text, c.as_str-digest.ensures.text) at (ap is_some (sym c.in-Ok-Some.field-0-is ∙ c.in-Ok-Some.ensures.found late))
+    rw (c.as_str-repo.ensures.text, c.as_str-digest.ensures.text) at (ap is_some (sym c.in-Ok-Some.field-0-is ∙ c.in-Ok-Some.ensures.found late is))
 
 pub returns-in-Ok-clause-survives : goal.returns-in-Ok-clause-survives
 returns-in-Ok-clause-survives g c = survives_all (state g.S.Store c.args.conn.now) (state g.S.Store c.find_known.new.conn) (state g.S.Store c.finish_whole.new.conn) _ _ c.find_known.ensures.survives c.finish_whole.ensures.survives
 
 pub returns-in-Err-finish_whole-clause-memory : goal.returns-in-Err-finish_whole-clause-memory
-returns-in-Err-finish_whole-clause-memory g c clean memory =
+returns-in-Err-finish_whole-clause-memory g c clean is memory =
     let late : HasCleanDisk (state g.S.Store c.find_known.new.conn) = omega (arith, c.finish_whole.ensures.survives.clean) in
-    stays_then (state g.S.Store c.args.conn.now) (state g.S.Store c.find_known.new.conn) (state g.S.Store c.finish_whole.new.conn) (c.in-Ok-Some.ensures.settled late refl)
-    (c.in-Err-finish_whole.ensures.memory clean (let e = memory in cc))
+    stays_then (state g.S.Store c.args.conn.now) (state g.S.Store c.find_known.new.conn) (state g.S.Store c.finish_whole.new.conn) (c.in-Ok-Some.ensures.settled late is refl)
+    (c.in-Err-finish_whole.ensures.memory clean (c.in-Ok-Some.ensures.settled late is refl).0 (let e = memory in cc))
 
 pub returns-in-Err-finish_whole-clause-survives : goal.returns-in-Err-finish_whole-clause-survives
 returns-in-Err-finish_whole-clause-survives g c = survives_all (state g.S.Store c.args.conn.now) (state g.S.Store c.find_known.new.conn) (state g.S.Store c.finish_whole.new.conn) _ _ c.find_known.ensures.survives c.finish_whole.ensures.survives
 
 pub returns-in-Ok-None-clause-made : goal.returns-in-Ok-None-clause-made
-returns-in-Ok-None-clause-made g c clean = c.in-Ok-None.ensures.settled clean refl
+returns-in-Ok-None-clause-made g c clean is = c.in-Ok-None.ensures.settled clean is refl
 
 pub returns-in-Ok-None-clause-known : goal.returns-in-Ok-None-clause-known
-returns-in-Ok-None-clause-known g c fits clean =
-    rw (c.as_str-repo.ensures.text, c.as_str-digest.ensures.text) at (ap is_some (sym c.in-Ok-None.field-0-is ∙ c.in-Ok-None.ensures.found clean))
+returns-in-Ok-None-clause-known g c fits clean is =
+    rw (c.as_str-repo.ensures.text, c.as_str-digest.ensures.text) at (ap is_some (sym c.in-Ok-None.field-0-is ∙ c.in-Ok-None.ensures.found clean is))
 
 pub returns-in-Err-clause-memory : goal.returns-in-Err-clause-memory
-returns-in-Err-clause-memory g c clean memory = c.in-Err.ensures.settled clean (memory_told (Option BlobLink) c.in-Err.fault memory)
+returns-in-Err-clause-memory g c clean is memory = c.in-Err.ensures.settled clean is (memory_told (Option BlobLink) c.in-Err.fault memory)

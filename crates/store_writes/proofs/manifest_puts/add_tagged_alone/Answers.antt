@@ -12,16 +12,16 @@ use Rattle.store_writes.proofs.ManifestPuts.{whole, makes_turned}
 use Rattle.store_writes.proofs.manifest_puts.add_tagged_alone.Goals as goal
 
 pub returns-in-Ok-clause-made : goal.returns-in-Ok-clause-made
-returns-in-Ok-clause-made g c clean =
+returns-in-Ok-clause-made g c had free clean is =
     let begun = c.transaction-tx.ensures.begun in
     let same = c.conn-2-1.given.1 (sym (c.add_tagged.ensures.same_reference ∙ c.transaction-tx.ensures.same_reference)) in
     let late : HasCleanDisk (state g.S.Store c.commit.new.self.0) = rw same at clean in
     let mid : HasCleanDisk (state g.S.Store c.add_tagged.new.tx.conn.now) = omega (arith, c.commit.ensures.survives.clean) in
     let first : HasCleanDisk (state g.S.Store c.transaction-tx.result.conn.now) = omega (arith, c.add_tagged.ensures.survives.clean) in
-    let settled = c.requires.settled (rw begun at first) in
+    let settled = is in
     let set : IsWhole (state g.S.Store c.transaction-tx.result.conn.now) = rw begun (whole (state g.S.Store c.args.conn.now) settled) in
-    let there : is_repo (held (state g.S.Store c.transaction-tx.result.conn.now)).repos c.args.repo.now ≡ true = rw begun (c.requires.there (rw begun at first)) in
-    let fresh : find (has_key c.args.repo.now c.args.digest.now) (held (state g.S.Store c.transaction-tx.result.conn.now)).manifests ≡ None = rw begun (c.requires.fresh (rw begun at first)) in
+    let there : is_repo (held (state g.S.Store c.transaction-tx.result.conn.now)).repos c.args.repo.now ≡ true = rw begun (had (rw begun at first)) in
+    let fresh : find (has_key c.args.repo.now c.args.digest.now) (held (state g.S.Store c.transaction-tx.result.conn.now)).manifests ≡ None = rw begun (free (rw begun at first)) in
     let it = c.in_ok-add_tagged.ensures.made mid set there fresh in
     rw same (makes_turned _ (state g.S.Store c.add_tagged.new.tx.conn.now) (state g.S.Store c.commit.new.self.0) _ (rw begun at it) (c.in-Ok.ensures.ok late).1)
 
@@ -36,30 +36,30 @@ returns-in-Err-clause-survives g c =
     rw same (survives_all (state g.S.Store c.args.conn.now) (state g.S.Store c.add_tagged.new.tx.conn.now) (state g.S.Store c.commit.new.self.0) _ _ (survives_begin g.S.Store c.args.conn.now (state g.S.Store c.add_tagged.new.tx.conn.now) _ (rw (c.transaction-tx.ensures.begun) at c.add_tagged.ensures.survives)) c.commit.ensures.survives)
 
 pub returns-in-Err-clause-back : goal.returns-in-Err-clause-back
-returns-in-Err-clause-back g c clean =
+returns-in-Err-clause-back g c had free clean is =
     let begun = c.transaction-tx.ensures.begun in
     let same = c.conn-2-1.given.1 (sym (c.add_tagged.ensures.same_reference ∙ c.transaction-tx.ensures.same_reference)) in
     let late : HasCleanDisk (state g.S.Store c.commit.new.self.0) = rw same at clean in
     let mid : HasCleanDisk (state g.S.Store c.add_tagged.new.tx.conn.now) = omega (arith, c.commit.ensures.survives.clean) in
     let first : HasCleanDisk (state g.S.Store c.transaction-tx.result.conn.now) = omega (arith, c.add_tagged.ensures.survives.clean) in
-    let settled = c.requires.settled (rw begun at first) in
+    let settled = is in
     let set : IsWhole (state g.S.Store c.transaction-tx.result.conn.now) = rw begun (whole (state g.S.Store c.args.conn.now) settled) in
-    let there : is_repo (held (state g.S.Store c.transaction-tx.result.conn.now)).repos c.args.repo.now ≡ true = rw begun (c.requires.there (rw begun at first)) in
-    let fresh : find (has_key c.args.repo.now c.args.digest.now) (held (state g.S.Store c.transaction-tx.result.conn.now)).manifests ≡ None = rw begun (c.requires.fresh (rw begun at first)) in
+    let there : is_repo (held (state g.S.Store c.transaction-tx.result.conn.now)).repos c.args.repo.now ≡ true = rw begun (had (rw begun at first)) in
+    let fresh : find (has_key c.args.repo.now c.args.digest.now) (held (state g.S.Store c.transaction-tx.result.conn.now)).manifests ≡ None = rw begun (free (rw begun at first)) in
     rw same (back_failed (state g.S.Store c.args.conn.now) (state g.S.Store c.transaction-tx.result.conn.now) (state g.S.Store c.add_tagged.new.tx.conn.now) (state g.S.Store c.commit.new.self.0) _ settled (rw begun)
     (c.add_tagged.ensures.kept mid set there fresh) (c.in_ok-add_tagged.ensures.made mid set there fresh).whole.ready.inside (c.in-Err.ensures.err late))
 
 pub returns-in_err-add_tagged-clause-back : goal.returns-in_err-add_tagged-clause-back
-returns-in_err-add_tagged-clause-back g c clean =
+returns-in_err-add_tagged-clause-back g c had free clean is =
     let begun = c.transaction-tx.ensures.begun in
     let same = c.conn-1.given.1 (sym (c.add_tagged.ensures.same_reference ∙ c.transaction-tx.ensures.same_reference)) in
     let late : HasCleanDisk (state g.S.Store c.drop-tx.new.self.0) = rw same at clean in
     let mid : HasCleanDisk (state g.S.Store c.add_tagged.new.tx.conn.now) = omega (arith, c.drop-tx.ensures.survives.clean) in
     let first : HasCleanDisk (state g.S.Store c.transaction-tx.result.conn.now) = omega (arith, c.add_tagged.ensures.survives.clean) in
-    let settled = c.requires.settled (rw begun at first) in
+    let settled = is in
     let set : IsWhole (state g.S.Store c.transaction-tx.result.conn.now) = rw begun (whole (state g.S.Store c.args.conn.now) settled) in
-    let there : is_repo (held (state g.S.Store c.transaction-tx.result.conn.now)).repos c.args.repo.now ≡ true = rw begun (c.requires.there (rw begun at first)) in
-    let fresh : find (has_key c.args.repo.now c.args.digest.now) (held (state g.S.Store c.transaction-tx.result.conn.now)).manifests ≡ None = rw begun (c.requires.fresh (rw begun at first)) in
+    let there : is_repo (held (state g.S.Store c.transaction-tx.result.conn.now)).repos c.args.repo.now ≡ true = rw begun (had (rw begun at first)) in
+    let fresh : find (has_key c.args.repo.now c.args.digest.now) (held (state g.S.Store c.transaction-tx.result.conn.now)).manifests ≡ None = rw begun (free (rw begun at first)) in
     told_err c.from_residual.result (rw same (back_dropped (state g.S.Store c.args.conn.now) (state g.S.Store c.transaction-tx.result.conn.now) (state g.S.Store c.add_tagged.new.tx.conn.now) (state g.S.Store c.drop-tx.new.self.0) settled (rw begun)
     (c.add_tagged.ensures.kept mid set there fresh) (c.drop-tx.ensures.undone late)))
 

@@ -5,8 +5,7 @@ use Rattle.store_statements.proofs.Transactions.{stays_back}
 use Rattle.store_writes.proofs.manifest_puts.put_new.Goals as goal
 
 pub returns-in-Err-clause-memory : goal.returns-in-Err-clause-memory
-returns-in-Err-clause-memory g c clean memory =
+returns-in-Err-clause-memory g c there fresh clean is memory =
     let late : HasCleanDisk (state g.S.Store c.add_tagged_alone.new.conn) = omega (arith, c.checked_fault.ensures.survives.clean) in
-    let early : HasCleanDisk (state g.S.Store c.args.conn.now) = omega (arith, c.checked_fault.ensures.survives.clean, c.add_tagged_alone.ensures.survives.clean) in
-    stays_back (state g.S.Store c.args.conn.now) (state g.S.Store c.add_tagged_alone.new.conn) (state g.S.Store c.checked_fault.new.conn) (c.requires.settled early)
-    (c.in-Err.ensures.back late) (c.checked_fault.ensures.memory clean (let e = memory in cc))
+    stays_back (state g.S.Store c.args.conn.now) (state g.S.Store c.add_tagged_alone.new.conn) (state g.S.Store c.checked_fault.new.conn) is
+    (c.in-Err.ensures.back there fresh late is) (c.checked_fault.ensures.memory clean (let e = memory in cc))

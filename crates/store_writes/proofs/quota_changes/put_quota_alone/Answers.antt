@@ -9,25 +9,23 @@ use Rattle.store_writes.proofs.PutLemmas.{commits_there}
 use Rattle.store_writes.proofs.quota_changes.put_quota_alone.Goals as goal
 
 pub returns-in-Ok-clause-committed : goal.returns-in-Ok-clause-committed
-returns-in-Ok-clause-committed g c clean =
+returns-in-Ok-clause-committed g c clean is =
     let begun = c.transaction-tx.ensures.begun in
     let same = c.conn-2-1.given.1 (sym (c.put_quota.ensures.same_reference ∙ c.transaction-tx.ensures.same_reference)) in
     let late : HasCleanDisk (state g.S.Store c.commit.new.self.0) = rw same at clean in
     let mid : HasCleanDisk (state g.S.Store c.put_quota.new.tx.conn.now) = omega (arith, c.commit.ensures.survives.clean) in
-    let first : HasCleanDisk (state g.S.Store c.transaction-tx.result.conn.now) = omega (arith, c.put_quota.ensures.survives.clean) in
-    let settled = c.requires.settled (rw begun at first) in
+    let settled = is in
     let set : IsReady (state g.S.Store c.transaction-tx.result.conn.now) = rw begun (ready (state g.S.Store c.args.conn.now) settled) in
     rw same (commits_there (state g.S.Store c.put_quota.new.tx.conn.now) (state g.S.Store c.commit.new.self.0) (λ t. QuotaIsPut (held (state g.S.Store c.transaction-tx.result.conn.now)) t c.args.name.now c.args.quota)
     (c.in_ok-put_quota.ensures.ready mid set) (c.in_ok-put_quota.ensures.put mid set) (c.in-Ok.ensures.ok late).1).0
 
 pub returns-in-Ok-clause-put : goal.returns-in-Ok-clause-put
-returns-in-Ok-clause-put g c clean =
+returns-in-Ok-clause-put g c clean is =
     let begun = c.transaction-tx.ensures.begun in
     let same = c.conn-2-1.given.1 (sym (c.put_quota.ensures.same_reference ∙ c.transaction-tx.ensures.same_reference)) in
     let late : HasCleanDisk (state g.S.Store c.commit.new.self.0) = rw same at clean in
     let mid : HasCleanDisk (state g.S.Store c.put_quota.new.tx.conn.now) = omega (arith, c.commit.ensures.survives.clean) in
-    let first : HasCleanDisk (state g.S.Store c.transaction-tx.result.conn.now) = omega (arith, c.put_quota.ensures.survives.clean) in
-    let settled = c.requires.settled (rw begun at first) in
+    let settled = is in
     let set : IsReady (state g.S.Store c.transaction-tx.result.conn.now) = rw begun (ready (state g.S.Store c.args.conn.now) settled) in
     let it = c.in_ok-put_quota.ensures.put mid set in
     let put : QuotaIsPut (held (state g.S.Store c.args.conn.now)) (held (state g.S.Store c.put_quota.new.tx.conn.now)) c.args.name.now c.args.quota = rw begun at it in
@@ -45,25 +43,23 @@ returns-in-Err-clause-survives g c =
     rw same (survives_all (state g.S.Store c.args.conn.now) (state g.S.Store c.put_quota.new.tx.conn.now) (state g.S.Store c.commit.new.self.0) _ _ (survives_begin g.S.Store c.args.conn.now (state g.S.Store c.put_quota.new.tx.conn.now) _ (rw (c.transaction-tx.ensures.begun) at c.put_quota.ensures.survives)) c.commit.ensures.survives)
 
 pub returns-in-Err-clause-back : goal.returns-in-Err-clause-back
-returns-in-Err-clause-back g c clean =
+returns-in-Err-clause-back g c clean is =
     let begun = c.transaction-tx.ensures.begun in
     let same = c.conn-2-1.given.1 (sym (c.put_quota.ensures.same_reference ∙ c.transaction-tx.ensures.same_reference)) in
     let late : HasCleanDisk (state g.S.Store c.commit.new.self.0) = rw same at clean in
     let mid : HasCleanDisk (state g.S.Store c.put_quota.new.tx.conn.now) = omega (arith, c.commit.ensures.survives.clean) in
-    let first : HasCleanDisk (state g.S.Store c.transaction-tx.result.conn.now) = omega (arith, c.put_quota.ensures.survives.clean) in
-    let settled = c.requires.settled (rw begun at first) in
+    let settled = is in
     let set : IsReady (state g.S.Store c.transaction-tx.result.conn.now) = rw begun (ready (state g.S.Store c.args.conn.now) settled) in
     rw same (back_failed (state g.S.Store c.args.conn.now) (state g.S.Store c.transaction-tx.result.conn.now) (state g.S.Store c.put_quota.new.tx.conn.now) (state g.S.Store c.commit.new.self.0) _ settled (rw begun)
     (c.put_quota.ensures.kept mid set) (c.in_ok-put_quota.ensures.ready mid set).inside (c.in-Err.ensures.err late))
 
 pub returns-in_err-put_quota-clause-back : goal.returns-in_err-put_quota-clause-back
-returns-in_err-put_quota-clause-back g c clean =
+returns-in_err-put_quota-clause-back g c clean is =
     let begun = c.transaction-tx.ensures.begun in
     let same = c.conn-1.given.1 (sym (c.put_quota.ensures.same_reference ∙ c.transaction-tx.ensures.same_reference)) in
     let late : HasCleanDisk (state g.S.Store c.drop-tx.new.self.0) = rw same at clean in
     let mid : HasCleanDisk (state g.S.Store c.put_quota.new.tx.conn.now) = omega (arith, c.drop-tx.ensures.survives.clean) in
-    let first : HasCleanDisk (state g.S.Store c.transaction-tx.result.conn.now) = omega (arith, c.put_quota.ensures.survives.clean) in
-    let settled = c.requires.settled (rw begun at first) in
+    let settled = is in
     let set : IsReady (state g.S.Store c.transaction-tx.result.conn.now) = rw begun (ready (state g.S.Store c.args.conn.now) settled) in
     told_err c.from_residual.result (rw same (back_dropped (state g.S.Store c.args.conn.now) (state g.S.Store c.transaction-tx.result.conn.now) (state g.S.Store c.put_quota.new.tx.conn.now) (state g.S.Store c.drop-tx.new.self.0) settled (rw begun)
     (c.put_quota.ensures.kept mid set) (c.drop-tx.ensures.undone late)))

@@ -7,14 +7,12 @@ use Rattle.store_writes.proofs.PutLemmas.{quota_put}
 use Rattle.store_writes.proofs.quota_changes.set_repo.Goals as goal
 
 pub returns-in-Ok-clause-made : goal.returns-in-Ok-clause-made
-returns-in-Ok-clause-made g c clean =
-    let early : HasCleanDisk (state g.S.Store c.args.conn.now) = omega (arith, c.put_quota_alone.ensures.survives.clean) in
-    makes (state g.S.Store c.put_quota_alone.new.conn) _ _ (c.in-Ok.ensures.committed clean) (quota_put (held (state g.S.Store c.args.conn.now)) (held (state g.S.Store c.put_quota_alone.new.conn)) c.args.name.now c.args.quota.bytes (registry (state g.S.Store c.args.conn.now) (c.requires.settled early))
-    (rw c.as_str.ensures.text at c.in-Ok.ensures.put clean))
+returns-in-Ok-clause-made g c clean is =
+    makes (state g.S.Store c.put_quota_alone.new.conn) _ _ (c.in-Ok.ensures.committed clean is) (quota_put (held (state g.S.Store c.args.conn.now)) (held (state g.S.Store c.put_quota_alone.new.conn)) c.args.name.now c.args.quota.bytes (registry (state g.S.Store c.args.conn.now) is)
+    (rw c.as_str.ensures.text at c.in-Ok.ensures.put clean is))
 
 pub returns-in-Err-clause-memory : goal.returns-in-Err-clause-memory
-returns-in-Err-clause-memory g c clean memory =
+returns-in-Err-clause-memory g c clean is memory =
     let late : HasCleanDisk (state g.S.Store c.put_quota_alone.new.conn) = omega (arith, c.checked_fault.ensures.survives.clean) in
-    let early : HasCleanDisk (state g.S.Store c.args.conn.now) = omega (arith, c.checked_fault.ensures.survives.clean, c.put_quota_alone.ensures.survives.clean) in
-    stays_back (state g.S.Store c.args.conn.now) (state g.S.Store c.put_quota_alone.new.conn) (state g.S.Store c.checked_fault.new.conn) (c.requires.settled early)
-    (c.in-Err.ensures.back late) (c.checked_fault.ensures.memory clean (let e = memory in cc))
+    stays_back (state g.S.Store c.args.conn.now) (state g.S.Store c.put_quota_alone.new.conn) (state g.S.Store c.checked_fault.new.conn) is
+    (c.in-Err.ensures.back late is) (c.checked_fault.ensures.memory clean (let e = memory in cc))

@@ -6,13 +6,11 @@ use Rattle.store_statements.proofs.Transactions.{registry, makes, stays_back}
 use Rattle.store_writes.proofs.repo_removal.drop_repo.Goals as goal
 
 pub returns-in-Ok-clause-made : goal.returns-in-Ok-clause-made
-returns-in-Ok-clause-made g c clean =
-    let early : HasCleanDisk (state g.S.Store c.args.conn.now) = omega (arith, c.drop_rows_alone.ensures.survives.clean) in
-    makes (state g.S.Store c.drop_rows_alone.new.conn) _ _ (rw c.as_str.ensures.text at (c.in-Ok.ensures.made clean)) (repo_dropped _ c.args.name.now (registry (state g.S.Store c.args.conn.now) (c.requires.settled early)))
+returns-in-Ok-clause-made g c clean is =
+    makes (state g.S.Store c.drop_rows_alone.new.conn) _ _ (rw c.as_str.ensures.text at (c.in-Ok.ensures.made clean is)) (repo_dropped _ c.args.name.now (registry (state g.S.Store c.args.conn.now) is))
 
 pub returns-in-Err-clause-memory : goal.returns-in-Err-clause-memory
-returns-in-Err-clause-memory g c clean memory =
+returns-in-Err-clause-memory g c clean is memory =
     let late : HasCleanDisk (state g.S.Store c.drop_rows_alone.new.conn) = omega (arith, c.checked_fault.ensures.survives.clean) in
-    let early : HasCleanDisk (state g.S.Store c.args.conn.now) = omega (arith, c.checked_fault.ensures.survives.clean, c.drop_rows_alone.ensures.survives.clean) in
-    stays_back (state g.S.Store c.args.conn.now) (state g.S.Store c.drop_rows_alone.new.conn) (state g.S.Store c.checked_fault.new.conn) (c.requires.settled early)
-    (c.in-Err.ensures.back late) (c.checked_fault.ensures.memory clean (let e = memory in cc))
+    stays_back (state g.S.Store c.args.conn.now) (state g.S.Store c.drop_rows_alone.new.conn) (state g.S.Store c.checked_fault.new.conn) is
+    (c.in-Err.ensures.back late is) (c.checked_fault.ensures.memory clean (let e = memory in cc))

@@ -9,14 +9,14 @@ use Rattle.store_writes.proofs.BytesStored.{commits_with}
 use Rattle.store_writes.proofs.session_appends.add_bytes_alone.Goals as goal
 
 pub returns-in-Ok-clause-made : goal.returns-in-Ok-clause-made
-returns-in-Ok-clause-made g c clean =
+returns-in-Ok-clause-made g c free clean is =
     let begun = c.transaction-tx.ensures.begun in
     let same = c.conn-2-1.given.1 (sym (c.add_bytes.ensures.same_reference ∙ c.transaction-tx.ensures.same_reference)) in
     let late : HasCleanDisk (state g.S.Store c.commit.new.self.0) = rw same at clean in
     let mid : HasCleanDisk (state g.S.Store c.add_bytes.new.tx.conn.now) = omega (arith, c.commit.ensures.survives.clean) in
     let first : HasCleanDisk (state g.S.Store c.transaction-tx.result.conn.now) = omega (arith, c.add_bytes.ensures.survives.clean) in
-    let settled = c.requires.settled (rw begun at first) in
-    let fresh = c.requires.fresh (rw begun at first) in
+    let settled = is in
+    let fresh = free (rw begun at first) in
     let it = c.in_ok-add_bytes.ensures.appended mid (rw begun (ready (state g.S.Store c.args.conn.now) settled)) (rw begun fresh) in
     rw same (commits_with (λ t. Appended (held (state g.S.Store c.args.conn.now)) t c.args.repo.now c.args.number c.args.size c.args.bytes.now) (state g.S.Store c.add_bytes.new.tx.conn.now) (state g.S.Store c.commit.new.self.0) it.0 (rw begun at it.1) (c.in-Ok.ensures.ok late).1)
 
@@ -31,26 +31,25 @@ returns-in-Err-clause-survives g c =
     rw same (survives_all (state g.S.Store c.args.conn.now) (state g.S.Store c.add_bytes.new.tx.conn.now) (state g.S.Store c.commit.new.self.0) _ _ (survives_begin g.S.Store c.args.conn.now (state g.S.Store c.add_bytes.new.tx.conn.now) _ (rw (c.transaction-tx.ensures.begun) at c.add_bytes.ensures.survives)) c.commit.ensures.survives)
 
 pub returns-in-Err-clause-back : goal.returns-in-Err-clause-back
-returns-in-Err-clause-back g c clean =
+returns-in-Err-clause-back g c free clean is =
     let begun = c.transaction-tx.ensures.begun in
     let same = c.conn-2-1.given.1 (sym (c.add_bytes.ensures.same_reference ∙ c.transaction-tx.ensures.same_reference)) in
     let late : HasCleanDisk (state g.S.Store c.commit.new.self.0) = rw same at clean in
     let mid : HasCleanDisk (state g.S.Store c.add_bytes.new.tx.conn.now) = omega (arith, c.commit.ensures.survives.clean) in
     let first : HasCleanDisk (state g.S.Store c.transaction-tx.result.conn.now) = omega (arith, c.add_bytes.ensures.survives.clean) in
-    let settled = c.requires.settled (rw begun at first) in
+    let settled = is in
     let set : IsReady (state g.S.Store c.transaction-tx.result.conn.now) = rw begun (ready (state g.S.Store c.args.conn.now) settled) in
-    let fresh = c.requires.fresh (rw begun at first) in
+    let fresh = free (rw begun at first) in
     rw same (back_failed (state g.S.Store c.args.conn.now) (state g.S.Store c.transaction-tx.result.conn.now) (state g.S.Store c.add_bytes.new.tx.conn.now) (state g.S.Store c.commit.new.self.0) _ settled (rw begun)
     (c.add_bytes.ensures.kept mid set) (c.in_ok-add_bytes.ensures.appended mid set (rw begun fresh)).0.inside (c.in-Err.ensures.err late))
 
 pub returns-in_err-add_bytes-clause-back : goal.returns-in_err-add_bytes-clause-back
-returns-in_err-add_bytes-clause-back g c clean =
+returns-in_err-add_bytes-clause-back g c free clean is =
     let begun = c.transaction-tx.ensures.begun in
     let same = c.conn-1.given.1 (sym (c.add_bytes.ensures.same_reference ∙ c.transaction-tx.ensures.same_reference)) in
     let late : HasCleanDisk (state g.S.Store c.drop-tx.new.self.0) = rw same at clean in
     let mid : HasCleanDisk (state g.S.Store c.add_bytes.new.tx.conn.now) = omega (arith, c.drop-tx.ensures.survives.clean) in
-    let first : HasCleanDisk (state g.S.Store c.transaction-tx.result.conn.now) = omega (arith, c.add_bytes.ensures.survives.clean) in
-    let settled = c.requires.settled (rw begun at first) in
+    let settled = is in
     let set : IsReady (state g.S.Store c.transaction-tx.result.conn.now) = rw begun (ready (state g.S.Store c.args.conn.now) settled) in
     told_err c.from_residual.result (rw same (back_dropped (state g.S.Store c.args.conn.now) (state g.S.Store c.transaction-tx.result.conn.now) (state g.S.Store c.add_bytes.new.tx.conn.now) (state g.S.Store c.drop-tx.new.self.0) settled (rw begun)
     (c.add_bytes.ensures.kept mid set) (c.drop-tx.ensures.undone late)))

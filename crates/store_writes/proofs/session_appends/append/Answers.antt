@@ -11,44 +11,40 @@ use Rattle.store_writes.proofs.WritesAfterReads.{stays_after, memory_told}
 use Rattle.store_writes.proofs.session_appends.append.Goals as goal
 
 pub returns-then-is_empty-clause-made : goal.returns-then-is_empty-clause-made
-returns-then-is_empty-clause-made g c clean =
+returns-then-is_empty-clause-made g c is_open clean is =
     let none : length c.args.bytes.now ≡ 0 = search rules in
-    appends_nothing (state g.S.Store c.args.conn.now) c.args.repo.now c.args.number c.args.bytes.now (c.requires.settled clean) (c.requires.is_open clean) none
-
-pub add_bytes_alone-requires-clause-settled : goal.add_bytes_alone-requires-clause-settled
-add_bytes_alone-requires-clause-settled g c clean = (c.in-Ok-Some.ensures.settled clean refl).0
-
-pub add_bytes_alone-requires-clause-fresh : goal.add_bytes_alone-requires-clause-fresh
-add_bytes_alone-requires-clause-fresh g c clean =
-    let early : HasCleanDisk (state g.S.Store c.args.conn.now) = omega (arith, c.find_upload.ensures.survives.clean) in
-    let sized : Some c.in-Ok-Some.size ≡ option_map (λ r. natural_at r 3) (find (of_session c.as_str-repo.result.now c.args.number) (held (state g.S.Store c.args.conn.now)).uploads) =
-    (let a = c.in-Ok-Some.field-0-is in let b = c.in-Ok-Some.size-is in let f = c.in-Ok-Some.ensures.found clean in let n = c.as_str-repo.ensures.text in cc) in
-    piece_free (state g.S.Store c.args.conn.now) (state g.S.Store c.find_upload.new.conn) c.as_str-repo.result.now c.args.number c.in-Ok-Some.size (c.requires.settled early) (c.in-Ok-Some.ensures.settled clean refl) sized
+    appends_nothing (state g.S.Store c.args.conn.now) c.args.repo.now c.args.number c.args.bytes.now is (is_open clean) none
 
 pub returns-in-Ok-add_bytes_alone-clause-made : goal.returns-in-Ok-add_bytes_alone-clause-made
-returns-in-Ok-add_bytes_alone-clause-made g c clean =
+returns-in-Ok-add_bytes_alone-clause-made g c is_open clean is =
     let mid = state g.S.Store c.find_upload.new.conn in
     let late : HasCleanDisk mid = omega (arith, c.add_bytes_alone.ensures.survives.clean) in
     let early : HasCleanDisk (state g.S.Store c.args.conn.now) = omega (arith, c.add_bytes_alone.ensures.survives.clean, c.find_upload.ensures.survives.clean) in
     let sized : Some c.in-Ok-Some.size ≡ option_map (λ r. natural_at r 3) (find (of_session c.as_str-repo.result.now c.args.number) (held (state g.S.Store c.args.conn.now)).uploads) =
-    (let a = c.in-Ok-Some.field-0-is in let b = c.in-Ok-Some.size-is in let f = c.in-Ok-Some.ensures.found late in let n = c.as_str-repo.ensures.text in cc) in
+    (let a = c.in-Ok-Some.field-0-is in let b = c.in-Ok-Some.size-is in let f = c.in-Ok-Some.ensures.found late is in let n = c.as_str-repo.ensures.text in cc) in
     let more : 0 < length c.args.bytes.now = more_than_none (length c.args.bytes.now) (let a = c.is_empty.ensures in let b = c.if-is_empty.false in cc) in
-    rw c.as_str-repo.ensures.text at (appends (state g.S.Store c.args.conn.now) mid (state g.S.Store c.add_bytes_alone.new.conn) c.as_str-repo.result.now c.args.number c.in-Ok-Some.size c.args.bytes.now (c.requires.settled early) (c.in-Ok-Some.ensures.settled late refl) sized more
-    (c.in-Ok-add_bytes_alone.ensures.made clean))
+    rw c.as_str-repo.ensures.text at (appends (state g.S.Store c.args.conn.now) mid (state g.S.Store c.add_bytes_alone.new.conn) c.as_str-repo.result.now c.args.number c.in-Ok-Some.size c.args.bytes.now is (c.in-Ok-Some.ensures.settled late is refl) sized more
+    (c.in-Ok-add_bytes_alone.ensures.made (λ clean. let early : HasCleanDisk (state g.S.Store c.args.conn.now) = omega (arith, c.find_upload.ensures.survives.clean) in
+    let sized : Some c.in-Ok-Some.size ≡ option_map (λ r. natural_at r 3) (find (of_session c.as_str-repo.result.now c.args.number) (held (state g.S.Store c.args.conn.now)).uploads) =
+    (let a = c.in-Ok-Some.field-0-is in let b = c.in-Ok-Some.size-is in let f = c.in-Ok-Some.ensures.found clean is in let n = c.as_str-repo.ensures.text in cc) in
+    piece_free (state g.S.Store c.args.conn.now) (state g.S.Store c.find_upload.new.conn) c.as_str-repo.result.now c.args.number c.in-Ok-Some.size is (c.in-Ok-Some.ensures.settled clean is refl) sized) clean (c.in-Ok-Some.ensures.settled late is refl).0))
 
 pub returns-in-Ok-add_bytes_alone-clause-survives : goal.returns-in-Ok-add_bytes_alone-clause-survives
 returns-in-Ok-add_bytes_alone-clause-survives g c = survives_all (state g.S.Store c.args.conn.now) (state g.S.Store c.find_upload.new.conn) (state g.S.Store c.add_bytes_alone.new.conn) _ _ c.find_upload.ensures.survives c.add_bytes_alone.ensures.survives
 
 pub returns-in-Err-add_bytes_alone-clause-memory : goal.returns-in-Err-add_bytes_alone-clause-memory
-returns-in-Err-add_bytes_alone-clause-memory g c clean memory =
+returns-in-Err-add_bytes_alone-clause-memory g c clean is memory =
     let late : HasCleanDisk (state g.S.Store c.add_bytes_alone.new.conn) = omega (arith, c.checked_fault.ensures.survives.clean) in
     let early : HasCleanDisk (state g.S.Store c.find_upload.new.conn) = omega (arith, c.checked_fault.ensures.survives.clean, c.add_bytes_alone.ensures.survives.clean) in
-    stays_after (state g.S.Store c.args.conn.now) (state g.S.Store c.find_upload.new.conn) (state g.S.Store c.add_bytes_alone.new.conn) (state g.S.Store c.checked_fault.new.conn) (c.in-Ok-Some.ensures.settled early refl)
-    (c.in-Err-add_bytes_alone.ensures.back late) (c.checked_fault.ensures.memory clean (let e = memory in cc))
+    stays_after (state g.S.Store c.args.conn.now) (state g.S.Store c.find_upload.new.conn) (state g.S.Store c.add_bytes_alone.new.conn) (state g.S.Store c.checked_fault.new.conn) (c.in-Ok-Some.ensures.settled early is refl)
+    (c.in-Err-add_bytes_alone.ensures.back (λ clean. let early : HasCleanDisk (state g.S.Store c.args.conn.now) = omega (arith, c.find_upload.ensures.survives.clean) in
+    let sized : Some c.in-Ok-Some.size ≡ option_map (λ r. natural_at r 3) (find (of_session c.as_str-repo.result.now c.args.number) (held (state g.S.Store c.args.conn.now)).uploads) =
+    (let a = c.in-Ok-Some.field-0-is in let b = c.in-Ok-Some.size-is in let f = c.in-Ok-Some.ensures.found clean is in let n = c.as_str-repo.ensures.text in cc) in
+    piece_free (state g.S.Store c.args.conn.now) (state g.S.Store c.find_upload.new.conn) c.as_str-repo.result.now c.args.number c.in-Ok-Some.size is (c.in-Ok-Some.ensures.settled clean is refl) sized) late (c.in-Ok-Some.ensures.settled early is refl).0) (c.checked_fault.ensures.memory clean (let e = memory in cc))
 
 pub returns-in-Err-add_bytes_alone-clause-survives : goal.returns-in-Err-add_bytes_alone-clause-survives
 returns-in-Err-add_bytes_alone-clause-survives g c =
     survives_all (state g.S.Store c.args.conn.now) (state g.S.Store c.add_bytes_alone.new.conn) (state g.S.Store c.checked_fault.new.conn) _ _ (survives_all (state g.S.Store c.args.conn.now) (state g.S.Store c.find_upload.new.conn) (state g.S.Store c.add_bytes_alone.new.conn) _ _ c.find_upload.ensures.survives c.add_bytes_alone.ensures.survives) c.checked_fault.ensures.survives
 
 pub returns-in-Err-clause-memory : goal.returns-in-Err-clause-memory
-returns-in-Err-clause-memory g c clean memory = c.in-Err.ensures.settled clean (memory_told (Option ℕ) c.in-Err.fault memory)
+returns-in-Err-clause-memory g c clean is memory = c.in-Err.ensures.settled clean is (memory_told (Option ℕ) c.in-Err.fault memory)

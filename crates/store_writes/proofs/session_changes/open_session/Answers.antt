@@ -11,39 +11,35 @@ use Rattle.store_writes.proofs.WritesAfterReads.{stays_after, memory_told}
 use Rattle.store_writes.proofs.SessionWrites.{last_found, number_behind, opens}
 use Rattle.store_writes.proofs.session_changes.open_session.Goals as goal
 
-pub add_session_alone-requires-clause-settled : goal.add_session_alone-requires-clause-settled
-add_session_alone-requires-clause-settled g c clean = (c.in-Ok-Some.ensures.settled clean refl).0
-
-pub add_session_alone-requires-clause-fresh : goal.add_session_alone-requires-clause-fresh
-add_session_alone-requires-clause-fresh g c clean =
-    let early : HasCleanDisk (state g.S.Store c.args.conn.now) = omega (arith, c.find_repo.ensures.survives.clean) in
-    let last : Some c.in-Ok-Some.row.last ≡ option_map (λ r. natural_at r 3) (find (of_first c.as_str-repo.result.now) (held (state g.S.Store c.args.conn.now)).repos) =
-    last_found (find (of_first c.as_str-repo.result.now) (held (state g.S.Store c.args.conn.now)).repos) c.in-Ok-Some.row (let a = c.in-Ok-Some.field-0-is in let b = c.in-Ok-Some.row-is in let f = c.in-Ok-Some.ensures.found clean in cc) in
-    number_behind (state g.S.Store c.args.conn.now) (state g.S.Store c.find_repo.new.conn) c.as_str-repo.result.now c.in-Ok-Some.row.last (c.requires.settled early) (c.in-Ok-Some.ensures.settled clean refl) last
-
 pub returns-in-Ok-add_session_alone-clause-made : goal.returns-in-Ok-add_session_alone-clause-made
-returns-in-Ok-add_session_alone-clause-made g c clean =
+returns-in-Ok-add_session_alone-clause-made g c clean is =
     let mid = state g.S.Store c.find_repo.new.conn in
     let late : HasCleanDisk mid = omega (arith, c.add_session_alone.ensures.survives.clean) in
     let early : HasCleanDisk (state g.S.Store c.args.conn.now) = omega (arith, c.add_session_alone.ensures.survives.clean, c.find_repo.ensures.survives.clean) in
     let last : Some c.in-Ok-Some.row.last ≡ option_map (λ r. natural_at r 3) (find (of_first c.as_str-repo.result.now) (held (state g.S.Store c.args.conn.now)).repos) =
-    last_found (find (of_first c.as_str-repo.result.now) (held (state g.S.Store c.args.conn.now)).repos) c.in-Ok-Some.row (let a = c.in-Ok-Some.field-0-is in let b = c.in-Ok-Some.row-is in let f = c.in-Ok-Some.ensures.found late in cc) in
-    rw c.as_str-repo.ensures.text at (opens (state g.S.Store c.args.conn.now) mid (state g.S.Store c.add_session_alone.new.conn) c.as_str-repo.result.now c.in-Ok-Some.row.last (c.requires.settled early) (c.in-Ok-Some.ensures.settled late refl) last
-    (c.in-Ok-add_session_alone.ensures.made clean))
+    last_found (find (of_first c.as_str-repo.result.now) (held (state g.S.Store c.args.conn.now)).repos) c.in-Ok-Some.row (let a = c.in-Ok-Some.field-0-is in let b = c.in-Ok-Some.row-is in let f = c.in-Ok-Some.ensures.found late is in cc) in
+    rw c.as_str-repo.ensures.text at (opens (state g.S.Store c.args.conn.now) mid (state g.S.Store c.add_session_alone.new.conn) c.as_str-repo.result.now c.in-Ok-Some.row.last is (c.in-Ok-Some.ensures.settled late is refl) last
+    (c.in-Ok-add_session_alone.ensures.made (λ clean. let early : HasCleanDisk (state g.S.Store c.args.conn.now) = omega (arith, c.find_repo.ensures.survives.clean) in
+    let last : Some c.in-Ok-Some.row.last ≡ option_map (λ r. natural_at r 3) (find (of_first c.as_str-repo.result.now) (held (state g.S.Store c.args.conn.now)).repos) =
+    last_found (find (of_first c.as_str-repo.result.now) (held (state g.S.Store c.args.conn.now)).repos) c.in-Ok-Some.row (let a = c.in-Ok-Some.field-0-is in let b = c.in-Ok-Some.row-is in let f = c.in-Ok-Some.ensures.found clean is in cc) in
+    number_behind (state g.S.Store c.args.conn.now) (state g.S.Store c.find_repo.new.conn) c.as_str-repo.result.now c.in-Ok-Some.row.last is (c.in-Ok-Some.ensures.settled clean is refl) last) clean (c.in-Ok-Some.ensures.settled late is refl).0))
 
 pub returns-in-Ok-add_session_alone-clause-survives : goal.returns-in-Ok-add_session_alone-clause-survives
 returns-in-Ok-add_session_alone-clause-survives g c = survives_all (state g.S.Store c.args.conn.now) (state g.S.Store c.find_repo.new.conn) (state g.S.Store c.add_session_alone.new.conn) _ _ c.find_repo.ensures.survives c.add_session_alone.ensures.survives
 
 pub returns-in-Err-add_session_alone-clause-memory : goal.returns-in-Err-add_session_alone-clause-memory
-returns-in-Err-add_session_alone-clause-memory g c clean memory =
+returns-in-Err-add_session_alone-clause-memory g c clean is memory =
     let late : HasCleanDisk (state g.S.Store c.add_session_alone.new.conn) = omega (arith, c.checked_fault.ensures.survives.clean) in
     let early : HasCleanDisk (state g.S.Store c.find_repo.new.conn) = omega (arith, c.checked_fault.ensures.survives.clean, c.add_session_alone.ensures.survives.clean) in
-    stays_after (state g.S.Store c.args.conn.now) (state g.S.Store c.find_repo.new.conn) (state g.S.Store c.add_session_alone.new.conn) (state g.S.Store c.checked_fault.new.conn) (c.in-Ok-Some.ensures.settled early refl)
-    (c.in-Err-add_session_alone.ensures.back late) (c.checked_fault.ensures.memory clean (let e = memory in cc))
+    stays_after (state g.S.Store c.args.conn.now) (state g.S.Store c.find_repo.new.conn) (state g.S.Store c.add_session_alone.new.conn) (state g.S.Store c.checked_fault.new.conn) (c.in-Ok-Some.ensures.settled early is refl)
+    (c.in-Err-add_session_alone.ensures.back (λ clean. let early : HasCleanDisk (state g.S.Store c.args.conn.now) = omega (arith, c.find_repo.ensures.survives.clean) in
+    let last : Some c.in-Ok-Some.row.last ≡ option_map (λ r. natural_at r 3) (find (of_first c.as_str-repo.result.now) (held (state g.S.Store c.args.conn.now)).repos) =
+    last_found (find (of_first c.as_str-repo.result.now) (held (state g.S.Store c.args.conn.now)).repos) c.in-Ok-Some.row (let a = c.in-Ok-Some.field-0-is in let b = c.in-Ok-Some.row-is in let f = c.in-Ok-Some.ensures.found clean is in cc) in
+    number_behind (state g.S.Store c.args.conn.now) (state g.S.Store c.find_repo.new.conn) c.as_str-repo.result.now c.in-Ok-Some.row.last is (c.in-Ok-Some.ensures.settled clean is refl) last) late (c.in-Ok-Some.ensures.settled early is refl).0) (c.checked_fault.ensures.memory clean (let e = memory in cc))
 
 pub returns-in-Err-add_session_alone-clause-survives : goal.returns-in-Err-add_session_alone-clause-survives
 returns-in-Err-add_session_alone-clause-survives g c =
     survives_all (state g.S.Store c.args.conn.now) (state g.S.Store c.add_session_alone.new.conn) (state g.S.Store c.checked_fault.new.conn) _ _ (survives_all (state g.S.Store c.args.conn.now) (state g.S.Store c.find_repo.new.conn) (state g.S.Store c.add_session_alone.new.conn) _ _ c.find_repo.ensures.survives c.add_session_alone.ensures.survives) c.checked_fault.ensures.survives
 
 pub returns-in-Err-clause-memory : goal.returns-in-Err-clause-memory
-returns-in-Err-clause-memory g c clean memory = c.in-Err.ensures.settled clean (memory_told (Option RepoRow) c.in-Err.fault memory)
+returns-in-Err-clause-memory g c clean is memory = c.in-Err.ensures.settled clean is (memory_told (Option RepoRow) c.in-Err.fault memory)
