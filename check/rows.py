@@ -188,6 +188,37 @@ def tables_that_differ(db):
         yield found
 
 
+PUSH = b"POST /v2/a/blobs/uploads/?digest=%b HTTP/1.1\r\nHost: r\r\nAuthorization: Bearer t1\r\nContent-Length: 3\r\n\r\nabc"
+
+
+def lists_that_differ(db):
+    """Where a list is another than it should be: of two repositories, of which one holds the blob `abc`."""
+    digest = f"sha256:{hashlib.sha256(b'abc').hexdigest()}"
+    for name in ("b", "a"):
+        run("repo", "--db", db, "--name", name, "--quota", "100")
+    run("grant", "--db", db, "--name", "a", "--token", "t1", "--level", "2")
+    run("stdio", "--db", db, given=PUSH % digest.encode())
+    wanted = [
+        (("repos",), "a\nb\n"),
+        (("repos", "--json"), '[{"name":"a"},{"name":"b"}]\n'),
+        (("tags", "--name", "a"), ""),
+        (("tags", "--name", "a", "--json"), "[]\n"),
+        (("blobs", "--name", "a"), f"{digest} 3\n"),
+        (("blobs", "--name", "a", "--json"), f'[{{"digest":"{digest}","manifests":[],"size":3}}]\n'),
+        (("blobs", "--name", "b"), ""),
+        (("prune", "--name", "a", "--dry-run"), f"{digest}\n"),
+        (("prune", "--name", "a"), ""),
+        (("prune", "--name", "a", "--dry-run"), ""),
+    ]
+    for words, text in wanted:
+        found = run(words[0], "--db", db, *words[1:])
+        if (found.returncode, found.stdout, found.stderr) != (0, text.encode(), b""):
+            yield found
+    found = run("blobs", "--db", db, "--name", "c")
+    if (found.returncode, found.stdout, found.stderr) != (1, b"", FAULTS["NoRepo"]):
+        yield found
+
+
 def main():
     book, wrong, played, steps = Book(), 0, 0, 0
     with open(f"{DATA}/args", encoding="utf-8") as it:
@@ -211,6 +242,9 @@ def main():
                     break
         for it in tables_that_differ(f"{room}/usage.db"):
             print(f"WRONG usage: {it}")
+            wrong += 1
+        for it in lists_that_differ(f"{room}/lists.db"):
+            print(f"WRONG lists: {it}")
             wrong += 1
     print(f"{played} worked examples of {steps} steps by the program, over a file: {f'{wrong} wrong' if wrong else 'each as it is written'}")
     return 1 if wrong else 0

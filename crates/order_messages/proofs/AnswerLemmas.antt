@@ -19,7 +19,7 @@ use Rattle.registry_orders.specs.declared.orders.Order.{Order}
 use Rattle.registry_orders.specs.declared.orders.Order.TheVariants as order
 use Rattle.registry_orders.specs.Carrying.{Output, output, CarriesOrder}
 use Rattle.registry_orders.specs.Orders.{told}
-use Rattle.registry_orders.specs.Table.{table_of, newline}
+use Rattle.registry_lists.specs.Table.{table_of, newline}
 use Rattle.order_messages.specs.Answers.{answer_text, failure_text}
 use Rattle.order_messages.specs.Answering.{IsAnswered, IsOneStep}
 
@@ -38,6 +38,18 @@ one_step s order.Usage (Err failure.InvalidToken) out s' h = absurd h
 one_step s order.Usage (Err failure.InvalidOptions) out s' h = absurd h
 one_step s order.Usage (Err (failure.Schema n)) out s' h = absurd h
 one_step s order.Usage (Err failure.NotARegistry) out s' h = absurd h
+one_step s (order.List l f) (Ok v) out s' h = inl h.3
+one_step s (order.List l f) (Err failure.NoRepo) out s' h = inl h.1
+one_step s (order.List l f) (Err failure.OutOfMemory) out s' h = inl h.1
+one_step s (order.List l f) (Err failure.StorageFailure) out s' h = inr (command.Clear, Err fault.Storage, h.1)
+one_step s (order.List l f) (Err failure.ConnectionFailure) out s' h = inl h
+one_step s (order.List l f) (Err failure.NoGrant) out s' h = absurd h
+one_step s (order.List l f) (Err failure.RepoThere) out s' h = absurd h
+one_step s (order.List l f) (Err failure.InvalidName) out s' h = absurd h
+one_step s (order.List l f) (Err failure.InvalidToken) out s' h = absurd h
+one_step s (order.List l f) (Err failure.InvalidOptions) out s' h = absurd h
+one_step s (order.List l f) (Err (failure.Schema n)) out s' h = absurd h
+one_step s (order.List l f) (Err failure.NotARegistry) out s' h = absurd h
 
 -- ---- a command that is refused changes nothing
 
@@ -79,6 +91,17 @@ failure_keeps s order.Usage failure.InvalidToken out s' known h = absurd h
 failure_keeps s order.Usage failure.InvalidOptions out s' known h = absurd h
 failure_keeps s order.Usage (failure.Schema n) out s' known h = absurd h
 failure_keeps s order.Usage failure.NotARegistry out s' known h = absurd h
+failure_keeps s (order.List l f) failure.NoRepo out s' known h = h.1
+failure_keeps s (order.List l f) failure.OutOfMemory out s' known h = h.1
+failure_keeps s (order.List l f) failure.StorageFailure out s' known h = absurd (known refl)
+failure_keeps s (order.List l f) failure.ConnectionFailure out s' known h = h
+failure_keeps s (order.List l f) failure.NoGrant out s' known h = absurd h
+failure_keeps s (order.List l f) failure.RepoThere out s' known h = absurd h
+failure_keeps s (order.List l f) failure.InvalidName out s' known h = absurd h
+failure_keeps s (order.List l f) failure.InvalidToken out s' known h = absurd h
+failure_keeps s (order.List l f) failure.InvalidOptions out s' known h = absurd h
+failure_keeps s (order.List l f) (failure.Schema n) out s' known h = absurd h
+failure_keeps s (order.List l f) failure.NotARegistry out s' known h = absurd h
 
 -- ---- what was written
 
@@ -96,6 +119,17 @@ writes_nothing s order.Usage failure.InvalidToken out s' h = absurd h
 writes_nothing s order.Usage failure.InvalidOptions out s' h = absurd h
 writes_nothing s order.Usage (failure.Schema n) out s' h = absurd h
 writes_nothing s order.Usage failure.NotARegistry out s' h = absurd h
+writes_nothing s (order.List l f) failure.NoRepo out s' h = (refl, h.1, h.2)
+writes_nothing s (order.List l f) failure.OutOfMemory out s' h = (refl, h.1)
+writes_nothing s (order.List l f) failure.StorageFailure out s' h = (refl, h.1)
+writes_nothing s (order.List l f) failure.ConnectionFailure out s' h = h
+writes_nothing s (order.List l f) failure.NoGrant out s' h = absurd h
+writes_nothing s (order.List l f) failure.RepoThere out s' h = absurd h
+writes_nothing s (order.List l f) failure.InvalidName out s' h = absurd h
+writes_nothing s (order.List l f) failure.InvalidToken out s' h = absurd h
+writes_nothing s (order.List l f) failure.InvalidOptions out s' h = absurd h
+writes_nothing s (order.List l f) (failure.Schema n) out s' h = absurd h
+writes_nothing s (order.List l f) failure.NotARegistry out s' h = absurd h
 
 -- what an order that is done writes stands behind what was there
 pub record Wrote (s : State) (o : Order) (front after : Text) (s' : State) : Type 0 where
@@ -111,6 +145,8 @@ writes_behind s (order.Change change) front after s' h =
     record { written = []; is = same_text front after h.0 ∙ sym (append-nil front); carried = (refl, h.1) }
 writes_behind s order.Usage front after s' h =
     record { written = table_of (usages_of s.world); is = h.0; carried = (refl, h.1) }
+writes_behind s (order.List l f) front after s' h =
+    record { written = h.0; is = h.2; carried = (h.0, h.1, refl, h.3) }
 
 -- ---- the answer
 

@@ -1,5 +1,5 @@
 -- A line spells one order at most, and is short.
-use Rattle.std.proofs.Common.{◌≡◌, ◌≢◌, ◌∙◌, ℕ, ◌+◌, ◌<◌, ◌≤◌, true, [], ◌∷◌, List, nat_le, ◌*◌, get_or, length, length-append, decimal, sym, refl, ap, arith}
+use Rattle.std.proofs.Common.{◌≡◌, ◌≢◌, ◌∙◌, ℕ, codes, ◌+◌, ◌<◌, ◌≤◌, true, [], ◌∷◌, List, nat_le, ◌*◌, get_or, length, length-append, decimal, sym, refl, ap, arith}
 use Rattle.std.proofs.lemmas.Bool.{and_parts, leb-true}
 use Rattle.std.proofs.lemmas.Fmt.{decimal_injective, length-decimal-le}
 use Rattle.oci_names.specs.Text.{Text}
@@ -8,11 +8,17 @@ use Rattle.oci_names.specs.Token.{is_token, is_b64token}
 use Rattle.registry_model.specs.declared.level.Level.{Level}
 use Rattle.registry_model.specs.declared.level.Level.TheVariants.{Pull, Push, Delete}
 use Rattle.registry_model.specs.declared.quota.Quota.{Quota}
+use Rattle.registry_lists.specs.declared.listing.Held.{Held}
+use Rattle.registry_lists.specs.declared.listing.Held.TheVariants.{Tags, Blobs, Unnamed}
+use Rattle.registry_lists.specs.declared.listing.Listing.{Listing}
+use Rattle.registry_lists.specs.declared.listing.Listing.TheVariants.{Repos, InRepo}
+use Rattle.registry_lists.specs.declared.listing.Form.{Form}
+use Rattle.registry_lists.specs.declared.listing.Form.TheVariants.{Lines, Json}
 use Rattle.registry_orders.specs.declared.orders.Change.{Change}
 use Rattle.registry_orders.specs.declared.orders.Change.TheVariants.{AddRepo, SetQuota, DropRepo, DropSessions, Prune, Grant, Revoke, Clear}
 use Rattle.registry_orders.specs.declared.orders.Order.{Order}
 use Rattle.registry_orders.specs.declared.orders.Order.TheVariants as order
-use Rattle.order_messages.specs.Lines.{digit_of, words_of_change, words_of, line_of, IsProperChange, IsProper, Spells, SpellsNone}
+use Rattle.order_messages.specs.Lines.{digit_of, form_word, held_word, words_of_listing, words_of_change, words_of, line_of, IsProperListing, IsProperChange, IsProper, Spells, SpellsNone}
 use Rattle.order_messages.proofs.LineLemmas.{split, split_line}
 use native.Mathlib.Bridge.{le_prop}
 use std.HLevel.{prop→path_p}
@@ -44,9 +50,23 @@ change_length (Grant token name level) h =
 change_length (Revoke token name) h = omega (arith, length-append {A = ℕ}, name_length name h.0, token_length token h.1)
 change_length Clear h = omega arith
 
+form_length : (form : Form) → length (form_word form) ≤ 5
+form_length Lines = omega arith
+form_length Json = omega arith
+
+held_length : (what : Held) → length (held_word what) ≤ 7
+held_length Tags = omega arith
+held_length Blobs = omega arith
+held_length Unnamed = omega arith
+
+list_length : (l : Listing) (form : Form) → IsProperListing l → length (line_of (order.List l form)) < 600
+list_length Repos form h = omega (arith, length-append {A = ℕ}, form_length form)
+list_length (InRepo name what) form h = omega (arith, length-append {A = ℕ}, form_length form, held_length what, name_length name h)
+
 line_length : (o : Order) → IsProper o → length (line_of o) < 600
 line_length (order.Change c) h = change_length c h
 line_length order.Usage h = omega arith
+line_length (order.List listing form) h = list_length listing form h
 
 pub long_line : (line : Text) → 600 ≤ length line → SpellsNone line
 long_line line long = λ o h.
@@ -100,11 +120,49 @@ not_usage (Grant t m l) e = omega arith
 not_usage (Revoke t m) e = omega arith
 not_usage Clear e = omega arith
 
+not_list : (c : Change) → key_of (words_of_change c) ≢ key_of (codes "list" ∷ [])
+not_list (AddRepo m q) e = omega arith
+not_list (SetQuota m q) e = omega arith
+not_list (DropRepo m) e = omega arith
+not_list (DropSessions m) e = omega arith
+not_list (Prune m) e = omega arith
+not_list (Grant t m l) e = omega arith
+not_list (Revoke t m) e = omega arith
+not_list Clear e = omega arith
+
+form_from_word : (f g : Form) → form_word f ≡ form_word g → f ≡ g
+form_from_word Lines Lines e = refl
+form_from_word Json Json e = refl
+form_from_word f g e = let first = ap (λ t. get_or t 0 0) e in absurd (omega arith)
+
+held_from_word : (a b : Held) → held_word a ≡ held_word b → a ≡ b
+held_from_word Tags Tags e = refl
+held_from_word Blobs Blobs e = refl
+held_from_word Unnamed Unnamed e = refl
+held_from_word a b e = let first = ap (λ t. get_or t 0 0) e in absurd (omega arith)
+
+listing_same : (l m : Listing) → words_of_listing l ≡ words_of_listing m → l ≡ m
+listing_same Repos Repos e = refl
+listing_same Repos (InRepo n b) e = absurd (cc)
+listing_same (InRepo n a) Repos e = absurd (cc)
+listing_same (InRepo m a) (InRepo n b) e = let same = held_from_word a b cc in cc
+
+list_same : (l m : Listing) (f g : Form) → words_of (order.List l f) ≡ words_of (order.List m g) → order.List l f ≡ order.List m g
+list_same l m f g e =
+    let forms = form_from_word f g cc in
+    let listings = listing_same l m cc in
+    cc
+
 words_same : (o p : Order) → words_of o ≡ words_of p → o ≡ p
 words_same (order.Change c) (order.Change d) e = ap (λ x. order.Change x) (change_same c d e)
 words_same (order.Change c) order.Usage e = absurd (not_usage c (ap key_of e))
 words_same order.Usage (order.Change d) e = absurd (not_usage d (ap key_of (sym e)))
 words_same order.Usage order.Usage e = refl
+words_same (order.List l f) (order.List m g) e = list_same l m f g e
+words_same (order.List l f) (order.Change d) e = absurd (not_list d (ap key_of (sym e)))
+words_same (order.Change c) (order.List m g) e = absurd (not_list c (ap key_of e))
+words_same (order.List l f) order.Usage e = let key = ap key_of e in absurd (omega arith)
+words_same order.Usage (order.List m g) e = let key = ap key_of e in absurd (omega arith)
 
 pub one_order : (line : Text) (o p : Order) → Spells line o → Spells line p → o ≡ p
 one_order line o p h k = words_same o p (sym (split_line o h.1) ∙ ap split (sym h.0 ∙ k.0) ∙ split_line p k.1)

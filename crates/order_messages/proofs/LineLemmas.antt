@@ -9,13 +9,19 @@ use Rattle.oci_names.specs.Text.{Text}
 use Rattle.registry_model.specs.declared.level.Level.{Level}
 use Rattle.registry_model.specs.declared.level.Level.TheVariants.{Pull, Push, Delete}
 use Rattle.registry_model.specs.declared.quota.Quota.{Quota}
+use Rattle.registry_lists.specs.declared.listing.Held.{Held}
+use Rattle.registry_lists.specs.declared.listing.Held.TheVariants.{Tags, Blobs, Unnamed}
+use Rattle.registry_lists.specs.declared.listing.Listing.{Listing}
+use Rattle.registry_lists.specs.declared.listing.Listing.TheVariants.{Repos, InRepo}
+use Rattle.registry_lists.specs.declared.listing.Form.{Form}
+use Rattle.registry_lists.specs.declared.listing.Form.TheVariants.{Lines, Json}
 use Rattle.registry_orders.specs.declared.orders.Change.{Change}
 use Rattle.registry_orders.specs.declared.orders.Change.TheVariants.{AddRepo, SetQuota, DropRepo, DropSessions, Prune, Grant, Revoke, Clear}
 use Rattle.registry_orders.specs.declared.orders.Order.{Order}
 use Rattle.registry_orders.specs.declared.orders.Order.TheVariants as order
 use Rattle.order_messages.specs.declared.reading.Unread.{Unread}
 use Rattle.order_messages.specs.declared.reading.Unread.TheVariants.{Malformed, Memory}
-use Rattle.order_messages.specs.Lines.{space, digit_of, words_of_change, words_of, line_of, IsProperChange, IsProper, AreWordsOf, Spells}
+use Rattle.order_messages.specs.Lines.{space, digit_of, form_word, held_word, words_of_listing, words_of_change, words_of, line_of, IsProperListing, IsProperChange, IsProper, AreWordsOf, Spells}
 use Rattle.order_messages.specs.Reading.{IsUnread, AreUnread}
 use Rattle.order_messages.proofs.PlainWords.{plain, plain_name, plain_token, plain_decimal, has_no_space, is_utf8}
 
@@ -74,9 +80,23 @@ plain_change (Grant token name level) h =
 plain_change (Revoke token name) h = one_more (plain name) (plain token && true) (plain_name name h.0) (one_more (plain token) true (plain_token token h.1) refl)
 plain_change Clear h = refl
 
+plain_form : (form : Form) → plain (form_word form) ≡ true
+plain_form Lines = refl
+plain_form Json = refl
+
+plain_held : (what : Held) → plain (held_word what) ≡ true
+plain_held Tags = refl
+plain_held Blobs = refl
+plain_held Unnamed = refl
+
+plain_listing : (l : Listing) → IsProperListing l → all_plain (words_of_listing l) ≡ true
+plain_listing Repos h = refl
+plain_listing (InRepo name what) h = one_more (plain (held_word what)) (plain name && true) (plain_held what) (one_more (plain name) true (plain_name name h) refl)
+
 plain_order : (o : Order) → IsProper o → all_plain (words_of o) ≡ true
 plain_order (order.Change change) h = plain_change change h
 plain_order order.Usage h = refl
+plain_order (order.List listing form) h = one_more (plain (form_word form)) (all_plain (words_of_listing listing)) (plain_form form) (plain_listing listing h)
 
 split_line_words : (words : List Text) → all_plain words ≡ true → (words ≡ [] → ⊥) → split (join_with_byte space words) ≡ words
 split_line_words [] h some = absurd (some refl)
@@ -92,6 +112,7 @@ some_words (order.Change (Grant token name level)) e = cc
 some_words (order.Change (Revoke token name)) e = cc
 some_words (order.Change Clear) e = cc
 some_words order.Usage e = cc
+some_words (order.List listing form) e = cc
 
 pub split_line : (o : Order) → IsProper o → split (line_of o) ≡ words_of o
 split_line o h = split_line_words (words_of o) (plain_order o h) (some_words o)

@@ -11,7 +11,7 @@ use Rattle.registry_orders.specs.declared.failure.Failure.TheVariants.{InvalidOp
 use Rattle.registry_orders.specs.declared.orders.Order.{Order}
 use Rattle.registry_orders.specs.Carrying.{output, CarriesOrder}
 use Rattle.registry_orders.specs.Failures.{status_if, text_of}
-use Rattle.registry_orders.specs.Table.{newline}
+use Rattle.registry_lists.specs.Table.{newline}
 use Rattle.order_messages.specs.Answers.{answer_text, failure_text}
 use Rattle.order_messages.specs.Lines.{Spells, SpellsNone}
 

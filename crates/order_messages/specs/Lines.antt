@@ -6,6 +6,12 @@ use Rattle.oci_names.specs.RepoName.{is_repo_name}
 use Rattle.oci_names.specs.Token.{is_token}
 use Rattle.registry_model.specs.declared.level.Level.{Level}
 use Rattle.registry_model.specs.declared.level.Level.TheVariants.{Pull, Push, Delete}
+use Rattle.registry_lists.specs.declared.listing.Held.{Held}
+use Rattle.registry_lists.specs.declared.listing.Held.TheVariants.{Tags, Blobs, Unnamed}
+use Rattle.registry_lists.specs.declared.listing.Listing.{Listing}
+use Rattle.registry_lists.specs.declared.listing.Listing.TheVariants.{Repos, InRepo}
+use Rattle.registry_lists.specs.declared.listing.Form.{Form}
+use Rattle.registry_lists.specs.declared.listing.Form.TheVariants as form
 use Rattle.registry_orders.specs.declared.orders.Change.{Change}
 use Rattle.registry_orders.specs.declared.orders.Change.TheVariants.{AddRepo, SetQuota, DropRepo, DropSessions, Prune, Grant, Revoke, Clear}
 use Rattle.registry_orders.specs.declared.orders.Order.{Order}
@@ -27,10 +33,25 @@ words_of_change (Grant token name level) = codes "grant" ∷ name ∷ digit_of l
 words_of_change (Revoke token name) = codes "revoke" ∷ name ∷ token ∷ []
 words_of_change Clear = codes "clear" ∷ []
 
+abbrev pub form_word : Form → Text
+form_word form.Lines = codes "lines"
+form_word form.Json = codes "json"
+
+-- what is listed of a repository
+abbrev pub held_word : Held → Text
+held_word Tags = codes "tags"
+held_word Blobs = codes "blobs"
+held_word Unnamed = codes "unnamed"
+
+abbrev pub words_of_listing : Listing → List Text
+words_of_listing Repos = codes "repos" ∷ []
+words_of_listing (InRepo name what) = held_word what ∷ name ∷ []
+
 -- what is ordered, and of what; a number is decimal, with no leading zero
 abbrev pub words_of : Order → List Text
 words_of (order.Change change) = words_of_change change
 words_of order.Usage = codes "usage" ∷ []
+words_of (order.List listing f) = codes "list" ∷ form_word f ∷ words_of_listing listing
 
 abbrev pub space : ℕ
 space = 32
@@ -49,10 +70,15 @@ IsProperChange (Grant token name level) = (is_repo_name name ≡ true) × (is_to
 IsProperChange (Revoke token name) = (is_repo_name name ≡ true) × (is_token token ≡ true)
 IsProperChange Clear = Unit {0}
 
+abbrev pub IsProperListing : Listing → Type 0
+IsProperListing Repos = Unit {0}
+IsProperListing (InRepo name what) = is_repo_name name ≡ true
+
 -- its name is a repository's name and its token a token, as they are of each order that there is
 abbrev pub IsProper : Order → Type 0
 IsProper (order.Change change) = IsProperChange change
 IsProper order.Usage = Unit {0}
+IsProper (order.List listing f) = IsProperListing listing
 
 -- the words spell the order; they spell none
 abbrev pub AreWordsOf : List Text → Order → Type 0

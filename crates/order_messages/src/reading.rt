@@ -1,13 +1,16 @@
 //! An order read from its line.
-ghost use Rattle.std.specs.Prelude.{◌≡◌, ◌==◌, [], ◌∷◌, IfOk, IfErr, MatchOption, map, decimal};
+ghost use Rattle.std.specs.Prelude.{◌≡◌, ◌==◌, [], ◌∷◌, IfOk, IfErr, MatchOption, map, codes, decimal};
 ghost use Rattle.std.specs.List.{slice_split};
 ghost use Rattle.registry_model.specs.declared.level.Level.{Level};
 ghost use Rattle.registry_model.specs.declared.quota.Quota.{Quota};
-ghost use Rattle.order_messages.specs.Lines.{space, digit_of, Spells, AreWordsOf};
+ghost use Rattle.registry_lists.specs.declared.listing.Form.{Form};
+ghost use Rattle.registry_lists.specs.declared.listing.Held.{Held};
+ghost use Rattle.order_messages.specs.Lines.{space, digit_of, form_word, held_word, Spells, AreWordsOf};
 ghost use Rattle.order_messages.specs.Reading.{IsUnread, AreUnread};
 
 use crate::number::number_in;
 use oci_names::{NameFault, RepoName, Token};
+use registry_lists::{Form, Held, Listing};
 use registry_model::{Level, Quota};
 use registry_orders::{Change, Order};
 use std::alloc::{AllocError, Global};
@@ -67,6 +70,31 @@ fn level_in(text: &str) -> Option<Level>
     }
 }
 
+/// The form of a list.
+fn form_in(text: &str) -> Option<Form>
+    ensures { MatchOption result ((form : Form) → ¬ (text.now ≡ form_word form))
+        (λ form. text.now ≡ form_word form) }
+{
+    match text {
+        "lines" => Some(Form::Lines),
+        "json" => Some(Form::Json),
+        _ => None,
+    }
+}
+
+/// What is listed of a repository.
+fn held_in(text: &str) -> Option<Held>
+    ensures { MatchOption result ((what : Held) → ¬ (text.now ≡ held_word what))
+        (λ what. text.now ≡ held_word what) }
+{
+    match text {
+        "tags" => Some(Held::Tags),
+        "blobs" => Some(Held::Blobs),
+        "unnamed" => Some(Held::Unnamed),
+        _ => None,
+    }
+}
+
 /// The quota of a number of bytes.
 #[tactic(auto, using(crate::proofs::NumberLemmas::quota_is_small, crate::proofs::NumberLemmas::decimal_same))]
 fn quota_in(text: &str) -> Option<Quota>
@@ -110,7 +138,35 @@ fn order_of_name(alloc: Global, word: &str, name: &str) -> Result<Order, Unread>
     }
 }
 
-/// The order of a word, a name and a quota or a token.
+/// The order of two words behind `list`.
+fn list_of_one(form: &str, what: &str) -> Result<Order, Unread>
+    ensures read { IfOk result (AreWordsOf (codes "list" ∷ form.now ∷ what.now ∷ [])) }
+    ensures refused { IfErr result (AreUnread (codes "list" ∷ form.now ∷ what.now ∷ [])) }
+{
+    match what {
+        "repos" => Ok(Order::List {
+            listing: Listing::Repos,
+            form: form_in(form).ok_or(Unread::Malformed)?,
+        }),
+        _ => Err(Unread::Malformed),
+    }
+}
+
+/// The order of three words behind `list`.
+fn list_of_repo(alloc: Global, form: &str, what: &str, name: &str) -> Result<Order, Unread>
+    ensures read { IfOk result (AreWordsOf (codes "list" ∷ form.now ∷ what.now ∷ name.now ∷ [])) }
+    ensures refused { IfErr result (AreUnread (codes "list" ∷ form.now ∷ what.now ∷ name.now ∷ [])) }
+{
+    let form = form_in(form).ok_or(Unread::Malformed)?;
+    let what = held_in(what).ok_or(Unread::Malformed)?;
+    let name = RepoName::parse(alloc, name)?;
+    Ok(Order::List {
+        listing: Listing::InRepo { name, what },
+        form,
+    })
+}
+
+/// The order of a word, a name and a quota or a token, or of two words behind `list`.
 fn order_of_two(alloc: Global, word: &str, name: &str, last: &str) -> Result<Order, Unread>
     ensures read { IfOk result (AreWordsOf (word.now ∷ name.now ∷ last.now ∷ [])) }
     ensures refused { IfErr result (AreUnread (word.now ∷ name.now ∷ last.now ∷ [])) }
@@ -128,11 +184,12 @@ fn order_of_two(alloc: Global, word: &str, name: &str, last: &str) -> Result<Ord
             token: Token::parse(alloc, last)?,
             name: RepoName::parse(alloc, name)?,
         })),
+        "list" => list_of_one(name, last),
         _ => Err(Unread::Malformed),
     }
 }
 
-/// The order of a word, a name, a level and a token.
+/// The order of a word, a name, a level and a token, or of three words behind `list`.
 fn order_of_three(
     alloc: Global,
     word: &str,
@@ -149,6 +206,7 @@ fn order_of_three(
             name: RepoName::parse(alloc, name)?,
             level: level_in(level).ok_or(Unread::Malformed)?,
         })),
+        "list" => list_of_repo(alloc, name, level, token),
         _ => Err(Unread::Malformed),
     }
 }

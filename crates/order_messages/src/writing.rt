@@ -1,7 +1,8 @@
 //! The line that spells an order.
 ghost use Rattle.std.specs.Prelude.{◌≡◌, ◌<◌, IfOk, string_bytes};
-ghost use Rattle.order_messages.specs.Lines.{line_of, digit_of};
+ghost use Rattle.order_messages.specs.Lines.{line_of, digit_of, form_word, held_word};
 
+use registry_lists::{Form, Held, Listing};
 use registry_model::Level;
 use registry_orders::{Change, Order};
 use std::alloc::{AllocError, Global};
@@ -18,6 +19,52 @@ fn digit_of(level: Level) -> &'static str
         Level::Pull => "1",
         Level::Push => "2",
         Level::Delete => "3",
+    }
+}
+
+fn form_word(form: Form) -> &'static str
+    ensures { result.now ≡ form_word form }
+{
+    match form {
+        Form::Lines => "lines",
+        Form::Json => "json",
+    }
+}
+
+fn held_word(what: Held) -> &'static str
+    ensures { result.now ≡ held_word what }
+{
+    match what {
+        Held::Tags => "tags",
+        Held::Blobs => "blobs",
+        Held::Unnamed => "unnamed",
+    }
+}
+
+/// The words of a list.
+#[derive(Drop)]
+struct ListLine<'a> {
+    listing: &'a Listing,
+    form: Form,
+}
+
+impl<'a> fmt::Display for ListLine<'a> {
+    ghost use Rattle.std.specs.Prelude.{Some, ◌∷◌, codes};
+    ghost use Rattle.std.specs.List.{join_with_byte};
+    ghost use Rattle.order_messages.specs.Lines.{form_word, words_of_listing, space};
+
+    ghost output = { λ line. Some (join_with_byte space
+        (codes "list" ∷ form_word line.form ∷ words_of_listing line.listing.now)) };
+
+    fn fmt<W: fmt::Write>(&self, f: &mut fmt::Formatter<W>) -> fmt::Result {
+        let form = form_word(self.form);
+        match self.listing {
+            Listing::Repos => write!(f, "list {form} repos"),
+            Listing::InRepo { name, what } => {
+                let what = held_word(*what);
+                write!(f, "list {form} {what} {}", name.as_str())
+            }
+        }
     }
 }
 
@@ -60,5 +107,9 @@ pub fn write_order(alloc: Global, order: &Order) -> Result<String, AllocError>
     match order {
         Order::Change(change) => format!(in alloc; "{}", ChangeLine(change)),
         Order::Usage => String::from_str(alloc, "usage"),
+        Order::List { listing, form } => {
+            let form = *form;
+            format!(in alloc; "{}", ListLine { listing, form })
+        }
     }
 }

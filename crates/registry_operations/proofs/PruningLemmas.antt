@@ -19,7 +19,7 @@ use Rattle.registry_model.specs.Pruning.{names_in, is_among, is_named, pruned, p
 use Rattle.registry_model.specs.Keeping.{State, Writes}
 use Rattle.registry_model.proofs.TextOrder.{text_total}
 use Rattle.registry_model.proofs.BlobsTakenAway.{unnamed_taken}
-use Rattle.registry_operations.specs.Pruning.{is_named_by, is_named_at}
+use Rattle.registry_operations.specs.Pruning.{is_named_by, is_named_at, unnamed_of, unnamed_at}
 
 -- ---- what is among digests
 
@@ -63,7 +63,7 @@ passed x text all (e ∷ es) below h = (
 )
 
 -- in the keys' order each entry is found under its key
-found_each : (es : List (Text × Text)) → T (is_sorted text_cmp es) → AllByRecursion (λ e. find text_cmp e.0 es ≡ Some e.1) es
+pub found_each : (es : List (Text × Text)) → T (is_sorted text_cmp es) → AllByRecursion (λ e. find text_cmp e.0 es ≡ Some e.1) es
 found_each [] h = tt
 found_each (e ∷ es) h = (
   ap (λ b. cond b (Some e.1) (find text_cmp e.0 es)) ((eq_by_cmp_equiv text_total).refl e.0),
@@ -106,26 +106,33 @@ named_by_all s began name has manifests items index found over given told same i
 
 -- ---- what is left
 
+unnamed_in : (o : Option Repo) → filter (λ digest. not (option_map_or (λ r. is_named r digest) o false)) (option_map_or (λ (r : Repo). keys r.blobs) o []) ≡ option_map_or unnamed_of o []
+unnamed_in None = refl
+unnamed_in (Some r) = refl
+
+-- what is left of the blobs of a keeper's world without those that were told to be named
+pub unnamed_found : (s s1 : State) (name : Text) (has : Text → Bool) (blobs unnamed : List Text)
+    → has ≡ is_named_at s.world name → s1 ≡ s → blobs ≡ blob_digests_at s1.world name
+    → unnamed ≡ filter (λ digest. not (has digest)) blobs → unnamed ≡ unnamed_at s.world name
+unnamed_found s s1 name has blobs unnamed named first told left =
+    left ∙ ap (λ blobs. filter (λ digest. not (has digest)) blobs) (told ∙ ap {A = State} (λ s. blob_digests_at s.world name) first)
+    ∙ ap (λ (p : Text → Bool). filter (λ digest. not (p digest)) (blob_digests_at s.world name)) named
+    ∙ unnamed_in (repo_at s.world name)
+
 pruned_of : (w : World) (name : Text) (o : Option Repo)
-    → update_repo w name (λ r. without_blobs r (filter (λ digest. not (option_map_or (λ (r : Repo). is_named r digest) o false)) (option_map_or (λ (r : Repo). keys r.blobs) o []))) o
-    ≡ update_repo w name pruned o
+    → update_repo w name (λ r. without_blobs r (option_map_or unnamed_of o [])) o ≡ update_repo w name pruned o
 pruned_of w name None = refl
 pruned_of w name (Some r) = ap (λ (left : Repo). with_repo w name left) (unnamed_taken r)
 
 -- the world without the blobs that no manifest names
-pub pruned_at : (w : World) (name : Text) → delete_blobs w name (filter (λ digest. not (is_named_at w name digest)) (blob_digests_at w name)) ≡ prune w name
+pub pruned_at : (w : World) (name : Text) → delete_blobs w name (unnamed_at w name) ≡ prune w name
 pruned_at w name = pruned_of w name (repo_at w name)
 
 -- what a keeper made of its world, by what it told before
-pub prunes : {A : Type 0} (result : Result A Fault) (s s1 s2 s' : State) (name : Text) (has : Text → Bool) (blobs unnamed digests : List Text)
-    → has ≡ is_named_at s.world name → s1 ≡ s → blobs ≡ blob_digests_at s1.world name → s2 ≡ s1
-    → unnamed ≡ filter (λ digest. not (has digest)) blobs → digests ≡ unnamed
-    → Writes result (delete_blobs s2.world name digests) s2 s' → Writes result (prune s.world name) s s'
-prunes result s s1 s2 s' name has blobs unnamed digests named first told second left given made =
-    let same : s2 ≡ s = second ∙ first in
-    let those : digests ≡ filter (λ digest. not (is_named_at s.world name digest)) (blob_digests_at s.world name) =
-    given ∙ left ∙ ap (λ blobs. filter (λ digest. not (has digest)) blobs) (told ∙ ap {A = State} (λ s. blob_digests_at s.world name) first)
-    ∙ ap (λ (p : Text → Bool). filter (λ digest. not (p digest)) (blob_digests_at s.world name)) named in
-    let after : delete_blobs s2.world name digests ≡ prune s.world name =
-    ap {A = State} (λ s. delete_blobs s.world name digests) same ∙ ap (delete_blobs s.world name) those ∙ pruned_at s.world name in
-    subst (λ (w : World). Writes result w s s') after (subst (λ (x : State). Writes result (delete_blobs s2.world name digests) x s') same made)
+pub prunes : {A : Type 0} (result : Result A Fault) (s s1 s' : State) (name : Text) (unnamed digests : List Text)
+    → unnamed ≡ unnamed_at s.world name → s1 ≡ s → digests ≡ unnamed
+    → Writes result (delete_blobs s1.world name digests) s1 s' → Writes result (prune s.world name) s s'
+prunes result s s1 s' name unnamed digests told same given made =
+    let after : delete_blobs s1.world name digests ≡ prune s.world name =
+    ap {A = State} (λ s. delete_blobs s.world name digests) same ∙ ap (delete_blobs s.world name) (given ∙ told) ∙ pruned_at s.world name in
+    subst (λ (w : World). Writes result w s s') after (subst (λ (x : State). Writes result (delete_blobs s1.world name digests) x s') same made)

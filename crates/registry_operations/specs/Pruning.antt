@@ -1,10 +1,11 @@
 -- The digests that manifests name, as they are looked up.
-use Rattle.std.specs.Prelude.{List, [], Bool, false}
+use Rattle.std.specs.Prelude.{List, [], Bool, false, not, filter}
 use Rattle.std.specs.Option.{option_map_or}
 use Rattle.std.specs.List.{list_any}
 use Rattle.std.specs.BTreeSet.{BTreeSet, contains}
+use Rattle.std.specs.FinMap.{keys}
 use Rattle.oci_names.specs.Text.{Text}
-use Rattle.registry_model.specs.World.{World, text_cmp, repo_at}
+use Rattle.registry_model.specs.World.{Repo, World, text_cmp, repo_at}
 use Rattle.registry_model.specs.Lookups.{manifest_bytes_at}
 use Rattle.registry_model.specs.Pruning.{names_in, is_among, is_named}
 
@@ -20,6 +21,14 @@ is_named_by w name manifests digest =
 -- some manifest of the repository of the name names it
 abbrev pub is_named_at : World → Text → Text → Bool
 is_named_at w name digest = option_map_or (λ r. is_named r digest) (repo_at w name) false
+
+-- the blobs that no manifest of their repository names, in byte order
+abbrev pub unnamed_of : Repo → List Text
+unnamed_of r = filter (λ digest. not (is_named r digest)) (keys r.blobs)
+
+-- those of the repository of the name; none where it is not there
+abbrev pub unnamed_at : World → Text → List Text
+unnamed_at w name = option_map_or unnamed_of (repo_at w name) []
 
 -- the set has the digest
 abbrev pub has : BTreeSet Text → Text → Bool

@@ -17,4 +17,4 @@ mod replies;
 pub mod session_close;
 pub mod uploads;
 
-pub use pruning::prune;
+pub use pruning::{names_at, prune, unnamed, unnamed_blobs_are_pruned};

@@ -4,8 +4,9 @@ ghost use Rattle.std.specs.Prelude.{◌≡◌, ◌||◌, true, false, not, filte
 ghost use Rattle.oci_names.specs.Text.{Text};
 ghost use Rattle.registry_model.specs.World.{has_repo};
 ghost use Rattle.registry_model.specs.Keeping.{ReadsBy, Writes, Spends, digests_shown};
-ghost use Rattle.registry_model.specs.Pruning.{names_in, is_among, prune};
-ghost use Rattle.registry_operations.specs.Pruning.{names_at, is_named_at, has};
+ghost use Rattle.registry_model.specs.Pruning.{names_in, is_among, prune, delete_blobs};
+ghost use Rattle.registry_model.specs.World.{World};
+ghost use Rattle.registry_operations.specs.Pruning.{names_at, is_named_at, unnamed_at, has};
 
 use oci_manifest::{Manifest, ManifestFault, read_manifest};
 use oci_names::{Digest, Fault, RepoName};
@@ -30,8 +31,8 @@ fn names_in(alloc: Global, bytes: &[u8]) -> Result<Vec<Digest>, Fault>
     }
 }
 
-/// What a manifest of the repository names; nothing where it is not there.
-fn names_at<K: Keeper>(
+/// The digests of the blobs that a manifest of the repository names; none where it is not there.
+pub fn names_at<K: Keeper>(
     keeper: &mut K,
     alloc: Global,
     name: &RepoName,
@@ -90,6 +91,25 @@ fn leave_unnamed(digests: &mut Vec<Digest>, named: &BTreeSet<Digest>)
     digests.retain(|digest| !named.contains(digest));
 }
 
+/// The digests of the blobs of a repository that none of its manifests names, in byte order; none where it
+/// is not there. One manifest is held at a time.
+pub fn unnamed<K: Keeper>(
+    alloc: Global,
+    keeper: &mut K,
+    name: &RepoName,
+) -> Result<Vec<Digest>, Fault>
+    ensures found { K.is_honest keeper.new → ReadsBy digests_shown result
+        (unnamed_at (K.state keeper.old).world name.now)
+        (K.state keeper.old) (K.state keeper.new) }
+    ensures spends { Spends result (K.state keeper.old) (K.state keeper.new) }
+    ensures honest { K.is_honest keeper.new → K.is_honest keeper.old }
+{
+    let named = named_at(keeper, alloc, name)?;
+    let mut digests = keeper.blob_digests(alloc, name)?;
+    leave_unnamed(&mut digests, &named);
+    Ok(digests)
+}
+
 /// Takes away the blobs of a repository that is there which none of its manifests names.
 pub fn prune<K: Keeper>(alloc: Global, keeper: &mut K, name: &RepoName) -> Result<(), Fault>
     requires there { K.is_honest keeper.old → (K.state keeper.old).spent ≡ false
@@ -99,8 +119,11 @@ pub fn prune<K: Keeper>(alloc: Global, keeper: &mut K, name: &RepoName) -> Resul
     ensures spends { Spends result (K.state keeper.old) (K.state keeper.new) }
     ensures honest { K.is_honest keeper.new → K.is_honest keeper.old }
 {
-    let named = named_at(keeper, alloc, name)?;
-    let mut unnamed = keeper.blob_digests(alloc, name)?;
-    leave_unnamed(&mut unnamed, &named);
-    keeper.delete_blobs(name, &unnamed)
+    let digests = unnamed(alloc, keeper, name)?;
+    keeper.delete_blobs(name, &digests)
 }
+
+/// What `prune` takes away is what `unnamed` tells.
+pub fn unnamed_blobs_are_pruned()
+    ensures { (w : World) (name : Text) → prune w name ≡ delete_blobs w name (unnamed_at w name) }
+{}

@@ -4,5 +4,4 @@ pub mod GivenLemmas
 pub mod OrderStatuses
 pub mod SettingLemmas
 pub mod SplittingLemmas
-pub mod TableLemmas
 pub mod TokenLemmas

@@ -1,16 +1,17 @@
 -- What carrying an order out comes to (profile).
-use Rattle.std.specs.Prelude.{◌≡◌, ℕ, true, Option, Result, Ok, Err}
+use Rattle.std.specs.Prelude.{◌≡◌, ℕ, true, Option, Some, None, Result, Ok, Err}
 use Rattle.std.specs.Io.KnownBytes.{Appends}
 use Rattle.oci_names.specs.Text.{Text}
 use Rattle.registry_model.specs.Lookups.{usages_of}
 use Rattle.registry_model.specs.Keeping.{State}
 use Rattle.registry_orders.specs.declared.failure.Failure.{Failure}
-use Rattle.registry_orders.specs.declared.failure.Failure.TheVariants.{OutOfMemory, StorageFailure, ConnectionFailure}
+use Rattle.registry_orders.specs.declared.failure.Failure.TheVariants.{NoRepo, OutOfMemory, StorageFailure, ConnectionFailure}
 use Rattle.registry_orders.specs.declared.orders.Order.{Order}
-use Rattle.registry_orders.specs.declared.orders.Order.TheVariants.{Change, Usage}
+use Rattle.registry_orders.specs.declared.orders.Order.TheVariants as asked
 use Rattle.registry_orders.specs.Failures.{status_if}
 use Rattle.registry_orders.specs.Orders.{Obeys}
-use Rattle.registry_orders.specs.Table.{table_of}
+use Rattle.registry_lists.specs.Table.{table_of}
+use Rattle.registry_lists.specs.Texts.{IsListText}
 
 -- what standard output held before and after, where it is known
 pub record Output : Type 0 where
@@ -32,9 +33,21 @@ Shows s (Err StorageFailure) o s' = IsSilent o × (s'.spent ≡ true)
 Shows s (Err ConnectionFailure) o s' = s' ≡ s
 Shows s (Err _) o s' = ⊥
 
+-- a text that is so was written; or there is none, since the repository is not there; or memory was wanting,
+-- the storage failed or writing did; the world stays
+abbrev pub ShowsList : State → (Option Text → Type 0) → Result (Unit {0}) Failure → Output → State → Type 0
+ShowsList s IsSo (Ok v) o s' = (text : Text) × IsSo (Some text) × Appends o.held o.held' text × (s' ≡ s)
+ShowsList s IsSo (Err NoRepo) o s' = IsSilent o × (s' ≡ s) × IsSo None
+ShowsList s IsSo (Err OutOfMemory) o s' = IsSilent o × (s' ≡ s)
+ShowsList s IsSo (Err StorageFailure) o s' = IsSilent o × (s'.spent ≡ true)
+ShowsList s IsSo (Err ConnectionFailure) o s' = s' ≡ s
+ShowsList s IsSo (Err _) o s' = ⊥
+
 abbrev pub CarriesOrder : State → Order → Result (Unit {0}) Failure → Output → State → Type 0
-CarriesOrder s (Change change) result o s' = IsSilent o × Obeys s change result s'
-CarriesOrder s Usage result o s' = Shows s result o s'
+CarriesOrder s (asked.Change change) result o s' = IsSilent o × Obeys s change result s'
+CarriesOrder s asked.Usage result o s' = Shows s result o s'
+CarriesOrder s (asked.List listing form) result o s' =
+    ShowsList s (IsListText s.world listing form) result o s'
 
 -- the order was carried out, or why not, told by the exit status
 abbrev pub IsCarriedOut : State → Order → ℕ → Output → State → Type 0

@@ -99,9 +99,23 @@ over_token word = subcommand word (db ∷ orders ∷ token ∷ token_file ∷ na
 abbrev pub grant : Shape
 grant = subcommand (codes "grant") (db ∷ orders ∷ token ∷ token_file ∷ name ∷ level ∷ [])
 
+-- `--dry-run` lists what pruning would take away
+abbrev pub prune : Shape
+prune = subcommand (codes "prune") (db ∷ orders ∷ name ∷ flag (codes "dry-run") ∷ [])
+
+-- a list is of lines, or of JSON
+abbrev pub listing : Text → Shape
+listing word = subcommand word (db ∷ orders ∷ flag (codes "json") ∷ [])
+
+abbrev pub listing_of_repo : Text → Shape
+listing_of_repo word = subcommand word (db ∷ orders ∷ name ∷ flag (codes "json") ∷ [])
+
 abbrev pub repo_commands : List Shape
 repo_commands = over_quota (codes "repo") ∷ over_quota (codes "quota") ∷ over_repo (codes "drop")
-    ∷ over_repo (codes "sessions") ∷ over_repo (codes "prune") ∷ []
+    ∷ over_repo (codes "sessions") ∷ prune ∷ []
+
+abbrev pub list_commands : List Shape
+list_commands = listing (codes "repos") ∷ listing_of_repo (codes "tags") ∷ listing_of_repo (codes "blobs") ∷ []
 
 abbrev pub other_commands : List Shape
 other_commands = grant ∷ over_token (codes "revoke") ∷ ordering (codes "clear") ∷ ordering (codes "usage")
@@ -124,8 +138,14 @@ program = record {
 abbrev pub serving : App
 serving = with_subcommands (serve ∷ stdio ∷ []) program
 
+abbrev pub over_repos : App
+over_repos = with_subcommands repo_commands serving
+
+abbrev pub showing : App
+showing = with_subcommands list_commands over_repos
+
 abbrev pub registry : App
-registry = with_subcommands other_commands (with_subcommands repo_commands serving)
+registry = with_subcommands other_commands showing
 
 abbrev pub alone : Shape → App
 alone s = record { top = s; subs = [] }

@@ -6,7 +6,6 @@ pub mod Limits
 pub mod Splitting
 pub mod Setting
 pub mod Reading
-pub mod Table
 pub mod Causes
 pub mod Tokens
 pub mod Orders

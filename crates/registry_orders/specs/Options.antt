@@ -1,7 +1,7 @@
 -- What the texts of options spell (profile).
-use Rattle.std.specs.Prelude.{◌≡◌, ◌≢◌, ℕ, Option, Some, None, List, [], ◌∷◌, ◌++◌, unwrap_or, slice_index, EachIndex, ⊤}
+use Rattle.std.specs.Prelude.{◌≡◌, ◌≢◌, ℕ, Option, Some, None, List, [], ◌∷◌, ◌++◌, unwrap_or, codes, slice_index, EachIndex, ⊤}
 use Rattle.std.specs.Str.Parse.{IsNumeral, digits_value, without_leading_plus}
-use Rattle.clap.specs.Words.{Row, all_of}
+use Rattle.clap.specs.Words.{Row, all_of, one_of}
 use Rattle.oci_names.specs.Text.{Text}
 use Rattle.registry_model.specs.declared.level.Level.{Level}
 use Rattle.registry_orders.specs.declared.options.RepoOption.{RepoOption}
@@ -12,6 +12,10 @@ use Rattle.registry_orders.specs.Levels.{level_numbered}
 -- the texts that an option was given, in their order
 abbrev pub texts_of : Text → List Row → List Text
 texts_of name options = unwrap_or (all_of name options) []
+
+-- the flag was given
+abbrev pub HasFlag : List Row → Text → Type 0
+HasFlag options flag = one_of flag options ≡ Some (codes "true")
 
 -- the text is decimal digits, which write the number; leading zeros are allowed
 abbrev pub IsDecimal : Text → ℕ → Type 0

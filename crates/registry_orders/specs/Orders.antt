@@ -15,7 +15,13 @@ use Rattle.registry_orders.specs.declared.orders.TokenChange.TheVariants as but_
 use Rattle.registry_orders.specs.declared.orders.Order.{Order}
 use Rattle.registry_orders.specs.declared.orders.Order.TheVariants as order
 use Rattle.registry_orders.specs.Failures.{failure_of}
-use Rattle.registry_orders.specs.Options.{IsNumberOf, IsLevelOf}
+use Rattle.registry_lists.specs.declared.listing.Held.{Held}
+use Rattle.registry_lists.specs.declared.listing.Held.TheVariants.{Tags, Blobs, Unnamed}
+use Rattle.registry_lists.specs.declared.listing.Listing.{Listing}
+use Rattle.registry_lists.specs.declared.listing.Listing.TheVariants.{Repos, InRepo}
+use Rattle.registry_lists.specs.declared.listing.Form.{Form}
+use Rattle.registry_lists.specs.declared.listing.Form.TheVariants.{Lines, Json}
+use Rattle.registry_orders.specs.Options.{HasFlag, IsNumberOf, IsLevelOf}
 
 -- the command says the same as the change
 abbrev pub IsCommandOf : Change → AdminCommand → Type 0
@@ -49,7 +55,8 @@ IsChangeIn word options (SetQuota name quota) =
     × IsNumberOf (one_of (codes "quota") options) quota.bytes
 IsChangeIn word options (DropRepo name) = (word ≡ codes "drop") × HasValue options (codes "name") name
 IsChangeIn word options (DropSessions name) = (word ≡ codes "sessions") × HasValue options (codes "name") name
-IsChangeIn word options (Prune name) = (word ≡ codes "prune") × HasValue options (codes "name") name
+IsChangeIn word options (Prune name) =
+    (word ≡ codes "prune") × HasValue options (codes "name") name × ¬ (HasFlag options (codes "dry-run"))
 IsChangeIn word options (Grant token name level) =
     (word ≡ codes "grant") × HasValue options (codes "name") name × HasToken options token
     × IsLevelOf (one_of (codes "level") options) level
@@ -69,9 +76,24 @@ abbrev pub change_with : TokenChange → Text → Change
 change_with (but_token.Grant name level) token = Grant token name level
 change_with (but_token.Revoke name) token = Revoke token name
 
+-- the subcommand lists this of a repository
+abbrev pub IsHeldIn : Text → List Row → Held → Type 0
+IsHeldIn word options Tags = word ≡ codes "tags"
+IsHeldIn word options Blobs = word ≡ codes "blobs"
+IsHeldIn word options Unnamed = (word ≡ codes "prune") × HasFlag options (codes "dry-run")
+
+abbrev pub IsListingIn : Text → List Row → Listing → Type 0
+IsListingIn word options Repos = word ≡ codes "repos"
+IsListingIn word options (InRepo name what) = IsHeldIn word options what × HasValue options (codes "name") name
+
+abbrev pub IsFormIn : List Row → Form → Type 0
+IsFormIn options Lines = ¬ (HasFlag options (codes "json"))
+IsFormIn options Json = HasFlag options (codes "json")
+
 abbrev pub IsOrderIn : Text → List Row → Order → Type 0
 IsOrderIn word options (order.Change change) = IsChangeIn word options change
 IsOrderIn word options order.Usage = word ≡ codes "usage"
+IsOrderIn word options (order.List listing form) = IsListingIn word options listing × IsFormIn options form
 
 -- the outcome of a command, as the program tells it
 abbrev pub told : Result (Unit {0}) AdminFault → Result (Unit {0}) Failure

@@ -7,13 +7,10 @@ use Rattle.registry_orders.specs.declared.tasks.Task.{Task}
 use Rattle.registry_orders.specs.declared.tasks.Task.TheVariants.{Memory, Stored, Server, Order, TokenOrder, Migration}
 use Rattle.registry_orders.specs.CommandLine.{registry}
 use Rattle.registry_orders.specs.Limits.{AreLimitsIn}
-use Rattle.registry_orders.specs.Options.{texts_of, IsNumberOf, SpellsSetup}
+use Rattle.registry_orders.specs.Options.{texts_of, HasFlag, IsNumberOf, SpellsSetup}
 use Rattle.registry_orders.specs.Orders.{HasValue, IsOrderIn, IsTokenChangeIn}
 use Rattle.registry_orders.specs.Places.{IsPlaceIn}
 use Rattle.registry_orders.specs.Tokens.{IsTokenFrom}
-
-abbrev pub HasFlag : List Row → Text → Type 0
-HasFlag options flag = one_of flag options ≡ Some (codes "true")
 
 -- where a server takes orders, and whether it says each request; with one connection at once there is neither
 abbrev pub IsBesideIn : List Row → ℕ → Option (Bor Text) → Bool → Type 0

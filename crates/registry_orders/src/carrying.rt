@@ -1,13 +1,15 @@
-ghost use Rattle.std.specs.Prelude.{◌≡◌, ◌≢◌, ℕ, ◌<◌, ◌≤◌, IfErr};
+ghost use Rattle.std.specs.Prelude.{◌≡◌, ◌≢◌, ℕ, ◌<◌, ◌≤◌, OnOk, IfErr};
+ghost use Rattle.std.specs.Io.KnownBytes.{Appends};
+ghost use Rattle.registry_lists.specs.Texts.{IsListText};
 ghost use Rattle.registry_orders.specs.Failures.{IsOfOrder};
 ghost use Rattle.registry_orders.specs.Orders.{Obeys};
-ghost use Rattle.registry_orders.specs.Carrying.{output, Shows, CarriesOrder, IsCarriedOut};
+ghost use Rattle.registry_orders.specs.Carrying.{output, Shows, ShowsList, CarriesOrder, IsCarriedOut};
 ghost use Rattle.registry_orders.specs.Carrying.{IsSilent, IsSilentUnlessBroken};
 
 use crate::failure::{Failure, of_command, say};
 use crate::orders::{Change, Order};
-use crate::table::write_table;
 use oci_names::Fault;
+use registry_lists::{Form, Listing, list_text, write_table};
 use registry_model::Keeper;
 use registry_service::Service;
 use std::alloc::Global;
@@ -53,15 +55,53 @@ fn show_usage<K: Keeper, W: Write>(
     ensures told { IfErr result IsOfOrder }
 {
     match service.usages(alloc) {
-        Ok(usages) => write_table(out, usages.as_slice()),
+        Ok(usages) => match write_table(out, usages.as_slice()) {
+            Ok(()) => Ok(()),
+            Err(_) => Err(Failure::ConnectionFailure),
+        },
+        Err(Fault::Memory) => Err(Failure::OutOfMemory),
+        Err(Fault::Storage) => Err(Failure::StorageFailure),
+    }
+}
+
+/// Writes a text.
+fn write_text<W: Write>(out: &mut W, text: &str) -> Result<(), Failure>
+    ensures written { OnOk result (Appends (W.contents out.old) (W.contents out.new) text.now) }
+    ensures fails { IfErr result (λ failure. failure ≡ Failure.ConnectionFailure) }
+{
+    match out.write_all(text.as_bytes()) {
+        Ok(()) => Ok(()),
+        Err(_) => Err(Failure::ConnectionFailure),
+    }
+}
+
+/// Writes a list.
+fn show_list<K: Keeper, W: Write>(
+    alloc: Global,
+    service: &mut Service<K>,
+    listing: &Listing,
+    form: Form,
+    out: &mut W,
+) -> Result<(), Failure>
+    ensures honest { K.is_honest service.new → K.is_honest service.old }
+    ensures shows { K.is_honest service.new
+        → ShowsList (K.state service.old) (IsListText (K.state service.old).world listing.now form) result
+        (output (W.contents out.old) (W.contents out.new)) (K.state service.new) }
+    ensures silent { IsSilentUnlessBroken result (output (W.contents out.old) (W.contents out.new)) }
+    ensures told { IfErr result IsOfOrder }
+{
+    match list_text(alloc, service, listing, form) {
+        Ok(Some(text)) => write_text(out, text.as_str()),
+        Ok(None) => Err(Failure::NoRepo),
         Err(Fault::Memory) => Err(Failure::OutOfMemory),
         Err(Fault::Storage) => Err(Failure::StorageFailure),
     }
 }
 
 /// Carries out an order over a service that goes on. An order that is refused changes nothing, nor does
-/// one for which memory is wanting. `ConnectionFailure` where `out` takes the table of `Order::Usage` not
-/// whole; nothing else is written.
+/// one for which memory is wanting. `NoRepo` where the repository of a list is not there;
+/// `ConnectionFailure` where `out` takes the table of `Order::Usage` or the text of `Order::List` not whole;
+/// nothing else is written.
 pub fn carry_over<K: Keeper, W: Write>(
     alloc: Global,
     service: &mut Service<K>,
@@ -78,13 +118,14 @@ pub fn carry_over<K: Keeper, W: Write>(
     match order {
         Order::Change(change) => make_change(alloc, service, change),
         Order::Usage => show_usage(alloc, service, out),
+        Order::List { listing, form } => show_list(alloc, service, listing, *form, out),
     }
 }
 
 /// Carries out an order over a keeper, and says on standard error what failed. The status is 0; 1
 /// where the order is refused; 3 where memory is wanting or the storage fails; 4 where writing fails.
 /// An order that is refused changes nothing, nor does one for which memory is wanting. Nothing is
-/// written to standard output but the table of `Order::Usage`.
+/// written to standard output but the table of `Order::Usage` and the text of `Order::List`.
 #[tactic(auto, using(crate::proofs::OrderStatuses::order_status))]
 pub fn carry_out<K: Keeper, W: Write, E: Write>(
     alloc: Global,

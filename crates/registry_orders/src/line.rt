@@ -169,6 +169,33 @@ fn over_repo<'a>(alloc: Global, word: &'a str, about: &'a str) -> Result<Command
     ordering(alloc, word, about)?.arg(name(alloc))
 }
 
+/// One that takes away what no manifest names, or lists it.
+fn prune<'a>(alloc: Global) -> Result<Command<'a>, AllocError>
+    ensures { IfOk result (IsSub spec.prune) }
+{
+    let about =
+        "Take away the blobs of a repository that none of its manifests names; clear then frees their bytes";
+    over_repo(alloc, "prune", about)?.arg(flag(alloc, "dry-run", "List them, and take none away"))
+}
+
+/// One that lists something.
+fn listing<'a>(alloc: Global, word: &'a str, about: &'a str) -> Result<Command<'a>, AllocError>
+    ensures { IfOk result (IsSub (spec.listing word.entry.now)) }
+{
+    ordering(alloc, word, about)?.arg(flag(alloc, "json", "As one JSON array"))
+}
+
+/// One that lists something of a repository.
+fn listing_of_repo<'a>(
+    alloc: Global,
+    word: &'a str,
+    about: &'a str,
+) -> Result<Command<'a>, AllocError>
+    ensures { IfOk result (IsSub (spec.listing_of_repo word.entry.now)) }
+{
+    over_repo(alloc, word, about)?.arg(flag(alloc, "json", "As one JSON array"))
+}
+
 /// One that sets the repository's quota.
 fn over_quota<'a>(alloc: Global, word: &'a str, about: &'a str) -> Result<Command<'a>, AllocError>
     ensures { IfOk result (IsSub (spec.over_quota word.entry.now)) }
@@ -205,7 +232,7 @@ fn with<'a>(
 
 fn with_repo_commands<'a>(alloc: Global, command: Command<'a>) -> Result<Command<'a>, AllocError>
     ensures { IsApp spec.serving command.entry
-        → IfOk result (IsApp (spec.with_subcommands spec.repo_commands spec.serving)) }
+        → IfOk result (IsApp spec.over_repos) }
 {
     let command = with(command, over_quota(alloc, "repo", "Make a repository"))?;
     let command = with(
@@ -216,14 +243,21 @@ fn with_repo_commands<'a>(alloc: Global, command: Command<'a>) -> Result<Command
     let command = with(command, over_repo(alloc, "drop", dropping))?;
     let ending = "End a repository's open uploads";
     let command = with(command, over_repo(alloc, "sessions", ending))?;
-    let pruning =
-        "Take away the blobs of a repository that none of its manifests names; clear then frees their bytes";
-    with(command, over_repo(alloc, "prune", pruning))
+    with(command, prune(alloc))
+}
+
+fn with_lists<'a>(alloc: Global, command: Command<'a>) -> Result<Command<'a>, AllocError>
+    ensures { IsApp spec.over_repos command.entry → IfOk result (IsApp spec.showing) }
+{
+    let command = with(command, listing(alloc, "repos", "List the repositories"))?;
+    let tags = "List the tags of a repository, and the digests that they name";
+    let command = with(command, listing_of_repo(alloc, "tags", tags))?;
+    let blobs = "List the blobs of a repository, their sizes, and the manifests that name them";
+    with(command, listing_of_repo(alloc, "blobs", blobs))
 }
 
 fn with_other_commands<'a>(alloc: Global, command: Command<'a>) -> Result<Command<'a>, AllocError>
-    ensures { IsApp (spec.with_subcommands spec.repo_commands spec.serving) command.entry
-        → IfOk result (IsApp spec.registry) }
+    ensures { IsApp spec.showing command.entry → IfOk result (IsApp spec.registry) }
 {
     let command = with(command, grant(alloc))?;
     let revoking = "Take a token's level on a repository away";
@@ -247,7 +281,10 @@ fn command<'a>(alloc: Global) -> Result<Command<'a>, AllocError>
         .subcommand_required(true)
         .subcommand(serve(alloc)?)?
         .subcommand(stdio(alloc)?)?;
-    with_other_commands(alloc, with_repo_commands(alloc, command)?)
+    with_other_commands(
+        alloc,
+        with_lists(alloc, with_repo_commands(alloc, command)?)?,
+    )
 }
 
 /// Reads the words: what `clap` refuses is told first, then options that do not go together or do not

@@ -2,14 +2,15 @@ ghost use Rattle.std.specs.Prelude.{◌≡◌, Some, IfOk, IfErr, codes};
 ghost use Rattle.clap.specs.Words.{found_of, rows_of, one_of};
 ghost use Rattle.registry_orders.specs.Failures.{IsOfWords};
 ghost use Rattle.registry_orders.specs.Options.{IsNumberOf, IsLevelOf};
-ghost use Rattle.registry_orders.specs.Orders.{HasValue, HasToken, IsCommandOf, IsChangeIn, IsTokenChangeIn, IsOrderIn};
+ghost use Rattle.registry_orders.specs.Orders.{HasValue, HasToken, IsCommandOf, IsChangeIn, IsTokenChangeIn, IsHeldIn, IsFormIn, IsOrderIn};
 ghost use Rattle.registry_orders.specs.Orders.{change_with};
 
 use crate::failure::Failure;
-use crate::given::{number_given, text_given};
+use crate::given::{is_given, number_given, text_given};
 use crate::options::{level_numbered, name_of, token_of};
 use clap::ArgMatches;
 use oci_names::{RepoName, Token};
+use registry_lists::{Form, Held, Listing};
 use registry_model::{AdminCommand, Level, Quota};
 use std::alloc::Global;
 
@@ -59,6 +60,8 @@ pub enum Order {
     Change(Change),
     /// Asks what each repository holds and may hold.
     Usage,
+    /// Asks for a list.
+    List { listing: Listing, form: Form },
 }
 
 /// A change but for its token.
@@ -170,7 +173,7 @@ fn change_of_repo(alloc: Global, word: &str, matches: &ArgMatches) -> Result<Cha
         }),
         "drop" => Ok(Change::DropRepo { name }),
         "sessions" => Ok(Change::DropSessions { name }),
-        "prune" => Ok(Change::Prune { name }),
+        "prune" if !is_given(matches, "dry-run") => Ok(Change::Prune { name }),
         _ => Err(Failure::InvalidOptions),
     }
 }
@@ -206,6 +209,43 @@ fn change_of_grant(alloc: Global, word: &str, matches: &ArgMatches) -> Result<Ch
     Ok(change.with(token))
 }
 
+/// The form of a list.
+fn form_in(matches: &ArgMatches) -> Form
+    ensures { IsFormIn (rows_of (found_of matches.now)) result }
+{
+    if is_given(matches, "json") {
+        Form::Json
+    } else {
+        Form::Lines
+    }
+}
+
+/// What a subcommand lists of a repository.
+fn held_in(word: &str, matches: &ArgMatches) -> Result<Held, Failure>
+    ensures read { IfOk result (IsHeldIn word.now (rows_of (found_of matches.now))) }
+    ensures refused { IfErr result IsOfWords }
+{
+    match word {
+        "tags" => Ok(Held::Tags),
+        "blobs" => Ok(Held::Blobs),
+        "prune" if is_given(matches, "dry-run") => Ok(Held::Unnamed),
+        _ => Err(Failure::InvalidOptions),
+    }
+}
+
+/// The list of a subcommand that lists what a repository holds.
+fn list_of_repo(alloc: Global, word: &str, matches: &ArgMatches) -> Result<Order, Failure>
+    ensures read { IfOk result (IsOrderIn word.now (rows_of (found_of matches.now))) }
+    ensures refused { IfErr result IsOfWords }
+{
+    let what = held_in(word, matches)?;
+    let name = name_in(alloc, matches)?;
+    Ok(Order::List {
+        listing: Listing::InRepo { name, what },
+        form: form_in(matches),
+    })
+}
+
 /// Reads what a subcommand of the administrator orders: its word, and the values of its options. A
 /// name that is none is told before a token that is none. `InvalidOptions` is answered to a word that
 /// is no such subcommand, or where a value is missing or out of its range, which `clap` has told then.
@@ -216,6 +256,12 @@ pub fn read_order(alloc: Global, word: &str, matches: &ArgMatches) -> Result<Ord
     match word {
         "usage" => Ok(Order::Usage),
         "clear" => Ok(Order::Change(Change::Clear)),
+        "repos" => Ok(Order::List {
+            listing: Listing::Repos,
+            form: form_in(matches),
+        }),
+        "tags" | "blobs" => list_of_repo(alloc, word, matches),
+        "prune" if is_given(matches, "dry-run") => list_of_repo(alloc, word, matches),
         "grant" | "revoke" => change_of_grant(alloc, word, matches).map(Order::Change),
         _ => change_of_repo(alloc, word, matches).map(Order::Change),
     }

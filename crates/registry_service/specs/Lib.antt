@@ -1,3 +1,4 @@
 pub mod Operations
 pub mod AdminCommands
 pub mod Steps
+pub mod Tags

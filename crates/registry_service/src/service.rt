@@ -4,13 +4,17 @@ ghost use Rattle.registry_model.specs.declared.refusal.Refusal.TheVariants.{Toke
 ghost use Rattle.registry_model.specs.Answer.{answer_of, refused};
 ghost use Rattle.registry_model.specs.Ask.{ask_of};
 ghost use Rattle.registry_model.specs.Doing.{Does, SpendsAs, CarriesOut, course_of_answer, course_of_result};
-ghost use Rattle.registry_model.specs.Keeping.{ReadsBy, Spends, usages_shown};
-ghost use Rattle.registry_model.specs.Lookups.{usages_of};
+ghost use Rattle.registry_model.specs.Keeping.{Reads, ReadsBy, Spends, usages_shown, digests_shown};
+ghost use Rattle.registry_model.specs.Lookups.{usages_of, tag_at, blob_digests_at, blob_size_at, manifest_digests_at};
+ghost use Rattle.registry_model.specs.World.{has_repo};
+ghost use Rattle.registry_operations.specs.Pruning.{names_at, unnamed_at};
+ghost use Rattle.registry_service.specs.Tags.{tags_shown, tags_at};
 
 use crate::admin_commands::apply_command;
 use crate::judging::judge;
-use oci_names::{Fault, RepoName};
+use oci_names::{Digest, Fault, RepoName, Tag};
 use registry_model::{AdminCommand, AdminFault, Keeper, Reply, Request, Usage};
+use registry_operations::{names_at, unnamed};
 use std::alloc::Global;
 use std::marker::Model;
 
@@ -81,6 +85,106 @@ impl<K: Keeper> Service<K> {
         ensures honest { K.is_honest self.new → K.is_honest self.old }
     {
         self.keeper.usages(alloc)
+    }
+
+    /// Whether a repository is there.
+    pub fn has_repo(&mut self, name: &RepoName) -> Result<bool, Fault>
+        ensures found { K.is_honest self.new
+            → Reads result (has_repo (K.state self.old).world name.now)
+            (K.state self.old) (K.state self.new) }
+        ensures spends { Spends result (K.state self.old) (K.state self.new) }
+        ensures honest { K.is_honest self.new → K.is_honest self.old }
+    {
+        self.keeper.has_repo(name)
+    }
+
+    /// The tags of a repository, in byte order; none where it is not there.
+    pub fn tags(&mut self, alloc: Global, name: &RepoName) -> Result<Vec<Tag>, Fault>
+        ensures found { K.is_honest self.new
+            → ReadsBy tags_shown result (tags_at (K.state self.old).world name.now)
+            (K.state self.old) (K.state self.new) }
+        ensures spends { Spends result (K.state self.old) (K.state self.new) }
+        ensures honest { K.is_honest self.new → K.is_honest self.old }
+    {
+        let (tags, _) = self.keeper.tags_after(alloc, name, "", None)?;
+        Ok(tags)
+    }
+
+    /// The digest that a tag of a repository names.
+    pub fn tag(
+        &mut self,
+        alloc: Global,
+        name: &RepoName,
+        tag: &Tag,
+    ) -> Result<Option<Digest>, Fault>
+        ensures found { K.is_honest self.new
+            → Reads result (tag_at (K.state self.old).world name.now tag.now)
+            (K.state self.old) (K.state self.new) }
+        ensures spends { Spends result (K.state self.old) (K.state self.new) }
+        ensures honest { K.is_honest self.new → K.is_honest self.old }
+    {
+        self.keeper.tag(alloc, name, tag)
+    }
+
+    /// The digests of a repository's blobs, in byte order; none where it is not there.
+    pub fn blob_digests(&mut self, alloc: Global, name: &RepoName) -> Result<Vec<Digest>, Fault>
+        ensures found { K.is_honest self.new
+            → ReadsBy digests_shown result (blob_digests_at (K.state self.old).world name.now)
+            (K.state self.old) (K.state self.new) }
+        ensures spends { Spends result (K.state self.old) (K.state self.new) }
+        ensures honest { K.is_honest self.new → K.is_honest self.old }
+    {
+        self.keeper.blob_digests(alloc, name)
+    }
+
+    /// The length of a blob of a repository in bytes.
+    pub fn blob_size(&mut self, name: &RepoName, digest: &Digest) -> Result<Option<u64>, Fault>
+        ensures found { K.is_honest self.new
+            → Reads result (blob_size_at (K.state self.old).world name.now digest.now)
+            (K.state self.old) (K.state self.new) }
+        ensures spends { Spends result (K.state self.old) (K.state self.new) }
+        ensures honest { K.is_honest self.new → K.is_honest self.old }
+    {
+        self.keeper.blob_size(name, digest)
+    }
+
+    /// The digests of a repository's manifests, in byte order; none where it is not there.
+    pub fn manifest_digests(&mut self, alloc: Global, name: &RepoName) -> Result<Vec<Digest>, Fault>
+        ensures found { K.is_honest self.new
+            → ReadsBy digests_shown result (manifest_digests_at (K.state self.old).world name.now)
+            (K.state self.old) (K.state self.new) }
+        ensures spends { Spends result (K.state self.old) (K.state self.new) }
+        ensures honest { K.is_honest self.new → K.is_honest self.old }
+    {
+        self.keeper.manifest_digests(alloc, name)
+    }
+
+    /// The digests of the blobs that a manifest of a repository names; none where it is not there.
+    pub fn names(
+        &mut self,
+        alloc: Global,
+        name: &RepoName,
+        manifest: &Digest,
+    ) -> Result<Vec<Digest>, Fault>
+        ensures found { K.is_honest self.new
+            → ReadsBy digests_shown result (names_at (K.state self.old).world name.now manifest.now)
+            (K.state self.old) (K.state self.new) }
+        ensures spends { Spends result (K.state self.old) (K.state self.new) }
+        ensures honest { K.is_honest self.new → K.is_honest self.old }
+    {
+        names_at(&mut self.keeper, alloc, name, manifest)
+    }
+
+    /// The digests of the blobs of a repository that none of its manifests names, in byte order: what a
+    /// command takes away that prunes it. None where it is not there.
+    pub fn unnamed(&mut self, alloc: Global, name: &RepoName) -> Result<Vec<Digest>, Fault>
+        ensures found { K.is_honest self.new
+            → ReadsBy digests_shown result (unnamed_at (K.state self.old).world name.now)
+            (K.state self.old) (K.state self.new) }
+        ensures spends { Spends result (K.state self.old) (K.state self.new) }
+        ensures honest { K.is_honest self.new → K.is_honest self.old }
+    {
+        unnamed(alloc, &mut self.keeper, name)
     }
 
     /// Carries out one command.

@@ -14,4 +14,4 @@ returns c =
     let wanting = ap app_of_fields c.subcommand_required.ensures ∙ ap (on_top (λ (s : Shape). record s { subcommand_required = true })) bare in
     let one = sub_added spec.program (spec.alone spec.serve) c.subcommand_required.result c.in_ok-subcommand.field-0 c.in_ok-serve.field-0 wanting c.in_ok-serve.ensures refl c.in_ok-subcommand.ensures in
     let two = sub_added _ (spec.alone spec.stdio) c.in_ok-subcommand.field-0 c.in_ok-command.command c.in_ok-stdio.field-0 one c.in_ok-stdio.ensures refl c.in_ok-command.ensures in
-    c.with_other_commands.ensures (c.in_ok-with_repo_commands.ensures two)
+    c.with_other_commands.ensures (c.in_ok-with_lists.ensures (c.in_ok-with_repo_commands.ensures two))

@@ -4,7 +4,7 @@ use Rattle.registry_orders.proofs.line.with_other_commands.Goals as goal
 
 pub returns : goal.returns
 returns c is =
-    let one = c.in_ok-command.ensures (spec.with_subcommands spec.repo_commands spec.serving) spec.grant is c.grant.ensures refl in
+    let one = c.in_ok-command.ensures spec.showing spec.grant is c.grant.ensures refl in
     let two = c.in_ok-command-2.ensures _ (spec.over_token (codes "revoke")) one c.over_token.ensures refl in
     let three = c.in_ok-command-3.ensures _ (spec.ordering (codes "clear")) two c.ordering.ensures refl in
     let four = c.in_ok-command-4.ensures _ (spec.ordering (codes "usage")) three c.ordering-2.ensures refl in

@@ -8,4 +8,4 @@ returns c is =
     let two = c.in_ok-command-2.ensures _ (spec.over_quota (codes "quota")) one c.over_quota-2.ensures refl in
     let three = c.in_ok-command-3.ensures _ (spec.over_repo (codes "drop")) two c.over_repo.ensures refl in
     let four = c.in_ok-command-4.ensures _ (spec.over_repo (codes "sessions")) three c.over_repo-2.ensures refl in
-    c.with-5.ensures _ (spec.over_repo (codes "prune")) four c.over_repo-3.ensures refl
+    c.with-5.ensures _ spec.prune four c.prune.ensures refl

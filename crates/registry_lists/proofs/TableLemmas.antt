@@ -5,7 +5,7 @@ use Rattle.oci_names.specs.Text.{Text}
 use Rattle.std.specs.List.{repeat}
 use Rattle.std.specs.Char.{encode_utf8}
 use Rattle.std.specs.Fmt.{decimal, padded_integral, char_count, format_spec, styled_decimal}
-use Rattle.registry_orders.specs.Table.{right}
+use Rattle.registry_lists.specs.Table.{right}
 
 spaces : (k : ℕ) → repeat k (encode_utf8 32) ≡ replicate k 32
 unfolding encode_utf8

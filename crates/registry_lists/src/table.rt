@@ -1,12 +1,11 @@
-ghost use Rattle.std.specs.Prelude.{◌≡◌, OnOk, IfErr};
+ghost use Rattle.std.specs.Prelude.{OnOk};
 ghost use Rattle.std.specs.Io.KnownBytes.{Appends};
-ghost use Rattle.registry_orders.specs.Table.{rows_of, table_of};
+ghost use Rattle.registry_lists.specs.Table.{rows_of, table_of};
 
-use crate::failure::Failure;
 use oci_names::RepoName;
 use registry_model::Usage;
-use std::fmt;
 use std::io::Write;
+use std::{fmt, io};
 
 const HEADING: &str =
     "                used               quota     blobs manifests      tags  sessions name";
@@ -17,7 +16,7 @@ struct Bytes(u64);
 
 impl fmt::Display for Bytes {
     ghost use Rattle.std.specs.Prelude.{Some};
-    ghost use Rattle.registry_orders.specs.Table.{right};
+    ghost use Rattle.registry_lists.specs.Table.{right};
 
     ghost output = { λ n. Some (right 20 n.0) };
 
@@ -34,7 +33,7 @@ struct Count(u64);
 
 impl fmt::Display for Count {
     ghost use Rattle.std.specs.Prelude.{Some};
-    ghost use Rattle.registry_orders.specs.Table.{right};
+    ghost use Rattle.registry_lists.specs.Table.{right};
 
     ghost output = { λ n. Some (right 10 n.0) };
 
@@ -51,7 +50,7 @@ struct Numbers(Usage);
 
 impl fmt::Display for Numbers {
     ghost use Rattle.std.specs.Prelude.{Some};
-    ghost use Rattle.registry_orders.specs.Table.{numbers_of};
+    ghost use Rattle.registry_lists.specs.Table.{numbers_of};
 
     ghost output = { λ n. Some (numbers_of n.0) };
 
@@ -72,7 +71,7 @@ struct Row<'a> {
 
 impl<'a> fmt::Display for Row<'a> {
     ghost use Rattle.std.specs.Prelude.{Some};
-    ghost use Rattle.registry_orders.specs.Table.{row_of};
+    ghost use Rattle.registry_lists.specs.Table.{row_of};
 
     ghost output = { λ r. Some (row_of r.name.now r.usage) };
 
@@ -81,9 +80,8 @@ impl<'a> fmt::Display for Row<'a> {
     }
 }
 
-fn write_rows<W: Write>(out: &mut W, usages: &[(RepoName, Usage)]) -> Result<(), Failure>
-    ensures written { OnOk result (Appends (W.contents out.old) (W.contents out.new) (rows_of usages.now)) }
-    ensures fails { IfErr result (λ failure. failure ≡ Failure.ConnectionFailure) }
+fn write_rows<W: Write>(out: &mut W, usages: &[(RepoName, Usage)]) -> io::Result<()>
+    ensures { OnOk result (Appends (W.contents out.old) (W.contents out.new) (rows_of usages.now)) }
 {
     for (name, usage) in usages {
         let row = Row {
@@ -92,7 +90,7 @@ fn write_rows<W: Write>(out: &mut W, usages: &[(RepoName, Usage)]) -> Result<(),
         };
         match writeln!(out, "{row}") {
             Ok(()) => {}
-            Err(_) => return Err(Failure::ConnectionFailure),
+            Err(error) => return Err(error),
         }
     }
     Ok(())
@@ -101,12 +99,11 @@ fn write_rows<W: Write>(out: &mut W, usages: &[(RepoName, Usage)]) -> Result<(),
 /// Writes the table of what repositories hold and may hold: a heading, and a line for each, with the
 /// used bytes and the quota right in 20 places, the numbers of blobs, manifests, tags and open upload
 /// sessions right in 10 places each, a space and the name (profile).
-pub fn write_table<W: Write>(out: &mut W, usages: &[(RepoName, Usage)]) -> Result<(), Failure>
-    ensures written { OnOk result (Appends (W.contents out.old) (W.contents out.new) (table_of usages.now)) }
-    ensures fails { IfErr result (λ failure. failure ≡ Failure.ConnectionFailure) }
+pub fn write_table<W: Write>(out: &mut W, usages: &[(RepoName, Usage)]) -> io::Result<()>
+    ensures { OnOk result (Appends (W.contents out.old) (W.contents out.new) (table_of usages.now)) }
 {
     match writeln!(out, "{HEADING}") {
         Ok(()) => write_rows(out, usages),
-        Err(_) => Err(Failure::ConnectionFailure),
+        Err(error) => Err(error),
     }
 }

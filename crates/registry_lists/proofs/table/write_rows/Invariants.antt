@@ -1,8 +1,8 @@
 use Rattle.std.proofs.Common.{◌≡◌, ◌++◌, drop}
 use Rattle.std.specs.Io.KnownBytes.{Appends}
 use Rattle.oci_names.specs.Text.{Text}
-use Rattle.registry_orders.specs.Table.{rows_of}
-use Rattle.registry_orders.proofs.table.write_rows.Given as goal
+use Rattle.registry_lists.specs.Table.{rows_of}
+use Rattle.registry_lists.proofs.table.write_rows.Given as goal
 
 -- what was written so far, with the lines that are left, are all lines
 abbrev pub invariant-loop-name : goal.invariant-loop-name

@@ -1,0 +1,19 @@
+use Rattle.std.proofs.Common.{◌∙◌, map, refl, rules}
+use Rattle.oci_names.specs.Text.{Text}
+use Rattle.std.proofs.lemmas.Iterator.Adapters.{YieldsList-from_vec}
+use Rattle.std.proofs.lemmas.Iterator.Consumers.{YieldsList-end}
+use Rattle.registry_model.specs.declared.quota.Usage.{Usage}
+use Rattle.registry_lists.specs.Lists.{repo_item}
+use Rattle.registry_lists.proofs.ListLemmas.{all_found, repos_are}
+use Rattle.registry_lists.proofs.reading.repos.Goals as goal
+
+pub returns-clause-found : goal.returns-clause-found
+returns-clause-found g c honest =
+    let told = c.in_ok-usages.ensures.found honest in
+    let given = c.into_iter-name-iterator.ensures.into_iter_gives in
+    let road = YieldsList-from_vec c.in_ok-usages.usages.items given.0 (search (rules, given)) in
+    let all = YieldsList-end road c.loop-name.yielded c.loop-name.name-iterator c.loop-name.yielded_by c.next.result c.next.new.self c.in-None.is c.next.ensures.steps in
+    let s = g.K.Keeper.state c.args.service.now in (
+      all_found (λ w es. map (λ (e : Text × Usage). repo_item e.0) es) s s _ c.loop-name.yielded _ _ c.loop-name.invariant all.0 told.0 refl ∙ repos_are s.world,
+      told.1,
+    )

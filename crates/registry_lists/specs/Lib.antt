@@ -1,0 +1,4 @@
+pub mod Table
+pub mod Lists
+pub mod Texts
+pub mod Reading

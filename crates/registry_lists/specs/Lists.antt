@@ -1,0 +1,60 @@
+-- What the lists of an operator show of the world, item by item (profile).
+use Rattle.std.specs.Prelude.{ℕ, List, [], map, filter, length, Option, Some, option_map, Vec}
+use Rattle.std.specs.List.{filter_map}
+use Rattle.std.specs.FinMap.{get, entries}
+use Rattle.std.specs.declared.alloc.Global.{Global}
+use Rattle.oci_names.specs.Text.{Text}
+use Rattle.registry_model.specs.World.{Repo, World, repo_at}
+use Rattle.registry_model.specs.TagPage.{tags_behind}
+use Rattle.registry_model.specs.Pruning.{names_in, is_among}
+use Rattle.registry_operations.specs.Pruning.{unnamed_of}
+use Rattle.registry_lists.specs.declared.listing.Held.{Held}
+use Rattle.registry_lists.specs.declared.listing.Held.TheVariants.{Tags, Blobs, Unnamed}
+use Rattle.registry_lists.specs.declared.listing.Listing.{Listing}
+use Rattle.registry_lists.specs.declared.listing.Listing.TheVariants.{Repos, InRepo}
+use Rattle.registry_lists.specs.declared.items.Item.{Item}
+use Rattle.registry_lists.specs.declared.items.Item.TheVariants as item
+
+pub data ItemShown : Type 0 where
+  repo_item : Text → ItemShown
+  -- a tag, and the digest that it names
+  tag_item : Text → Text → ItemShown
+  -- a blob's digest, its length in bytes, and the digests of the manifests that name it
+  blob_item : Text → ℕ → List Text → ItemShown
+  -- a blob that no manifest names
+  unnamed_item : Text → ItemShown
+
+abbrev pub item_shown : Item → ItemShown
+item_shown (item.Repo name) = repo_item name
+item_shown (item.Tag tag digest) = tag_item tag digest
+item_shown (item.Blob digest size manifests) = blob_item digest size manifests.items
+item_shown (item.Unnamed digest) = unnamed_item digest
+
+abbrev pub items_shown : Vec Item Global → List ItemShown
+items_shown v = map item_shown v.items
+
+-- the repositories, in byte order of their names
+abbrev pub repos_of : World → List ItemShown
+repos_of w = map (λ e. repo_item e.0) (entries w.repos)
+
+-- the tags of a page without bounds, which are in byte order, each with the digest that it names
+abbrev pub tags_of : Repo → List ItemShown
+tags_of r = filter_map (λ tag. option_map (tag_item tag) (get r.tags tag)) (tags_behind r [])
+
+-- the manifests that name a digest, in byte order of their own
+abbrev pub namers_of : Repo → Text → List Text
+namers_of r digest = map (λ m. m.0) (filter (λ m. is_among (names_in m.1) digest) (entries r.manifests))
+
+-- the blobs, in byte order of their digests
+abbrev pub blobs_of : Repo → List ItemShown
+blobs_of r = map (λ e. blob_item e.0 (length e.1) (namers_of r e.0)) (entries r.blobs)
+
+abbrev pub held_of : Held → Repo → List ItemShown
+held_of Tags r = tags_of r
+held_of Blobs r = blobs_of r
+held_of Unnamed r = map unnamed_item (unnamed_of r)
+
+-- the items; none of a repository that is not there
+abbrev pub listed : World → Listing → Option (List ItemShown)
+listed w Repos = Some (repos_of w)
+listed w (InRepo name what) = option_map (held_of what) (repo_at w name)

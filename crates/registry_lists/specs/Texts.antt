@@ -1,0 +1,57 @@
+-- The texts of lists (profile; JSON of RFC 8259, with no space, and the keys of an object in byte order).
+use Rattle.std.specs.Prelude.{◌≡◌, ℕ, List, ◌∷◌, ◌++◌, map, codes, decimal, Option, option_map}
+use Rattle.std.specs.List.{flat_map}
+use Rattle.serde_json.specs.Data.{Data, string, number, unsigned, array, object, no_members, member}
+use Rattle.serde_json.specs.View.{items_of}
+use Rattle.serde_json.specs.Written.{compact_text}
+use Rattle.oci_names.specs.Text.{Text}
+use Rattle.oci_manifest.specs.Member.{text_items}
+use Rattle.registry_model.specs.World.{World}
+use Rattle.registry_lists.specs.declared.listing.Listing.{Listing}
+use Rattle.registry_lists.specs.declared.listing.Form.{Form}
+use Rattle.registry_lists.specs.declared.listing.Form.TheVariants.{Lines, Json}
+use Rattle.registry_lists.specs.Table.{newline}
+use Rattle.registry_lists.specs.Lists.{ItemShown, repo_item, tag_item, blob_item, unnamed_item, listed}
+
+-- behind each space a digest
+abbrev pub behind_spaces : List Text → Text
+behind_spaces digests = flat_map (λ digest. 32 ∷ digest) digests
+
+-- what an item shows, with spaces between; the line's end is not of it
+abbrev pub line_of : ItemShown → Text
+line_of (repo_item name) = name
+line_of (tag_item tag digest) = tag ++ 32 ∷ digest
+line_of (blob_item digest size manifests) = digest ++ 32 ∷ decimal size ++ behind_spaces manifests
+line_of (unnamed_item digest) = digest
+
+-- a line for each
+abbrev pub lines_of : List ItemShown → Text
+lines_of items = flat_map (λ item. line_of item ++ newline) items
+
+abbrev pub data_of : ItemShown → Data
+data_of (repo_item name) = object (member (codes "name") (string name) no_members)
+data_of (tag_item tag digest) =
+    object (member (codes "digest") (string digest) (member (codes "tag") (string tag) no_members))
+data_of (blob_item digest size manifests) =
+    object (member (codes "digest") (string digest)
+    (member (codes "manifests") (array (text_items manifests))
+    (member (codes "size") (number (unsigned size)) no_members)))
+data_of (unnamed_item digest) = object (member (codes "digest") (string digest) no_members)
+
+abbrev pub list_data : List ItemShown → Data
+list_data items = array (items_of (map data_of items))
+
+-- one array of an object for each, on one line
+abbrev pub json_of : List ItemShown → Text
+json_of items = compact_text (list_data items) ++ newline
+
+abbrev pub text_of : Form → List ItemShown → Text
+text_of Lines items = lines_of items
+text_of Json items = json_of items
+
+-- the text of a list; none of a repository that is not there
+abbrev pub list_of : World → Listing → Form → Option Text
+list_of w listing form = option_map (text_of form) (listed w listing)
+
+abbrev pub IsListText : World → Listing → Form → Option Text → Type 0
+IsListText w listing form text = text ≡ list_of w listing form

@@ -1,0 +1,17 @@
+//! What an operator sees of a registry: lists of what it holds, and the table of what it uses, as text.
+//!
+//! The crate above relies on `list_text`, which gives the exact text of a list of the world, and changes
+//! nothing, and on `write_table`.
+#![tactic(auto)]
+
+pub mod items;
+mod lines;
+pub mod listing;
+pub mod lists;
+mod objects;
+mod reading;
+pub mod table;
+
+pub use listing::{Form, Held, Listing};
+pub use lists::list_text;
+pub use table::write_table;
