@@ -64,7 +64,8 @@ build:
 ROWS := oci_names oci_manifest registry_model registry_operations registry_service registry_http \
   registry_conversation registry_server registry_loop registry_program \
   store_schema store_contents store_world store_statements store_writes registry_store
-NEXT := registry_maps registry_orders order_messages store_old_rows store_moves store_upgrade
+NEXT := registry_maps registry_orders registry_opening order_messages store_old_rows store_moves store_upgrade \
+  registry_databases
 jobs_of = $(if $(filter $(1),$(ROWS)),$(if $(filter 1 2,$(PROCESSORS)),2,3),1)
 niceness_of = $(if $(filter $(1),$(ROWS)),0,$(if $(filter $(1),$(NEXT)),4,8))
 define prove

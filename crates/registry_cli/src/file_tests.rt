@@ -1,7 +1,7 @@
 //! The program over database files, each test with files of its own in the folder that it is run in.
-use crate::databases::Supposed;
 use crate::files::run;
 use crate::tests::{Outcome, PUSH, REPLIES, USAGE, same, same_after, words_in};
+use registry_databases::Supposed;
 use sqlite::{Alter, Connection, Unknown};
 use std::fs;
 use std::process::Abort;

@@ -1,7 +1,8 @@
 //! The program over database files. The layers are each generic in one piece of a store's type, which
 //! keeps their proofs small.
-use crate::databases::{Databases, Supposed};
-use registry_program::{Opener, run_words};
+use registry_databases::{Databases, Supposed};
+use registry_opening::Opener;
+use registry_program::run_words;
 use registry_store::Store;
 use sqlite::{Alter, FileFrom, FileStore};
 use sqlite_disk::Disk;

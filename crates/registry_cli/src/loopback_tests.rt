@@ -1,11 +1,12 @@
 //! A connection over a socket, to a registry in a file. The layers are each generic in one piece of a
 //! store's type, which keeps their proofs small.
-use crate::databases::{Databases, Supposed};
 use crate::file_tests::set_up;
 use crate::tests::same;
+use registry_databases::{Databases, Supposed};
 use registry_http::End;
 use registry_model::Keeper;
-use registry_program::{Opener, serve_one};
+use registry_opening::Opener;
+use registry_program::serve_one;
 use registry_service::Service;
 use registry_store::Store;
 use sqlite::{Alter, FileFrom, FileStore, Unknown};

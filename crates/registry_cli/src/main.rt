@@ -1,19 +1,15 @@
-//! The program `registry`: the ends of the process, and databases in files.
+//! The program `registry`: the ends of the process, over databases in files.
 #![tactic(auto)]
 
-mod beginning;
-mod databases;
 #[cfg(test)]
 mod file_tests;
 mod files;
-mod looking;
 #[cfg(test)]
 mod loopback_tests;
 #[cfg(test)]
 mod order_tests;
 #[cfg(test)]
 mod path_tests;
-mod progress;
 #[cfg(test)]
 mod tests;
 #[cfg(test)]

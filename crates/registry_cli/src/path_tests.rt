@@ -1,8 +1,8 @@
 //! What the program says of paths, and the modes of the files that it makes, each test with files of its
 //! own in the folder that it is run in.
-use crate::databases::Supposed;
 use crate::file_tests::{order, set_up};
 use crate::tests::{same_after, words_in};
+use registry_databases::Supposed;
 use sqlite::{Connection, Unknown};
 use std::fs;
 use std::os::unix::fs::PermissionsExt;

@@ -6,10 +6,10 @@ ghost use Rattle.registry_program.specs.Sockets.{ServesAddress};
 ghost use Rattle.registry_loop.specs.Together.{ServesTogether};
 ghost use Rattle.registry_orders.specs.Failures.{IsOfServing};
 
-use crate::opening::Opener;
 use crate::sockets::{announce, resume};
 use registry_loop::Gathering;
 use registry_model::Keeper;
+use registry_opening::Opener;
 use registry_orders::Failure;
 use registry_service::Service;
 use std::alloc::Global;

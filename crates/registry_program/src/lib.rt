@@ -6,7 +6,6 @@
 
 pub mod gathering;
 pub mod listening;
-pub mod opening;
 pub mod order_socket;
 pub mod program;
 pub mod sending;
@@ -15,7 +14,6 @@ pub mod stdio;
 pub mod tokens;
 
 pub use gathering::serve_together;
-pub use opening::Opener;
 pub use order_socket::listen_for_orders;
 pub use program::run_words;
 pub use sending::send_order;

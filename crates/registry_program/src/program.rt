@@ -9,7 +9,6 @@ ghost use Rattle.registry_orders.specs.Carrying.{output, IsSilent};
 
 use crate::gathering::serve_together;
 use crate::listening::{Listeners, introduce, listen};
-use crate::opening::Opener;
 use crate::order_socket::stop_orders;
 use crate::sending::send_order;
 use crate::sockets::serve;
@@ -19,6 +18,7 @@ use clap::Error;
 use clap::error::ErrorKind;
 use registry_loop::{Crowd, Doors, Log};
 use registry_model::Keeper;
+use registry_opening::Opener;
 use registry_orders::cause::{explain, say_at};
 use registry_orders::failure::say;
 use registry_orders::line::read_words;

@@ -7,9 +7,9 @@ ghost use Rattle.registry_program.specs.Sockets.{ServesNext, ServesMany, ServesS
 ghost use Rattle.registry_model.specs.Keeping.{State};
 ghost use Rattle.registry_http.specs.Privacy.{IsPrivateRun};
 
-use crate::opening::Opener;
 use registry_http::{End, serve_connection};
 use registry_model::Keeper;
+use registry_opening::Opener;
 use registry_orders::Failure;
 use registry_service::Service;
 use std::alloc::Global;

@@ -7,10 +7,10 @@ ghost use Rattle.registry_program.specs.Program.{streams};
 ghost use Rattle.registry_program.specs.Running.{RunsByInput, RunsByFile, RunsTokenOrder};
 ghost use Rattle.registry_program.specs.Running.{IsWithoutToken, LacksTokenOf};
 
-use crate::opening::Opener;
 use crate::program::run_order_at;
 use oci_names::Token;
 use registry_model::Keeper;
+use registry_opening::Opener;
 use registry_orders::cause::say_at;
 use registry_orders::{Cause, Failure, Order, Place, TokenChange, TokenSource, read_token};
 use std::alloc::Global;

@@ -5,10 +5,11 @@ use crate::beginning::begin;
 use crate::looking::cause_at;
 use crate::progress::Progress;
 use registry_model::Keeper;
+use registry_opening::Opener;
 use registry_orders::{Cause, Failure};
-use registry_program::Opener;
 use registry_store::{OpenFault, Store, Written};
-use sqlite::{FileFrom, FileStore, Unknown};
+use sqlite::{Connection, FileFrom, FileStore, Unknown};
+use sqlite_disk::Disk;
 use std::marker::PhantomData;
 use store_upgrade::migrate;
 
@@ -39,6 +40,20 @@ impl<'a, F: Supposed> Databases<'a, F> {
     }
 }
 
+/// Copies the log of a database into its file, and closes both.
+fn close_files<D: Disk + Drop>(conn: Connection<FileStore<D>>) {
+    let _ = conn.close();
+}
+
+/// The same for a registry in it, unless its storage has failed, where the log stays as it is.
+fn close_store<D: Disk + Drop>(kept: Store<FileStore<D>>) {
+    let spent = kept.spent();
+    let conn = kept.into_connection();
+    if !spent {
+        close_files(conn);
+    }
+}
+
 /// Why a database is not opened, as the program tells it.
 fn of_opening(fault: OpenFault) -> Failure
     ensures { IsOfOpening result }
@@ -54,7 +69,7 @@ fn of_opening(fault: OpenFault) -> Failure
 impl<F: Supposed> Opener<Store<FileStore<FileFrom<F>>>> for Databases<'_, F> {
     ghost use Rattle.registry_model.specs.Keeping.{State};
     ghost use Rattle.sqlite.specs.WalFiles.{image_at};
-    ghost use Rattle.registry_cli.specs.Databases.{MayOpen};
+    ghost use Rattle.registry_databases.specs.Databases.{MayOpen};
 
     ghost opens = { λ _ _ s. MayOpen (image_at F.Start) s };
 
@@ -67,9 +82,7 @@ impl<F: Supposed> Opener<Store<FileStore<FileFrom<F>>>> for Databases<'_, F> {
     }
 
     fn close(&self, kept: Store<FileStore<FileFrom<F>>>) {
-        if !kept.spent() {
-            let _ = kept.into_connection().close();
-        }
+        close_store(kept);
     }
 
     fn migrate(&self, path: &str) -> Result<(), Failure> {
