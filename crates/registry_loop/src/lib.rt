@@ -8,6 +8,7 @@ pub mod caller;
 pub mod callers;
 pub mod crowd;
 pub mod gathering;
+mod limit;
 pub mod log;
 pub mod peer;
 mod peers;

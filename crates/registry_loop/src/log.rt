@@ -1,5 +1,6 @@
 //! What is said on standard error of the requests that were answered.
 
+use crate::limit::{Limit, is_of_body, limit_met};
 use jiff::Timestamp;
 use registry_conversation::Step;
 use registry_server::{Connections, Turn};
@@ -13,8 +14,8 @@ const CONTINUE: &[u8] = b"HTTP/1.1 100 Continue\r\n\r\n";
 /// What is said where memory is wanting for more.
 const OUT_OF_MEMORY: &[u8] = b"registry: out of memory\n";
 
-/// Says each request on a line, if it is to; and each that was answered 500 or 503 in any case, with what
-/// failed. A line has the time (RFC 3339), the number of the connection, the method, the path without its
+/// Says each request on a line, if it is to; and in any case each that was answered 500 or 503, with what
+/// failed, and each that was answered 413 or 429, with the limit that it met and the repository. A line has the time (RFC 3339), the number of the connection, the method, the path without its
 /// query, the status, the bytes of the body, those of the reply and microseconds, and a hyphen for what is
 /// not known. No token is said, since a header field never is.
 #[derive(Drop)]
@@ -58,6 +59,7 @@ struct Said<'a> {
     came: usize,
     went: usize,
     micros: u64,
+    limit: Option<Limit<'a>>,
 }
 
 /// The second that it is.
@@ -82,6 +84,14 @@ fn number_text(alloc: Global, number: Option<u64>) -> Result<String, AllocError>
     }
 }
 
+/// What stands at the end of a line: what failed, or which limit was met.
+fn why_text(alloc: Global, said: &Said) -> Result<String, AllocError> {
+    match said.limit {
+        Some(Limit { most, of, repo }) => format!(in alloc; " limit of {most} {of}: {repo}"),
+        None => String::from_str(alloc, failed(said.status).unwrap_or("")),
+    }
+}
+
 fn line_of<T: Clock>(alloc: Global, clock: &T, said: &Said) -> Result<String, AllocError> {
     let time = time_text(alloc, clock)?;
     let time = time.as_str();
@@ -96,7 +106,8 @@ fn line_of<T: Clock>(alloc: Global, clock: &T, said: &Said) -> Result<String, Al
     let came = said.came;
     let went = said.went;
     let micros = said.micros;
-    let why = failed(status).unwrap_or("");
+    let why = why_text(alloc, said)?;
+    let why = why.as_str();
     format!(in alloc; "{time} {number} {request} {status} {came} {went} {micros}{why}\n")
 }
 
@@ -108,7 +119,7 @@ impl<'a, E: Write> Log<'a, E> {
 
     /// Says a line, if it is to be said and can be.
     fn say<T: Clock>(&mut self, alloc: Global, clock: &T, said: &Said) {
-        if !self.all && failed(said.status).is_none() {
+        if !self.all && said.limit.is_none() && failed(said.status).is_none() {
             return;
         }
         let _ = match line_of(alloc, clock, said) {
@@ -138,13 +149,15 @@ impl<'a, E: Write> Log<'a, E> {
             None => (b"".as_slice(), 0),
         };
         let now = clock.monotonic().unwrap_or(began);
+        let request = str::from_utf8(line).unwrap_or("");
         let said = Said {
             number: Some(turn.number),
-            request: str::from_utf8(line).unwrap_or(""),
+            request,
             status,
             came,
             went: going.len(),
             micros: micros(now.saturating_sub(began)),
+            limit: limit_met(status, is_of_body(turn.step), request),
         };
         self.say(alloc, clock, &said);
     }
@@ -158,6 +171,7 @@ impl<'a, E: Write> Log<'a, E> {
             came: 0,
             went: 0,
             micros: 0,
+            limit: None,
         };
         self.say(alloc, clock, &said);
     }

@@ -1,4 +1,5 @@
 //! Sockets on loopback that are served together, over a registry in memory.
+use crate::limit::limit_met;
 use crate::{Crowd, Doors, Gathering, Log};
 use oci_names::{RepoName, Token};
 use registry_maps::MapKeeper;
@@ -28,6 +29,9 @@ const CLOSING_REPLY: &[u8] =
 
 const BAD_REQUEST: &[u8] =
     b"HTTP/1.1 400 Bad Request\r\nContent-Length: 0\r\nConnection: close\r\n\r\n";
+
+const TOO_LARGE: &[u8] =
+    b"POST /v2/team/app/blobs/uploads/ HTTP/1.1\r\nHost: r\r\nContent-Length: 67108865\r\n\r\n";
 
 /// Makes a repository.
 fn add(alloc: Global, service: &mut Service<MapKeeper>) -> Result<(), Fail> {
@@ -143,6 +147,63 @@ fn a_refusal_is_told_to_one_who_still_sends(rt: HostRuntime) -> Result<(), Fail>
     let mut service = Service::new(MapKeeper::new(alloc));
     served(&rt, doors, &mut service, 1)?;
     assert_eq!(rt; told(alloc, &mut client)?.as_slice(), BAD_REQUEST);
+    Ok(())
+}
+
+/// Refusals for a limit, and the limit that each tells.
+const LIMITS: [(u16, bool, &str, (u64, &str, &str)); 4] = [
+    (
+        413,
+        true,
+        "PUT /v2/team/app/manifests/v1",
+        (67_108_864, "bytes of a body", "team/app"),
+    ),
+    (
+        413,
+        false,
+        "PUT /v2/team/app/manifests/v1",
+        (4_194_304, "bytes of a manifest", "team/app"),
+    ),
+    (
+        413,
+        false,
+        "PATCH /v2/a/blobs/uploads/7",
+        (67_108_864, "bytes of a blob", "a"),
+    ),
+    (
+        429,
+        false,
+        "POST /v2/team/app/blobs/uploads/",
+        (1_000, "open uploads", "team/app"),
+    ),
+];
+
+#[test]
+fn limits_are_named(rt: HostRuntime) -> Result<(), Fail> {
+    for (status, of_body, request, wanted) in LIMITS {
+        let met = limit_met(status, of_body, request).ok_or("a limit")?;
+        assert_eq!(rt; (met.most, met.of, met.repo), wanted);
+    }
+    assert!(rt; limit_met(404, false, "GET /v2/a/manifests/v1").is_none());
+    Ok(())
+}
+
+/// One who announces more than any body may have is refused, and it is said why.
+#[test]
+fn a_limit_is_said(rt: HostRuntime) -> Result<(), Fail> {
+    let alloc = rt.alloc();
+    let listener = TcpListener::bind(&rt, "127.0.0.1:0")?;
+    let mut client = TcpStream::connect(&rt, listener.local_addr()?)?;
+    client.write_all(TOO_LARGE)?;
+    client.shutdown(Shutdown::Write)?;
+    let doors = Doors {
+        listener,
+        orders: None,
+    };
+    let mut service = Service::new(MapKeeper::new(alloc));
+    let said = served(&rt, doors, &mut service, 1)?;
+    assert!(rt; told(alloc, &mut client)?.starts_with(b"HTTP/1.1 413 "));
+    assert!(rt; said.ends_with(" limit of 67108864 bytes of a body: team/app\n"));
     Ok(())
 }
 
