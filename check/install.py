@@ -21,6 +21,7 @@ FILES = {
     "usr/share/man/man1/registry.1": 0o644,
     "usr/share/bash-completion/completions/registry": 0o644,
     "usr/lib/systemd/system/firkhen.service": 0o644,
+    "usr/lib/systemd/system/firkhen.socket": 0o644,
     "usr/share/firkhen/token-line": 0o755,
     "usr/share/doc/firkhen/CLIENTS.md": 0o644,
     "usr/share/doc/firkhen/ENDPOINTS.md": 0o644,
@@ -124,17 +125,17 @@ def look_at_the_completion(room, told):
 def look_at_the_unit(room):
     if not has("systemd-analyze"):
         return
-    unit = f"{room}/usr/lib/systemd/system/firkhen.service"
+    units = [f"{room}/firkhen.service", f"{room}/firkhen.socket"]
     # (that the executable is where the unit has it, and its man page, is known from the files)
-    with open(unit, encoding="utf-8") as it:
-        text = it.read().replace("/usr/bin/", f"{room}/usr/bin/").replace("Documentation=man:registry(1)", "Documentation=")
-    unit = f"{room}/firkhen.service"
-    with open(unit, "w", encoding="utf-8") as it:
-        it.write(text)
-    ran = run("systemd-analyze", "verify", unit)
+    for unit in units:
+        with open(unit.replace(room, f"{room}/usr/lib/systemd/system"), encoding="utf-8") as it:
+            text = it.read().replace("/usr/bin/", f"{room}/usr/bin/").replace("Documentation=man:registry(1)", "Documentation=")
+        with open(unit, "w", encoding="utf-8") as it:
+            it.write(text)
+    ran = run("systemd-analyze", "verify", *units)
     about = [line for line in ran.text.splitlines() if "firkhen" in line]
-    say(about == [], "systemd-analyze verify has nothing to say of the unit", "\n".join(about))
-    ran = run("systemd-analyze", "security", "--offline=true", unit)
+    say(about == [], "systemd-analyze verify has nothing to say of the units", "\n".join(about))
+    ran = run("systemd-analyze", "security", "--offline=true", units[0])
     score = re.search(r"exposure level for firkhen.service: ([0-9.]+)", ran.text)
     say(score and float(score[1]) < EXPOSURE, f"systemd-analyze security: {score and score[1]}", ran.text[-500:])
 

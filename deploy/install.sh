@@ -23,6 +23,7 @@ put 644 "$made/registry.1" "$share/man/man1/registry.1"
 put 644 "$made/registry" "$share/bash-completion/completions/registry"
 sed "s,/usr/,$PREFIX/," "$top/deploy/firkhen.service" > "$made/firkhen.service"
 put 644 "$made/firkhen.service" "$DESTDIR$PREFIX/lib/systemd/system/firkhen.service"
+put 644 "$top/deploy/firkhen.socket" "$DESTDIR$PREFIX/lib/systemd/system/firkhen.socket"
 put 755 "$top/deploy/nginx/token-line" "$share/firkhen/token-line"
 for page in OPERATIONS CLIENTS SECURITY ENDPOINTS; do
   put 644 "$top/docs/$page.md" "$share/doc/firkhen/$page.md"

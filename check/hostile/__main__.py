@@ -26,7 +26,7 @@ one ends; and where the numbers of sessions are used up none opens. A file that 
 asked the same as one that never was, by two teams together and by each alone.
 *many*: clients that are idle, that stop in the middle of a head or a body, or that read nothing hold up nobody;
 requests of many connections, interleaved as drawn, are answered as alone; who is silent is closed in the end; and
-many large pushes at once take no more memory than they may.
+many large pushes at once take no more memory than they may. A listener that was handed over is served.
 *orders*: forty orders to a server that is pushed to are told what they would be told over a file, and are in force for
 the next request; lines that are no orders, and callers that say nothing, change nothing and hold up no request; of a
 server that is killed amid orders all that were done are there, and the next one takes its socket over; who cannot take
@@ -43,6 +43,7 @@ from executables import EXAMPLES, REGISTRY
 from hostile.crashes import crash_in_writes
 from hostile.crowd import serve_many
 from hostile.disk import fail_once_on_sockets, stop_in_writes
+from hostile.handing import hand_over
 from hostile.kills import kill_servers
 from hostile.memory import refuse_in_orders, refuse_in_rows, refuse_on_sockets
 from hostile.migration import look_beside_a_new_file, refuse_in_migration, stop_in_migration
@@ -89,6 +90,7 @@ def main():
             look_beside_a_new_file(room)
         if "many" in words:
             serve_many(room)
+            hand_over(room)
         if "orders" in words:
             give_orders(refusing, room)
     print(f"{len(wrong)} wrong" if wrong else "nothing was lost, and nothing answered wrongly")

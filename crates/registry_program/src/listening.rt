@@ -4,13 +4,19 @@ ghost use Rattle.registry_orders.specs.Failures.{IsOfServing};
 
 use crate::order_socket::listen_for_orders;
 use oci_names::Fault;
+use os::FromRawFd;
 use registry_model::Keeper;
 use registry_orders::{Cause, Failure};
 use std::alloc::Global;
+use std::io;
 use std::io::{ErrorKind, Write};
 use std::net::{Net, TcpListener, TcpStream};
+use std::os::fd::IntoRawFd;
 use std::os::unix::net::UnixListener;
 use std::rt::Files;
+
+/// What is written in the place of an address where a listener is handed over.
+const HANDED_OVER: &str = "fd:3";
 
 /// Where a server takes connections, and where orders, if anywhere.
 #[derive(Drop)]
@@ -26,18 +32,43 @@ pub(crate) struct NotBound<'a> {
     pub(crate) cause: Option<Cause>,
 }
 
+/// The listener that was handed over, as by a socket unit of systemd, which gives it as the first descriptor
+/// behind standard error (sd_listen_fds). An error is that there is no socket.
+fn handed_over() -> io::Result<TcpListener> {
+    let listener = unsafe { TcpListener::from_raw_fd(3) };
+    match listener.local_addr() {
+        Ok(_) => Ok(listener),
+        Err(error) => {
+            // What else is open there is not closed.
+            let _ = listener.into_raw_fd();
+            Err(error)
+        }
+    }
+}
+
+/// Listens at an address, or takes the listener that was handed over where that is asked for.
+fn listener_at<T: Net<Listener = TcpListener, Stream = TcpStream>>(
+    rt: &T,
+    address: &str,
+) -> io::Result<TcpListener> {
+    if address == HANDED_OVER {
+        return handed_over();
+    }
+    TcpListener::bind(rt, address)
+}
+
 /// Listens at an address for connections, and then for orders at the path of a socket, if one is given.
 pub(crate) fn listen<'a, T: AllocGlobal + Files + Net<Listener = TcpListener, Stream = TcpStream>>(
     rt: &T,
     address: &'a str,
     orders: Option<&'a str>,
 ) -> Result<Listeners, NotBound<'a>> {
-    let connections = match TcpListener::bind(rt, address) {
+    let connections = match listener_at(rt, address) {
         Ok(listener) => listener,
         Err(error) => {
             return Err(NotBound {
                 place: address,
-                cause: cause_of_binding(error.kind()),
+                cause: cause_at_address(address, error.kind()),
             });
         }
     };
@@ -52,6 +83,15 @@ pub(crate) fn listen<'a, T: AllocGlobal + Files + Net<Listener = TcpListener, St
         connections,
         orders,
     })
+}
+
+/// Why nobody listens, where the kind of the error tells.
+fn cause_at_address(address: &str, kind: ErrorKind) -> Option<Cause> {
+    if address == HANDED_OVER {
+        Some(Cause::NoSocket)
+    } else {
+        cause_of_binding(kind)
+    }
 }
 
 /// Why an address is not listened on, where the kind of the error tells.
