@@ -53,21 +53,18 @@ demo:
 build:
 	@echo 'Proves some 1,400 functions: an hour and a half of a processor, on all there are, and up to 12 GB of memory.' >&2
 	$(MAKE) --no-print-directory --jobs=$$(( $(PROCESSORS) + 2 )) $(addprefix prove-,$(all_below_registry_cli))
-	cd crates/registry_cli && rt run --jobs $(PROCESSORS) -- --version
+	cd crates/registry_cli && rt run --jobs 2 -- --version
 	mkdir -p build
 	cp crates/registry_cli/out/registry_cli build/registry
 
-# Each library after those that it stands on, so that independent ones are proved side by side. What the others wait
-# for longest goes first: two long rows of libraries, on more than one processor each; then what only the program
-# waits for. What is neither gives way to both, and takes one processor, since each further one reads the
-# libraries below once more.
+# Each library after those that it stands on, so that independent ones are proved side by side. The two long rows of
+# libraries, at whose end all others wait, go a little before what stands beside them, and on two processors each;
+# not on more, and what is beside them on one, since each further process reads the libraries below once more.
 ROWS := oci_names oci_manifest registry_model registry_operations registry_service registry_http \
   registry_conversation registry_server registry_loop registry_program \
-  store_schema store_contents store_world store_statements store_writes registry_store
-NEXT := registry_maps registry_orders registry_opening order_messages store_old_rows store_moves store_upgrade \
-  registry_databases
-jobs_of = $(if $(filter $(1),$(ROWS)),$(if $(filter 1 2,$(PROCESSORS)),2,3),1)
-niceness_of = $(if $(filter $(1),$(ROWS)),0,$(if $(filter $(1),$(NEXT)),4,8))
+  store_schema store_contents store_world store_statements store_writes registry_store registry_databases
+jobs_of = $(if $(filter $(1),$(ROWS)),2,1)
+niceness_of = $(if $(filter $(1),$(ROWS)),0,2)
 define prove
 .PHONY: prove-$(1)
 prove-$(1): $(addprefix prove-,$(below_$(1)))
