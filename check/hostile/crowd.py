@@ -45,6 +45,23 @@ def closed(connection, seconds):
         return False
 
 
+def drips(connection):
+    """The server closes the connection, on which a byte of a head comes ten times a second."""
+    ends = time.monotonic() + SECONDS
+    connection.settimeout(0.1)
+    try:
+        connection.sendall(b"GET /v2/ HTTP/1.1\r\nX: ")
+        while time.monotonic() < ends:
+            connection.sendall(b"x")
+            try:
+                return connection.recv(1) == b""
+            except TimeoutError:
+                pass
+    except ConnectionError:
+        return True
+    return False
+
+
 def hold_up(room):
     """Idle, stalled and deaf clients, and one that works beside them."""
     server = Server(prepared(room, "crowd"), "--idle", "600")
@@ -137,6 +154,7 @@ def crowd_out(room):
     slow.sendall(b"GET /v2/ HTTP/1.1\r\n")
     say(closed(silent, SECONDS) and closed(slow, SECONDS), "a silent client and half a head are closed in the end")
     say(works(server), "others are served then")
+    say(drips(server.connect()), "and so is a client that sends its head a byte at a time, for ever")
     server.kill()
     server = Server(prepared(room, "ends"), "--connections", "3")
     first, second = server.connect(), server.connect()
