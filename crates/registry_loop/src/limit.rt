@@ -31,9 +31,7 @@ fn name_in<'a>(route: Route<'a>) -> &'a str {
 pub fn is_of_body(step: Step) -> bool {
     matches!(
         step,
-        Step::Ended(End::Refused(
-            FramingRefusal::LengthTooLarge | FramingRefusal::ChunksTooLarge
-        ))
+        Step::Ended(End::Refused(FramingRefusal::LengthTooLarge | FramingRefusal::ChunksTooLarge))
     )
 }
 

@@ -15,9 +15,10 @@ const CONTINUE: &[u8] = b"HTTP/1.1 100 Continue\r\n\r\n";
 const OUT_OF_MEMORY: &[u8] = b"registry: out of memory\n";
 
 /// Says each request on a line, if it is to; and in any case each that was answered 500 or 503, with what
-/// failed, and each that was answered 413 or 429, with the limit that it met and the repository. A line has the time (RFC 3339), the number of the connection, the method, the path without its
-/// query, the status, the bytes of the body, those of the reply and microseconds, and a hyphen for what is
-/// not known. No token is said, since a header field never is.
+/// failed, and each that was answered 413 or 429, with the limit that it met and the repository. A line has
+/// the time (RFC 3339), the number of the connection, the method, the path without its query, the status, the
+/// bytes of the body, those of the reply and microseconds, and a hyphen for what is not known. No token is
+/// said, since a header field never is.
 #[derive(Drop)]
 pub struct Log<'a, E: Write> {
     err: &'a mut E,

@@ -115,7 +115,8 @@ repo_commands = over_quota (codes "repo") ∷ over_quota (codes "quota") ∷ ove
     ∷ over_repo (codes "sessions") ∷ prune ∷ []
 
 abbrev pub list_commands : List Shape
-list_commands = listing (codes "repos") ∷ listing_of_repo (codes "tags") ∷ listing_of_repo (codes "blobs") ∷ []
+list_commands =
+    listing (codes "repos") ∷ listing_of_repo (codes "tags") ∷ listing_of_repo (codes "blobs") ∷ []
 
 abbrev pub other_commands : List Shape
 other_commands = grant ∷ over_token (codes "revoke") ∷ ordering (codes "clear") ∷ ordering (codes "usage")

@@ -84,7 +84,8 @@ IsHeldIn word options Unnamed = (word ≡ codes "prune") × HasFlag options (cod
 
 abbrev pub IsListingIn : Text → List Row → Listing → Type 0
 IsListingIn word options Repos = word ≡ codes "repos"
-IsListingIn word options (InRepo name what) = IsHeldIn word options what × HasValue options (codes "name") name
+IsListingIn word options (InRepo name what) =
+    IsHeldIn word options what × HasValue options (codes "name") name
 
 abbrev pub IsFormIn : List Row → Form → Type 0
 IsFormIn options Lines = ¬ (HasFlag options (codes "json"))

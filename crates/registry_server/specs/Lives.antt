@@ -18,8 +18,8 @@ alive_at now = record { since = now; moved = 0 }
 
 -- so many bytes came or went
 abbrev pub moved_by : ℕ → ℕ → Life → Life
-moved_by count now l =
-    if nat_le sign (l.moved + count) then alive_at now else record { since = l.since; moved = l.moved + count }
+moved_by count t l =
+    if nat_le sign (l.moved + count) then alive_at t else record { since = l.since; moved = l.moved + count }
 
 -- so many bytes went out, and then none was left to go, or some were
 abbrev pub sent_by : ℕ → Bool → ℕ → Life → Life

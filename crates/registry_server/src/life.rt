@@ -5,8 +5,8 @@ ghost use Rattle.registry_server.specs.Lives.{alive_at, moved_by, sent_by};
 /// So many bytes that moved on a connection are a sign of life.
 pub const SIGN_OF_LIFE: usize = 65_536;
 
-/// When there was a sign of life on a connection last, in milliseconds of the time that `Connections` is told,
-/// and how many bytes moved on it since.
+/// When there was a sign of life on a connection last, in milliseconds of the time that `Connections` is
+/// told, and how many bytes moved on it since.
 #[derive(Clone, Copy, Debug, PartialEq, Eq)]
 pub struct Life {
     pub since: u64,
@@ -39,7 +39,8 @@ impl Life {
         }
     }
 
-    /// So many bytes went out; `whole` says that no more are to go. The last byte of a reply is a sign of life.
+    /// So many bytes went out; `whole` says that no more are to go. The last byte of a reply is a sign of
+    /// life.
     pub fn sent(self, count: usize, whole: bool, time: u64) -> Life
         ensures { result ≡ sent_by count whole time self }
     {
