@@ -2,7 +2,7 @@
 ghost use Rattle.std.specs.Prelude.{◌<◌, ◌≡◌, true, Ok, Some};
 ghost use Rattle.oci_names.specs.Digest.{matches};
 
-use oci_manifest::read_manifest;
+use oci_documents::read_manifest;
 use oci_names::{Digest, Fault, RepoName, Tag, Verdict};
 use registry_model::Keeper;
 use std::alloc::Global;

@@ -1,7 +1,8 @@
 //! The text of an index of referrers.
 
 use change_tests::changes::ABC;
-use oci_manifest::{Kind, Referrer, referrers_text};
+use oci_documents::referrers_text;
+use oci_manifest::{Kind, Referrer};
 use oci_names::Digest;
 use std::collections::BTreeMap;
 use std::test::*;

@@ -1,13 +1,7 @@
-pub mod LastKey
-pub mod Texts
 pub mod Documents
-pub mod Descriptors
-pub mod Replies
-pub mod WrittenTexts
 pub mod Parts
 pub mod DescriptorLaws
 pub mod RuleLaws
 pub mod ManifestLaws
 pub mod NeededNamed
 pub mod FaultLaws
-pub mod FoundOrRefused

@@ -1,9 +1,8 @@
 -- Descriptors (OCI Image Specification 1.1, descriptor.md, Properties).
-use Rattle.std.specs.Prelude.{◌==◌, List, [], ◌∷◌, length, map, filter, not, codes, string_bytes, Bool, if◌then◌else◌, Option, Some, None, option_and_then}
+use Rattle.std.specs.Prelude.{◌==◌, List, [], ◌∷◌, length, map, filter, not, codes, Bool, if◌then◌else◌, Option, Some, None, option_and_then}
 use Rattle.serde_json.specs.Data.{Data, Items, no_items, item}
 use Rattle.oci_names.specs.Text.{Text}
 use Rattle.oci_names.specs.Digest.{is_digest}
-use Rattle.oci_manifest.specs.declared.descriptor.Descriptor.{Descriptor}
 use Rattle.oci_manifest.specs.Part.{◌>>=◌}
 use Rattle.oci_manifest.specs.Member.{text_at, optional_text_at, size_at, some_text_at, texts_at}
 
@@ -13,16 +12,6 @@ pub record DescriptorShown : Type 0 where
   pub digest : Text
   -- its content may be had from a URL
   pub elsewhere : Bool
-
-abbrev pub descriptor_shown : Descriptor → DescriptorShown
-descriptor_shown d = record {
-  media_type = string_bytes d.media_type;
-  digest = d.digest;
-  elsewhere = d.elsewhere;
-}
-
-abbrev pub descriptors_shown : List Descriptor → List DescriptorShown
-descriptors_shown ds = map descriptor_shown ds
 
 abbrev pub unless_empty : Text → Option Text
 unless_empty text = if length text == 0 then None else Some text

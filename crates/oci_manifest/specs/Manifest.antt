@@ -5,15 +5,11 @@ use Rattle.std.specs.Str.{is_utf8}
 use Rattle.serde_json.specs.Data.{Data, Items}
 use Rattle.serde_json.specs.Read.{read}
 use Rattle.serde_json.specs.Find.{get, as_number, as_u64, as_object}
-use Rattle.serde_json.specs.View.{view, items_view}
 use Rattle.oci_names.specs.Text.{Text}
 use Rattle.oci_manifest.specs.declared.fault.ManifestFault.{ManifestFault}
 use Rattle.oci_manifest.specs.declared.fault.ManifestFault.TheVariants as fault
 use Rattle.oci_manifest.specs.declared.kind.Kind.{Kind}
 use Rattle.oci_manifest.specs.declared.kind.Kind.TheVariants as kind
-use Rattle.oci_manifest.specs.declared.body.Body.{Body}
-use Rattle.oci_manifest.specs.declared.body.Body.TheVariants as body
-use Rattle.oci_manifest.specs.declared.body.Contents.{Contents}
 use Rattle.oci_manifest.specs.declared.manifest.Manifest.{Manifest}
 use Rattle.oci_manifest.specs.Rules.{◌>>=◌, or_fault}
 use Rattle.oci_manifest.specs.Kind.{media_type_of}
@@ -37,10 +33,6 @@ version_of d =
 pub data BodyShown : Type 0 where
   image : Data → Items → BodyShown
   index : Items → BodyShown
-
-abbrev pub body_shown : Body → BodyShown
-body_shown (body.Image config layers) = image (view config.now) (items_view layers.now)
-body_shown (body.Index manifests) = index (items_view manifests.now)
 
 abbrev pub body_kind : BodyShown → Kind
 body_kind (image config layers) = kind.Image
@@ -78,13 +70,6 @@ pub record ContentsShown : Type 0 where
   pub config_type : Option Text
   pub needs : List Text
   pub names : List Text
-
-abbrev pub contents_shown : Contents → ContentsShown
-contents_shown c = record {
-  config_type = option_map string_bytes c.config_type;
-  needs = c.needs.items;
-  names = c.names.items;
-}
 
 abbrev pub image_contents : DescriptorShown → List DescriptorShown → ContentsShown
 image_contents config layers = record {

@@ -1,15 +1,11 @@
 //! What the way of reading in `specs/Manifest.antt` comes to, in the words of `specs/Reads.antt` and
-//! `specs/FirstFault.antt`, and the order of annotations. The functions do nothing; each stands for its
-//! clause.
+//! `specs/FirstFault.antt`. The functions do nothing; each stands for its clause.
 
 ghost use Rattle.std.specs.Prelude.{◌≡◌, ◌↔◌, List, ℕ};
 ghost use Rattle.oci_manifest.specs.declared.fault.ManifestFault.{ManifestFault};
 ghost use Rattle.oci_manifest.specs.Manifest.{ManifestShown, manifest_in};
 ghost use Rattle.oci_manifest.specs.Reads.{ReadsAs};
 ghost use Rattle.oci_manifest.specs.FirstFault.{Refuses};
-ghost use Rattle.oci_manifest.specs.Member.{pairs_of, IsInByteOrder};
-
-use std::collections::BTreeMap;
 
 /// What is read of bytes is what they say.
 pub fn found()
@@ -26,10 +22,3 @@ pub fn first_fault()
     ensures { (bytes : List ℕ) (fault : ManifestFault)
         → (manifest_in bytes ≡ Err fault) ↔ Refuses bytes fault }
 {}
-
-/// The annotations of a manifest or of a referrer stand in byte order of their keys, each key once.
-pub fn annotations_in_order(annotations: &BTreeMap<String, String>)
-    ensures { IsInByteOrder (pairs_of annotations.now.entries) }
-{
-    let _entries = annotations.iter();
-}

@@ -1,24 +1,17 @@
-//! Image manifests and indexes read from bytes, and the JSON texts of a registry's replies.
+//! What image manifests and indexes say, by the definitions that a registry goes by, and what a list of
+//! referrers shows of them.
 //!
-//! `read_manifest` answers exactly what `specs/Manifest.antt` reads in the bytes, or the first rule that
-//! fails. `referrers_text`, `tags_text` and `error_text` give the exact bytes of the replies.
+//! The crates above rely on `specs/Manifest.antt`, what is read in bytes and which rule fails first; the
+//! crate `oci_documents` does so, and writes the texts of `specs/Referrers.antt` and its neighbours.
 #![tactic(auto)]
 
-mod body;
-mod descriptor;
-mod errors;
 mod fault;
 mod kind;
 pub mod laws;
 mod manifest;
-mod member;
 mod referrers;
-mod reply;
-mod tags;
 
-pub use errors::error_text;
 pub use fault::ManifestFault;
 pub use kind::Kind;
-pub use manifest::{Manifest, read_manifest};
-pub use referrers::{Referrer, referrers_text};
-pub use tags::tags_text;
+pub use manifest::Manifest;
+pub use referrers::Referrer;

@@ -1,7 +1,8 @@
 //! What manifests say, and the first rules that they break, as the lines of an answer.
 
 use anyhow::Result;
-use oci_manifest::{Manifest, read_manifest};
+use oci_documents::read_manifest;
+use oci_manifest::Manifest;
 use std::alloc::Global;
 use std::fmt::Write;
 

@@ -1,7 +1,7 @@
 //! Texts of the registry's grammars: what each is read as, as the line of an answer.
 
 use anyhow::{Result, bail};
-use oci_manifest::{error_text, tags_text};
+use oci_documents::{error_text, tags_text};
 use oci_names::{Digest, NameFault, Reference, RepoName, Tag, Token, session_number};
 use registry_model::{RangeVerdict, Route, number, range_fits};
 use std::alloc::{AllocError, Global};

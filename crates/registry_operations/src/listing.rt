@@ -12,9 +12,8 @@ ghost use Rattle.registry_operations.specs.Operating.{Operates, IsUnspent, HasRe
 ghost use Rattle.registry_operations.specs.Listing.{lets_through, added_by, wanted_of};
 
 use crate::digests::read_digest;
-use oci_manifest::{
-    Kind, Manifest, ManifestFault, Referrer, read_manifest, referrers_text, tags_text,
-};
+use oci_documents::{read_manifest, referrers_text, tags_text};
+use oci_manifest::{Kind, Manifest, ManifestFault, Referrer};
 use oci_names::{Digest, Fault, RepoName, Tag};
 use registry_model::numbers::number;
 use registry_model::{Body, Keeper, Refusal, Reply, Status, page_link};

@@ -8,7 +8,8 @@ ghost use Rattle.registry_model.specs.Pruning.{names_in, is_among, prune, delete
 ghost use Rattle.registry_model.specs.World.{World};
 ghost use Rattle.registry_operations.specs.Pruning.{names_at, is_named_at, unnamed_at, has};
 
-use oci_manifest::{Manifest, ManifestFault, read_manifest};
+use oci_documents::read_manifest;
+use oci_manifest::{Manifest, ManifestFault};
 use oci_names::{Digest, Fault, RepoName};
 use registry_model::Keeper;
 use std::alloc::Global;

@@ -13,7 +13,8 @@ ghost use Rattle.store_old_rows.specs.Olds.{old_of};
 ghost use Rattle.store_moves.specs.Moving.{IsUnderway, ManifestStored, Moves, MovesOn, KeepsUnderway, CountsOld, without_manifest, without_listed_manifests, without_manifests};
 
 use crate::watch::{OldTable, Watch};
-use oci_manifest::{Kind, ManifestFault, read_manifest};
+use oci_documents::read_manifest;
+use oci_manifest::{Kind, ManifestFault};
 use oci_names::Fault;
 use sqlite::{Alter, Transaction};
 use std::alloc::Global;

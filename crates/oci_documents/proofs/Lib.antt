@@ -1,0 +1,6 @@
+mod LastKey
+mod Texts
+mod Descriptors
+mod Replies
+mod WrittenTexts
+mod FoundOrRefused

@@ -1,8 +1,0 @@
-use Rattle.std.proofs.Common.{◌≡◌}
-use Rattle.serde_json.specs.View.{items_view}
-use Rattle.oci_manifest.specs.Descriptor.{descriptors_shown, descriptors_of}
-use Rattle.oci_manifest.proofs.Descriptors.{behind, left_from}
-use Rattle.oci_manifest.proofs.descriptor.read_descriptors.Given as goal
-
-abbrev pub invariant-loop-value : goal.invariant-loop-value
-invariant-loop-value l = descriptors_of (items_view l.values) ≡ behind (descriptors_shown l.found.items) (left_from l.value-index l.values)

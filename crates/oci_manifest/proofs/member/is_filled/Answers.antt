@@ -1,5 +1,0 @@
-use Rattle.oci_manifest.proofs.Texts.{filled}
-use Rattle.oci_manifest.proofs.member.is_filled.Goals as goal
-
-pub returns-in-len1-up : goal.returns-in-len1-up
-returns-in-len1-up c = filled c.args.items.now c.in-len1-up.len_at_least
