@@ -7,3 +7,4 @@ pub mod MapSums
 pub mod UsageTurns
 pub mod Foretold
 pub mod KnownWorlds
+mod OriginLemmas

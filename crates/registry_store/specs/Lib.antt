@@ -1,4 +1,5 @@
 pub mod Kept
 pub mod Opening
+pub mod Origins
 pub mod Unwritten
 pub mod Usages
