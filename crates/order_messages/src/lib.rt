@@ -17,6 +17,3 @@ pub use answer::{Answer, read_answer, write_failure};
 pub use answering::answer_line;
 pub use reading::{Unread, read_order};
 pub use writing::{LONGEST_LINE, write_order};
-
-#[cfg(test)]
-mod tests;

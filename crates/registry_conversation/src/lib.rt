@@ -15,6 +15,3 @@ pub mod replying;
 pub use conversation::Conversation;
 pub use exchange::Exchange;
 pub use phase::{Phase, Step, Wants};
-
-#[cfg(test)]
-mod tests;

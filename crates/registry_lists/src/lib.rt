@@ -15,6 +15,3 @@ pub mod table;
 pub use listing::{Form, Held, Listing};
 pub use lists::list_text;
 pub use table::write_table;
-
-#[cfg(test)]
-mod tests;

@@ -8,7 +8,7 @@ pub mod caller;
 pub mod callers;
 pub mod crowd;
 pub mod gathering;
-mod limit;
+pub mod limit;
 pub mod log;
 pub mod peer;
 mod peers;
@@ -17,6 +17,3 @@ mod taking;
 pub use crowd::{Crowd, Doors};
 pub use gathering::Gathering;
 pub use log::Log;
-
-#[cfg(test)]
-mod tests;

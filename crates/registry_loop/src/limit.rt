@@ -1,16 +1,18 @@
-//! Which limit a refused request met, as a log tells it.
+//! Which limit a refused request met, as a log tells it. The statuses that say so are 413 (RFC 9110, section
+//! 15.5.14) and 429 (RFC 6585, section 4); the limits are those of `registry_model` (profile).
 
 use registry_conversation::Step;
 use registry_http::{End, FramingRefusal};
 use registry_model::{LARGEST_BLOB, LARGEST_MANIFEST, MOST_SESSIONS, Route};
 
-/// A limit, and the repository for which it was met.
+/// A limit that a refused request met, and the repository for which it was met.
 #[derive(Clone, Copy)]
 pub struct Limit<'a> {
+    /// So many bytes, or so many open upload sessions.
     pub most: u64,
-    /// What there may be at most so much of.
+    /// What there may be at most so much of, in the words of the log: `bytes of a blob`, `open uploads`.
     pub of: &'static str,
-    /// The repository, or a hyphen.
+    /// The repository's name as the path has it, or a hyphen.
     pub repo: &'a str,
 }
 
@@ -35,7 +37,9 @@ pub fn is_of_body(step: Step) -> bool {
     )
 }
 
-/// The limit that a request met, where its status says that it met one: 413 or 429.
+/// The limit that a request met, where its status says that it met one: 413 or 429. A request is told as
+/// `Exchange::line` tells it, the method, a space and the path without its query; `of_body` is what
+/// `is_of_body` says of its turn.
 pub fn limit_met<'a>(status: u16, of_body: bool, request: &'a str) -> Option<Limit<'a>> {
     let path = match request.split_once(' ') {
         Some((_, path)) => path,

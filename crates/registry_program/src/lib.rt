@@ -19,6 +19,3 @@ pub use program::run_words;
 pub use sending::send_order;
 pub use sockets::{Entrance, connections_are_private, serve, serve_one};
 pub use stdio::{serve_from, serve_memory, serve_stdio};
-
-#[cfg(test)]
-mod tests;

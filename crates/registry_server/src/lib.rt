@@ -18,8 +18,3 @@ pub use connections::Connections;
 pub use receipt::Receipt;
 pub use refusal::Refusal;
 pub use turn::Turn;
-
-#[cfg(test)]
-mod silence_tests;
-#[cfg(test)]
-mod tests;

@@ -1,24 +1,15 @@
 //! Eight connections at once, whose requests are cut and interleaved by a small generator. The texts are
 //! those of RFC 9112 and of the worked examples.
 
-use crate::{Bounds, Connections, LARGEST, Receipt, Refusal, SHARE};
-use oci_names::{RepoName, Token};
+use crate::setting::{FIELDS, HELLO, LARGE_HEAD, SMALL, add_repo, grant_on};
 use registry_conversation::{Step, Wants};
 use registry_http::End;
 use registry_maps::MapKeeper;
-use registry_model::{AdminCommand, Level, Quota};
+use registry_server::{Bounds, Connections, LARGEST, Receipt, Refusal, SHARE};
 use registry_service::Service;
 use std::alloc::Global;
 use std::process::Abort;
 use std::test::Fail;
-
-const HELLO: &str = "sha256:2cf24dba5fb0a30e26e83b2ac5b9e29e1b161e5c1fa7425e73043362938b9824";
-
-const FIELDS: &str = "Host: r\r\nAuthorization: Bearer t1\r\n";
-
-const SMALL: &[u8] = b"GET /v2/ HTTP/1.1\r\nHost: r\r\n\r\n";
-
-const LARGE_HEAD: &[u8] = b"PUT /v2/ HTTP/1.1\r\nHost: r\r\nContent-Length: 1000000\r\n\r\n";
 
 /// So many at once, and no room but for their shares and one largest request.
 fn bounds(at_once: usize) -> Bounds {
@@ -27,29 +18,6 @@ fn bounds(at_once: usize) -> Bounds {
         coming: 0,
         going: 1_000_000,
     }
-}
-
-/// Makes a repository.
-fn add(alloc: Global, registry: &mut Service<MapKeeper>, name: &str) -> Result<(), Fail> {
-    let name = RepoName::parse(alloc, name)?;
-    let quota = Quota::new(1000).ok_or("a quota")?;
-    registry.admin(alloc, &AdminCommand::AddRepo { name: &name, quota })?;
-    Ok(())
-}
-
-/// Gives `t1` level 3 on it.
-fn grant(alloc: Global, registry: &mut Service<MapKeeper>, name: &str) -> Result<(), Fail> {
-    let token = Token::parse(alloc, "t1")?;
-    let name = RepoName::parse(alloc, name)?;
-    registry.admin(
-        alloc,
-        &AdminCommand::Grant {
-            token: &token,
-            name: &name,
-            level: Level::Delete,
-        },
-    )?;
-    Ok(())
 }
 
 /// A connection's number, what comes on it and how much of that came, and what went out on it.
@@ -165,8 +133,8 @@ fn setting(alloc: Global) -> Result<(Play, Vec<Client>), Fail> {
     let mut clients = Vec::new(alloc);
     for place in 0..8 {
         let name = format!(in alloc; "team/a{place}")?;
-        add(alloc, &mut registry, name.as_str())?;
-        grant(alloc, &mut registry, name.as_str())?;
+        add_repo(alloc, &mut registry, name.as_str())?;
+        grant_on(alloc, &mut registry, name.as_str())?;
         let number = connections.open(alloc).ok().ok_or("a number")?;
         clients.push(Client {
             number,

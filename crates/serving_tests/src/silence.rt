@@ -1,15 +1,12 @@
 //! What is a sign of life on a connection, and who has given none for how long.
 
-use crate::life::SIGN_OF_LIFE;
-use crate::{Bounds, Connections, Receipt};
+use crate::setting::{LARGE_HEAD, SMALL};
 use registry_maps::MapKeeper;
+use registry_server::life::SIGN_OF_LIFE;
+use registry_server::{Bounds, Connections, Receipt};
 use registry_service::Service;
 use std::alloc::Global;
 use std::test::Fail;
-
-const SMALL: &[u8] = b"GET /v2/ HTTP/1.1\r\nHost: r\r\n\r\n";
-
-const LARGE_HEAD: &[u8] = b"PUT /v2/ HTTP/1.1\r\nHost: r\r\nContent-Length: 1000000\r\n\r\n";
 
 /// When the connections come, in milliseconds.
 const BEGIN: u64 = 5_000;

@@ -1,53 +1,19 @@
 //! Conversations by hand: requests that are cut, that stand one behind the other, that wait and that end
 //! early. The texts are those of RFC 9112 and of the worked examples.
 
-use crate::{Conversation, Step, Wants};
-use oci_names::{RepoName, Token};
+use crate::setting::{FIELDS, HELLO, add, grant, same};
+use registry_conversation::{Conversation, Step, Wants};
 use registry_http::{End, FramingRefusal};
 use registry_maps::MapKeeper;
-use registry_model::{AdminCommand, Level, Quota};
 use registry_service::Service;
 use std::alloc::Global;
-use std::fmt::Debug;
 use std::process::Abort;
 use std::test::Fail;
-
-const HELLO: &str = "sha256:2cf24dba5fb0a30e26e83b2ac5b9e29e1b161e5c1fa7425e73043362938b9824";
-
-const FIELDS: &str = "Host: r\r\nAuthorization: Bearer t1\r\n";
 
 const CONTINUE: &str = "HTTP/1.1 100 Continue\r\n\r\n";
 
 const BAD_REQUEST: &str =
     "HTTP/1.1 400 Bad Request\r\nContent-Length: 0\r\nConnection: close\r\n\r\n";
-
-/// Both are the same: what a comparison prints where it fails is proved here, and not at each.
-fn same<T: PartialEq + Debug + Drop>(rt: &impl Abort, place: usize, found: T, wanted: T) {
-    assert_eq!(rt; found, wanted, "at {place}");
-}
-
-/// Makes the repository `team/app`.
-fn add(alloc: Global, registry: &mut Service<MapKeeper>) -> Result<(), Fail> {
-    let name = RepoName::parse(alloc, "team/app")?;
-    let quota = Quota::new(1000).ok_or("a quota")?;
-    registry.admin(alloc, &AdminCommand::AddRepo { name: &name, quota })?;
-    Ok(())
-}
-
-/// Gives `t1` level 3 on it.
-fn grant(alloc: Global, registry: &mut Service<MapKeeper>) -> Result<(), Fail> {
-    let token = Token::parse(alloc, "t1")?;
-    let name = RepoName::parse(alloc, "team/app")?;
-    registry.admin(
-        alloc,
-        &AdminCommand::Grant {
-            token: &token,
-            name: &name,
-            level: Level::Delete,
-        },
-    )?;
-    Ok(())
-}
 
 /// A registry of the repository `team/app`, on which `t1` has level 3.
 fn setting(alloc: Global) -> Result<Service<MapKeeper>, Fail> {

@@ -1,16 +1,14 @@
 //! Lists of a small registry in memory. Digests are by sha256sum.
 
-use crate::{Form, Held, Listing, list_text};
+use crate::setting::HELLO;
 use oci_names::{RepoName, Token};
+use registry_lists::{Form, Held, Listing, list_text};
 use registry_maps::MapKeeper;
 use registry_model::{AdminCommand, Level, Query, Quota, Request, Route, Verb};
 use registry_service::Service;
 use std::alloc::Global;
 use std::process::Abort;
 use std::test::Fail;
-
-/// By `printf hello | sha256sum`.
-const HELLO: &str = "sha256:2cf24dba5fb0a30e26e83b2ac5b9e29e1b161e5c1fa7425e73043362938b9824";
 
 /// By `printf '{}' | sha256sum`.
 const CONFIG: &str = "sha256:44136fa355b3678a1146ad16f7e8649e94fb4fc21fe77e8310c060f61caaff8a";

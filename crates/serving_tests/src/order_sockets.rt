@@ -1,8 +1,8 @@
 //! Orders that are sent to a server, and the socket at which they are taken.
-use crate::{listen_for_orders, send_order};
 use registry_model::Level;
 use registry_orders::options::{name_of, token_of};
 use registry_orders::{Cause, Change, Order};
+use registry_program::{listen_for_orders, send_order};
 use std::alloc::Global;
 use std::fmt::Debug;
 use std::io::{Read, Write};

@@ -1,9 +1,10 @@
 //! Sockets on loopback that are served together, over a registry in memory.
-use crate::limit::limit_met;
-use crate::{Crowd, Doors, Gathering, Log};
+use crate::setting::{add, grant};
 use oci_names::{RepoName, Token};
+use registry_loop::limit::limit_met;
+use registry_loop::{Crowd, Doors, Gathering, Log};
 use registry_maps::MapKeeper;
-use registry_model::{AdminCommand, Keeper, Level, Quota};
+use registry_model::{Keeper, Level};
 use registry_orders::Limits;
 use registry_service::Service;
 use std::alloc::Global;
@@ -32,29 +33,6 @@ const BAD_REQUEST: &[u8] =
 
 const TOO_LARGE: &[u8] =
     b"POST /v2/team/app/blobs/uploads/ HTTP/1.1\r\nHost: r\r\nContent-Length: 67108865\r\n\r\n";
-
-/// Makes a repository.
-fn add(alloc: Global, service: &mut Service<MapKeeper>) -> Result<(), Fail> {
-    let name = RepoName::parse(alloc, "team/app")?;
-    let quota = Quota::new(1000).ok_or("a quota")?;
-    service.admin(alloc, &AdminCommand::AddRepo { name: &name, quota })?;
-    Ok(())
-}
-
-/// Gives `t1` level 3 on it.
-fn grant(alloc: Global, service: &mut Service<MapKeeper>) -> Result<(), Fail> {
-    let token = Token::parse(alloc, "t1")?;
-    let name = RepoName::parse(alloc, "team/app")?;
-    service.admin(
-        alloc,
-        &AdminCommand::Grant {
-            token: &token,
-            name: &name,
-            level: Level::Delete,
-        },
-    )?;
-    Ok(())
-}
 
 /// All that a client is told up to the end of its connection.
 fn told(alloc: Global, client: &mut TcpStream) -> Result<Vec<u8>, Fail> {

@@ -1,14 +1,13 @@
 //! Lines by hand, over a registry in memory. The answers are what the commands print by the definitions.
 
-use crate::{Unread, answer_line, read_answer, read_order, write_order};
+use crate::setting::same;
 use oci_names::{RepoName, Token};
+use order_messages::{Unread, answer_line, read_answer, read_order, write_order};
 use registry_maps::MapKeeper;
 use registry_model::Level;
 use registry_orders::{Change, Order};
 use registry_service::Service;
 use std::alloc::Global;
-use std::fmt::Debug;
-use std::process::Abort;
 use std::test::Fail;
 
 const DONE: &str = "0\n";
@@ -79,10 +78,6 @@ const MALFORMED_LINES: [&[u8]; 26] = [
     b"grant team/app 3 t 1",
     b"revoke team/app =",
 ];
-
-fn same<T: PartialEq + Debug + Drop>(rt: &impl Abort, place: usize, found: T, wanted: T) {
-    assert_eq!(rt; found, wanted, "at {place}");
-}
 
 /// What a line is answered.
 fn answer(alloc: Global, registry: &mut Service<MapKeeper>, line: &[u8]) -> Result<String, Fail> {
