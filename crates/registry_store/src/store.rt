@@ -127,6 +127,13 @@ impl<S: Alter + Drop> Store<S> {
             (λ e. HasCleanDisk (state S.Store e.1) → HoldsTables (state S.Store conn).now
             → ((n : ℤ) → ShowsAlone (versions_in (state S.Store conn).now) n → ⊥)
             → IsWantingOr OpenFault.NotARegistry e.0) }
+        ensures unmarked { IfErr result
+            (λ e. has_version_table (state S.Store conn).now.schema ≡ false
+            → IsWantingOr OpenFault.NotARegistry e.0) }
+        ensures unanswered { IfErr result
+            (λ e. HasCleanDisk (state S.Store e.1)
+            → ((n : ℤ) → IsOfSchema (state S.Store conn) n → ⊥)
+            → IsWantingOr OpenFault.NotARegistry e.0) }
     {
         match take_up(&mut conn) {
             Ok(()) => Ok(Store {

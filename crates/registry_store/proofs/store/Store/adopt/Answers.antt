@@ -15,3 +15,6 @@ invariant_of-result g c unspent ours clean =
       ],
       λ name u is. absurd (not_Some u (sym (c.new.ensures name) ∙ is)),
     )
+
+pub returns-in-Ok-clause-beside : goal.returns-in-Ok-clause-beside
+returns-in-Ok-clause-beside g c clean marked = (c.in-Ok.ensures.free clean marked, c.in-Ok.ensures.beside clean marked)
