@@ -3,6 +3,7 @@ use Rattle.std.specs.Prelude.{Bool, ◌==◌}
 use Rattle.std.specs.Vec.{vec_len}
 use Rattle.sqlite.specs.State.{HasCleanDisk}
 use Rattle.sqlite.specs.Held.{state}
+use Rattle.store_statements.proofs.Transactions.{survives_all}
 use Rattle.store_statements.proofs.SettledAfter.{stays_read, stays_failed, is_memory}
 use Rattle.store_statements.proofs.GrantReads.{known_by_rows}
 use Rattle.store_statements.proofs.grants.is_known.Goals as goal
@@ -20,3 +21,13 @@ pub returns-in-Ok-clause-found : goal.returns-in-Ok-clause-found
 returns-in-Ok-clause-found g c clean is =
     let len : vec_len c.in-Ok.rows ≡ length c.in-Ok.rows.items = search rules in
     ap not c.is_empty.ensures ∙ ap (λ n. not (n == 0)) len ∙ known_by_rows c.args.token.now (state g.S.Store c.args.conn.now) c.in-Ok.rows.items (c.in-Ok.ensures.shown clean is)
+
+pub returns-in-Ok-clause-survives : goal.returns-in-Ok-clause-survives
+returns-in-Ok-clause-survives g c = c.known_rows.ensures.survives
+
+pub returns-in-Err-clause-found : goal.returns-in-Err-clause-found
+returns-in-Err-clause-found g c clean is = tt
+
+pub returns-in-Err-clause-survives : goal.returns-in-Err-clause-survives
+returns-in-Err-clause-survives g c =
+    survives_all (state g.S.Store c.args.conn.now) (state g.S.Store c.known_rows.new.conn) (state g.S.Store c.checked_fault.new.conn) _ _ c.known_rows.ensures.survives c.checked_fault.ensures.survives

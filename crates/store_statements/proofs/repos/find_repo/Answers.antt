@@ -3,6 +3,7 @@ use Rattle.std.specs.Prelude.{Option}
 use Rattle.store_statements.specs.declared.repos.RepoRow.{RepoRow}
 use Rattle.sqlite.specs.State.{HasCleanDisk}
 use Rattle.sqlite.specs.Held.{state}
+use Rattle.store_statements.proofs.Transactions.{survives_all}
 use Rattle.store_statements.proofs.SettledAfter.{stays_read, stays_failed, is_memory}
 use Rattle.store_statements.proofs.repos.find_repo.Goals as goal
 
@@ -14,3 +15,16 @@ pub returns-in-Err-clause-settled : goal.returns-in-Err-clause-settled
 returns-in-Err-clause-settled g c clean is unspent =
     let mid : HasCleanDisk (state g.S.Store c.select_repo.new.conn) = omega (arith, c.checked_fault.ensures.survives.clean) in
     stays_failed (state g.S.Store c.args.conn.now) (state g.S.Store c.select_repo.new.conn) (state g.S.Store c.checked_fault.new.conn) is (c.in-Err.ensures.err mid is) (c.checked_fault.ensures.memory clean (is_memory (Option RepoRow) _ unspent))
+
+pub returns-in-Ok-clause-survives : goal.returns-in-Ok-clause-survives
+returns-in-Ok-clause-survives g c = c.select_repo.ensures.survives
+
+pub returns-in-Err-clause-found : goal.returns-in-Err-clause-found
+returns-in-Err-clause-found g c clean is = tt
+
+pub returns-in-Err-clause-survives : goal.returns-in-Err-clause-survives
+returns-in-Err-clause-survives g c =
+    survives_all (state g.S.Store c.args.conn.now) (state g.S.Store c.select_repo.new.conn) (state g.S.Store c.checked_fault.new.conn) _ _ c.select_repo.ensures.survives c.checked_fault.ensures.survives
+
+pub returns-in-Ok-clause-found : goal.returns-in-Ok-clause-found
+returns-in-Ok-clause-found g c clean is = c.in-Ok.ensures.found clean is
