@@ -1,7 +1,7 @@
 //! What `clear` leaves of the contents of a store.
 
 use crate::asking::{holds, is, is_sized, matches, open, put, same};
-use change_tests::changes::{ABC, INDEX, INDEX_DIGEST};
+use crate::changes::{ABC, INDEX, INDEX_DIGEST};
 use oci_names::{Digest, RepoName};
 use registry_model::{Keeper, Quota};
 use registry_store::Store;

@@ -2,8 +2,8 @@
 //! do not.
 
 use crate::asking::{holds, is, is_sized, matches, open, same};
-use change_tests::changes::{ABC, Told, admit, asked, query};
-use change_tests::rows::rows_of;
+use crate::changes::{ABC, Told, admit, asked, query};
+use crate::rows::rows_of;
 use oci_names::{Digest, Fault, RepoName};
 use registry_maps::MapKeeper;
 use registry_model::{Keeper, Quota, Route, Verb};

@@ -1,6 +1,6 @@
 //! Each call of a keeper, through the trait.
 use crate::asking::{counts, holds, is, is_sized, matches, open, put, same};
-use change_tests::changes::{ABC, INDEX, INDEX_DIGEST, REFERRER};
+use crate::changes::{ABC, INDEX, INDEX_DIGEST, REFERRER};
 use oci_manifest::Kind;
 use oci_names::{Digest, RepoName, Tag, Token};
 use registry_maps::MapKeeper;

@@ -1,4 +1,4 @@
-use change_tests::changes::ABC;
+use crate::changes::ABC;
 use oci_names::{Digest, Fault, NameFault, RepoName, Tag, Token};
 use registry_model::quota::over_quota;
 use registry_model::{Quota, Refusal};

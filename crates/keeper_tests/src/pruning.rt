@@ -1,7 +1,7 @@
 //! The digests of a repository, and blobs that go at once.
 
 use crate::asking::{holds, matches, put, same};
-use change_tests::changes::{ABC, INDEX, INDEX_DIGEST, REFERRER};
+use crate::changes::{ABC, INDEX, INDEX_DIGEST, REFERRER};
 use oci_names::{Digest, RepoName};
 use registry_maps::MapKeeper;
 use registry_model::{Keeper, Quota};

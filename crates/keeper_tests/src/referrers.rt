@@ -1,6 +1,6 @@
 //! The text of an index of referrers.
 
-use change_tests::changes::ABC;
+use crate::changes::ABC;
 use oci_documents::referrers_text;
 use oci_manifest::{Kind, Referrer};
 use oci_names::Digest;

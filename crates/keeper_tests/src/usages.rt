@@ -2,7 +2,7 @@
 //! before, as over maps, which count it anew.
 
 use crate::asking::{holds, matches, same};
-use change_tests::changes::{ABC, Change, admit, fill};
+use crate::changes::{ABC, Change, admit, fill};
 use oci_names::{Digest, RepoName};
 use registry_maps::MapKeeper;
 use registry_model::{Keeper, Quota, Usage};

@@ -34,7 +34,7 @@ pub fn open_new(alloc: Global, file: Stopped, calls: u64) -> Option<Stopping> {
         Ok(conn) => conn,
         Err(_) => return None,
     };
-    match Store::adopt(alloc, conn, Origin::Ours) {
+    match Store::adopt(alloc, conn, Origin::Unknown) {
         Ok(store) => Some(store),
         Err(_) => None,
     }
