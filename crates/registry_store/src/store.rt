@@ -74,10 +74,10 @@ impl Store<MemStore> {
 impl<S: Alter + Drop> Store<S> {
     /// The registry in the tables of a database, whatever it is: they are made where there are none. Where
     /// its origin is `Ours`, that it is so is for the caller to know; of any other nothing is promised of the
-    /// store that comes of it, but what is said here. A refusal hands the connection back, with the tables as
-    /// they were where it is open still and nothing was uncommitted: `Schema` where they are of another schema
-    /// than 2, `NotARegistry` where a name is taken by what is none of a registry's, or the schema is not said
-    /// once. An empty database is refused with neither.
+    /// store that comes of it, but what is said here. A refusal hands the connection back, with the tables
+    /// as they were where it is open still and nothing was uncommitted: `Schema` where they are of another
+    /// schema than 2, `NotARegistry` where a name is taken by what is none of a registry's, or the schema is
+    /// not said once. An empty database is refused with neither.
     pub fn adopt(
         alloc: Global,
         mut conn: Connection<S>,
