@@ -50,15 +50,6 @@ pub(crate) fn first_digest(alloc: Global, rows: &[Row]) -> Result<Option<Digest>
     }
 }
 
-fn push_digest(digests: &mut Vec<Digest>, digest: Digest) -> Result<(), Fault>
-    ensures { OnOk result (digests.new.items ≡ digests.old.items ++ digest ∷ []) }
-{
-    match digests.push(digest) {
-        Ok(()) => Ok(()),
-        Err(_) => Err(Fault::Memory),
-    }
-}
-
 /// The digest in each row's first column, in the order of the rows.
 pub(crate) fn digests_in(alloc: Global, rows: &[Row]) -> Result<Vec<Digest>, Fault>
     ensures { IfOk result (λ digests. digests.items ≡ map (λ row. bytes_at row 0) rows.now) }
@@ -66,7 +57,9 @@ pub(crate) fn digests_in(alloc: Global, rows: &[Row]) -> Result<Vec<Digest>, Fau
     let mut digests = Vec::new(alloc);
     for row in rows {
         let digest = digest_at(alloc, row, 0)?;
-        push_digest(&mut digests, digest)?;
+        let Ok(()) = digests.push(digest) else {
+            return Err(Fault::Memory);
+        };
     }
     Ok(digests)
 }
