@@ -1,16 +1,18 @@
 -- The end of an upload session in a repository that is there.
 use Rattle.std.proofs.Common.{◌≡◌, ◌∙◌, ℕ, ◌+◌, [], ◌∷◌, ◌++◌, length, Bool, true, false, cond, not, None, Some, Ok, refl, sym, ap, arith}
-use Rattle.std.specs.Prelude.{Option, nat_lt}
+use Rattle.std.specs.Prelude.{Option, Result, nat_lt}
 use Rattle.std.specs.Option.{option_and_then, option_map_or}
 use Rattle.std.specs.FinMap.{get}
 use Rattle.oci_names.specs.Text.{Text}
 use Rattle.oci_names.specs.Digest.{matches}
+use Rattle.oci_names.specs.declared.fault.Fault.{Fault}
 use Rattle.registry_model.specs.declared.range.RangeVerdict.{RangeVerdict}
 use Rattle.registry_model.specs.declared.refusal.Refusal.TheVariants.{InvalidDigest, DigestMismatch, ContentTooLarge, QuotaExceeded}
 use Rattle.std.proofs.lemmas.Bool.Decides.{nat_tests}
 use Rattle.registry_model.specs.World.{World, Repo}
 use Rattle.registry_model.specs.Limits.{largest_blob}
-use Rattle.registry_model.specs.Answer.{Answer}
+use Rattle.registry_model.specs.declared.reply.Reply.{Reply}
+use Rattle.registry_model.specs.Answer.{Answer, refused}
 use Rattle.registry_model.specs.Decision.{refuses, tells, makes, within_quota}
 use Rattle.registry_model.specs.Blobs.{can_verify, created_blob}
 use Rattle.registry_model.specs.Sessions.{finished, range_checked, last_range_verdict, close_to, close_session}
@@ -23,7 +25,9 @@ use Rattle.registry_operations.specs.declared.uploads.Upload.{Upload}
 use Rattle.registry_operations.specs.Digests.{verifiable_in}
 use Rattle.registry_operations.proofs.DigestLemmas.{some_by, none_by}
 use Rattle.registry_operations.proofs.QuotaLemmas.{finish_over}
-use Rattle.registry_operations.proofs.UploadLemmas.{Found, named, chunk_refused, chunk_taken}
+use Rattle.registry_operations.specs.Operating.{Operates}
+use Rattle.registry_operations.proofs.RepoOutcomes.{Done, told, same_act}
+use Rattle.registry_operations.proofs.UploadLemmas.{Found, found_session, upload_is, named, chunk_refused, chunk_taken}
 
 -- ---- the end
 
@@ -129,3 +133,26 @@ module _ (w : World) (name reference : Text) (u : Upload) (f : Found w name u.nu
 
     pub put_taken : None ≡ chunk_refusal v name u (length body) → close_session f.repo name reference (Some text) range body ≡ finish_with f.repo name u.number digest (bytes_so_far f.repo u.number ++ body)
     put_taken h = verified ∙ chunk_taken v name u (length body) (finish_with f.repo name u.number digest (bytes_so_far f.repo u.number ++ body)) h
+
+-- ---- what comes of an end
+
+module _ (s s' : State) (name reference : Text) (u : Upload) (e : Some u ≡ upload_at s.world name reference) (given range : Option Text) (body text : Text) (said : given ≡ Some text) where
+  f : Found s.world name u.number u.size
+  f = found_session s.world name u.number u.size (upload_is s.world name reference u e).1
+
+  pub ends_unverified : (a : Answer) → a ≡ refused InvalidDigest → s.spent ≡ false → s' ≡ s → None ≡ verifiable_in text → Done a name (λ r. close_session r name reference given range body) s s'
+  ends_unverified a is unspent stays none =
+      told s s' name (λ r. close_session r name reference given range body) f.repo f.at a (refused InvalidDigest) is unspent stays
+      (ap (λ o. close_session f.repo name reference o range body) said ∙ bad_digest s.world name reference u f e range body text none)
+
+  module _ (digest : Text) (read : Some digest ≡ verifiable_in text) (v : RangeVerdict) (is : v ≡ last_range_verdict range u.size body) where
+    pub ends_refused : (a : Answer) → s.spent ≡ false → s' ≡ s → Some a ≡ chunk_refusal v name u (length body) → Done a name (λ r. close_session r name reference given range body) s s'
+    ends_refused a unspent stays h =
+        told s s' name (λ r. close_session r name reference given range body) f.repo f.at a a refl unspent stays
+        (ap (λ o. close_session f.repo name reference o range body) said ∙ put_refused s.world name reference u f e range body digest text read v is a h)
+
+    pub ends_taken : (result : Result Reply Fault) (s1 : State) → s1 ≡ s → None ≡ chunk_refusal v name u (length body)
+        → Operates result name (λ r. finish_with r name u.number digest (bytes_so_far r u.number ++ body)) s1 s' → Operates result name (λ r. close_session r name reference given range body) s s'
+    ends_taken result s1 stays h comes =
+        same_act result name (λ r. finish_with r name u.number digest (bytes_so_far r u.number ++ body)) (λ r. close_session r name reference given range body) s s1 s' f.repo stays f.at
+        (ap (λ o. close_session f.repo name reference o range body) said ∙ put_taken s.world name reference u f e range body digest text read v is h) comes
