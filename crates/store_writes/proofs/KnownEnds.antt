@@ -157,3 +157,7 @@ no_whole t name number e = sym (ap (λ x. option_and_then (λ r. only_link (natu
 
 pub no_known : (t : Tables) (name : Text) (number : ℕ) (digest : Text) → None ≡ whole_link t name number → None ≡ known_link t name number digest
 no_known t name number digest e = ap (λ x. option_and_then (λ l. if_digest t digest l) x) e
+
+-- the content has the digest, or has it not
+pub digest_told : (t : Tables) (digest : Text) (link : BlobLink) (has b : Bool) → has ≡ b → has ≡ has_sha256_digest (t.contents link.content.id) digest → cond b (Some link) None ≡ if_digest t digest link
+digest_told t digest link has b is e = ap (λ x. cond x (Some link) None) (sym is ∙ e)

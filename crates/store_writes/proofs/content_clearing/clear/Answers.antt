@@ -1,7 +1,7 @@
 use Rattle.std.proofs.Common.{arith}
 use Rattle.sqlite.specs.State.{HasCleanDisk}
 use Rattle.sqlite.specs.Held.{state}
-use Rattle.store_statements.proofs.Transactions.{stays_back}
+use Rattle.store_statements.proofs.Transactions.{stays_back, survives_all}
 use Rattle.store_writes.proofs.ContentsFreed.{makes_cleared}
 use Rattle.store_writes.proofs.content_clearing.clear.Goals as goal
 
@@ -17,3 +17,15 @@ returns-in-Err-clause-memory g c clean is memory =
     let late : HasCleanDisk (state g.S.Store c.clear_contents_alone.new.conn) = omega (arith, c.checked_fault.ensures.survives.clean) in
     stays_back (state g.S.Store c.args.conn.now) (state g.S.Store c.clear_contents_alone.new.conn) (state g.S.Store c.checked_fault.new.conn) is
     (c.in-Err.ensures.back late is) (c.checked_fault.ensures.memory clean (let e = memory in cc))
+
+pub returns-in-Ok-clause-memory : goal.returns-in-Ok-clause-memory
+returns-in-Ok-clause-memory g c clean is memory = absurd (cc)
+
+pub returns-in-Ok-clause-survives : goal.returns-in-Ok-clause-survives
+returns-in-Ok-clause-survives g c = c.clear_contents_alone.ensures.survives
+
+pub returns-in-Err-clause-made : goal.returns-in-Err-clause-made
+returns-in-Err-clause-made g c clean is = tt
+
+pub returns-in-Err-clause-survives : goal.returns-in-Err-clause-survives
+returns-in-Err-clause-survives g c = survives_all (state g.S.Store c.args.conn.now) (state g.S.Store c.clear_contents_alone.new.conn) (state g.S.Store c.checked_fault.new.conn) _ _ c.clear_contents_alone.ensures.survives c.checked_fault.ensures.survives

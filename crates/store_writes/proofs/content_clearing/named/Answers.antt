@@ -61,3 +61,14 @@ returns-clause-kept g c clean is =
 pub returns-clause-survives : goal.returns-clause-survives
 returns-clause-survives g c =
     survives_both (state g.S.Store c.args.tx.now.conn.now) (state g.S.Store c.insert_manifests.new.tx.conn.now) (state g.S.Store c.insert_pieces.new.tx.conn.now) (survives_both (state g.S.Store c.args.tx.now.conn.now) (state g.S.Store c.insert_blobs.new.tx.conn.now) (state g.S.Store c.insert_manifests.new.tx.conn.now) c.insert_blobs.ensures.survives c.insert_manifests.ensures.survives) c.insert_pieces.ensures.survives
+
+pub returns-in_err-insert_manifests-clause-kept : goal.returns-in_err-insert_manifests-clause-kept
+returns-in_err-insert_manifests-clause-kept g c clean is =
+    let s0 = state g.S.Store c.args.tx.now.conn.now in
+    let s1 = state g.S.Store c.insert_blobs.new.tx.conn.now in
+    let clean-1 : HasCleanDisk s1 = omega (arith, c.insert_manifests.ensures.survives.clean) in
+    commit_then s0 s1 (state g.S.Store c.insert_manifests.new.tx.conn.now) (c.insert_blobs.ensures.kept clean-1 is) (c.insert_manifests.ensures.kept clean (still_ready s0 s1 is (c.in_ok-insert_blobs.ensures.same clean-1 is)))
+
+pub returns-in_err-insert_manifests-clause-survives : goal.returns-in_err-insert_manifests-clause-survives
+returns-in_err-insert_manifests-clause-survives g c =
+    survives_both (state g.S.Store c.args.tx.now.conn.now) (state g.S.Store c.insert_blobs.new.tx.conn.now) (state g.S.Store c.insert_manifests.new.tx.conn.now) c.insert_blobs.ensures.survives c.insert_manifests.ensures.survives

@@ -47,3 +47,8 @@ returns-in_err-take_links_to-clause-back g c clean is =
     let set : IsReady (state g.S.Store c.transaction-tx.result.conn.now) = rw begun (ready (state g.S.Store c.args.conn.now) settled) in
     told_err c.from_residual.result (rw same (back_dropped (state g.S.Store c.args.conn.now) (state g.S.Store c.transaction-tx.result.conn.now) (state g.S.Store c.take_links_to.new.tx.conn.now) (state g.S.Store c.drop-tx.new.self.0) settled (rw begun)
     (c.take_links_to.ensures.kept mid set) (c.drop-tx.ensures.undone late)))
+
+pub returns-in_err-take_links_to-clause-survives : goal.returns-in_err-take_links_to-clause-survives
+returns-in_err-take_links_to-clause-survives g c =
+    let same = c.conn-1.given.1 (sym (c.take_links_to.ensures.same_reference ∙ c.transaction-tx.ensures.same_reference)) in
+    rw same (survives_all (state g.S.Store c.args.conn.now) (state g.S.Store c.take_links_to.new.tx.conn.now) (state g.S.Store c.drop-tx.new.self.0) _ _ (survives_begin g.S.Store c.args.conn.now (state g.S.Store c.take_links_to.new.tx.conn.now) _ (rw (c.transaction-tx.ensures.begun) at c.take_links_to.ensures.survives)) c.drop-tx.ensures.survives)

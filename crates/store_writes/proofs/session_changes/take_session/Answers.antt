@@ -22,3 +22,9 @@ returns-in-Ok-clause-kept g c clean is =
 
 pub returns-in-Ok-clause-survives : goal.returns-in-Ok-clause-survives
 returns-in-Ok-clause-survives g c = survives_both (state g.S.Store c.args.tx.now.conn.now) (state g.S.Store c.take_pieces_of.new.tx.conn.now) (state g.S.Store c.take_upload.new.tx.conn.now) c.take_pieces_of.ensures.survives c.take_upload.ensures.survives
+
+pub returns-in-Err-clause-kept : goal.returns-in-Err-clause-kept
+returns-in-Err-clause-kept g c = c.take_pieces_of.ensures.kept
+
+pub returns-in-Err-clause-survives : goal.returns-in-Err-clause-survives
+returns-in-Err-clause-survives g c = c.take_pieces_of.ensures.survives

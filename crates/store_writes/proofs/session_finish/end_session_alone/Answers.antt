@@ -53,3 +53,8 @@ returns-in_err-end_session-clause-back g c free clean is =
     let set : IsReady (state g.S.Store c.transaction-tx.result.conn.now) = rw begun (ready (state g.S.Store c.args.conn.now) settled) in
     told_err c.from_residual.result (rw same (back_dropped (state g.S.Store c.args.conn.now) (state g.S.Store c.transaction-tx.result.conn.now) (state g.S.Store c.end_session.new.tx.conn.now) (state g.S.Store c.drop-tx.new.self.0) settled (rw begun)
     (c.end_session.ensures.kept mid set) (c.drop-tx.ensures.undone late)))
+
+pub returns-in_err-end_session-clause-survives : goal.returns-in_err-end_session-clause-survives
+returns-in_err-end_session-clause-survives g c =
+    let same = c.conn-1.given.1 (sym (c.end_session.ensures.same_reference ∙ c.transaction-tx.ensures.same_reference)) in
+    rw same (survives_all (state g.S.Store c.args.conn.now) (state g.S.Store c.end_session.new.tx.conn.now) (state g.S.Store c.drop-tx.new.self.0) _ _ (survives_begin g.S.Store c.args.conn.now (state g.S.Store c.end_session.new.tx.conn.now) _ (rw (c.transaction-tx.ensures.begun) at c.end_session.ensures.survives)) c.drop-tx.ensures.survives)
