@@ -1,14 +1,15 @@
 -- What comes of an operation on a repository that is there.
-use Rattle.std.proofs.Common.{◌≡◌, ◌∙◌, true, false, None, Some, refl, sym, ap, subst}
+use Rattle.std.proofs.Common.{◌≡◌, ◌∙◌, true, false, None, Some, Ok, Err, refl, sym, ap, subst}
 use Rattle.std.specs.Prelude.{Option, Result, is_some}
 use Rattle.oci_names.specs.Text.{Text}
 use Rattle.oci_names.specs.declared.fault.Fault.{Fault}
+use Rattle.oci_names.specs.declared.fault.Fault.TheVariants.{Memory, Storage}
 use Rattle.registry_model.specs.declared.reply.Reply.{Reply}
 use Rattle.registry_model.specs.World.{Repo, repo_at, update_repo}
 use Rattle.registry_model.specs.Answer.{Answer}
 use Rattle.registry_model.specs.Decision.{Decision, tells, makes, in_repo}
 use Rattle.registry_model.specs.Judging.{changed}
-use Rattle.registry_model.specs.Keeping.{State}
+use Rattle.registry_model.specs.Keeping.{State, Spends}
 use Rattle.registry_operations.specs.Operating.{Comes, Operates}
 
 pub there_is : (o : Option Repo) → is_some o ≡ true → (r : Repo) × (o ≡ Some r)
@@ -43,3 +44,9 @@ pub same_act : (result : Result Reply Fault) (name : Text) (act other : Repo →
     → Operates result name act s1 s' → Operates result name other s s'
 same_act result name act other s s1 s' r stays at same comes =
     subst (λ x. Comes result name x s s') (ap (λ x. in_repo x act) at ∙ sym same ∙ ap (λ x. in_repo x other) (sym at)) (subst (λ x. Operates result name act x s') stays comes)
+
+-- what a call after others spends, where the storage had not failed before them
+pub spends_after : {A : Type 0} (r : Result A Fault) (s mid s' : State) → s.spent ≡ false → Spends r mid s' → Spends r s s'
+spends_after (Ok v) s mid s' unspent h = (unspent, h.1)
+spends_after (Err Memory) s mid s' unspent h = (unspent, h.1)
+spends_after (Err Storage) s mid s' unspent h = h

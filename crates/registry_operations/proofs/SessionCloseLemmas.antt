@@ -7,9 +7,9 @@ use Rattle.oci_names.specs.Text.{Text}
 use Rattle.oci_names.specs.Digest.{matches}
 use Rattle.oci_names.specs.declared.fault.Fault.{Fault}
 use Rattle.registry_model.specs.declared.range.RangeVerdict.{RangeVerdict}
-use Rattle.registry_model.specs.declared.refusal.Refusal.TheVariants.{InvalidDigest, DigestMismatch, ContentTooLarge, QuotaExceeded}
+use Rattle.registry_model.specs.declared.refusal.Refusal.TheVariants.{UploadUnknown, InvalidDigest, DigestMismatch, ContentTooLarge, QuotaExceeded}
 use Rattle.std.proofs.lemmas.Bool.Decides.{nat_tests}
-use Rattle.registry_model.specs.World.{World, Repo}
+use Rattle.registry_model.specs.World.{World, Repo, repo_at, has_repo}
 use Rattle.registry_model.specs.Limits.{largest_blob}
 use Rattle.registry_model.specs.declared.reply.Reply.{Reply}
 use Rattle.registry_model.specs.Answer.{Answer, refused}
@@ -26,8 +26,8 @@ use Rattle.registry_operations.specs.Digests.{verifiable_in}
 use Rattle.registry_operations.proofs.DigestLemmas.{some_by, none_by}
 use Rattle.registry_operations.proofs.QuotaLemmas.{finish_over}
 use Rattle.registry_operations.specs.Operating.{Operates}
-use Rattle.registry_operations.proofs.RepoOutcomes.{Done, told, same_act}
-use Rattle.registry_operations.proofs.UploadLemmas.{Found, found_session, upload_is, named, chunk_refused, chunk_taken}
+use Rattle.registry_operations.proofs.RepoOutcomes.{Done, there_is, told, same_act}
+use Rattle.registry_operations.proofs.UploadLemmas.{Found, found_session, upload_is, named, unnamed, chunk_refused, chunk_taken}
 
 -- ---- the end
 
@@ -135,6 +135,24 @@ module _ (w : World) (name reference : Text) (u : Upload) (f : Found w name u.nu
     put_taken h = verified ∙ chunk_taken v name u (length body) (finish_with f.repo name u.number digest (bytes_so_far f.repo u.number ++ body)) h
 
 -- ---- what comes of an end
+
+-- no such session
+pub ends_unknown : (s s' : State) (name reference : Text) (given range : Option Text) (body : Text) → has_repo s.world name ≡ true → None ≡ upload_at s.world name reference → (a : Answer) → a ≡ refused UploadUnknown
+    → s.spent ≡ false → s' ≡ s → Done a name (λ r. close_session r name reference given range body) s s'
+ends_unknown s s' name reference given range body there none a is unspent stays =
+    let here = there_is (repo_at s.world name) there in
+    told s s' name (λ r. close_session r name reference given range body) here.0 here.1 a (refused UploadUnknown) is unspent stays
+    (ap (close_to here.0 name given range body) (unnamed s.world name reference here.0 here.1 none))
+
+-- no digest
+pub ends_undigested : (s s' : State) (name reference : Text) (u : Upload) → Some u ≡ upload_at s.world name reference → (given range : Option Text) (body : Text) → given ≡ None → (a : Answer) → a ≡ refused InvalidDigest
+    → s.spent ≡ false → s' ≡ s → Done a name (λ r. close_session r name reference given range body) s s'
+ends_undigested s s' name reference u e given range body none a is unspent stays = by_session (found_session s.world name u.number u.size (upload_is s.world name reference u e).1)
+  where
+    by_session : Found s.world name u.number u.size → Done a name (λ r. close_session r name reference given range body) s s'
+    by_session f =
+        told s s' name (λ r. close_session r name reference given range body) f.repo f.at a (refused InvalidDigest) is unspent stays
+        (ap (λ o. close_session f.repo name reference o range body) none ∙ ap (close_to f.repo name None range body) (named s.world name reference u f e))
 
 module _ (s s' : State) (name reference : Text) (u : Upload) (e : Some u ≡ upload_at s.world name reference) (given range : Option Text) (body text : Text) (said : given ≡ Some text) where
   f : Found s.world name u.number u.size

@@ -15,7 +15,7 @@ use Rattle.registry_model.specs.Limits.{largest_blob}
 use Rattle.registry_model.specs.Answer.{Answer, refused}
 use Rattle.registry_model.specs.Range.{range_verdict}
 use Rattle.registry_model.specs.Decision.{Decision, refuses, tells, makes, within_quota}
-use Rattle.registry_model.specs.Sessions.{session_numbered, session_named, session_reply, range_checked, appended, append_to, append_chunk}
+use Rattle.registry_model.specs.Sessions.{Session, session_numbered, session_named, session_reply, range_checked, appended, append_to, append_chunk}
 use Rattle.registry_model.specs.Lookups.{session_size_at, bytes_or_none}
 use Rattle.registry_operations.specs.Quota.{grows_over, grows_over_at}
 use Rattle.registry_operations.specs.Uploads.{upload_at, chunk_refusal, bytes_so_far, append_more}
@@ -66,6 +66,31 @@ pub named : (w : World) (name reference : Text) (u : Upload) (f : Found w name u
 named w name reference u f e =
     ap (option_and_then (session_numbered f.repo)) (upload_is w name reference u e).0
     ∙ ap (option_map (λ bytes. record { number = u.number; bytes = bytes })) f.there
+
+-- there is none
+pub none_in : {A : Type 0} (o : Option A) → ((x : A) → o ≡ Some x → ⊥) → o ≡ None
+none_in None h = refl
+none_in (Some x) h = absurd (h x refl)
+
+abbrev uploaded : ℕ → ℕ → Upload
+uploaded n size = record { number = n; size = size }
+
+abbrev held_in : ℕ → Text → Session
+held_in n bytes = record { number = n; bytes = bytes }
+
+-- no session of that number is open
+pub unnamed : (w : World) (name reference : Text) (r : Repo) → repo_at w name ≡ Some r → None ≡ upload_at w name reference → session_named r reference ≡ None
+unnamed w name reference r at e =
+    by_number_of (session_number_of reference)
+    (e ∙ ap (λ x. option_and_then (λ n. option_map (λ size. uploaded n size) (option_map length (option_and_then (λ r. get r.sessions n) x))) (session_number_of reference)) at)
+  where
+    by_bytes : (n : ℕ) (b : Option Text) → None ≡ option_map (λ size. uploaded n size) (option_map length b) → option_map (λ bytes. held_in n bytes) b ≡ None
+    by_bytes n None e = refl
+    by_bytes n (Some b) e = absurd (cc)
+
+    by_number_of : (o : Option ℕ) → None ≡ option_and_then (λ n. option_map (λ size. uploaded n size) (option_map length (get r.sessions n))) o → option_and_then (session_numbered r) o ≡ None
+    by_number_of None e = refl
+    by_number_of (Some n) e = by_bytes n (get r.sessions n) e
 
 -- ---- chunks
 

@@ -1,10 +1,23 @@
 use Rattle.std.proofs.Common.{◌≡◌, ◌∙◌, Some, sym, ap, subst}
 use Rattle.registry_model.specs.Ask.{text_in}
 use Rattle.registry_model.specs.Lookups.{session_size_at}
-use Rattle.registry_operations.proofs.UploadLemmas.{upload_is}
+use Rattle.registry_operations.proofs.RepoOutcomes.{spends_after}
+use Rattle.registry_operations.proofs.UploadLemmas.{upload_is, none_in}
 use Rattle.registry_operations.proofs.DigestLemmas.{not_found, is_verifiable}
-use Rattle.registry_operations.proofs.SessionCloseLemmas.{ends_unverified, ends_refused, ends_taken}
+use Rattle.registry_operations.proofs.SessionCloseLemmas.{ends_unknown, ends_undigested, ends_unverified, ends_refused, ends_taken}
 use Rattle.registry_operations.proofs.session_close.close_session.Goals as goal
+
+pub returns-in_default-clause-comes : goal.returns-in_default-clause-comes
+returns-in_default-clause-comes g c honest =
+    let asked = c.in_ok-upload.ensures.found honest in
+    ends_unknown (g.K.Keeper.state c.args.keeper.now) _ c.args.name.now c.args.reference.now (text_in c.args.digest) (text_in c.args.range) c.args.body.now (c.requires.there (c.in_ok-upload.ensures.honest honest))
+    (sym (none_in c.in_ok-upload.field-0 c.in_default.not-Some) ∙ asked.0) _ c.refusal.ensures c.requires.unspent asked.1
+
+pub returns-in_default-digest-clause-comes : goal.returns-in_default-digest-clause-comes
+returns-in_default-digest-clause-comes g c honest =
+    let asked = c.in_ok-upload.ensures.found honest in
+    ends_undigested (g.K.Keeper.state c.args.keeper.now) _ c.args.name.now c.args.reference.now c.in-Some.upload (sym c.in-Some.is ∙ asked.0) (text_in c.args.digest) (text_in c.args.range) c.args.body.now
+    (ap text_in (none_in c.args.digest c.in_default-digest.not-Some)) _ c.refusal-in_default-digest.ensures c.requires.unspent asked.1
 
 pub returns-in_default-2-clause-comes : goal.returns-in_default-2-clause-comes
 returns-in_default-2-clause-comes g c honest =
@@ -36,3 +49,45 @@ returns-in-Ok-None-clause-comes g c honest =
     ends_taken (g.K.Keeper.state c.args.keeper.now) _ c.args.name.now c.args.reference.now c.in-Some.upload (sym c.in-Some.is ∙ asked.0) (text_in c.args.digest) (text_in c.args.range) c.args.body.now _ (ap text_in c.in-Some-digest.is)
     c.in-Some-2.verifiable (sym c.in-Some-2.is ∙ c.in_ok-verifiable.ensures) c.last_verdict-verdict.result c.last_verdict-verdict.ensures
     c.close_with.result _ asked.1 (rw c.in-Ok-None.field-0-is at c.in-Ok-None.ensures.refusal) (c.close_with.ensures.comes honest)
+
+pub returns-in_default-clause-spends : goal.returns-in_default-clause-spends
+returns-in_default-clause-spends g c = c.in_ok-upload.ensures.spends
+
+pub returns-in_default-clause-honest : goal.returns-in_default-clause-honest
+returns-in_default-clause-honest g c = c.in_ok-upload.ensures.honest
+
+pub returns-in_default-digest-clause-spends : goal.returns-in_default-digest-clause-spends
+returns-in_default-digest-clause-spends g c = c.in_ok-upload.ensures.spends
+
+pub returns-in_default-digest-clause-honest : goal.returns-in_default-digest-clause-honest
+returns-in_default-digest-clause-honest g c = c.in_ok-upload.ensures.honest
+
+pub returns-in_default-2-clause-spends : goal.returns-in_default-2-clause-spends
+returns-in_default-2-clause-spends g c = c.in_ok-upload.ensures.spends
+
+pub returns-in_default-2-clause-honest : goal.returns-in_default-2-clause-honest
+returns-in_default-2-clause-honest g c = c.in_ok-upload.ensures.honest
+
+pub returns-in-Err-clause-spends : goal.returns-in-Err-clause-spends
+returns-in-Err-clause-spends g c = c.in_ok-upload.ensures.spends
+
+pub returns-in-Err-clause-honest : goal.returns-in-Err-clause-honest
+returns-in-Err-clause-honest g c = c.in_ok-upload.ensures.honest
+
+pub returns-in-Ok-Some-clause-spends : goal.returns-in-Ok-Some-clause-spends
+returns-in-Ok-Some-clause-spends g c = c.in_ok-upload.ensures.spends
+
+pub returns-in-Ok-Some-clause-honest : goal.returns-in-Ok-Some-clause-honest
+returns-in-Ok-Some-clause-honest g c = c.in_ok-upload.ensures.honest
+
+pub returns-in-Ok-None-clause-answers : goal.returns-in-Ok-None-clause-answers
+returns-in-Ok-None-clause-answers g c = c.close_with.ensures.answers
+
+pub returns-in-Ok-None-clause-carries : goal.returns-in-Ok-None-clause-carries
+returns-in-Ok-None-clause-carries g c = c.close_with.ensures.carries
+
+pub returns-in-Ok-None-clause-spends : goal.returns-in-Ok-None-clause-spends
+returns-in-Ok-None-clause-spends g c = spends_after c.close_with.result (g.K.Keeper.state c.args.keeper.now) _ _ c.requires.unspent c.close_with.ensures.spends
+
+pub returns-in-Ok-None-clause-honest : goal.returns-in-Ok-None-clause-honest
+returns-in-Ok-None-clause-honest g c honest = c.in_ok-upload.ensures.honest (c.close_with.ensures.honest honest)
