@@ -1,16 +1,17 @@
 -- Upload sessions in a repository that is there.
-use Rattle.std.proofs.Common.{◌≡◌, ◌∙◌, ℕ, ◌+◌, ◌++◌, length, Bool, true, false, cond, None, Some, refl, sym, ap, subst}
+use Rattle.std.proofs.Common.{◌≡◌, ◌∙◌, ℕ, ◌+◌, ◌≤◌, ◌++◌, length, arith, Bool, true, false, cond, None, Some, refl, sym, ap, subst}
 use Rattle.std.specs.Prelude.{Option, option_map, nat_lt}
 use Rattle.std.specs.Option.{option_and_then, option_map_or}
 use Rattle.std.specs.FinMap.{get}
+use Rattle.std.proofs.lemmas.Bool.Decides.{nat_tests}
 use Rattle.std.proofs.lemmas.Option.{same_Some}
 use Rattle.oci_names.specs.Text.{Text}
 use Rattle.oci_names.specs.SessionNumber.{session_number_of}
 use Rattle.registry_model.specs.declared.range.RangeVerdict.{RangeVerdict}
 use Rattle.registry_model.specs.declared.range.RangeVerdict.TheVariants.{Fits, Malformed, OutOfOrder, Unequal}
-use Rattle.registry_model.specs.declared.refusal.Refusal.TheVariants.{ContentTooLarge, QuotaExceeded}
+use Rattle.registry_model.specs.declared.refusal.Refusal.TheVariants.{ContentTooLarge, QuotaExceeded, UploadUnknown}
 use Rattle.registry_model.specs.declared.reply.Status.TheVariants.{Accepted}
-use Rattle.registry_model.specs.World.{Repo, World, repo_at}
+use Rattle.registry_model.specs.World.{Repo, World, repo_at, has_repo}
 use Rattle.registry_model.specs.Limits.{largest_blob}
 use Rattle.registry_model.specs.Answer.{Answer, refused}
 use Rattle.registry_model.specs.Range.{range_verdict}
@@ -20,7 +21,9 @@ use Rattle.registry_model.specs.Lookups.{session_size_at, bytes_or_none}
 use Rattle.registry_operations.specs.Quota.{grows_over, grows_over_at}
 use Rattle.registry_operations.specs.Uploads.{upload_at, chunk_refusal, bytes_so_far, append_more}
 use Rattle.registry_operations.specs.declared.uploads.Upload.{Upload}
+use Rattle.registry_model.specs.Keeping.{State}
 use Rattle.registry_operations.proofs.QuotaLemmas.{append_over}
+use Rattle.registry_operations.proofs.RepoOutcomes.{Done, there_is, told}
 
 -- ---- the session of a number
 
@@ -118,6 +121,17 @@ chunk_taken Malformed name u more next e = absurd (cc)
 chunk_taken OutOfOrder name u more next e = absurd (cc)
 chunk_taken Unequal name u more next e = absurd (cc)
 
+-- and it fits
+pub chunk_fits : (v : RangeVerdict) (name : Text) (u : Upload) (more : ℕ) → None ≡ chunk_refusal v name u more → u.size + more ≤ largest_blob
+chunk_fits Fits name u more e = by_size (nat_lt largest_blob (u.size + more)) refl e
+  where
+    by_size : (b : Bool) → nat_lt largest_blob (u.size + more) ≡ b → None ≡ cond b (Some (refused ContentTooLarge)) None → u.size + more ≤ largest_blob
+    by_size true is e = absurd (cc)
+    by_size false is e = grind (arith, nat_tests)
+chunk_fits Malformed name u more e = absurd (cc)
+chunk_fits OutOfOrder name u more e = absurd (cc)
+chunk_fits Unequal name u more e = absurd (cc)
+
 module _ (w : World) (name : Text) (number size : ℕ) (f : Found w name number size) (body : Text) where
   so_far : bytes_so_far f.repo number ≡ f.bytes
   so_far = ap bytes_or_none f.there
@@ -160,3 +174,11 @@ module _ (w : World) (name reference : Text) (u : Upload) (f : Found w name u.nu
   patch_taken v is h =
       chunk ∙ ap (λ x. range_checked x name u.number u.size (cond (nat_lt largest_blob (u.size + length body)) (refuses ContentTooLarge) (append_more f.repo name u.number body))) (sym is)
       ∙ chunk_taken v name u (length body) (append_more f.repo name u.number body) h
+
+-- a chunk for no such session
+pub patch_unknown : (s s' : State) (name reference : Text) (range : Option Text) (body : Text) → has_repo s.world name ≡ true → None ≡ upload_at s.world name reference → (a : Answer) → a ≡ refused UploadUnknown
+    → s.spent ≡ false → s' ≡ s → Done a name (λ r. append_chunk r name reference range body) s s'
+patch_unknown s s' name reference range body there none a is unspent stays =
+    let here = there_is (repo_at s.world name) there in
+    told s s' name (λ r. append_chunk r name reference range body) here.0 here.1 a (refused UploadUnknown) is unspent stays
+    (ap (append_to here.0 name range body) (unnamed s.world name reference here.0 here.1 none))

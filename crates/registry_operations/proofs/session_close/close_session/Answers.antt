@@ -1,8 +1,8 @@
-use Rattle.std.proofs.Common.{◌≡◌, ◌∙◌, Some, sym, ap, subst}
+use Rattle.std.proofs.Common.{◌≡◌, ◌∙◌, length, Some, sym, ap, subst}
 use Rattle.registry_model.specs.Ask.{text_in}
 use Rattle.registry_model.specs.Lookups.{session_size_at}
 use Rattle.registry_operations.proofs.RepoOutcomes.{spends_after}
-use Rattle.registry_operations.proofs.UploadLemmas.{upload_is, none_in}
+use Rattle.registry_operations.proofs.UploadLemmas.{upload_is, none_in, chunk_fits}
 use Rattle.registry_operations.proofs.DigestLemmas.{not_found, is_verifiable}
 use Rattle.registry_operations.proofs.SessionCloseLemmas.{ends_unknown, ends_undigested, ends_unverified, ends_refused, ends_taken}
 use Rattle.registry_operations.proofs.session_close.close_session.Goals as goal
@@ -91,3 +91,9 @@ returns-in-Ok-None-clause-spends g c = spends_after c.close_with.result (g.K.Kee
 
 pub returns-in-Ok-None-clause-honest : goal.returns-in-Ok-None-clause-honest
 returns-in-Ok-None-clause-honest g c honest = c.in_ok-upload.ensures.honest (c.close_with.ensures.honest honest)
+
+pub close_with-requires-clause-unspent : goal.close_with-requires-clause-unspent
+close_with-requires-clause-unspent g c = c.in_ok-upload.ensures.spends.1
+
+pub close_with-requires-clause-fits : goal.close_with-requires-clause-fits
+close_with-requires-clause-fits g c = chunk_fits c.last_verdict-verdict.result c.args.name.now c.in-Some.upload (length c.args.body.now) (rw c.in-Ok-None.field-0-is at c.in-Ok-None.ensures.refusal)
