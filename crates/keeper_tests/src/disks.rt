@@ -2,7 +2,7 @@
 //! left of them.
 
 use crate::rows::rows_of;
-use registry_store::{Origin, Store};
+use registry_store::Store;
 use sqlite::{Connection, FileStore, Files, Options};
 use sqlite_disk::{Crash, Disk, Fuse, Memory};
 use std::alloc::Global;
@@ -34,7 +34,7 @@ pub fn open_new(alloc: Global, file: Stopped, calls: u64) -> Option<Stopping> {
         Ok(conn) => conn,
         Err(_) => return None,
     };
-    match Store::adopt(alloc, conn, Origin::Unknown) {
+    match Store::adopt(alloc, conn) {
         Ok(store) => Some(store),
         Err(_) => None,
     }

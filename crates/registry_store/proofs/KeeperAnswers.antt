@@ -27,7 +27,7 @@ written (Ok v) old new w sound made stays = made.0
 written (Err Memory) old new w sound made stays = (stays refl).0
 written (Err Storage) old new w sound made stays = absurd (true≢false sound)
 
-module _ {S : Type 0} (g : Ghosts S) (conn : Held S) (old : Kept S) (spent ours : Bool) (is : ◌≡◌ {A = Kept S} (record { conn = conn; spent = spent; ours = ours }) old) (new : Held S) where
+module _ {S : Type 0} (g : Ghosts S) (conn : Held S) (old : Kept S) (spent : Bool) (is : ◌≡◌ {A = Kept S} (record { conn = conn; spent = spent }) old) (new : Held S) where
   abbrev before : State
   before = record { world = world_in (state g old.conn); spent = old.spent }
 
@@ -38,8 +38,8 @@ module _ {S : Type 0} (g : Ghosts S) (conn : Held S) (old : Kept S) (spent ours 
       → IfOk answer (λ v. show v ≡ look (world_in (state g conn))) → (is_storage answer ≡ false → StaysSettled (state g conn) (state g new))
       → ReadsBy show answer (look (world_in (state g old.conn))) before (after later)
   read show look (Ok v) later notes finds stays =
-      (found g conn old spent ours is look (show v) finds, subst (λ b. ◌≡◌ {A = State} (after b) before) (sym notes) (stood g conn old spent ours is new (stays refl).1))
-  read show look (Err Memory) later notes finds stays = subst (λ b. ◌≡◌ {A = State} (after b) before) (sym notes) (stood g conn old spent ours is new (stays refl).1)
+      (found g conn old spent is look (show v) finds, subst (λ b. ◌≡◌ {A = State} (after b) before) (sym notes) (stood g conn old spent is new (stays refl).1))
+  read show look (Err Memory) later notes finds stays = subst (λ b. ◌≡◌ {A = State} (after b) before) (sym notes) (stood g conn old spent is new (stays refl).1)
   read show look (Err Storage) later notes finds stays = tt
 
   -- a read tells what it found
@@ -53,8 +53,8 @@ module _ {S : Type 0} (g : Ghosts S) (conn : Held S) (old : Kept S) (spent ours 
       → OnOk answer (SettlesOn (state g new) (change (world_in (state g conn)))) → (answer ≡ Err Memory → StaysSettled (state g conn) (state g new))
       → Writes answer (change (world_in (state g old.conn))) before (after later)
   write change (Ok v) later unspent notes made stays =
-      subst (λ b. ◌≡◌ {A = State} (after b) (record { world = change (world_in (state g old.conn)); spent = false })) (sym notes) (wrote g conn old spent ours is new change unspent made.1)
-  write change (Err Memory) later unspent notes made stays = subst (λ b. ◌≡◌ {A = State} (after b) before) (sym notes) (stood g conn old spent ours is new (stays refl).1)
+      subst (λ b. ◌≡◌ {A = State} (after b) (record { world = change (world_in (state g old.conn)); spent = false })) (sym notes) (wrote g conn old spent is new change unspent made.1)
+  write change (Err Memory) later unspent notes made stays = subst (λ b. ◌≡◌ {A = State} (after b) before) (sym notes) (stood g conn old spent is new (stays refl).1)
   write change (Err Storage) later unspent notes made stays = tt
 
   -- what a write did to the tables
@@ -74,10 +74,10 @@ module _ {S : Type 0} (g : Ghosts S) (conn : Held S) (old : Kept S) (spent ours 
       → IfOk answer (λ v. (v ≡ look (world_in (state g conn))) × SettlesOn (state g new) (change (world_in (state g conn)))) → (answer ≡ Err Memory → StaysSettled (state g conn) (state g new))
       → WritesBy (λ v. v) answer (look (world_in (state g old.conn))) (change (world_in (state g old.conn))) before (after later)
   numbered look change (Ok v) later unspent notes made stays = (
-    found g conn old spent ours is look v made.0,
-    subst (λ b. ◌≡◌ {A = State} (after b) (record { world = change (world_in (state g old.conn)); spent = false })) (sym notes) (wrote g conn old spent ours is new change unspent made.1.1),
+    found g conn old spent is look v made.0,
+    subst (λ b. ◌≡◌ {A = State} (after b) (record { world = change (world_in (state g old.conn)); spent = false })) (sym notes) (wrote g conn old spent is new change unspent made.1.1),
   )
-  numbered look change (Err Memory) later unspent notes made stays = subst (λ b. ◌≡◌ {A = State} (after b) before) (sym notes) (stood g conn old spent ours is new (stays refl).1)
+  numbered look change (Err Memory) later unspent notes made stays = subst (λ b. ◌≡◌ {A = State} (after b) before) (sym notes) (stood g conn old spent is new (stays refl).1)
   numbered look change (Err Storage) later unspent notes made stays = tt
 
   -- a write made its change and tells a value, or made none

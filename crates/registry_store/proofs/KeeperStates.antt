@@ -1,5 +1,5 @@
 -- What a store's keeper shows after a call.
-use Rattle.std.proofs.Common.{◌≡◌, Bool, true, false, subst}
+use Rattle.std.proofs.Common.{◌≡◌, Bool, false, subst}
 use Rattle.sqlite_trees.specs.declared.store.Store.{Ghosts}
 use Rattle.sqlite.specs.State.{HasCleanDisk}
 use Rattle.sqlite.specs.Held.{Held, state}
@@ -9,7 +9,7 @@ use Rattle.store_world.specs.World.{world_of}
 use Rattle.registry_store.specs.Kept.{Kept}
 use Rattle.store_statements.specs.Held.{tables_in, world_in}
 
-module _ {S : Type 0} (g : Ghosts S) (conn : Held S) (old : Kept S) (spent ours : Bool) (is : ◌≡◌ {A = Kept S} (record { conn = conn; spent = spent; ours = ours }) old) (new : Held S) where
+module _ {S : Type 0} (g : Ghosts S) (conn : Held S) (old : Kept S) (spent : Bool) (is : ◌≡◌ {A = Kept S} (record { conn = conn; spent = spent }) old) (new : Held S) where
   -- a write made its change
   pub wrote : (change : World → World) → spent ≡ false → world_in (state g new) ≡ change (world_in (state g conn))
       → ◌≡◌ {A = State} (record { world = world_in (state g new); spent = spent }) (record { world = change (world_in (state g old.conn)); spent = false })
@@ -19,14 +19,11 @@ module _ {S : Type 0} (g : Ghosts S) (conn : Held S) (old : Kept S) (spent ours 
   pub stood : (state g new).now ≡ (state g conn).now → ◌≡◌ {A = State} (record { world = world_in (state g new); spent = spent }) (record { world = world_in (state g old.conn); spent = old.spent })
   stood e = subst (λ (k : Kept S). ◌≡◌ {A = State} (record { world = world_in (state g new); spent = spent }) (record { world = world_in (state g k.conn); spent = k.spent })) is (λ i. record { world = world_of (tables_in (e i)); spent = spent })
 
-module _ {S : Type 0} (g : Ghosts S) (conn : Held S) (old : Kept S) (spent ours : Bool) (is : ◌≡◌ {A = Kept S} (record { conn = conn; spent = spent; ours = ours }) old) where
+module _ {S : Type 0} (g : Ghosts S) (conn : Held S) (old : Kept S) (spent : Bool) (is : ◌≡◌ {A = Kept S} (record { conn = conn; spent = spent }) old) where
   -- a read found its value
   pub found : {A : Type 0} (look : World → A) (v : A) → v ≡ look (world_in (state g conn)) → v ≡ look (world_in (state g old.conn))
   found look v e = subst (λ (k : Kept S). v ≡ look (world_in (state g k.conn))) is e
 
   -- what a caller knows of the world, said of the connection
-  pub asked : (P : World → Type 0) → spent ≡ false → ours ≡ true → (HasCleanDisk (state g old.conn) × (old.ours ≡ true) → old.spent ≡ false → P (world_in (state g old.conn))) → HasCleanDisk (state g conn)
-      → P (world_in (state g conn))
-  asked P unspent known h =
-      subst (λ (k : Kept S). (HasCleanDisk (state g k.conn) × (k.ours ≡ true) → k.spent ≡ false → P (world_in (state g k.conn))) → HasCleanDisk (state g conn) → P (world_in (state g conn))) is
-      (λ f clean. f (clean, known) unspent) h
+  pub asked : (P : World → Type 0) → spent ≡ false → (HasCleanDisk (state g old.conn) → old.spent ≡ false → P (world_in (state g old.conn))) → HasCleanDisk (state g conn) → P (world_in (state g conn))
+  asked P unspent h = subst (λ (k : Kept S). (HasCleanDisk (state g k.conn) → k.spent ≡ false → P (world_in (state g k.conn))) → HasCleanDisk (state g conn) → P (world_in (state g conn))) is (λ f clean. f clean unspent) h

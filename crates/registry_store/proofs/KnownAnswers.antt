@@ -40,7 +40,7 @@ was_open w name number digest = by (session_at w name number)
     by None so = so
     by (Some bytes) so = refl
 
-module _ {S : Type 0} (g : Ghosts S) (conn : Held S) (old : Kept S) (spent ours : Bool) (is : ◌≡◌ {A = Kept S} (record { conn = conn; spent = spent; ours = ours }) old) (new : Held S) where
+module _ {S : Type 0} (g : Ghosts S) (conn : Held S) (old : Kept S) (spent : Bool) (is : ◌≡◌ {A = Kept S} (record { conn = conn; spent = spent }) old) (new : Held S) where
   abbrev before : State
   before = record { world = world_in (state g old.conn); spent = old.spent }
 
@@ -51,11 +51,11 @@ module _ {S : Type 0} (g : Ghosts S) (conn : Held S) (old : Kept S) (spent ours 
       → IfOk answer (λ done. DoneWhereSo done (state g conn) (state g new) so change) → (answer ≡ Err Memory → StaysSettled (state g conn) (state g new))
       → WritesWhereSo answer (so (world_in (state g old.conn))) (change (world_in (state g old.conn))) before (after later)
   whether so change (Ok true) later unspent notes made stays = (
-    sym (found g conn old spent ours is so true (sym made.0)),
-    subst (λ b. ◌≡◌ {A = State} (after b) (record { world = change (world_in (state g old.conn)); spent = false })) (sym notes) (wrote g conn old spent ours is new change unspent made.1.1),
+    sym (found g conn old spent is so true (sym made.0)),
+    subst (λ b. ◌≡◌ {A = State} (after b) (record { world = change (world_in (state g old.conn)); spent = false })) (sym notes) (wrote g conn old spent is new change unspent made.1.1),
   )
-  whether so change (Ok false) later unspent notes made stays = subst (λ b. ◌≡◌ {A = State} (after b) before) (sym notes) (stood g conn old spent ours is new made.1)
-  whether so change (Err Memory) later unspent notes made stays = subst (λ b. ◌≡◌ {A = State} (after b) before) (sym notes) (stood g conn old spent ours is new (stays refl).1)
+  whether so change (Ok false) later unspent notes made stays = subst (λ b. ◌≡◌ {A = State} (after b) before) (sym notes) (stood g conn old spent is new made.1)
+  whether so change (Err Memory) later unspent notes made stays = subst (λ b. ◌≡◌ {A = State} (after b) before) (sym notes) (stood g conn old spent is new (stays refl).1)
   whether so change (Err Storage) later unspent notes made stays = tt
 
   -- it was made where this was so, or nothing changed

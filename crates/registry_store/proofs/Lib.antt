@@ -7,4 +7,3 @@ pub mod MapSums
 pub mod UsageTurns
 pub mod Foretold
 pub mod KnownWorlds
-mod OriginLemmas

@@ -9,12 +9,10 @@ mod counted_sessions;
 mod fault_noting;
 mod keeper;
 mod known_usages;
-mod origin;
 mod store;
 mod usage_change;
 mod written;
 
-pub use origin::Origin;
 pub use store::Store;
 pub use store_opening::OpenFault;
 pub use written::Written;

@@ -1,5 +1,5 @@
 //! A registry's world in the tables of a database.
-ghost use Rattle.std.specs.Prelude.{◌≡◌, ◌≢◌, ℤ, pos, true, false, IfOk, IfErr, ⊤};
+ghost use Rattle.std.specs.Prelude.{◌≡◌, false, IfOk, IfErr, ⊤};
 ghost use Rattle.sqlite.specs.State.{HasCleanDisk, Survives};
 ghost use Rattle.sqlite.specs.Held.{state};
 ghost use Rattle.sqlite.specs.Steps.{over_memory};
@@ -7,16 +7,13 @@ ghost use Rattle.sqlite.specs.Files.{file_state};
 ghost use Rattle.sqlite.specs.WalFiles.{image_at};
 ghost use Rattle.store_schema.specs.Schema.{no_schema};
 ghost use Rattle.store_schema.specs.Making.{IsEmptyWith};
-ghost use Rattle.store_schema.specs.Beside.{AreFree, registry_names};
 ghost use Rattle.registry_model.specs.World.{no_world};
-ghost use Rattle.store_statements.specs.Held.{IsSettled, IsBack, HoldsTables, world_in};
-ghost use Rattle.store_opening.specs.Opening.{IsIdle, IsOpenedBeside, HoldsRegistry, SaysTwo, versions_in, has_version_table};
-ghost use Rattle.store_opening.specs.Asking.{IsWanting, IsWantingOr, IsTold, IsOfSchema, NamesNotTwo, ShowsAlone};
+ghost use Rattle.store_statements.specs.Held.{IsSettled, IsBack, world_in};
+ghost use Rattle.store_opening.specs.Opening.{IsIdle, HoldsRegistry};
+ghost use Rattle.store_opening.specs.Asking.{IsWanting, IsTold, NamesNotTwo};
 ghost use Rattle.registry_store.specs.Opening.{IsOurs, OpensOn};
-ghost use Rattle.registry_store.specs.Origins.{is_ours};
 
 use crate::known_usages::KnownUsages;
-use crate::origin::Origin;
 use crate::written::Written;
 use sqlite::{Alter, Connection, FileFrom, FileStore, MemStore};
 use std::alloc::Global;
@@ -30,13 +27,11 @@ pub struct Store<S: Alter> {
     pub(crate) alloc: Global,
     pub(crate) conn: Connection<S>,
     pub(crate) spent: bool,
-    /// Whether the database was vouched for when it was handed over.
-    pub(crate) ours: bool,
     pub(crate) known: KnownUsages,
 }
 
 impl<S: Alter> Model for Store<S> {
-    ghost use Rattle.std.specs.Prelude.{◌≡◌, true, false};
+    ghost use Rattle.std.specs.Prelude.{◌≡◌, false};
     ghost use Rattle.sqlite.specs.State.{HasCleanDisk};
     ghost use Rattle.sqlite.specs.Held.{state};
     ghost use Rattle.registry_store.specs.Kept.{Kept, kept_code};
@@ -47,9 +42,9 @@ impl<S: Alter> Model for Store<S> {
 
     ghost coded = { kept_code S.code };
 
-    ghost view = { λ s. record { conn = s.conn; spent = s.spent; ours = s.ours } };
+    ghost view = { λ s. record { conn = s.conn; spent = s.spent } };
 
-    ghost invariant = { λ s. s.spent ≡ false → s.ours ≡ true → HasCleanDisk (state S.Store s.conn)
+    ghost invariant = { λ s. s.spent ≡ false → HasCleanDisk (state S.Store s.conn)
         → IsSettled (state S.Store s.conn) × Knows s.known (world_in (state S.Store s.conn)) };
 }
 
@@ -58,13 +53,12 @@ impl Store<MemStore> {
     pub fn memory(alloc: Global) -> Result<Store<MemStore>, OpenFault>
         ensures empty { IfOk result (λ s. world_in (state over_memory s.conn) ≡ no_world) }
         ensures unspent { IfOk result (λ s. s.spent ≡ false) }
-        ensures ours { IfOk result (λ s. s.ours ≡ true) }
         ensures wanting { IfErr result IsWanting }
     {
         let Ok(conn) = Connection::open_in_memory(alloc) else {
             return Err(OpenFault::Memory);
         };
-        match Store::adopt(alloc, conn, Origin::Ours) {
+        match Store::adopt(alloc, conn) {
             Ok(store) => Ok(store),
             Err((fault, _)) => Err(fault),
         }
@@ -72,75 +66,41 @@ impl Store<MemStore> {
 }
 
 impl<S: Alter + Drop> Store<S> {
-    /// The registry in the tables of a database, whatever it is: they are made where there are none. Where
-    /// its origin is `Ours`, that it is so is for the caller to know; of any other nothing is promised of the
-    /// store that comes of it, but what is said here. A refusal hands the connection back, with the tables
-    /// as they were where it is open still and nothing was uncommitted: `Schema` where they are of another
-    /// schema than 2, `NotARegistry` where a name is taken by what is none of a registry's, or the schema is
-    /// not said once. An empty database is refused with neither.
+    /// The registry in the tables of a database: they are made where there are none. That no one else wrote
+    /// the tables is for the caller to know. A refusal hands the connection back, with the tables as they
+    /// were where it is open still: `Schema` where they are of another schema than 2, `NotARegistry` where a
+    /// name is taken by what is none of a registry's. An empty database is refused with neither.
     pub fn adopt(
         alloc: Global,
         mut conn: Connection<S>,
-        origin: Origin,
     ) -> Result<Store<S>, (OpenFault, Connection<S>)>
-        requires ours { origin ≡ Origin.Ours → HasCleanDisk (state S.Store conn)
-            → IsIdle (state S.Store conn) × IsOurs (state S.Store conn).now }
+        requires idle { HasCleanDisk (state S.Store conn) → IsIdle (state S.Store conn) }
+        requires ours { HasCleanDisk (state S.Store conn) → IsOurs (state S.Store conn).now }
         ensures made { IfOk result
             (λ s. HasCleanDisk (state S.Store s.conn) → IsEmptyWith no_schema (state S.Store conn).now
             → world_in (state S.Store s.conn) ≡ no_world) }
         ensures found { IfOk result
-            (λ s. HasCleanDisk (state S.Store s.conn) → IsIdle (state S.Store conn)
-            → HoldsRegistry (state S.Store conn).now
+            (λ s. HasCleanDisk (state S.Store s.conn) → HoldsRegistry (state S.Store conn).now
             → (state S.Store s.conn).now ≡ (state S.Store conn).now) }
-        ensures beside { IfOk result
-            (λ s. HasCleanDisk (state S.Store s.conn)
-            → has_version_table (state S.Store conn).now.schema ≡ false
-            → AreFree (state S.Store conn).now.schema registry_names
-            × IsOpenedBeside (state S.Store conn).now (state S.Store s.conn)) }
-        ensures asked { IfOk result
-            (λ s. HasCleanDisk (state S.Store s.conn)
-            → has_version_table (state S.Store conn).now.schema ≡ true
-            → IsOfSchema (state S.Store conn) (pos 2)) }
-        ensures two { IfOk result
-            (λ s. HasCleanDisk (state S.Store s.conn) → HoldsTables (state S.Store conn).now
-            → SaysTwo (state S.Store conn).now) }
         ensures unspent { IfOk result (λ s. s.spent ≡ false) }
-        ensures origin { IfOk result (λ s. s.ours ≡ is_ours origin) }
         ensures survives { IfOk result (λ s. Survives (state S.Store conn) (state S.Store s.conn) (λ _. ⊤)) }
         ensures told { IfErr result
             (λ e. HasCleanDisk (state S.Store e.1) → IsTold (state S.Store conn) e.0) }
         ensures another { IfErr result (λ e. NamesNotTwo e.0) }
         ensures refused { IfErr result
-            (λ e. HasCleanDisk (state S.Store e.1) → IsIdle (state S.Store conn)
-            → IsBack (state S.Store conn) (state S.Store e.1)) }
+            (λ e. HasCleanDisk (state S.Store e.1) → IsBack (state S.Store conn) (state S.Store e.1)) }
         ensures unmade { IfErr result
             (λ e. HasCleanDisk (state S.Store e.1) → IsEmptyWith no_schema (state S.Store conn).now
             → IsWanting e.0) }
         ensures wanting { IfErr result
             (λ e. HasCleanDisk (state S.Store e.1) → HoldsRegistry (state S.Store conn).now
             → IsWanting e.0) }
-        ensures other { IfErr result
-            (λ e. HasCleanDisk (state S.Store e.1) → HoldsTables (state S.Store conn).now
-            → (n : ℤ) → ShowsAlone (versions_in (state S.Store conn).now) n → n ≢ pos 2
-            → IsWantingOr (OpenFault.Schema n) e.0) }
-        ensures unsaid { IfErr result
-            (λ e. HasCleanDisk (state S.Store e.1) → HoldsTables (state S.Store conn).now
-            → ((n : ℤ) → ShowsAlone (versions_in (state S.Store conn).now) n → ⊥)
-            → IsWantingOr OpenFault.NotARegistry e.0) }
-        ensures unmarked { IfErr result
-            (λ e. has_version_table (state S.Store conn).now.schema ≡ false
-            → IsWantingOr OpenFault.NotARegistry e.0) }
-        ensures unanswered { IfErr result
-            (λ e. HasCleanDisk (state S.Store e.1)
-            → ((n : ℤ) → IsOfSchema (state S.Store conn) n → ⊥)
-            → IsWantingOr OpenFault.NotARegistry e.0) }
     {
         match take_up(&mut conn) {
             Ok(()) => Ok(Store {
                 alloc,
                 conn,
                 spent: false,
-                ours: origin.is_ours(),
                 known: KnownUsages::new(alloc),
             }),
             Err(fault) => Err((fault, conn)),
@@ -150,7 +110,7 @@ impl<S: Alter + Drop> Store<S> {
     /// Gives the database back, with the tables as they are.
     pub fn into_connection(self) -> Connection<S>
         ensures same { result ≡ self.conn }
-        ensures settled { self.spent ≡ false → self.ours ≡ true → HasCleanDisk (state S.Store result)
+        ensures settled { self.spent ≡ false → HasCleanDisk (state S.Store result)
             → IsSettled (state S.Store result) }
     {
         self.conn
@@ -169,14 +129,13 @@ impl<F: Written> Store<FileStore<FileFrom<F>>> {
         ensures found { IfOk result
             (λ s. HasCleanDisk (file_state s.conn) → OpensOn (image_at F.Start) (file_state s.conn).now) }
         ensures unspent { IfOk result (λ s. s.spent ≡ false) }
-        ensures ours { IfOk result (λ s. s.ours ≡ true) }
         ensures another { IfErr result NamesNotTwo }
     {
         let conn = match Connection::open_from(rt, path, false, start) {
             Ok(conn) => conn,
             Err((error, _)) => return Err(fault_in_opening(error)),
         };
-        match Store::adopt(rt.alloc(), conn, Origin::Ours) {
+        match Store::adopt(rt.alloc(), conn) {
             Ok(opened) => Ok(opened),
             Err((fault, _)) => Err(fault),
         }

@@ -3,6 +3,4 @@ use Rattle.registry_store.specs.Kept.{Kept}
 use Rattle.registry_store.proofs.store.Store.into_connection.Goals as goal
 
 pub returns-clause-settled : goal.returns-clause-settled
-returns-clause-settled g c unspent ours clean =
-    let is = c.self.view_is in
-    (c.self.invariant (ap (λ (k : Kept g.row.S.Denot). k.spent) is ∙ unspent) (ap (λ (k : Kept g.row.S.Denot). k.ours) is ∙ ours) clean).0
+returns-clause-settled g c unspent clean = (c.self.invariant (ap (λ (k : Kept g.row.S.Denot). k.spent) c.self.view_is ∙ unspent) clean).0
