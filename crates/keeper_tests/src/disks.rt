@@ -2,14 +2,14 @@
 //! left of them.
 
 use crate::rows::rows_of;
-use registry_store::Store;
+use registry_store::{Foreign, Store};
 use sqlite::{Connection, FileStore, Files, Options};
 use sqlite_disk::{Crash, Disk, Fuse, Memory};
 use std::alloc::Global;
 use std::test::Fail;
 
 /// A store over such files.
-pub type Stopping = Store<FileStore<Fuse<Memory>>>;
+pub type Stopping = Store<FileStore<Fuse<Memory>>, Foreign>;
 
 /// One of the two files.
 #[derive(Clone, Copy, Debug)]

@@ -1,5 +1,5 @@
 -- What a store's keeper shows after a call.
-use Rattle.std.proofs.Common.{◌≡◌, Bool, false, subst}
+use Rattle.std.proofs.Common.{◌≡◌, Bool, true, false, subst}
 use Rattle.sqlite_trees.specs.declared.store.Store.{Ghosts}
 use Rattle.sqlite.specs.State.{HasCleanDisk}
 use Rattle.sqlite.specs.Held.{Held, state}
@@ -25,5 +25,8 @@ module _ {S : Type 0} (g : Ghosts S) (conn : Held S) (old : Kept S) (spent : Boo
   found look v e = subst (λ (k : Kept S). v ≡ look (world_in (state g k.conn))) is e
 
   -- what a caller knows of the world, said of the connection
-  pub asked : (P : World → Type 0) → spent ≡ false → (HasCleanDisk (state g old.conn) → old.spent ≡ false → P (world_in (state g old.conn))) → HasCleanDisk (state g conn) → P (world_in (state g conn))
-  asked P unspent h = subst (λ (k : Kept S). (HasCleanDisk (state g k.conn) → k.spent ≡ false → P (world_in (state g k.conn))) → HasCleanDisk (state g conn) → P (world_in (state g conn))) is (λ f clean. f clean unspent) h
+  pub asked : (P : World → Type 0) (ours : Bool) → spent ≡ false → ours ≡ true → (HasCleanDisk (state g old.conn) × (ours ≡ true) → old.spent ≡ false → P (world_in (state g old.conn)))
+      → HasCleanDisk (state g conn) → P (world_in (state g conn))
+  asked P ours unspent known h =
+      subst (λ (k : Kept S). (HasCleanDisk (state g k.conn) × (ours ≡ true) → k.spent ≡ false → P (world_in (state g k.conn))) → HasCleanDisk (state g conn) → P (world_in (state g conn))) is
+      (λ f clean. f (clean, known) unspent) h

@@ -1,7 +1,8 @@
 -- What a store holds: a connection, and whether the storage has failed.
-use Rattle.std.specs.Prelude.{Bool, refl}
+use Rattle.std.specs.Prelude.{◌≡◌, Bool, true, refl}
 use Rattle.std.specs.Coded.{Coded, code_by, coded×, coded_bool}
 use Rattle.sqlite_trees.specs.declared.store.Store.{Ghosts}
+use Rattle.sqlite.specs.State.{HasCleanDisk}
 use Rattle.sqlite.specs.Held.{Held, held_code, state}
 use Rattle.registry_model.specs.Keeping.{State}
 use Rattle.store_statements.specs.Held.{world_in}
@@ -18,3 +19,7 @@ kept_code {S} store =
 -- what it shows of a registry
 abbrev pub shown : {S : Type 0} → Ghosts S → Kept S → State
 shown g k = record { world = world_in (state g k.conn); spent = k.spent }
+
+-- the database was ours, and so far it has returned what was written
+abbrev pub IsHonest : {S : Type 0} → Ghosts S → Bool → Kept S → Type 0
+IsHonest g ours k = HasCleanDisk (state g k.conn) × (ours ≡ true)

@@ -1,13 +1,13 @@
 //! The store as a keeper: each call asks the tables, and what is said of rows is said of the world.
 ghost use Rattle.std.specs.Prelude.{◌≡◌, ℤ, None, OnOk, if◌then◌else◌};
-ghost use Rattle.sqlite.specs.State.{HasCleanDisk};
 ghost use Rattle.sqlite.specs.Held.{state};
 ghost use Rattle.registry_model.specs.Keeping.{Writes, Spends};
 ghost use Rattle.store_statements.specs.Held.{held, world_in};
 ghost use Rattle.store_writes.specs.Naming.{is_named};
-ghost use Rattle.registry_store.specs.Kept.{shown};
+ghost use Rattle.registry_store.specs.Kept.{IsHonest, shown};
 
 use crate::fault_noting::note_fault;
+use crate::origin::Origin;
 use crate::store::Store;
 use crate::{counted_blobs, counted_manifests, counted_repos, counted_sessions};
 use oci_manifest::{Kind, Manifest};
@@ -27,10 +27,10 @@ macro_rules! unless_spent {
     }};
 }
 
-impl<S: Alter> Keeper for Store<S> {
+impl<S: Alter, O: Origin> Keeper for Store<S, O> {
     ghost state = { λ s. record { world = world_in (state S.Store s.conn); spent = s.spent } };
 
-    ghost is_honest = { λ s. HasCleanDisk (state S.Store s.conn) };
+    ghost is_honest = { λ s. IsHonest S.Store O.is_ours s };
 
     fn spent(&self) -> bool {
         self.spent
@@ -330,12 +330,11 @@ impl<S: Alter> Keeper for Store<S> {
     /// Frees each content that no blob, manifest or upload session names: exactly the others stay, and the
     /// world does not change. A failure frees nothing.
     fn clear(&mut self) -> Result<(), Fault>
-        ensures made { HasCleanDisk (state S.Store self.new.conn)
+        ensures made { IsHonest S.Store O.is_ours self.new
             → Writes result (shown S.Store self.old).world (shown S.Store self.old) (shown S.Store self.new) }
         ensures spends { Spends result (shown S.Store self.old) (shown S.Store self.new) }
-        ensures honest { HasCleanDisk (state S.Store self.new.conn)
-            → HasCleanDisk (state S.Store self.old.conn) }
-        ensures freed { HasCleanDisk (state S.Store self.new.conn)
+        ensures honest { IsHonest S.Store O.is_ours self.new → IsHonest S.Store O.is_ours self.old }
+        ensures freed { IsHonest S.Store O.is_ours self.new
             → OnOk result
             ((id : ℤ) → (held (state S.Store self.new.conn)).contents id
             ≡ (if is_named (held (state S.Store self.old.conn)) id

@@ -9,10 +9,12 @@ mod counted_sessions;
 mod fault_noting;
 mod keeper;
 mod known_usages;
+mod origin;
 mod store;
 mod usage_change;
 mod written;
 
+pub use origin::{Foreign, Origin, Ours};
 pub use store::Store;
 pub use store_opening::OpenFault;
 pub use written::Written;

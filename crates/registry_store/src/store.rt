@@ -1,5 +1,5 @@
 //! A registry's world in the tables of a database.
-ghost use Rattle.std.specs.Prelude.{◌≡◌, false, IfOk, IfErr, ⊤};
+ghost use Rattle.std.specs.Prelude.{◌≡◌, ◌≢◌, ℤ, pos, true, false, IfOk, IfErr, ⊤};
 ghost use Rattle.sqlite.specs.State.{HasCleanDisk, Survives};
 ghost use Rattle.sqlite.specs.Held.{state};
 ghost use Rattle.sqlite.specs.Steps.{over_memory};
@@ -7,31 +7,34 @@ ghost use Rattle.sqlite.specs.Files.{file_state};
 ghost use Rattle.sqlite.specs.WalFiles.{image_at};
 ghost use Rattle.store_schema.specs.Schema.{no_schema};
 ghost use Rattle.store_schema.specs.Making.{IsEmptyWith};
+ghost use Rattle.store_schema.specs.Beside.{AreFree, registry_names};
 ghost use Rattle.registry_model.specs.World.{no_world};
-ghost use Rattle.store_statements.specs.Held.{IsSettled, IsBack, world_in};
-ghost use Rattle.store_opening.specs.Opening.{IsIdle, HoldsRegistry};
-ghost use Rattle.store_opening.specs.Asking.{IsWanting, IsTold, NamesNotTwo};
+ghost use Rattle.store_statements.specs.Held.{IsSettled, IsBack, HoldsTables, world_in};
+ghost use Rattle.store_opening.specs.Opening.{IsIdle, IsOpenedBeside, HoldsRegistry, SaysTwo, versions_in, has_version_table};
+ghost use Rattle.store_opening.specs.Asking.{IsWanting, IsWantingOr, IsTold, IsOfSchema, NamesNotTwo, ShowsAlone};
 ghost use Rattle.registry_store.specs.Opening.{IsOurs, OpensOn};
 
 use crate::known_usages::KnownUsages;
+use crate::origin::{Origin, Ours};
 use crate::written::Written;
 use sqlite::{Alter, Connection, FileFrom, FileStore, MemStore};
 use std::alloc::Global;
-use std::marker::Model;
+use std::marker::{Model, PhantomData};
 use store_opening::{OpenFault, fault_in_opening, take_up};
 
 /// Keeps a registry's world in the tables of a database, and knows besides what some of its repositories
 /// hold. Once the storage has failed it is spent, and answers `Fault::Storage` alone.
 #[derive(Drop)]
-pub struct Store<S: Alter> {
+pub struct Store<S: Alter, O: Origin = Ours> {
     pub(crate) alloc: Global,
     pub(crate) conn: Connection<S>,
     pub(crate) spent: bool,
     pub(crate) known: KnownUsages,
+    pub(crate) origin: PhantomData<O>,
 }
 
-impl<S: Alter> Model for Store<S> {
-    ghost use Rattle.std.specs.Prelude.{◌≡◌, false};
+impl<S: Alter, O: Origin> Model for Store<S, O> {
+    ghost use Rattle.std.specs.Prelude.{◌≡◌, true, false};
     ghost use Rattle.sqlite.specs.State.{HasCleanDisk};
     ghost use Rattle.sqlite.specs.Held.{state};
     ghost use Rattle.registry_store.specs.Kept.{Kept, kept_code};
@@ -44,7 +47,7 @@ impl<S: Alter> Model for Store<S> {
 
     ghost view = { λ s. record { conn = s.conn; spent = s.spent } };
 
-    ghost invariant = { λ s. s.spent ≡ false → HasCleanDisk (state S.Store s.conn)
+    ghost invariant = { λ s. s.spent ≡ false → O.is_ours ≡ true → HasCleanDisk (state S.Store s.conn)
         → IsSettled (state S.Store s.conn) × Knows s.known (world_in (state S.Store s.conn)) };
 }
 
@@ -65,36 +68,67 @@ impl Store<MemStore> {
     }
 }
 
-impl<S: Alter + Drop> Store<S> {
-    /// The registry in the tables of a database: they are made where there are none. That no one else wrote
-    /// the tables is for the caller to know. A refusal hands the connection back, with the tables as they
-    /// were where it is open still: `Schema` where they are of another schema than 2, `NotARegistry` where a
-    /// name is taken by what is none of a registry's. An empty database is refused with neither.
+impl<S: Alter + Drop, O: Origin> Store<S, O> {
+    /// The registry in the tables of a database, whatever it is: they are made where there are none. Where
+    /// its origin is `Ours`, that it is so is for the caller to know; of any other nothing is promised of the
+    /// store that comes of it, but what is said here. A refusal hands the connection back, with the tables
+    /// as they were where it is open still and nothing was uncommitted: `Schema` where they are of another
+    /// schema than 2, `NotARegistry` where a name is taken by what is none of a registry's, or the schema is
+    /// not said once. An empty database is refused with neither.
     pub fn adopt(
         alloc: Global,
         mut conn: Connection<S>,
-    ) -> Result<Store<S>, (OpenFault, Connection<S>)>
-        requires idle { HasCleanDisk (state S.Store conn) → IsIdle (state S.Store conn) }
-        requires ours { HasCleanDisk (state S.Store conn) → IsOurs (state S.Store conn).now }
+    ) -> Result<Store<S, O>, (OpenFault, Connection<S>)>
+        requires ours { O.is_ours ≡ true → HasCleanDisk (state S.Store conn)
+            → IsIdle (state S.Store conn) × IsOurs (state S.Store conn).now }
         ensures made { IfOk result
             (λ s. HasCleanDisk (state S.Store s.conn) → IsEmptyWith no_schema (state S.Store conn).now
             → world_in (state S.Store s.conn) ≡ no_world) }
         ensures found { IfOk result
-            (λ s. HasCleanDisk (state S.Store s.conn) → HoldsRegistry (state S.Store conn).now
+            (λ s. HasCleanDisk (state S.Store s.conn) → IsIdle (state S.Store conn)
+            → HoldsRegistry (state S.Store conn).now
             → (state S.Store s.conn).now ≡ (state S.Store conn).now) }
+        ensures beside { IfOk result
+            (λ s. HasCleanDisk (state S.Store s.conn)
+            → has_version_table (state S.Store conn).now.schema ≡ false
+            → AreFree (state S.Store conn).now.schema registry_names
+            × IsOpenedBeside (state S.Store conn).now (state S.Store s.conn)) }
+        ensures asked { IfOk result
+            (λ s. HasCleanDisk (state S.Store s.conn)
+            → has_version_table (state S.Store conn).now.schema ≡ true
+            → IsOfSchema (state S.Store conn) (pos 2)) }
+        ensures two { IfOk result
+            (λ s. HasCleanDisk (state S.Store s.conn) → HoldsTables (state S.Store conn).now
+            → SaysTwo (state S.Store conn).now) }
         ensures unspent { IfOk result (λ s. s.spent ≡ false) }
         ensures survives { IfOk result (λ s. Survives (state S.Store conn) (state S.Store s.conn) (λ _. ⊤)) }
         ensures told { IfErr result
             (λ e. HasCleanDisk (state S.Store e.1) → IsTold (state S.Store conn) e.0) }
         ensures another { IfErr result (λ e. NamesNotTwo e.0) }
         ensures refused { IfErr result
-            (λ e. HasCleanDisk (state S.Store e.1) → IsBack (state S.Store conn) (state S.Store e.1)) }
+            (λ e. HasCleanDisk (state S.Store e.1) → IsIdle (state S.Store conn)
+            → IsBack (state S.Store conn) (state S.Store e.1)) }
         ensures unmade { IfErr result
             (λ e. HasCleanDisk (state S.Store e.1) → IsEmptyWith no_schema (state S.Store conn).now
             → IsWanting e.0) }
         ensures wanting { IfErr result
             (λ e. HasCleanDisk (state S.Store e.1) → HoldsRegistry (state S.Store conn).now
             → IsWanting e.0) }
+        ensures other { IfErr result
+            (λ e. HasCleanDisk (state S.Store e.1) → HoldsTables (state S.Store conn).now
+            → (n : ℤ) → ShowsAlone (versions_in (state S.Store conn).now) n → n ≢ pos 2
+            → IsWantingOr (OpenFault.Schema n) e.0) }
+        ensures unsaid { IfErr result
+            (λ e. HasCleanDisk (state S.Store e.1) → HoldsTables (state S.Store conn).now
+            → ((n : ℤ) → ShowsAlone (versions_in (state S.Store conn).now) n → ⊥)
+            → IsWantingOr OpenFault.NotARegistry e.0) }
+        ensures unmarked { IfErr result
+            (λ e. has_version_table (state S.Store conn).now.schema ≡ false
+            → IsWantingOr OpenFault.NotARegistry e.0) }
+        ensures unanswered { IfErr result
+            (λ e. HasCleanDisk (state S.Store e.1)
+            → ((n : ℤ) → IsOfSchema (state S.Store conn) n → ⊥)
+            → IsWantingOr OpenFault.NotARegistry e.0) }
     {
         match take_up(&mut conn) {
             Ok(()) => Ok(Store {
@@ -102,6 +136,7 @@ impl<S: Alter + Drop> Store<S> {
                 conn,
                 spent: false,
                 known: KnownUsages::new(alloc),
+                origin: PhantomData,
             }),
             Err(fault) => Err((fault, conn)),
         }
@@ -110,7 +145,7 @@ impl<S: Alter + Drop> Store<S> {
     /// Gives the database back, with the tables as they are.
     pub fn into_connection(self) -> Connection<S>
         ensures same { result ≡ self.conn }
-        ensures settled { self.spent ≡ false → HasCleanDisk (state S.Store result)
+        ensures settled { self.spent ≡ false → O.is_ours ≡ true → HasCleanDisk (state S.Store result)
             → IsSettled (state S.Store result) }
     {
         self.conn

@@ -208,6 +208,28 @@ pub names_none : {A : Type 0} (r : Result A OpenFault) → IfErr r IsUnnumbered 
 names_none (Ok x) none = tt
 names_none (Err k) none = unnumbered_names k none
 
+unnumbered_wanting : (k : OpenFault) → IsUnnumbered k → IsWantingOr NotARegistry k
+unnumbered_wanting Memory none = inl (inl refl)
+unnumbered_wanting Storage none = inl (inr refl)
+unnumbered_wanting NotARegistry none = inr refl
+unnumbered_wanting (Numbered n) none = absurd none
+
+-- no schema is named, so it is no registry, or memory was wanting, or the storage failed
+pub unnamed : {A : Type 0} (r : Result A OpenFault) → IfErr r IsUnnumbered → IfErr r (IsWantingOr NotARegistry)
+unnamed (Ok x) none = tt
+unnamed (Err k) none = unnumbered_wanting k none
+
+told_unnumbered : (s : State) (k : OpenFault) → IsTold s k → ((n : ℤ) → IsOfSchema s n → ⊥) → IsUnnumbered k
+told_unnumbered s Memory told none = tt
+told_unnumbered s Storage told none = tt
+told_unnumbered s NotARegistry told none = tt
+told_unnumbered s (Numbered n) told none = none n told.1
+
+-- a schema that is named is answered
+pub unanswered : {A : Type 0} (s : State) (r : Result A OpenFault) → IfErr r (IsTold s) → ((n : ℤ) → IsOfSchema s n → ⊥) → IfErr r (IsWantingOr NotARegistry)
+unanswered s (Ok x) told none = tt
+unanswered s (Err k) told none = unnumbered_wanting k (told_unnumbered s k told none)
+
 pub is_two : (r : Result ⊤ OpenFault) (rows : List Row) → OnOk r (ShowsAlone (map {B = Row} (λ r. column r 1 ∷ []) rows) (pos 2)) → OnOk r (IsOfSchemaTwo rows)
 is_two (Ok x) rows h = says_two rows h
 is_two (Err e) rows h = tt

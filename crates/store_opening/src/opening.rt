@@ -92,6 +92,11 @@ pub fn take_up<S: Alter>(conn: &mut Connection<S>) -> Result<(), OpenFault>
     ensures beside { HasCleanDisk (state S.Store conn.new)
         → has_version_table (state S.Store conn.old).now.schema ≡ false
         → OnOk result (IsOpenedBeside (state S.Store conn.old).now (state S.Store conn.new)) }
+    ensures unmarked { has_version_table (state S.Store conn.old).now.schema ≡ false
+        → IfErr result (IsWantingOr OpenFault.NotARegistry) }
+    ensures unanswered { HasCleanDisk (state S.Store conn.new)
+        → ((n : ℤ) → IsOfSchema (state S.Store conn.old) n → ⊥)
+        → IfErr result (IsWantingOr OpenFault.NotARegistry) }
     ensures told { HasCleanDisk (state S.Store conn.new) → IfErr result (IsTold (state S.Store conn.old)) }
     ensures another { IfErr result NamesNotTwo }
     ensures back { HasCleanDisk (state S.Store conn.new) → IsIdle (state S.Store conn.old)

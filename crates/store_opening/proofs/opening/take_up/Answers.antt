@@ -1,7 +1,7 @@
 use Rattle.sqlite.specs.Held.{state}
 use Rattle.store_statements.specs.Held.{held}
 use Rattle.store_opening.specs.Opening.{versions_in}
-use Rattle.store_opening.proofs.OpeningLemmas.{knows_version, is_marked, settled, is_two, two_told, wanting_told, other_told, unsaid_told, told_as, never_two, names_none, on_two, on_err}
+use Rattle.store_opening.proofs.OpeningLemmas.{knows_version, is_marked, settled, is_two, two_told, wanting_told, other_told, unsaid_told, told_as, never_two, names_none, unnamed, unanswered, on_two, on_err}
 use Rattle.store_statements.proofs.SettledAfter.{stays_read}
 use Rattle.store_opening.proofs.VersionAsked.{back_left}
 use Rattle.store_opening.proofs.OpeningLemmas.{two_asked}
@@ -84,3 +84,15 @@ returns-then-not-is_marked-clause-asked g c clean marked =
 
 pub returns-clause-asked : goal.returns-clause-asked
 returns-clause-asked g c clean marked = two_asked (state g.S.Store c.args.conn.now) c.read_version.result (c.read_version.ensures.told clean) c.only_two.result c.only_two.ensures.two
+
+pub returns-then-not-is_marked-clause-unmarked : goal.returns-then-not-is_marked-clause-unmarked
+returns-then-not-is_marked-clause-unmarked g c marked = unnamed c.create.result c.create.ensures.unnumbered
+
+pub returns-then-not-is_marked-clause-unanswered : goal.returns-then-not-is_marked-clause-unanswered
+returns-then-not-is_marked-clause-unanswered g c clean none = unnamed c.create.result c.create.ensures.unnumbered
+
+pub returns-clause-unanswered : goal.returns-clause-unanswered
+returns-clause-unanswered g c clean none =
+    unanswered (state g.S.Store c.args.conn.now) c.only_two.result
+    (told_as (state g.S.Store c.args.conn.now) c.read_version.result c.only_two.result c.only_two.ensures.other (c.read_version.ensures.told clean) c.read_version.ensures.unnumbered)
+    none
