@@ -1,7 +1,8 @@
 //! What the tests of the program share, and those of writers, connections and sockets, over registries
 //! in memory.
 use oci_names::RepoName;
-use registry_http::{End, serve_connection};
+use registry_connection::serve_connection;
+use registry_http::End;
 use registry_maps::MapKeeper;
 use registry_model::{Keeper, Level, Quota};
 use registry_opening::Opener;

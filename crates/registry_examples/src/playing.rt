@@ -6,7 +6,7 @@ use crate::patience::Patience;
 use crate::requests::Request;
 use crate::texts::reading_by;
 use anyhow::{Context, Result};
-use registry_http::serve_connection;
+use registry_connection::serve_connection;
 use registry_maps::MapKeeper;
 use registry_model::Keeper;
 use registry_service::Service;

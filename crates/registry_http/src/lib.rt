@@ -1,14 +1,13 @@
-//! The bytes of HTTP/1.1 connections: heads, framing, targets, fields and the texts of replies.
+//! The bytes of HTTP/1.1 connections: heads, framing, targets, fields and the texts of replies. It knows
+//! of no service, and so is proved beside those that answer.
 //!
-//! The crate above relies on `serve_connection`: the bytes that a reader gives spell one list of
-//! requests, and what is written are the texts of the replies that the service's definitions give.
+//! The crates above rely on `Intake`, which takes whole requests off the bytes that a reader gives, on
+//! `write_reply`, and on `spelling_is_unique`: bytes spell one list of requests.
 #![tactic(auto)]
 
-pub mod answering;
 pub mod body;
 pub mod buffer;
 pub mod chunk;
-pub mod connection;
 pub mod ending;
 pub mod expecting;
 pub mod fields;
@@ -21,11 +20,12 @@ pub mod persistence;
 pub mod privacy;
 pub mod query;
 pub mod reply_text;
+pub mod spelling;
 pub mod target;
 pub mod token;
 pub mod trailer;
 
-pub use connection::{serve_connection, spelling_is_unique};
 pub use ending::{End, FramingRefusal};
 pub use outgoing::WriteFault;
 pub use reply_text::write_reply;
+pub use spelling::spelling_is_unique;

@@ -7,7 +7,8 @@ ghost use Rattle.registry_program.specs.Sockets.{ServesNext, ServesMany, ServesS
 ghost use Rattle.registry_model.specs.Keeping.{State};
 ghost use Rattle.registry_http.specs.Privacy.{IsPrivateRun};
 
-use registry_http::{End, serve_connection};
+use registry_connection::serve_connection;
+use registry_http::End;
 use registry_model::Keeper;
 use registry_opening::Opener;
 use registry_orders::Failure;

@@ -4,7 +4,8 @@ ghost use Rattle.registry_orders.specs.Setting.{with_repos, with_levels, world_f
 ghost use Rattle.registry_program.specs.Failures.{ended_as};
 ghost use Rattle.registry_program.specs.Program.{streams, ServesMemory, ServesStored};
 
-use registry_http::{End, serve_connection};
+use registry_connection::serve_connection;
+use registry_http::End;
 use registry_maps::MapKeeper;
 use registry_model::Keeper;
 use registry_orders::failure::{of_command, say};

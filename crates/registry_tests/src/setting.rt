@@ -1,5 +1,6 @@
 use oci_names::{RepoName, Token};
-use registry_http::{End, serve_connection};
+use registry_connection::serve_connection;
+use registry_http::End;
 use registry_maps::MapKeeper;
 use registry_model::{AdminCommand, Keeper, Level, Quota};
 use registry_service::Service;

@@ -1,9 +1,8 @@
-ghost use Rattle.std.specs.Prelude.{◌≡◌, ◌≤◌, List, Option, length, take, map};
-ghost use Rattle.oci_names.specs.Text.{Text};
+ghost use Rattle.std.specs.Prelude.{◌≡◌, ◌≤◌, length, take};
 ghost use Rattle.registry_model.specs.Answer.{Answer};
 ghost use Rattle.registry_model.specs.Doing.{Does};
 ghost use Rattle.registry_http.specs.Asking.{ask_in};
-ghost use Rattle.registry_http.specs.Spelling.{Item, Spells, AreOneEnd};
+ghost use Rattle.registry_http.specs.Spelling.{Item};
 ghost use Rattle.registry_http.specs.Serving.{reply_for, Serves};
 ghost use Rattle.registry_http.specs.Sending.{SendsReply};
 ghost use Rattle.registry_http.specs.Intaking.{taken};
@@ -11,11 +10,11 @@ ghost use Rattle.registry_http.specs.Reading.{HeadFits, RequestIsReady};
 ghost use Rattle.registry_http.specs.Ending.{SendsRefusal, StopsWith};
 
 use crate::answering::answer;
-use crate::ending::{End, FramingRefusal, Stop};
-use crate::intake::{Intake, Ready};
-use crate::outgoing::WriteFault;
-use crate::reply_text::{write_continue, write_refusal, write_reply};
-use crate::target::is_head;
+use registry_http::ending::Stop;
+use registry_http::intake::{Intake, Ready};
+use registry_http::reply_text::{write_continue, write_refusal};
+use registry_http::target::is_head;
+use registry_http::{End, FramingRefusal, WriteFault, write_reply};
 use registry_model::Keeper;
 use registry_service::Service;
 use std::alloc::Global;
@@ -129,12 +128,3 @@ pub fn serve_connection<R: Read, W: Write, K: Keeper>(
         }
     }
 }
-
-/// Bytes spell one list of requests, and one end; but where they end in the target of a head, which may
-/// be no text, an end that waits for the target's end is as good as one that refuses it.
-pub fn spelling_is_unique()
-    ensures items { (b : Text) (items others : List Item) (e f : End)
-        → Spells b items e → Spells b others f → items ≡ others }
-    ensures end { (b : Text) (items others : List Item) (e f : End)
-        → Spells b items e → Spells b others f → AreOneEnd b e f }
-{}

@@ -8,11 +8,11 @@ ghost use Rattle.registry_http.specs.Asking.{ask_in, verb_of, path_text, query_i
 ghost use Rattle.registry_http.specs.Decoding.{cow_text, keys_shown};
 ghost use Rattle.registry_http.specs.Reading.{HeadFits, IsHeadAt};
 
-use crate::fields::values_of;
-use crate::query::{Values, text_if};
-use crate::target::{decode_path, route_if, split_target, verb};
-use crate::token::token;
 use httparse::spans::{HeaderSpan, RequestSpans};
+use registry_http::fields::values_of;
+use registry_http::query::{Values, text_if};
+use registry_http::target::{decode_path, route_if, split_target, verb};
+use registry_http::token::token;
 use registry_model::{Keeper, Reply, Request};
 use registry_service::Service;
 use std::alloc::{AllocError, Global};

@@ -2,7 +2,7 @@ use Rattle.std.proofs.Common.{inl, sym, refl, ◌∙◌, [], arith}
 use Rattle.registry_http.specs.Spelling.{Item}
 use Rattle.registry_http.proofs.RequestLemmas.{readies}
 use Rattle.registry_http.proofs.ConnectionProgress.{starts, came, headed, head_cut, head_serves, body_serves, memory_serves, answered, closed, reply_cut}
-use Rattle.registry_http.proofs.connection.serve_connection.Goals as goal
+use Rattle.registry_connection.proofs.connection.serve_connection.Goals as goal
 
 pub returns-in-Err-clause-serves : goal.returns-in-Err-clause-serves
 returns-in-Err-clause-serves g c = λ honest. memory_serves [] [] _ (starts _ _ _) _ _ _ _ (λ tail. inl refl) refl c.refuse.ensures

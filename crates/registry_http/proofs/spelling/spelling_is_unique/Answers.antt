@@ -1,5 +1,5 @@
 use Rattle.registry_http.proofs.SpellingUniqueness.{one_spelling}
-use Rattle.registry_http.proofs.connection.spelling_is_unique.Goals as goal
+use Rattle.registry_http.proofs.spelling.spelling_is_unique.Goals as goal
 
 pub returns-clause-items : goal.returns-clause-items
 returns-clause-items c = λ b items others e f s z. (one_spelling b items others e f s z).0
