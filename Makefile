@@ -60,8 +60,9 @@ build:
 # Each library after those that it stands on, so that independent ones are proved side by side. The two long rows of
 # libraries, at whose end all others wait, go a little before what stands beside them, and on two processors each;
 # not on more, and what is beside them on one, since each further process reads the libraries below once more.
-ROWS := oci_names oci_manifest oci_documents registry_model registry_operations registry_service registry_http \
-  registry_conversation registry_server registry_loop registry_program \
+ROWS := oci_names oci_manifest oci_documents registry_model registry_operations registry_service \
+  registry_lists order_carrying order_messages registry_connection registry_conversation registry_server \
+  registry_loop registry_program \
   store_schema store_contents store_world store_statements store_writes registry_store registry_databases
 jobs_of = $(if $(filter $(1),$(ROWS)),2,1)
 niceness_of = $(if $(filter $(1),$(ROWS)),0,2)

@@ -17,9 +17,11 @@ use Rattle.registry_orders.specs.declared.failure.Failure.{Failure}
 use Rattle.registry_orders.specs.declared.failure.Failure.TheVariants as failure
 use Rattle.registry_orders.specs.declared.orders.Order.{Order}
 use Rattle.registry_orders.specs.declared.orders.Order.TheVariants as order
-use Rattle.registry_orders.specs.Carrying.{Output, output, CarriesOrder}
+use Rattle.registry_orders.specs.Outputs.{Output, output}
+use Rattle.order_carrying.specs.Carrying.{CarriesOrder}
 use Rattle.registry_orders.specs.Orders.{told}
-use Rattle.registry_lists.specs.Table.{table_of, newline}
+use Rattle.registry_lists.specs.Table.{table_of}
+use Rattle.registry_orders.specs.Outputs.{newline}
 use Rattle.order_messages.specs.Answers.{answer_text, failure_text}
 use Rattle.order_messages.specs.Answering.{IsAnswered, IsOneStep}
 

@@ -9,9 +9,10 @@ use Rattle.registry_model.specs.Team.{orders}
 use Rattle.registry_orders.specs.declared.failure.Failure.{Failure}
 use Rattle.registry_orders.specs.declared.failure.Failure.TheVariants.{InvalidOptions, OutOfMemory, ConnectionFailure}
 use Rattle.registry_orders.specs.declared.orders.Order.{Order}
-use Rattle.registry_orders.specs.Carrying.{output, CarriesOrder}
+use Rattle.registry_orders.specs.Outputs.{output}
+use Rattle.order_carrying.specs.Carrying.{CarriesOrder}
 use Rattle.registry_orders.specs.Failures.{status_if, text_of}
-use Rattle.registry_lists.specs.Table.{newline}
+use Rattle.registry_orders.specs.Outputs.{newline}
 use Rattle.order_messages.specs.Answers.{answer_text, failure_text}
 use Rattle.order_messages.specs.Lines.{Spells, SpellsNone}
 

@@ -3,7 +3,7 @@ use Rattle.std.specs.Prelude.{ℕ, ◌++◌, decimal}
 use Rattle.oci_names.specs.Text.{Text}
 use Rattle.registry_orders.specs.declared.failure.Failure.{Failure}
 use Rattle.registry_orders.specs.Failures.{status_of, text_of}
-use Rattle.registry_lists.specs.Table.{newline}
+use Rattle.registry_orders.specs.Outputs.{newline}
 
 -- the exit status, on a line of its own, and what the program prints: on standard output where the status
 -- is 0, and else on standard error

@@ -6,12 +6,12 @@ use Rattle.oci_names.specs.RepoName.{is_repo_name}
 use Rattle.oci_names.specs.Token.{is_token}
 use Rattle.registry_model.specs.declared.level.Level.{Level}
 use Rattle.registry_model.specs.declared.level.Level.TheVariants.{Pull, Push, Delete}
-use Rattle.registry_lists.specs.declared.listing.Held.{Held}
-use Rattle.registry_lists.specs.declared.listing.Held.TheVariants.{Tags, Blobs, Unnamed}
-use Rattle.registry_lists.specs.declared.listing.Listing.{Listing}
-use Rattle.registry_lists.specs.declared.listing.Listing.TheVariants.{Repos, InRepo}
-use Rattle.registry_lists.specs.declared.listing.Form.{Form}
-use Rattle.registry_lists.specs.declared.listing.Form.TheVariants as form
+use Rattle.registry_orders.specs.declared.listing.Held.{Held}
+use Rattle.registry_orders.specs.declared.listing.Held.TheVariants.{Tags, Blobs, Unnamed}
+use Rattle.registry_orders.specs.declared.listing.Listing.{Listing}
+use Rattle.registry_orders.specs.declared.listing.Listing.TheVariants.{Repos, InRepo}
+use Rattle.registry_orders.specs.declared.listing.Form.{Form}
+use Rattle.registry_orders.specs.declared.listing.Form.TheVariants as form
 use Rattle.registry_orders.specs.declared.orders.Change.{Change}
 use Rattle.registry_orders.specs.declared.orders.Change.TheVariants.{AddRepo, SetQuota, DropRepo, DropSessions, Prune, Grant, Revoke, Clear}
 use Rattle.registry_orders.specs.declared.orders.Order.{Order}

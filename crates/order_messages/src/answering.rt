@@ -4,8 +4,9 @@ ghost use Rattle.order_messages.specs.Answering.{IsAnswered, AnswersLine, IsOneS
 
 use crate::answer::write_failure;
 use crate::reading::{Unread, read_order};
+use order_carrying::carry_over;
 use registry_model::Keeper;
-use registry_orders::{Failure, Order, carry_over};
+use registry_orders::{Failure, Order};
 use registry_service::Service;
 use std::alloc::{AllocError, Global};
 

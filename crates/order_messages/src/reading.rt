@@ -3,16 +3,15 @@ ghost use Rattle.std.specs.Prelude.{◌≡◌, ◌==◌, [], ◌∷◌, IfOk, If
 ghost use Rattle.std.specs.List.{slice_split};
 ghost use Rattle.registry_model.specs.declared.level.Level.{Level};
 ghost use Rattle.registry_model.specs.declared.quota.Quota.{Quota};
-ghost use Rattle.registry_lists.specs.declared.listing.Form.{Form};
-ghost use Rattle.registry_lists.specs.declared.listing.Held.{Held};
+ghost use Rattle.registry_orders.specs.declared.listing.Form.{Form};
+ghost use Rattle.registry_orders.specs.declared.listing.Held.{Held};
 ghost use Rattle.order_messages.specs.Lines.{space, digit_of, form_word, held_word, Spells, AreWordsOf};
 ghost use Rattle.order_messages.specs.Reading.{IsUnread, AreUnread};
 
 use crate::number::number_in;
 use oci_names::{NameFault, RepoName, Token};
-use registry_lists::{Form, Held, Listing};
 use registry_model::{Level, Quota};
-use registry_orders::{Change, Order};
+use registry_orders::{Change, Form, Held, Listing, Order};
 use std::alloc::{AllocError, Global};
 
 /// Why a line is not read.

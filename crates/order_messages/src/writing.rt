@@ -2,9 +2,8 @@
 ghost use Rattle.std.specs.Prelude.{◌≡◌, ◌<◌, IfOk, string_bytes};
 ghost use Rattle.order_messages.specs.Lines.{line_of, digit_of, form_word, held_word};
 
-use registry_lists::{Form, Held, Listing};
 use registry_model::Level;
-use registry_orders::{Change, Order};
+use registry_orders::{Change, Form, Held, Listing, Order};
 use std::alloc::{AllocError, Global};
 use std::fmt;
 

@@ -1,13 +1,14 @@
 //! What the tests of the program share, and those of writers, connections and sockets, over registries
 //! in memory.
 use oci_names::RepoName;
+use order_carrying::carry_out;
 use registry_connection::serve_connection;
 use registry_http::End;
 use registry_maps::MapKeeper;
 use registry_model::{Keeper, Level, Quota};
 use registry_opening::Opener;
 use registry_orders::options::{name_of, token_of};
-use registry_orders::{Cause, Change, Failure, Order, carry_out};
+use registry_orders::{Cause, Change, Failure, Order};
 use registry_program::{Entrance, run_words, serve, serve_one};
 use registry_service::Service;
 use std::alloc::{AllocError, Global};

@@ -1,7 +1,5 @@
--- Numbers in columns, and lines one after the other.
-use Rattle.std.proofs.Common.{◌≡◌, ◌∙◌, ℕ, zero, suc, ◌-◌, List, [], ◌∷◌, ◌++◌, length, replicate, arith, Option, None, Some, refl, ap, append-nil, append_assoc}
-use Rattle.std.specs.Io.KnownBytes.{Appends}
-use Rattle.oci_names.specs.Text.{Text}
+-- Numbers in columns.
+use Rattle.std.proofs.Common.{◌≡◌, ℕ, zero, suc, ◌-◌, List, [], ◌∷◌, ◌++◌, length, replicate, arith, refl, ap, append-nil}
 use Rattle.std.specs.List.{repeat}
 use Rattle.std.specs.Char.{encode_utf8}
 use Rattle.std.specs.Fmt.{decimal, padded_integral, char_count, format_spec, styled_decimal}
@@ -30,10 +28,3 @@ in_20_places n = right_with 20 (decimal n)
 pub in_10_places : (n : ℕ) → styled_decimal (format_spec 32 3 0 10 18446744073709551615) n ≡ right 10 n
 unfolding padded_integral char_count
 in_10_places n = right_with 10 (decimal n)
-
--- what is appended in two steps
-pub appends_more : (a b c : Option Text) (x y : Text) → Appends a b x → Appends b c y → Appends a c (x ++ y)
-appends_more None b c x y first second = tt
-appends_more (Some s) None c x y first second = absurd first
-appends_more (Some s) (Some t) None x y first second = absurd second
-appends_more (Some s) (Some t) (Some u) x y first second = second ∙ ap (λ v. v ++ y) first ∙ append_assoc s x y

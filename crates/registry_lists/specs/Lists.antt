@@ -8,10 +8,10 @@ use Rattle.registry_model.specs.World.{Repo, World, repo_at}
 use Rattle.registry_model.specs.TagPage.{tags_behind}
 use Rattle.registry_model.specs.Pruning.{names_in, is_among}
 use Rattle.registry_operations.specs.Pruning.{unnamed_of}
-use Rattle.registry_lists.specs.declared.listing.Held.{Held}
-use Rattle.registry_lists.specs.declared.listing.Held.TheVariants.{Tags, Blobs, Unnamed}
-use Rattle.registry_lists.specs.declared.listing.Listing.{Listing}
-use Rattle.registry_lists.specs.declared.listing.Listing.TheVariants.{Repos, InRepo}
+use Rattle.registry_orders.specs.declared.listing.Held.{Held}
+use Rattle.registry_orders.specs.declared.listing.Held.TheVariants.{Tags, Blobs, Unnamed}
+use Rattle.registry_orders.specs.declared.listing.Listing.{Listing}
+use Rattle.registry_orders.specs.declared.listing.Listing.TheVariants.{Repos, InRepo}
 use Rattle.registry_lists.specs.declared.items.Item.{Item}
 use Rattle.registry_lists.specs.declared.items.Item.TheVariants as item
 

@@ -10,7 +10,7 @@ use Rattle.registry_model.specs.Lookups.{tag_at, blob_size_at, manifest_digests_
 use Rattle.registry_model.specs.Pruning.{is_among}
 use Rattle.registry_model.specs.Keeping.{State}
 use Rattle.registry_operations.specs.Pruning.{names_at}
-use Rattle.registry_lists.specs.declared.listing.Held.{Held}
+use Rattle.registry_orders.specs.declared.listing.Held.{Held}
 use Rattle.registry_lists.specs.declared.items.Item.{Item}
 use Rattle.registry_lists.specs.declared.reading.Naming.{Naming}
 use Rattle.registry_lists.specs.Lists.{ItemShown, items_shown, held_of, tag_item, blob_item}

@@ -1,9 +1,10 @@
 -- The table of what the repositories hold and may hold (profile).
-use Rattle.std.specs.Prelude.{ℕ, ◌-◌, List, [], ◌∷◌, ◌++◌, length, replicate, codes}
+use Rattle.std.specs.Prelude.{ℕ, ◌-◌, List, ◌∷◌, ◌++◌, length, replicate, codes}
 use Rattle.std.specs.List.{flat_map}
 use Rattle.std.specs.Fmt.{decimal}
 use Rattle.oci_names.specs.Text.{Text}
 use Rattle.registry_model.specs.declared.quota.Usage.{Usage}
+use Rattle.registry_orders.specs.Outputs.{newline}
 
 -- the number in decimal digits, with spaces before it up to so many places
 abbrev pub right : ℕ → ℕ → Text
@@ -17,9 +18,6 @@ numbers_of u =
 
 abbrev pub row_of : Text → Usage → Text
 row_of name u = numbers_of u ++ 32 ∷ name
-
-abbrev pub newline : Text
-newline = 10 ∷ []
 
 abbrev pub heading : Text
 heading = codes "                used               quota     blobs manifests      tags  sessions name"

@@ -7,10 +7,10 @@ use Rattle.serde_json.specs.Written.{compact_text}
 use Rattle.oci_names.specs.Text.{Text}
 use Rattle.oci_manifest.specs.Member.{text_items}
 use Rattle.registry_model.specs.World.{World}
-use Rattle.registry_lists.specs.declared.listing.Listing.{Listing}
-use Rattle.registry_lists.specs.declared.listing.Form.{Form}
-use Rattle.registry_lists.specs.declared.listing.Form.TheVariants.{Lines, Json}
-use Rattle.registry_lists.specs.Table.{newline}
+use Rattle.registry_orders.specs.declared.listing.Listing.{Listing}
+use Rattle.registry_orders.specs.declared.listing.Form.{Form}
+use Rattle.registry_orders.specs.declared.listing.Form.TheVariants.{Lines, Json}
+use Rattle.registry_orders.specs.Outputs.{newline}
 use Rattle.registry_lists.specs.Lists.{ItemShown, repo_item, tag_item, blob_item, unnamed_item, listed}
 
 -- behind each space a digest

@@ -6,12 +6,10 @@
 
 pub mod items;
 mod lines;
-pub mod listing;
 pub mod lists;
 mod objects;
 mod reading;
 pub mod table;
 
-pub use listing::{Form, Held, Listing};
 pub use lists::list_text;
 pub use table::write_table;

@@ -7,11 +7,11 @@ ghost use Rattle.registry_lists.specs.Reading.{items_if, TellsText};
 
 use crate::items::Item;
 use crate::lines::as_lines;
-use crate::listing::{Form, Listing};
 use crate::objects::as_json;
 use crate::reading::{held, repos};
 use oci_names::Fault;
 use registry_model::Keeper;
+use registry_orders::{Form, Listing};
 use registry_service::Service;
 use std::alloc::Global;
 

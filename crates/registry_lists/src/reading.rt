@@ -7,9 +7,9 @@ ghost use Rattle.registry_lists.specs.Lists.{item_shown, items_shown, repos_of, 
 ghost use Rattle.registry_lists.specs.Reading.{naming_shown, namings_shown, namings_at, namers_among, held_at};
 
 use crate::items::Item;
-use crate::listing::Held;
 use oci_names::{Digest, Fault, RepoName, Tag};
 use registry_model::Keeper;
+use registry_orders::Held;
 use registry_service::Service;
 use std::alloc::{AllocError, Global};
 

@@ -5,7 +5,7 @@ use Rattle.std.proofs.lemmas.List.Folds.{list_any-append}
 use Rattle.oci_names.specs.Text.{Text}
 use Rattle.registry_orders.specs.declared.cause.Cause.{Cause}
 use Rattle.registry_orders.specs.declared.cause.Cause.TheVariants.{InUse, NoFolder, IsFolder, NoFileName, NoPlainFile, NoRightToRead, NoRightToWrite, ReadOnly, NoDatabase, Journal, DiskFull, NoRegistry, PortInUse, NoAddress, NoHost, Elsewhere, NoRightToPort, StdioOptions, TokenOptions, PlaceOptions, TogetherOptions, NoFile, Unreadable, NoToken, NoServer, ServerThere, NoSocket}
-use Rattle.registry_lists.specs.Table.{newline}
+use Rattle.registry_orders.specs.Outputs.{newline}
 use Rattle.registry_orders.specs.Causes.{words_of, reason_of, has_line_end, line_if, IsAtMostOneLine}
 
 words_end_nowhere : (cause : Cause) → has_line_end (words_of cause) ≡ false

@@ -1,7 +1,7 @@
 pub mod CauseLemmas
 pub mod CommandLemmas
 pub mod GivenLemmas
-pub mod OrderStatuses
+pub mod OutputLemmas
 pub mod SettingLemmas
 pub mod SplittingLemmas
 pub mod TokenLemmas

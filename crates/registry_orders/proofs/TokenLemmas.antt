@@ -6,7 +6,7 @@ use Rattle.clap.specs.Words.{Row}
 use Rattle.oci_names.specs.Text.{Text}
 use Rattle.registry_orders.specs.declared.orders.TokenChange.{TokenChange}
 use Rattle.registry_orders.specs.declared.orders.TokenChange.TheVariants.{Grant, Revoke}
-use Rattle.registry_lists.specs.Table.{newline}
+use Rattle.registry_orders.specs.Outputs.{newline}
 use Rattle.registry_orders.specs.Tokens.{IsFirstLine}
 use Rattle.registry_orders.specs.Orders.{HasToken, IsChangeIn, IsTokenChangeIn, change_with}
 

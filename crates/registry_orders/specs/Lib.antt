@@ -11,4 +11,4 @@ pub mod Tokens
 pub mod Orders
 pub mod Places
 pub mod Tasks
-pub mod Carrying
+pub mod Outputs

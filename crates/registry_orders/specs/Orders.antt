@@ -15,12 +15,12 @@ use Rattle.registry_orders.specs.declared.orders.TokenChange.TheVariants as but_
 use Rattle.registry_orders.specs.declared.orders.Order.{Order}
 use Rattle.registry_orders.specs.declared.orders.Order.TheVariants as order
 use Rattle.registry_orders.specs.Failures.{failure_of}
-use Rattle.registry_lists.specs.declared.listing.Held.{Held}
-use Rattle.registry_lists.specs.declared.listing.Held.TheVariants.{Tags, Blobs, Unnamed}
-use Rattle.registry_lists.specs.declared.listing.Listing.{Listing}
-use Rattle.registry_lists.specs.declared.listing.Listing.TheVariants.{Repos, InRepo}
-use Rattle.registry_lists.specs.declared.listing.Form.{Form}
-use Rattle.registry_lists.specs.declared.listing.Form.TheVariants.{Lines, Json}
+use Rattle.registry_orders.specs.declared.listing.Held.{Held}
+use Rattle.registry_orders.specs.declared.listing.Held.TheVariants.{Tags, Blobs, Unnamed}
+use Rattle.registry_orders.specs.declared.listing.Listing.{Listing}
+use Rattle.registry_orders.specs.declared.listing.Listing.TheVariants.{Repos, InRepo}
+use Rattle.registry_orders.specs.declared.listing.Form.{Form}
+use Rattle.registry_orders.specs.declared.listing.Form.TheVariants.{Lines, Json}
 use Rattle.registry_orders.specs.Options.{HasFlag, IsNumberOf, IsLevelOf}
 
 -- the command says the same as the change

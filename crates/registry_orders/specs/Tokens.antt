@@ -5,7 +5,7 @@ use Rattle.clap.specs.Words.{Row, first_of}
 use Rattle.oci_names.specs.Text.{Text}
 use Rattle.registry_orders.specs.declared.tokens.TokenSource.{TokenSource}
 use Rattle.registry_orders.specs.declared.tokens.TokenSource.TheVariants.{Input, File}
-use Rattle.registry_lists.specs.Table.{newline}
+use Rattle.registry_orders.specs.Outputs.{newline}
 
 -- the options say that the token is read from there
 abbrev pub IsTokenFrom : List Row → TokenSource → Type 0

@@ -7,10 +7,10 @@ ghost use Rattle.registry_orders.specs.Orders.{change_with};
 
 use crate::failure::Failure;
 use crate::given::{is_given, number_given, text_given};
+use crate::listing::{Form, Held, Listing};
 use crate::options::{level_numbered, name_of, token_of};
 use clap::ArgMatches;
 use oci_names::{RepoName, Token};
-use registry_lists::{Form, Held, Listing};
 use registry_model::{AdminCommand, Level, Quota};
 use std::alloc::Global;
 

@@ -5,7 +5,7 @@ use Rattle.std.proofs.lemmas.Bool.{ne_eqb}
 use Rattle.registry_model.specs.Keeping.{State}
 use Rattle.registry_orders.specs.declared.limits.Limits.{Limits}
 use Rattle.registry_orders.specs.declared.failure.Failure.{Failure}
-use Rattle.registry_orders.specs.Carrying.{Output}
+use Rattle.registry_orders.specs.Outputs.{Output}
 use Rattle.registry_loop.specs.Together.{ServesTogether}
 use Rattle.registry_program.specs.Stored.{Over}
 use Rattle.registry_program.specs.Sockets.{ServesSome, ServesAddress}

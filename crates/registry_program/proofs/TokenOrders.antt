@@ -6,7 +6,7 @@ use Rattle.registry_orders.specs.declared.orders.TokenChange.{TokenChange}
 use Rattle.registry_orders.specs.declared.place.Place.{Place}
 use Rattle.registry_orders.specs.declared.tokens.TokenSource.{TokenSource}
 use Rattle.registry_orders.specs.declared.tokens.TokenSource.TheVariants.{Input, File}
-use Rattle.registry_orders.specs.Carrying.{IsSilent}
+use Rattle.registry_orders.specs.Outputs.{IsSilent}
 use Rattle.registry_orders.specs.Tasks.{IsTask}
 use Rattle.registry_program.specs.Program.{Streams}
 use Rattle.registry_program.specs.Running.{Opened, output_of, RunsTokenOrder, LacksTokenOf, RunsWords, IsSparedFor}

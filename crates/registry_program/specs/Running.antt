@@ -19,7 +19,8 @@ use Rattle.registry_orders.specs.Tokens.{IsFirstLine}
 use Rattle.registry_orders.specs.Failures.{status_of, status_if, IsOfWords, IsOfOpening}
 use Rattle.registry_orders.specs.Tasks.{IsTask}
 use Rattle.registry_program.specs.Program.{Streams, IsUntouched, GivesUp, ServesMemory, ServesStored, Tells}
-use Rattle.registry_orders.specs.Carrying.{Output, output, IsSilent, IsCarriedOut}
+use Rattle.registry_orders.specs.Outputs.{Output, output, IsSilent}
+use Rattle.order_carrying.specs.Carrying.{IsCarriedOut}
 use Rattle.registry_program.specs.Sending.{IsSent}
 use Rattle.registry_program.specs.Sockets.{ServesAddress}
 use Rattle.registry_program.specs.Together.{serves_within}

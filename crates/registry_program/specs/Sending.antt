@@ -6,7 +6,7 @@ use Rattle.oci_names.specs.Text.{Text}
 use Rattle.order_messages.specs.Answers.{answer_text}
 use Rattle.registry_orders.specs.declared.failure.Failure.{Failure}
 use Rattle.registry_orders.specs.declared.failure.Failure.TheVariants.{OutOfMemory, ConnectionFailure}
-use Rattle.registry_orders.specs.Carrying.{Output, IsSilent}
+use Rattle.registry_orders.specs.Outputs.{Output, IsSilent}
 use Rattle.registry_orders.specs.Failures.{status_of}
 
 -- why an order has no answer: want of memory, or the socket fails

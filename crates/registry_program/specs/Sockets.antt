@@ -10,8 +10,8 @@ use Rattle.registry_http.specs.declared.ending.End.{End}
 use Rattle.registry_orders.specs.declared.failure.Failure.{Failure}
 use Rattle.registry_orders.specs.Failures.{IsOfServing}
 use Rattle.registry_program.specs.Program.{Streams, traffic_of}
-use Rattle.registry_orders.specs.Carrying.{Output}
-use Rattle.registry_lists.specs.Table.{newline}
+use Rattle.registry_orders.specs.Outputs.{Output}
+use Rattle.registry_orders.specs.Outputs.{newline}
 
 -- some connection was served to this end, from one state to another
 abbrev pub Connects : End → State → State → Type 0

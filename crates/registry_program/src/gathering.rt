@@ -1,6 +1,6 @@
 //! Connections that are served together, over a registry that is opened again where its storage fails.
 ghost use Rattle.std.specs.Prelude.{OnOk, IfErr};
-ghost use Rattle.registry_orders.specs.Carrying.{output};
+ghost use Rattle.registry_orders.specs.Outputs.{output};
 ghost use Rattle.registry_program.specs.Stored.{Over};
 ghost use Rattle.registry_program.specs.Sockets.{ServesAddress};
 ghost use Rattle.registry_loop.specs.Together.{ServesTogether};

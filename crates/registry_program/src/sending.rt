@@ -2,8 +2,8 @@
 ghost use Rattle.std.specs.Prelude.{◌≡◌, ◌≢◌, ◌<◌, ◌≤◌, ◌++◌, OnOk, IfOk, IfErr, IfSome};
 ghost use Rattle.std.specs.Io.KnownBytes.{Appends};
 ghost use Rattle.order_messages.specs.Lines.{line_of};
-ghost use Rattle.registry_lists.specs.Table.{newline};
-ghost use Rattle.registry_orders.specs.Carrying.{output, IsSilent};
+ghost use Rattle.registry_orders.specs.Outputs.{newline};
+ghost use Rattle.registry_orders.specs.Outputs.{output, IsSilent};
 ghost use Rattle.registry_program.specs.Sending.{IsOfSending, Shows, Relays, IsSent};
 
 use order_messages::{Answer, read_answer, write_order};

@@ -1,7 +1,7 @@
 ghost use Rattle.std.specs.Prelude.{◌≡◌, ℕ, false, OnOk, IfOk, IfErr, MatchResult, ◌⊎◌};
 ghost use Rattle.std.specs.Io.KnownBytes.{Appends};
 ghost use Rattle.registry_orders.specs.Failures.{IsOfOpening, IsOfServing};
-ghost use Rattle.registry_orders.specs.Carrying.{output};
+ghost use Rattle.registry_orders.specs.Outputs.{output};
 ghost use Rattle.registry_program.specs.Stored.{Over};
 ghost use Rattle.registry_program.specs.Sockets.{ServesNext, ServesMany, ServesSome, ServesAddress, served_by, greeting};
 ghost use Rattle.registry_model.specs.Keeping.{State};

@@ -4,13 +4,14 @@ ghost use Rattle.registry_orders.specs.Setting.{with_repos, with_levels, world_f
 ghost use Rattle.registry_program.specs.Failures.{ended_as};
 ghost use Rattle.registry_program.specs.Program.{streams, ServesMemory, ServesStored};
 
+use order_carrying::Ended;
 use registry_connection::serve_connection;
 use registry_http::End;
 use registry_maps::MapKeeper;
 use registry_model::Keeper;
 use registry_orders::failure::{of_command, say};
 use registry_orders::options::{GrantOption, RepoOption, Setup};
-use registry_orders::{Ended, Failure};
+use registry_orders::Failure;
 use registry_service::{AdminCommand, Service};
 use std::alloc::Global;
 use std::io::{Read, Write};

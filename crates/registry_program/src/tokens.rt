@@ -1,7 +1,7 @@
 //! Orders whose token is read from a file or from standard input.
 ghost use Rattle.std.specs.Prelude.{◌≡◌, ◌≢◌, ◌<◌, ◌≤◌, ◌⊎◌, IfErr};
 ghost use Rattle.registry_orders.specs.Failures.{IsOfWords};
-ghost use Rattle.registry_orders.specs.Carrying.{IsSilent, output};
+ghost use Rattle.registry_orders.specs.Outputs.{IsSilent, output};
 ghost use Rattle.registry_program.specs.Stored.{OverAt};
 ghost use Rattle.registry_program.specs.Program.{streams};
 ghost use Rattle.registry_program.specs.Running.{RunsByInput, RunsByFile, RunsTokenOrder};

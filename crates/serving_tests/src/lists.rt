@@ -2,9 +2,10 @@
 
 use crate::setting::HELLO;
 use oci_names::{RepoName, Token};
-use registry_lists::{Form, Held, Listing, list_text};
+use registry_lists::list_text;
 use registry_maps::MapKeeper;
 use registry_model::{AdminCommand, Level, Query, Quota, Request, Route, Verb};
+use registry_orders::{Form, Held, Listing};
 use registry_service::Service;
 use std::alloc::Global;
 use std::process::Abort;

@@ -1,7 +1,7 @@
 use Rattle.std.proofs.Common.{◌∙◌, ◌++◌, map, ap}
 use Rattle.serde_json.specs.Written.{has_float, compact_text}
 use Rattle.serde_json.proofs.Views.{view-Array}
-use Rattle.registry_lists.specs.Table.{newline}
+use Rattle.registry_orders.specs.Outputs.{newline}
 use Rattle.registry_lists.specs.Lists.{item_shown}
 use Rattle.registry_lists.proofs.TextLemmas.{list_no_float}
 use Rattle.registry_lists.proofs.objects.as_json.Goals as goal

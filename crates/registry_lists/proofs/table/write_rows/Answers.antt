@@ -2,8 +2,9 @@ use Rattle.std.proofs.Common.{◌≡◌, ◌∙◌, ◌+◌, ◌∷◌, ◌++◌
 use Rattle.std.specs.Io.KnownBytes.{Appends}
 use Rattle.std.proofs.lemmas.List.{at_drop_more}
 use Rattle.oci_names.specs.Text.{Text}
-use Rattle.registry_lists.specs.Table.{newline, row_of, rows_of}
-use Rattle.registry_lists.proofs.TableLemmas.{appends_more}
+use Rattle.registry_lists.specs.Table.{row_of, rows_of}
+use Rattle.registry_orders.specs.Outputs.{newline}
+use Rattle.registry_orders.proofs.OutputLemmas.{appends_more}
 use Rattle.registry_lists.proofs.table.write_rows.Goals as goal
 
 pub loop-name-preserved : goal.loop-name-preserved

@@ -1,9 +1,9 @@
 use Rattle.std.proofs.Common.{◌++◌}
 use Rattle.std.proofs.lemmas.Result.{on_ok_weaker}
 use Rattle.registry_orders.specs.Failures.{text_of}
-use Rattle.registry_lists.specs.Table.{newline}
+use Rattle.registry_orders.specs.Outputs.{newline}
 use Rattle.registry_orders.specs.Causes.{line_if}
-use Rattle.registry_lists.proofs.TableLemmas.{appends_more}
+use Rattle.registry_orders.proofs.OutputLemmas.{appends_more}
 use Rattle.registry_orders.proofs.cause.tell_at.Goals as goal
 
 pub returns-in-Ok : goal.returns-in-Ok

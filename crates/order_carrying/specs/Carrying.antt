@@ -10,19 +10,9 @@ use Rattle.registry_orders.specs.declared.orders.Order.{Order}
 use Rattle.registry_orders.specs.declared.orders.Order.TheVariants as asked
 use Rattle.registry_orders.specs.Failures.{status_if}
 use Rattle.registry_orders.specs.Orders.{Obeys}
+use Rattle.registry_orders.specs.Outputs.{Output, IsSilent}
 use Rattle.registry_lists.specs.Table.{table_of}
 use Rattle.registry_lists.specs.Texts.{IsListText}
-
--- what standard output held before and after, where it is known
-pub record Output : Type 0 where
-  pub held : Option Text
-  pub held' : Option Text
-
-abbrev pub output : Option Text → Option Text → Output
-output held held' = record { held = held; held' = held' }
-
-abbrev pub IsSilent : Output → Type 0
-IsSilent o = o.held' ≡ o.held
 
 -- the table of the world was written; or memory was wanting, the storage failed or writing did; the world
 -- stays
