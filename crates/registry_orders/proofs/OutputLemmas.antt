@@ -1,5 +1,5 @@
 -- What is appended in two steps.
-use Rattle.std.proofs.Common.{◌≡◌, ◌∙◌, ◌++◌, Option, None, Some, ap, append_assoc}
+use Rattle.std.proofs.Common.{◌∙◌, ◌++◌, Option, None, Some, ap, append_assoc}
 use Rattle.std.specs.Io.KnownBytes.{Appends}
 use Rattle.oci_names.specs.Text.{Text}
 

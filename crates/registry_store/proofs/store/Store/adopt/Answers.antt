@@ -1,4 +1,4 @@
-use Rattle.std.proofs.Common.{◌≡◌, ◌∙◌, true, arith, inl, inr, sym, ap}
+use Rattle.std.proofs.Common.{◌∙◌, arith, inl, inr, sym}
 use Rattle.sqlite.specs.State.{HasCleanDisk}
 use Rattle.sqlite.specs.Held.{state}
 use Rattle.registry_model.proofs.ChangedMaps.{not_Some}
