@@ -142,6 +142,14 @@ def copy_database(path, to):
             shutil.copy(path + end, to + end)
 
 
+def service_environment():
+    """What the service tells the C library's allocator (deploy/firkhen.service), so that it is in force here too."""
+    begun = "Environment=MALLOC_"
+    with open("deploy/firkhen.service", encoding="utf-8") as it:
+        words = [word for line in it if line.startswith(begun) for word in line.strip().split("=", 1)[1].split()]
+    return {**os.environ, **dict(word.split("=", 1) for word in words)}
+
+
 class Firkhen(Peer):
     fields = {"Authorization": "Bearer t1"}
 
@@ -155,7 +163,7 @@ class Firkhen(Peer):
         self.port = free_port()
         words = [self.executable, "serve", "--db", self.store, "--listen", f"127.0.0.1:{self.port}"]
         start = time.perf_counter()
-        self.process = subprocess.Popen(words, stdout=subprocess.PIPE)
+        self.process = subprocess.Popen(words, stdout=subprocess.PIPE, env=service_environment())
         self.process.stdout.readline()
         self.opened = time.perf_counter() - start
         self.connect()
