@@ -1,5 +1,6 @@
 -- What the version that is found says of a database, and how it is refused.
 use Rattle.std.proofs.Common.{◌≡◌, ◌≢◌, ◌⊎◌, ◌∙◌, inl, inr, ℤ, pos, List, [], ◌∷◌, Ok, Err, Result, IfOk, IfErr, refl, sym, ap, subst}
+use Rattle.std.specs.Prelude.{IsErrAnd}
 use Rattle.sqlite.specs.declared.types.Value.TheVariants.{Int}
 use Rattle.sqlite.specs.Order.{Row}
 use Rattle.sqlite.specs.Effect.{Database}
@@ -75,6 +76,11 @@ names_neither Memory none = tt
 names_neither Storage none = tt
 names_neither NotARegistry none = tt
 names_neither (Numbered n) none = absurd none
+
+-- a fault is passed on
+pub passed_on : {A : Type 0} (P : OpenFault → Type 0) (r : Result A OpenFault) (fault : OpenFault) → IsErrAnd r (λ e. e ≡ fault) → P fault → IfErr r P
+passed_on P (Ok v) fault is it = tt
+passed_on P (Err e) fault is it = subst P (sym is) it
 
 pub is_told : (s : State) (e : OpenFault) → IsUnnumbered e → IsTold s e
 is_told s Memory none = tt

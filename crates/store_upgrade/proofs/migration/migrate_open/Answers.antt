@@ -122,3 +122,83 @@ returns-in-Err-clause-other g c clean knows n says one two =
 pub returns-in-Err-clause-unsaid : goal.returns-in-Err-clause-unsaid
 returns-in-Err-clause-unsaid g c clean knows none =
     refused_unsaid (versions_in (state g.S.Store c.args.conn.now).now) c.read_version.result (c.read_version.ensures.alone clean knows) c.in-Err.fault c.in-Err.ensures.other none c.read_version.ensures.none
+
+-- ---- what a branch does not answer
+
+pub returns-in-Ok-clause-wanting : goal.returns-in-Ok-clause-wanting
+returns-in-Ok-clause-wanting g c clean old = tt
+
+pub returns-in-Ok-clause-unmoved : goal.returns-in-Ok-clause-unmoved
+returns-in-Ok-clause-unmoved g c clean new = tt
+
+pub returns-in-Ok-clause-another : goal.returns-in-Ok-clause-another
+returns-in-Ok-clause-another g c = tt
+
+pub returns-in-Ok-clause-told : goal.returns-in-Ok-clause-told
+returns-in-Ok-clause-told g c clean = tt
+
+pub returns-in-Ok-clause-back : goal.returns-in-Ok-clause-back
+returns-in-Ok-clause-back g c clean idle old = tt
+
+pub returns-in-Err-take_over-clause-moved : goal.returns-in-Err-take_over-clause-moved
+returns-in-Err-take_over-clause-moved g c clean idle old = tt
+
+pub returns-in-Err-take_over-clause-counted : goal.returns-in-Err-take_over-clause-counted
+returns-in-Err-take_over-clause-counted g c clean idle old = tt
+
+pub returns-in-Err-take_over-clause-found : goal.returns-in-Err-take_over-clause-found
+returns-in-Err-take_over-clause-found g c clean idle new = tt
+
+pub returns-in-Err-take_over-clause-nothing : goal.returns-in-Err-take_over-clause-nothing
+returns-in-Err-take_over-clause-nothing g c clean new = tt
+
+pub returns-in-Err-take_over-clause-asked : goal.returns-in-Err-take_over-clause-asked
+returns-in-Err-take_over-clause-asked g c clean = tt
+
+pub returns-in-Err-take_over-clause-free : goal.returns-in-Err-take_over-clause-free
+returns-in-Err-take_over-clause-free g c clean = tt
+
+pub returns-in-Ok-Two-clause-wanting : goal.returns-in-Ok-Two-clause-wanting
+returns-in-Ok-Two-clause-wanting g c clean old = tt
+
+pub returns-in-Ok-Two-clause-unmoved : goal.returns-in-Ok-Two-clause-unmoved
+returns-in-Ok-Two-clause-unmoved g c clean new = tt
+
+pub returns-in-Ok-Two-clause-another : goal.returns-in-Ok-Two-clause-another
+returns-in-Ok-Two-clause-another g c = tt
+
+pub returns-in-Ok-Two-clause-told : goal.returns-in-Ok-Two-clause-told
+returns-in-Ok-Two-clause-told g c clean = tt
+
+pub returns-in-Ok-Two-clause-back : goal.returns-in-Ok-Two-clause-back
+returns-in-Ok-Two-clause-back g c clean idle old = tt
+
+pub returns-in-Ok-Two-clause-free : goal.returns-in-Ok-Two-clause-free
+returns-in-Ok-Two-clause-free g c clean = tt
+
+pub returns-in-Err-clause-moved : goal.returns-in-Err-clause-moved
+returns-in-Err-clause-moved g c clean idle old = tt
+
+pub returns-in-Err-clause-counted : goal.returns-in-Err-clause-counted
+returns-in-Err-clause-counted g c clean idle old = tt
+
+pub returns-in-Err-clause-found : goal.returns-in-Err-clause-found
+returns-in-Err-clause-found g c clean idle new = tt
+
+pub returns-in-Err-clause-nothing : goal.returns-in-Err-clause-nothing
+returns-in-Err-clause-nothing g c clean new = tt
+
+pub returns-in-Err-clause-asked : goal.returns-in-Err-clause-asked
+returns-in-Err-clause-asked g c clean = tt
+
+pub returns-in-Err-clause-free : goal.returns-in-Err-clause-free
+returns-in-Err-clause-free g c clean = tt
+
+pub returns-in-Ok-Two-clause-nothing : goal.returns-in-Ok-Two-clause-nothing
+returns-in-Ok-Two-clause-nothing g c clean new = refl
+
+pub returns-in-Ok-Two-clause-survives : goal.returns-in-Ok-Two-clause-survives
+returns-in-Ok-Two-clause-survives g c = c.read_version.ensures.survives
+
+pub returns-in-Err-clause-survives : goal.returns-in-Err-clause-survives
+returns-in-Err-clause-survives g c = c.read_version.ensures.survives

@@ -1,4 +1,5 @@
-use Rattle.std.proofs.Common.{arith, refl}
+use Rattle.std.proofs.Common.{◌∙◌, arith, refl}
+use Rattle.std.proofs.lemmas.Result.{IfOk-from_err}
 use Rattle.sqlite.specs.State.{HasCleanDisk}
 use Rattle.sqlite.specs.Held.{state}
 use Rattle.store_schema.proofs.Selects.{commit_then, survives_both}
@@ -79,3 +80,48 @@ returns-in-Ok-clause-counted g c clean is under =
     let step = c.in_ok-manifests.ensures.moved third it1.0 it1.1.underway in
     all_counted (held (state g.S.Store c.args.tx.now.conn.now)) (held (state g.S.Store c.move_blobs.new.tx.conn.now)) (held (state g.S.Store c.move_manifests.new.tx.conn.now)) c.in_ok-blobs.blobs c.in_ok-manifests.manifests c.in_ok-sessions.sessions it1.1 step.1
     (c.in_ok-blobs.ensures.counted second is under) (c.in_ok-manifests.ensures.counted third it1.0 it1.1.underway) (c.in_ok-sessions.ensures.counted late it2.0 it2.1.underway)
+
+pub returns-in_err-blobs-clause-moved : goal.returns-in_err-blobs-clause-moved
+returns-in_err-blobs-clause-moved g c clean is under = IfOk-from_err c.from_residual.result _ c.from_residual.ensures.0
+
+pub returns-in_err-blobs-clause-counted : goal.returns-in_err-blobs-clause-counted
+returns-in_err-blobs-clause-counted g c clean is under = IfOk-from_err c.from_residual.result _ c.from_residual.ensures.0
+
+pub returns-in_err-blobs-clause-same_reference : goal.returns-in_err-blobs-clause-same_reference
+returns-in_err-blobs-clause-same_reference g c = c.move_blobs.ensures.same_reference
+
+pub returns-in_err-manifests-clause-moved : goal.returns-in_err-manifests-clause-moved
+returns-in_err-manifests-clause-moved g c clean is under = IfOk-from_err c.from_residual-in_err-manifests.result _ c.from_residual-in_err-manifests.ensures.0
+
+pub returns-in_err-manifests-clause-counted : goal.returns-in_err-manifests-clause-counted
+returns-in_err-manifests-clause-counted g c clean is under = IfOk-from_err c.from_residual-in_err-manifests.result _ c.from_residual-in_err-manifests.ensures.0
+
+pub returns-in_err-manifests-clause-same_reference : goal.returns-in_err-manifests-clause-same_reference
+returns-in_err-manifests-clause-same_reference g c = c.move_manifests.ensures.same_reference ∙ c.move_blobs.ensures.same_reference
+
+pub returns-in_err-sessions-clause-moved : goal.returns-in_err-sessions-clause-moved
+returns-in_err-sessions-clause-moved g c clean is under = IfOk-from_err c.from_residual-in_err-sessions.result _ c.from_residual-in_err-sessions.ensures.0
+
+pub returns-in_err-sessions-clause-counted : goal.returns-in_err-sessions-clause-counted
+returns-in_err-sessions-clause-counted g c clean is under = IfOk-from_err c.from_residual-in_err-sessions.result _ c.from_residual-in_err-sessions.ensures.0
+
+pub returns-in_err-sessions-clause-same_reference : goal.returns-in_err-sessions-clause-same_reference
+returns-in_err-sessions-clause-same_reference g c = c.move_sessions.ensures.same_reference ∙ c.move_manifests.ensures.same_reference ∙ c.move_blobs.ensures.same_reference
+
+pub returns-in_err-blobs-clause-kept : goal.returns-in_err-blobs-clause-kept
+returns-in_err-blobs-clause-kept g c = c.move_blobs.ensures.kept
+
+pub returns-in_err-blobs-clause-survives : goal.returns-in_err-blobs-clause-survives
+returns-in_err-blobs-clause-survives g c = c.move_blobs.ensures.survives
+
+pub returns-in-Ok-clause-same_reference : goal.returns-in-Ok-clause-same_reference
+returns-in-Ok-clause-same_reference g c = c.raise_version.ensures.same_reference ∙ c.move_sessions.ensures.same_reference ∙ c.move_manifests.ensures.same_reference ∙ c.move_blobs.ensures.same_reference
+
+pub returns-in-Err-clause-same_reference : goal.returns-in-Err-clause-same_reference
+returns-in-Err-clause-same_reference g c = c.raise_version.ensures.same_reference ∙ c.move_sessions.ensures.same_reference ∙ c.move_manifests.ensures.same_reference ∙ c.move_blobs.ensures.same_reference
+
+pub returns-in-Err-clause-moved : goal.returns-in-Err-clause-moved
+returns-in-Err-clause-moved g c clean is under = tt
+
+pub returns-in-Err-clause-counted : goal.returns-in-Err-clause-counted
+returns-in-Err-clause-counted g c clean is under = tt

@@ -46,3 +46,52 @@ returns-in-Err-move_rows-clause-kept g c clean holds =
 
 pub returns-in-Ok-move_rows-clause-survives : goal.returns-in-Ok-move_rows-clause-survives
 returns-in-Ok-move_rows-clause-survives g c = survives_both (state g.S.Store c.args.tx.now.conn.now) (state g.S.Store c.make_tables_of_two.new.tx.conn.now) (state g.S.Store c.move_rows.new.tx.conn.now) c.make_tables_of_two.ensures.survives c.move_rows.ensures.survives
+
+pub returns-in-Ok-move_rows-clause-wanting : goal.returns-in-Ok-move_rows-clause-wanting
+returns-in-Ok-move_rows-clause-wanting g c clean holds = tt
+
+pub returns-in-Ok-move_rows-clause-unnumbered : goal.returns-in-Ok-move_rows-clause-unnumbered
+returns-in-Ok-move_rows-clause-unnumbered g c = tt
+
+pub returns-in-Ok-move_rows-clause-same_reference : goal.returns-in-Ok-move_rows-clause-same_reference
+returns-in-Ok-move_rows-clause-same_reference g c = c.move_rows.ensures.same_reference ∙ c.make_tables_of_two.ensures.same_reference
+
+pub returns-in-Err-move_rows-clause-made : goal.returns-in-Err-move_rows-clause-made
+returns-in-Err-move_rows-clause-made g c clean holds = tt
+
+pub returns-in-Err-move_rows-clause-counted : goal.returns-in-Err-move_rows-clause-counted
+returns-in-Err-move_rows-clause-counted g c clean holds = tt
+
+pub returns-in-Err-move_rows-clause-wanting : goal.returns-in-Err-move_rows-clause-wanting
+returns-in-Err-move_rows-clause-wanting g c clean holds = c.opening_fault.ensures.wanting
+
+pub returns-in-Err-move_rows-clause-unnumbered : goal.returns-in-Err-move_rows-clause-unnumbered
+returns-in-Err-move_rows-clause-unnumbered g c = c.opening_fault.ensures.unnumbered
+
+pub returns-in-Err-move_rows-clause-free : goal.returns-in-Err-move_rows-clause-free
+returns-in-Err-move_rows-clause-free g c clean = tt
+
+pub returns-in-Err-move_rows-clause-same_reference : goal.returns-in-Err-move_rows-clause-same_reference
+returns-in-Err-move_rows-clause-same_reference g c = c.move_rows.ensures.same_reference ∙ c.make_tables_of_two.ensures.same_reference
+
+pub returns-in-Err-move_rows-clause-survives : goal.returns-in-Err-move_rows-clause-survives
+returns-in-Err-move_rows-clause-survives g c =
+    survives_both (state g.S.Store c.args.tx.now.conn.now) (state g.S.Store c.make_tables_of_two.new.tx.conn.now) (state g.S.Store c.move_rows.new.tx.conn.now) c.make_tables_of_two.ensures.survives c.move_rows.ensures.survives
+
+pub returns-in-Err-clause-made : goal.returns-in-Err-clause-made
+returns-in-Err-clause-made g c clean holds = tt
+
+pub returns-in-Err-clause-counted : goal.returns-in-Err-clause-counted
+returns-in-Err-clause-counted g c clean holds = tt
+
+pub returns-in-Err-clause-free : goal.returns-in-Err-clause-free
+returns-in-Err-clause-free g c clean = tt
+
+pub returns-in-Err-clause-kept : goal.returns-in-Err-clause-kept
+returns-in-Err-clause-kept g c clean holds = c.make_tables_of_two.ensures.kept clean
+
+pub returns-in-Err-clause-same_reference : goal.returns-in-Err-clause-same_reference
+returns-in-Err-clause-same_reference g c = c.make_tables_of_two.ensures.same_reference
+
+pub returns-in-Err-clause-survives : goal.returns-in-Err-clause-survives
+returns-in-Err-clause-survives g c = c.make_tables_of_two.ensures.survives
