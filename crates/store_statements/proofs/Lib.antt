@@ -10,6 +10,8 @@ pub mod SettledAfter
 pub mod ChildLemmas
 pub mod Selected
 pub mod GrantReads
+pub mod CommitsKept
+pub mod ReadFailures
 pub mod BlobRows
 pub mod SessionKeys
 pub mod UploadRows

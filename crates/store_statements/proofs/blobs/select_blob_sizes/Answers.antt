@@ -2,8 +2,45 @@ use Rattle.std.proofs.Common.{[], ◌∷◌}
 use Rattle.sqlite.specs.Order.{column}
 use Rattle.store_schema.specs.Rows.{natural_at}
 use Rattle.store_statements.proofs.Selected.{permutation_read}
+use Rattle.std.proofs.lemmas.Result.{IfOk-from_err}
+use Rattle.sqlite.specs.Held.{state}
+use Rattle.store_schema.proofs.Selects.{if_err}
+use Rattle.store_statements.proofs.ReadFailures.{left_if}
 use Rattle.store_statements.proofs.blobs.select_blob_sizes.Goals as goal
 
 pub returns-clause-found : goal.returns-clause-found
 returns-clause-found g c clean is =
     permutation_read (λ r. column r 3 ∷ []) (λ r. natural_at r 3) (λ r. natural_at r 0) _ c.in_ok-rows.rows.items c.in_ok-sizes.sizes.items (λ r i. natural_at r 3) (c.in_ok-rows.ensures.shown clean is) (rw c.deref.ensures.value at c.in_ok-sizes.ensures)
+
+pub returns-in_err-rows-clause-found : goal.returns-in_err-rows-clause-found
+returns-in_err-rows-clause-found g c clean is = IfOk-from_err c.from_residual.result _ c.from_residual.ensures.0
+
+pub returns-in_err-rows-clause-same : goal.returns-in_err-rows-clause-same
+returns-in_err-rows-clause-same g c clean is = IfOk-from_err c.from_residual.result _ c.from_residual.ensures.0
+
+pub returns-in_err-rows-clause-err : goal.returns-in_err-rows-clause-err
+returns-in_err-rows-clause-err g c clean is = if_err c.from_residual.result (c.in_err-rows.ensures.err clean is)
+
+pub returns-in_err-rows-clause-survives : goal.returns-in_err-rows-clause-survives
+returns-in_err-rows-clause-survives g c = c.blob_size_rows.ensures.survives
+
+pub returns-in_err-sizes-clause-found : goal.returns-in_err-sizes-clause-found
+returns-in_err-sizes-clause-found g c clean is = IfOk-from_err c.from_residual-in_err-sizes.result _ c.from_residual-in_err-sizes.ensures.0
+
+pub returns-in_err-sizes-clause-same : goal.returns-in_err-sizes-clause-same
+returns-in_err-sizes-clause-same g c clean is = IfOk-from_err c.from_residual-in_err-sizes.result _ c.from_residual-in_err-sizes.ensures.0
+
+pub returns-in_err-sizes-clause-err : goal.returns-in_err-sizes-clause-err
+returns-in_err-sizes-clause-err g c clean is = left_if (state g.S.Store c.args.conn.now) (state g.S.Store c.blob_size_rows.new.conn) c.from_residual-in_err-sizes.result (c.in_ok-rows.ensures.same clean is)
+
+pub returns-in_err-sizes-clause-survives : goal.returns-in_err-sizes-clause-survives
+returns-in_err-sizes-clause-survives g c = c.blob_size_rows.ensures.survives
+
+pub returns-clause-same : goal.returns-clause-same
+returns-clause-same g c clean is = c.in_ok-rows.ensures.same clean is
+
+pub returns-clause-err : goal.returns-clause-err
+returns-clause-err g c clean is = tt
+
+pub returns-clause-survives : goal.returns-clause-survives
+returns-clause-survives g c = c.blob_size_rows.ensures.survives

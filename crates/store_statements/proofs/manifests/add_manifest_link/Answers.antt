@@ -5,6 +5,7 @@ use Rattle.std.proofs.lemmas.Int.{ints, to_z-of_z}
 use Rattle.sqlite.specs.Held.{state}
 use Rattle.sqlite.specs.declared.types.Value.TheVariants.{Int}
 use Rattle.store_statements.proofs.ManifestRows.{added_by, number_is, bound_text, subject_value}
+use Rattle.store_statements.proofs.CommitsKept.{kept_by_execute}
 use Rattle.store_statements.proofs.manifests.add_manifest_link.Goals as goal
 
 pub returns-in-Ok-clause-added : goal.returns-in-Ok-clause-added
@@ -23,3 +24,26 @@ returns-in-Ok-clause-added g c clean is fresh =
       bound_text subject,
       c.params-to_sql-6.ensures ∙ ap Int (to_z-of_z w64 c.get.result content ∙ c.get.ensures),
     ) at (c.in-Ok.ensures.runs clean is.inside))
+
+pub returns-in-Ok-clause-kept : goal.returns-in-Ok-clause-kept
+returns-in-Ok-clause-kept g c clean is =
+    kept_by_execute _ _ (state g.S.Store c.args.tx.now.conn.now) (state g.S.Store c.execute.new.self.conn.now) c.execute.result (c.execute.ensures.runs clean is.inside)
+
+pub returns-in-Ok-clause-same_reference : goal.returns-in-Ok-clause-same_reference
+returns-in-Ok-clause-same_reference g c = c.execute.ensures.same_reference
+
+pub returns-in-Ok-clause-survives : goal.returns-in-Ok-clause-survives
+returns-in-Ok-clause-survives g c = c.execute.ensures.survives
+
+pub returns-in-Err-clause-added : goal.returns-in-Err-clause-added
+returns-in-Err-clause-added g c clean is fresh = tt
+
+pub returns-in-Err-clause-kept : goal.returns-in-Err-clause-kept
+returns-in-Err-clause-kept g c clean is =
+    kept_by_execute _ _ (state g.S.Store c.args.tx.now.conn.now) (state g.S.Store c.execute.new.self.conn.now) c.execute.result (c.execute.ensures.runs clean is.inside)
+
+pub returns-in-Err-clause-same_reference : goal.returns-in-Err-clause-same_reference
+returns-in-Err-clause-same_reference g c = c.execute.ensures.same_reference
+
+pub returns-in-Err-clause-survives : goal.returns-in-Err-clause-survives
+returns-in-Err-clause-survives g c = c.execute.ensures.survives

@@ -6,8 +6,30 @@ use Rattle.store_world.specs.Keys.{on_subject}
 use Rattle.store_statements.specs.Held.{held}
 use Rattle.store_statements.specs.ManifestShown.{by_second, referrer_shown}
 use Rattle.store_statements.proofs.SelectedRows.{all_of_them}
+use Rattle.store_statements.proofs.ReadFailures.{same_if, left_if}
 use Rattle.store_statements.proofs.subjects.select_referrers.Goals as goal
 
 pub returns-in-Ok-clause-found : goal.returns-in-Ok-clause-found
 returns-in-Ok-clause-found g c clean is =
     all_of_them referrer_shown (λ r. column r 2 ∷ column r 6 ∷ []) (sort_by by_second (filter (on_subject c.args.repo.now c.args.digest.now) (held (state g.S.Store c.args.conn.now)).manifests)) c.in-Ok.rows.items c.referrers_in.result (c.in-Ok.ensures.shown clean is) (rw c.deref.ensures.value at c.referrers_in.ensures)
+
+pub returns-in-Ok-clause-same : goal.returns-in-Ok-clause-same
+returns-in-Ok-clause-same g c clean is = same_if c.referrers_in.result (c.in-Ok.ensures.same clean is)
+
+pub returns-in-Ok-clause-err : goal.returns-in-Ok-clause-err
+returns-in-Ok-clause-err g c clean is = left_if (state g.S.Store c.args.conn.now) (state g.S.Store c.subject_rows.new.conn) c.referrers_in.result (c.in-Ok.ensures.same clean is)
+
+pub returns-in-Ok-clause-survives : goal.returns-in-Ok-clause-survives
+returns-in-Ok-clause-survives g c = c.subject_rows.ensures.survives
+
+pub returns-in-Err-clause-found : goal.returns-in-Err-clause-found
+returns-in-Err-clause-found g c clean is = tt
+
+pub returns-in-Err-clause-same : goal.returns-in-Err-clause-same
+returns-in-Err-clause-same g c clean is = tt
+
+pub returns-in-Err-clause-err : goal.returns-in-Err-clause-err
+returns-in-Err-clause-err g c clean is = c.in-Err.ensures.err clean is
+
+pub returns-in-Err-clause-survives : goal.returns-in-Err-clause-survives
+returns-in-Err-clause-survives g c = c.subject_rows.ensures.survives

@@ -5,9 +5,31 @@ use Rattle.store_schema.specs.Rows.{bytes_at}
 use Rattle.store_world.specs.Keys.{has_key}
 use Rattle.store_statements.specs.Held.{held}
 use Rattle.store_statements.proofs.SelectedRows.{first_shown}
+use Rattle.store_statements.proofs.ReadFailures.{same_if, left_if}
 use Rattle.store_statements.proofs.tags.select_tag.Goals as goal
 
 pub returns-in-Ok-clause-found : goal.returns-in-Ok-clause-found
 returns-in-Ok-clause-found g c clean is =
     subst (λ x. IfOk c.first_digest.result (λ o. o ≡ x)) (first_shown (λ row. bytes_at row 0) (λ r. column r 3 ∷ []) (find (has_key c.args.repo.now c.args.tag.now) (held (state g.S.Store c.args.conn.now)).tags) c.in-Ok.rows.items (c.in-Ok.ensures.shown clean is))
     (rw c.deref.ensures.value at c.first_digest.ensures)
+
+pub returns-in-Ok-clause-same : goal.returns-in-Ok-clause-same
+returns-in-Ok-clause-same g c clean is = same_if c.first_digest.result (c.in-Ok.ensures.same clean is)
+
+pub returns-in-Ok-clause-err : goal.returns-in-Ok-clause-err
+returns-in-Ok-clause-err g c clean is = left_if (state g.S.Store c.args.conn.now) (state g.S.Store c.digest_rows.new.conn) c.first_digest.result (c.in-Ok.ensures.same clean is)
+
+pub returns-in-Ok-clause-survives : goal.returns-in-Ok-clause-survives
+returns-in-Ok-clause-survives g c = c.digest_rows.ensures.survives
+
+pub returns-in-Err-clause-found : goal.returns-in-Err-clause-found
+returns-in-Err-clause-found g c clean is = tt
+
+pub returns-in-Err-clause-same : goal.returns-in-Err-clause-same
+returns-in-Err-clause-same g c clean is = tt
+
+pub returns-in-Err-clause-err : goal.returns-in-Err-clause-err
+returns-in-Err-clause-err g c clean is = c.in-Err.ensures.err clean is
+
+pub returns-in-Err-clause-survives : goal.returns-in-Err-clause-survives
+returns-in-Err-clause-survives g c = c.digest_rows.ensures.survives
