@@ -1,3 +1,6 @@
+pub mod NothingDone
+pub mod CleanBefore
+pub mod FaultsTold
 pub mod PutLemmas
 pub mod MountLemmas
 pub mod StatementSequences

@@ -1,4 +1,4 @@
-use Rattle.std.proofs.Common.{◌≡◌, ◌∙◌, arith, None, refl, sym, ap}
+use Rattle.std.proofs.Common.{◌≡◌, ◌∙◌, None, refl, sym, ap}
 use Rattle.std.specs.Prelude.{Option, find, option_map}
 use Rattle.sqlite.specs.State.{HasCleanDisk}
 use Rattle.sqlite.specs.Held.{state}
@@ -12,6 +12,7 @@ use Rattle.store_statements.specs.declared.blobs.BlobLink.{BlobLink}
 use Rattle.store_statements.proofs.SettledAfter.{stays_then}
 use Rattle.store_statements.proofs.Transactions.{survives_all}
 use Rattle.store_writes.proofs.MountLemmas.{same_tables, same_world, no_storage, found_none, mounts_nothing, makes_from}
+use Rattle.store_writes.proofs.CleanBefore.{was_clean}
 use Rattle.store_writes.proofs.blob_mounts.mount.Goals as goal
 
 pub returns-in-Ok-Some-clause-made : goal.returns-in-Ok-Some-clause-made
@@ -23,8 +24,8 @@ returns-in-Ok-Some-clause-made g c there clean is =
 
 pub returns-in-Ok-None-clause-made : goal.returns-in-Ok-None-clause-made
 returns-in-Ok-None-clause-made g c there clean is =
-    let mid : HasCleanDisk (state g.S.Store c.find_blob_link.new.conn) = omega (arith, c.mount_link.ensures.survives.clean) in
-    let made = c.mount_link.ensures.made (λ clean. let early : HasCleanDisk (state g.S.Store c.args.conn.now) = omega (arith, c.find_blob_link.ensures.survives.clean) in
+    let mid : HasCleanDisk (state g.S.Store c.find_blob_link.new.conn) = was_clean c.mount_link.ensures.survives clean in
+    let made = c.mount_link.ensures.made (λ clean. let early : HasCleanDisk (state g.S.Store c.args.conn.now) = was_clean c.find_blob_link.ensures.survives clean in
     let stays = c.in-Ok-None.ensures.settled clean is refl in
     rw c.as_str-target.ensures.text (ap (λ (w : World). has_repo w c.args.to.now) (same_world (state g.S.Store c.args.conn.now) (state g.S.Store c.find_blob_link.new.conn) stays) ∙ there early)) (λ clean. let stays = c.in-Ok-None.ensures.settled clean is refl in
     let found : None ≡ option_map blob_link (find (has_key c.as_str-target.result.now c.as_str-text.result.now) (held (state g.S.Store c.args.conn.now)).blobs) = let e = c.in-Ok-None.ensures.found clean is in let f = c.in-Ok-None.field-0-is in cc in
@@ -34,7 +35,7 @@ returns-in-Ok-None-clause-made g c there clean is =
 
 pub returns-in-Ok-None-clause-memory : goal.returns-in-Ok-None-clause-memory
 returns-in-Ok-None-clause-memory g c clean is memory =
-    let mid : HasCleanDisk (state g.S.Store c.find_blob_link.new.conn) = omega (arith, c.mount_link.ensures.survives.clean) in
+    let mid : HasCleanDisk (state g.S.Store c.find_blob_link.new.conn) = was_clean c.mount_link.ensures.survives clean in
     stays_then (state g.S.Store c.args.conn.now) (state g.S.Store c.find_blob_link.new.conn) (state g.S.Store c.mount_link.new.conn) (c.in-Ok-None.ensures.settled mid is refl) (c.mount_link.ensures.memory (λ clean. let stays = c.in-Ok-None.ensures.settled clean is refl in
     let found : None ≡ option_map blob_link (find (has_key c.as_str-target.result.now c.as_str-text.result.now) (held (state g.S.Store c.args.conn.now)).blobs) = let e = c.in-Ok-None.ensures.found clean is in let f = c.in-Ok-None.field-0-is in cc in
     ap (λ (t : Tables). find (has_key c.as_str-target.result.now c.as_str-text.result.now) t.blobs) (same_tables (state g.S.Store c.args.conn.now) (state g.S.Store c.find_blob_link.new.conn) stays) ∙ found_none (find (has_key c.as_str-target.result.now c.as_str-text.result.now) (held (state g.S.Store c.args.conn.now)).blobs) found) clean (c.in-Ok-None.ensures.settled mid is refl).0 memory)

@@ -1,15 +1,15 @@
-use Rattle.std.proofs.Common.{arith}
 use Rattle.sqlite.specs.State.{HasCleanDisk}
 use Rattle.sqlite.specs.Held.{state}
 use Rattle.store_schema.proofs.Selects.{commit_then, survives_both}
 use Rattle.store_writes.proofs.ContentsFreed.{still_ready, cleared_if}
+use Rattle.store_writes.proofs.CleanBefore.{was_clean}
 use Rattle.store_writes.proofs.content_clearing.clear_contents.Goals as goal
 
 pub returns-in_err-ids-clause-kept : goal.returns-in_err-ids-clause-kept
 returns-in_err-ids-clause-kept g c clean is =
     let s0 = state g.S.Store c.args.tx.now.conn.now in
     let s1 = state g.S.Store c.named.new.tx.conn.now in
-    let clean-1 : HasCleanDisk s1 = omega (arith, c.unlinked.ensures.survives.clean) in
+    let clean-1 : HasCleanDisk s1 = was_clean c.unlinked.ensures.survives clean in
     let ready-1 = still_ready s0 s1 is (c.in_ok-set.ensures.same clean-1 is) in
     commit_then s0 s1 (state g.S.Store c.unlinked.new.tx.conn.now) (c.named.ensures.kept clean-1 is) (c.unlinked.ensures.kept clean ready-1.holds.contents)
 
@@ -22,8 +22,8 @@ returns-clause-cleared g c clean is =
     let s0 = state g.S.Store c.args.tx.now.conn.now in
     let s1 = state g.S.Store c.named.new.tx.conn.now in
     let s2 = state g.S.Store c.unlinked.new.tx.conn.now in
-    let clean-2 : HasCleanDisk s2 = omega (arith, c.take_contents.ensures.survives.clean) in
-    let clean-1 : HasCleanDisk s1 = omega (arith, c.unlinked.ensures.survives.clean) in
+    let clean-2 : HasCleanDisk s2 = was_clean c.take_contents.ensures.survives clean in
+    let clean-1 : HasCleanDisk s1 = was_clean c.unlinked.ensures.survives clean-2 in
     let same-1 = c.in_ok-set.ensures.same clean-1 is in
     let ready-1 = still_ready s0 s1 is same-1 in
     let same-2 = c.in_ok-ids.ensures.same clean-2 ready-1.holds.contents in
@@ -36,8 +36,8 @@ returns-clause-kept g c clean is =
     let s0 = state g.S.Store c.args.tx.now.conn.now in
     let s1 = state g.S.Store c.named.new.tx.conn.now in
     let s2 = state g.S.Store c.unlinked.new.tx.conn.now in
-    let clean-2 : HasCleanDisk s2 = omega (arith, c.take_contents.ensures.survives.clean) in
-    let clean-1 : HasCleanDisk s1 = omega (arith, c.unlinked.ensures.survives.clean) in
+    let clean-2 : HasCleanDisk s2 = was_clean c.take_contents.ensures.survives clean in
+    let clean-1 : HasCleanDisk s1 = was_clean c.unlinked.ensures.survives clean-2 in
     let ready-1 = still_ready s0 s1 is (c.in_ok-set.ensures.same clean-1 is) in
     let ready-2 = still_ready s1 s2 ready-1 (c.in_ok-ids.ensures.same clean-2 ready-1.holds.contents) in
     commit_then s0 s2 (state g.S.Store c.take_contents.new.tx.conn.now) (commit_then s0 s1 s2 (c.named.ensures.kept clean-1 is) (c.unlinked.ensures.kept clean-2 ready-1.holds.contents)) (c.take_contents.ensures.kept clean ready-2)

@@ -1,10 +1,10 @@
-use Rattle.std.proofs.Common.{arith}
 use Rattle.std.specs.BTreeSet.{keys}
 use Rattle.sqlite.specs.State.{HasCleanDisk}
 use Rattle.sqlite.specs.Held.{state}
 use Rattle.sqlite.proofs.Callers.{unchanged_then}
 use Rattle.store_schema.proofs.Selects.{commit_then, survives_both}
 use Rattle.store_writes.proofs.ContentsFreed.{still_ready, named_read}
+use Rattle.store_writes.proofs.CleanBefore.{was_clean}
 use Rattle.store_writes.proofs.content_clearing.named.Goals as goal
 
 pub returns-in_err-insert_pieces-clause-kept : goal.returns-in_err-insert_pieces-clause-kept
@@ -12,8 +12,8 @@ returns-in_err-insert_pieces-clause-kept g c clean is =
     let s0 = state g.S.Store c.args.tx.now.conn.now in
     let s1 = state g.S.Store c.insert_blobs.new.tx.conn.now in
     let s2 = state g.S.Store c.insert_manifests.new.tx.conn.now in
-    let clean-2 : HasCleanDisk s2 = omega (arith, c.insert_pieces.ensures.survives.clean) in
-    let clean-1 : HasCleanDisk s1 = omega (arith, c.insert_manifests.ensures.survives.clean) in
+    let clean-2 : HasCleanDisk s2 = was_clean c.insert_pieces.ensures.survives clean in
+    let clean-1 : HasCleanDisk s1 = was_clean c.insert_manifests.ensures.survives clean-2 in
     let ready-1 = still_ready s0 s1 is (c.in_ok-insert_blobs.ensures.same clean-1 is) in
     let ready-2 = still_ready s1 s2 ready-1 (c.in_ok-insert_manifests.ensures.same clean-2 ready-1) in
     commit_then s0 s2 (state g.S.Store c.insert_pieces.new.tx.conn.now) (commit_then s0 s1 s2 (c.insert_blobs.ensures.kept clean-1 is) (c.insert_manifests.ensures.kept clean-2 ready-1)) (c.insert_pieces.ensures.kept clean ready-2)
@@ -27,8 +27,8 @@ returns-clause-named g c clean is =
     let s0 = state g.S.Store c.args.tx.now.conn.now in
     let s1 = state g.S.Store c.insert_blobs.new.tx.conn.now in
     let s2 = state g.S.Store c.insert_manifests.new.tx.conn.now in
-    let clean-2 : HasCleanDisk s2 = omega (arith, c.insert_pieces.ensures.survives.clean) in
-    let clean-1 : HasCleanDisk s1 = omega (arith, c.insert_manifests.ensures.survives.clean) in
+    let clean-2 : HasCleanDisk s2 = was_clean c.insert_pieces.ensures.survives clean in
+    let clean-1 : HasCleanDisk s1 = was_clean c.insert_manifests.ensures.survives clean-2 in
     let same-1 = c.in_ok-insert_blobs.ensures.same clean-1 is in
     let ready-1 = still_ready s0 s1 is same-1 in
     let same-2 = c.in_ok-insert_manifests.ensures.same clean-2 ready-1 in
@@ -40,8 +40,8 @@ returns-clause-same g c clean is =
     let s0 = state g.S.Store c.args.tx.now.conn.now in
     let s1 = state g.S.Store c.insert_blobs.new.tx.conn.now in
     let s2 = state g.S.Store c.insert_manifests.new.tx.conn.now in
-    let clean-2 : HasCleanDisk s2 = omega (arith, c.insert_pieces.ensures.survives.clean) in
-    let clean-1 : HasCleanDisk s1 = omega (arith, c.insert_manifests.ensures.survives.clean) in
+    let clean-2 : HasCleanDisk s2 = was_clean c.insert_pieces.ensures.survives clean in
+    let clean-1 : HasCleanDisk s1 = was_clean c.insert_manifests.ensures.survives clean-2 in
     let same-1 = c.in_ok-insert_blobs.ensures.same clean-1 is in
     let ready-1 = still_ready s0 s1 is same-1 in
     let same-2 = c.in_ok-insert_manifests.ensures.same clean-2 ready-1 in
@@ -52,8 +52,8 @@ returns-clause-kept g c clean is =
     let s0 = state g.S.Store c.args.tx.now.conn.now in
     let s1 = state g.S.Store c.insert_blobs.new.tx.conn.now in
     let s2 = state g.S.Store c.insert_manifests.new.tx.conn.now in
-    let clean-2 : HasCleanDisk s2 = omega (arith, c.insert_pieces.ensures.survives.clean) in
-    let clean-1 : HasCleanDisk s1 = omega (arith, c.insert_manifests.ensures.survives.clean) in
+    let clean-2 : HasCleanDisk s2 = was_clean c.insert_pieces.ensures.survives clean in
+    let clean-1 : HasCleanDisk s1 = was_clean c.insert_manifests.ensures.survives clean-2 in
     let ready-1 = still_ready s0 s1 is (c.in_ok-insert_blobs.ensures.same clean-1 is) in
     let ready-2 = still_ready s1 s2 ready-1 (c.in_ok-insert_manifests.ensures.same clean-2 ready-1) in
     commit_then s0 s2 (state g.S.Store c.insert_pieces.new.tx.conn.now) (commit_then s0 s1 s2 (c.insert_blobs.ensures.kept clean-1 is) (c.insert_manifests.ensures.kept clean-2 ready-1)) (c.insert_pieces.ensures.kept clean ready-2)
@@ -66,7 +66,7 @@ pub returns-in_err-insert_manifests-clause-kept : goal.returns-in_err-insert_man
 returns-in_err-insert_manifests-clause-kept g c clean is =
     let s0 = state g.S.Store c.args.tx.now.conn.now in
     let s1 = state g.S.Store c.insert_blobs.new.tx.conn.now in
-    let clean-1 : HasCleanDisk s1 = omega (arith, c.insert_manifests.ensures.survives.clean) in
+    let clean-1 : HasCleanDisk s1 = was_clean c.insert_manifests.ensures.survives clean in
     commit_then s0 s1 (state g.S.Store c.insert_manifests.new.tx.conn.now) (c.insert_blobs.ensures.kept clean-1 is) (c.insert_manifests.ensures.kept clean (still_ready s0 s1 is (c.in_ok-insert_blobs.ensures.same clean-1 is)))
 
 pub returns-in_err-insert_manifests-clause-survives : goal.returns-in_err-insert_manifests-clause-survives

@@ -1,21 +1,21 @@
-use Rattle.std.proofs.Common.{arith}
 use Rattle.sqlite.specs.State.{HasCleanDisk}
 use Rattle.sqlite.specs.Held.{state}
 use Rattle.store_schema.proofs.Selects.{commit_then, survives_both}
 use Rattle.store_statements.specs.Steps.{tags_without, names_digest}
 use Rattle.store_writes.proofs.StatementSequences.{then_becomes}
+use Rattle.store_writes.proofs.CleanBefore.{was_clean}
 use Rattle.store_writes.proofs.deletions.take_manifest.Goals as goal
 
 pub returns-clause-taken : goal.returns-clause-taken
 returns-clause-taken g c clean is =
-    let mid : HasCleanDisk (state g.S.Store c.take_manifest_link.new.tx.conn.now) = omega (arith, c.take_tags_named.ensures.survives.clean) in
+    let mid : HasCleanDisk (state g.S.Store c.take_manifest_link.new.tx.conn.now) = was_clean c.take_tags_named.ensures.survives clean in
     let first = c.in_ok-take_manifest_link.ensures.taken mid is in
     then_becomes (state g.S.Store c.take_manifest_link.new.tx.conn.now) (state g.S.Store c.take_tags_named.new.tx.conn.now) _ (tags_without (names_digest c.args.repo.now c.args.digest.now)) c.take_tags_named.result first
     (c.take_tags_named.ensures.taken clean first.0)
 
 pub returns-clause-kept : goal.returns-clause-kept
 returns-clause-kept g c clean is =
-    let mid : HasCleanDisk (state g.S.Store c.take_manifest_link.new.tx.conn.now) = omega (arith, c.take_tags_named.ensures.survives.clean) in
+    let mid : HasCleanDisk (state g.S.Store c.take_manifest_link.new.tx.conn.now) = was_clean c.take_tags_named.ensures.survives clean in
     commit_then (state g.S.Store c.args.tx.now.conn.now) (state g.S.Store c.take_manifest_link.new.tx.conn.now) (state g.S.Store c.take_tags_named.new.tx.conn.now)
     (c.take_manifest_link.ensures.kept mid is) (c.take_tags_named.ensures.kept clean (c.in_ok-take_manifest_link.ensures.taken mid is).0)
 

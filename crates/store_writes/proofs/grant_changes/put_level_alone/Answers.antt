@@ -1,4 +1,4 @@
-use Rattle.std.proofs.Common.{◌∙◌, arith, sym}
+use Rattle.std.proofs.Common.{◌∙◌, sym, refl}
 use Rattle.sqlite.specs.State.{HasCleanDisk}
 use Rattle.sqlite.specs.Held.{state}
 use Rattle.sqlite.proofs.Callers.{survives_begin}
@@ -6,6 +6,9 @@ use Rattle.store_statements.specs.Held.{IsReady, held}
 use Rattle.store_writes.specs.Puts.{LevelIsPut}
 use Rattle.store_statements.proofs.Transactions.{ready, back_dropped, back_failed, survives_all, told_err}
 use Rattle.store_writes.proofs.PutLemmas.{commits_there}
+use Rattle.std.proofs.lemmas.Result.{IfOk-from_err}
+use Rattle.store_writes.proofs.NothingDone.{survives_here}
+use Rattle.store_writes.proofs.CleanBefore.{was_clean}
 use Rattle.store_writes.proofs.grant_changes.put_level_alone.Goals as goal
 
 pub returns-in-Ok-clause-committed : goal.returns-in-Ok-clause-committed
@@ -13,7 +16,7 @@ returns-in-Ok-clause-committed g c clean is =
     let begun = c.transaction-tx.ensures.begun in
     let same = c.conn-2-1.given.1 (sym (c.put_level.ensures.same_reference ∙ c.transaction-tx.ensures.same_reference)) in
     let late : HasCleanDisk (state g.S.Store c.commit.new.self.0) = rw same at clean in
-    let mid : HasCleanDisk (state g.S.Store c.put_level.new.tx.conn.now) = omega (arith, c.commit.ensures.survives.clean) in
+    let mid : HasCleanDisk (state g.S.Store c.put_level.new.tx.conn.now) = was_clean c.commit.ensures.survives late in
     let settled = is in
     let set : IsReady (state g.S.Store c.transaction-tx.result.conn.now) = rw begun (ready (state g.S.Store c.args.conn.now) settled) in
     rw same (commits_there (state g.S.Store c.put_level.new.tx.conn.now) (state g.S.Store c.commit.new.self.0) (λ t. LevelIsPut (held (state g.S.Store c.transaction-tx.result.conn.now)) t c.args.token.now c.args.repo.now c.args.level)
@@ -24,7 +27,7 @@ returns-in-Ok-clause-put g c clean is =
     let begun = c.transaction-tx.ensures.begun in
     let same = c.conn-2-1.given.1 (sym (c.put_level.ensures.same_reference ∙ c.transaction-tx.ensures.same_reference)) in
     let late : HasCleanDisk (state g.S.Store c.commit.new.self.0) = rw same at clean in
-    let mid : HasCleanDisk (state g.S.Store c.put_level.new.tx.conn.now) = omega (arith, c.commit.ensures.survives.clean) in
+    let mid : HasCleanDisk (state g.S.Store c.put_level.new.tx.conn.now) = was_clean c.commit.ensures.survives late in
     let settled = is in
     let set : IsReady (state g.S.Store c.transaction-tx.result.conn.now) = rw begun (ready (state g.S.Store c.args.conn.now) settled) in
     let it = c.in_ok-put_level.ensures.put mid set in
@@ -47,7 +50,7 @@ returns-in-Err-clause-back g c clean is =
     let begun = c.transaction-tx.ensures.begun in
     let same = c.conn-2-1.given.1 (sym (c.put_level.ensures.same_reference ∙ c.transaction-tx.ensures.same_reference)) in
     let late : HasCleanDisk (state g.S.Store c.commit.new.self.0) = rw same at clean in
-    let mid : HasCleanDisk (state g.S.Store c.put_level.new.tx.conn.now) = omega (arith, c.commit.ensures.survives.clean) in
+    let mid : HasCleanDisk (state g.S.Store c.put_level.new.tx.conn.now) = was_clean c.commit.ensures.survives late in
     let settled = is in
     let set : IsReady (state g.S.Store c.transaction-tx.result.conn.now) = rw begun (ready (state g.S.Store c.args.conn.now) settled) in
     rw same (back_failed (state g.S.Store c.args.conn.now) (state g.S.Store c.transaction-tx.result.conn.now) (state g.S.Store c.put_level.new.tx.conn.now) (state g.S.Store c.commit.new.self.0) _ settled (rw begun)
@@ -58,7 +61,7 @@ returns-in_err-put_level-clause-back g c clean is =
     let begun = c.transaction-tx.ensures.begun in
     let same = c.conn-1.given.1 (sym (c.put_level.ensures.same_reference ∙ c.transaction-tx.ensures.same_reference)) in
     let late : HasCleanDisk (state g.S.Store c.drop-tx.new.self.0) = rw same at clean in
-    let mid : HasCleanDisk (state g.S.Store c.put_level.new.tx.conn.now) = omega (arith, c.drop-tx.ensures.survives.clean) in
+    let mid : HasCleanDisk (state g.S.Store c.put_level.new.tx.conn.now) = was_clean c.drop-tx.ensures.survives late in
     let settled = is in
     let set : IsReady (state g.S.Store c.transaction-tx.result.conn.now) = rw begun (ready (state g.S.Store c.args.conn.now) settled) in
     told_err c.from_residual.result (rw same (back_dropped (state g.S.Store c.args.conn.now) (state g.S.Store c.transaction-tx.result.conn.now) (state g.S.Store c.put_level.new.tx.conn.now) (state g.S.Store c.drop-tx.new.self.0) settled (rw begun)
@@ -68,3 +71,30 @@ pub returns-in_err-put_level-clause-survives : goal.returns-in_err-put_level-cla
 returns-in_err-put_level-clause-survives g c =
     let same = c.conn-1.given.1 (sym (c.put_level.ensures.same_reference ∙ c.transaction-tx.ensures.same_reference)) in
     rw same (survives_all (state g.S.Store c.args.conn.now) (state g.S.Store c.put_level.new.tx.conn.now) (state g.S.Store c.drop-tx.new.self.0) _ _ (survives_begin g.S.Store c.args.conn.now (state g.S.Store c.put_level.new.tx.conn.now) _ (rw (c.transaction-tx.ensures.begun) at c.put_level.ensures.survives)) c.drop-tx.ensures.survives)
+
+pub returns-then-not-is_autocommit-clause-committed : goal.returns-then-not-is_autocommit-clause-committed
+returns-then-not-is_autocommit-clause-committed g c clean is = tt
+
+pub returns-in_err-put_level-clause-committed : goal.returns-in_err-put_level-clause-committed
+returns-in_err-put_level-clause-committed g c clean is = IfOk-from_err c.from_residual.result _ c.from_residual.ensures.0
+
+pub returns-in-Err-clause-committed : goal.returns-in-Err-clause-committed
+returns-in-Err-clause-committed g c clean is = tt
+
+pub returns-then-not-is_autocommit-clause-put : goal.returns-then-not-is_autocommit-clause-put
+returns-then-not-is_autocommit-clause-put g c clean is = tt
+
+pub returns-in_err-put_level-clause-put : goal.returns-in_err-put_level-clause-put
+returns-in_err-put_level-clause-put g c clean is = IfOk-from_err c.from_residual.result _ c.from_residual.ensures.0
+
+pub returns-in-Err-clause-put : goal.returns-in-Err-clause-put
+returns-in-Err-clause-put g c clean is = tt
+
+pub returns-then-not-is_autocommit-clause-back : goal.returns-then-not-is_autocommit-clause-back
+returns-then-not-is_autocommit-clause-back g c clean is is_open = (refl, refl)
+
+pub returns-in-Ok-clause-back : goal.returns-in-Ok-clause-back
+returns-in-Ok-clause-back g c clean is = tt
+
+pub returns-then-not-is_autocommit-clause-survives : goal.returns-then-not-is_autocommit-clause-survives
+returns-then-not-is_autocommit-clause-survives g c = survives_here (state g.S.Store c.args.conn.now)

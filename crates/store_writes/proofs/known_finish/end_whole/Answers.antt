@@ -1,4 +1,4 @@
-use Rattle.std.proofs.Common.{◌∙◌, arith, ap}
+use Rattle.std.proofs.Common.{◌∙◌, ap}
 use Rattle.std.specs.Prelude.{find}
 use Rattle.sqlite.specs.State.{HasCleanDisk}
 use Rattle.sqlite.specs.Held.{state}
@@ -7,13 +7,14 @@ use Rattle.store_world.specs.Keys.{has_key}
 use Rattle.store_world.specs.Tables.{Tables}
 use Rattle.store_statements.specs.Held.{held}
 use Rattle.store_writes.proofs.KnownEnds.{ended_if}
+use Rattle.store_writes.proofs.CleanBefore.{was_clean}
 use Rattle.store_writes.proofs.known_finish.end_whole.Goals as goal
 
 pub returns-in-Ok-clause-ended : goal.returns-in-Ok-clause-ended
 returns-in-Ok-clause-ended g c clean is fresh =
     let mid = state g.S.Store c.take_session.new.tx.conn.now in
     let new = state g.S.Store c.add_blob_link.new.tx.conn.now in
-    let early : HasCleanDisk mid = omega (arith, c.add_blob_link.ensures.survives.clean) in
+    let early : HasCleanDisk mid = was_clean c.add_blob_link.ensures.survives clean in
     let first = c.in-Ok.ensures.taken early is in
     ended_if (held (state g.S.Store c.args.tx.now.conn.now)) mid new c.args.repo.now c.args.number c.args.digest.now c.args.link c.add_blob_link.result first.1
     (c.add_blob_link.ensures.added clean first.0 (ap (λ (t : Tables). find (has_key c.args.repo.now c.args.digest.now) t.blobs) first.1 ∙ fresh))
@@ -21,7 +22,7 @@ returns-in-Ok-clause-ended g c clean is fresh =
 pub returns-in-Ok-clause-kept : goal.returns-in-Ok-clause-kept
 returns-in-Ok-clause-kept g c clean is =
     let mid = state g.S.Store c.take_session.new.tx.conn.now in
-    let early : HasCleanDisk mid = omega (arith, c.add_blob_link.ensures.survives.clean) in
+    let early : HasCleanDisk mid = was_clean c.add_blob_link.ensures.survives clean in
     commit_then (state g.S.Store c.args.tx.now.conn.now) mid (state g.S.Store c.add_blob_link.new.tx.conn.now) (c.take_session.ensures.kept early is) (c.add_blob_link.ensures.kept clean (c.in-Ok.ensures.taken early is).0)
 
 pub returns-in-Ok-clause-survives : goal.returns-in-Ok-clause-survives

@@ -1,17 +1,17 @@
-use Rattle.std.proofs.Common.{arith}
 use Rattle.sqlite.specs.State.{HasCleanDisk}
 use Rattle.sqlite.specs.Held.{state}
 use Rattle.oci_manifest.specs.Manifest.{shown}
 use Rattle.registry_model.specs.Ask.{text_in}
 use Rattle.store_schema.proofs.Selects.{commit_then, survives_both}
 use Rattle.store_writes.proofs.ManifestPuts.{then_ok, fresh_manifest, manifest_came}
+use Rattle.store_writes.proofs.CleanBefore.{was_clean}
 use Rattle.store_writes.proofs.manifest_puts.add_manifest.Goals as goal
 
 pub returns-clause-made : goal.returns-clause-made
 returns-clause-made g c clean is there fresh =
     let old = state g.S.Store c.args.tx.now.conn.now in
     let mid = state g.S.Store c.keep_matching.new.tx.conn.now in
-    let early : HasCleanDisk mid = omega (arith, c.add_manifest_link.ensures.survives.clean) in
+    let early : HasCleanDisk mid = was_clean c.add_manifest_link.ensures.survives clean in
     let found = c.in_ok-content.ensures.content early is.ready in
     then_ok c.add_manifest_link.result
     (manifest_came old mid (state g.S.Store c.add_manifest_link.new.tx.conn.now) c.in_ok-content.content.id c.args.repo.now c.args.digest.now c.args.bytes.now is there fresh found.1
@@ -22,7 +22,7 @@ pub returns-clause-kept : goal.returns-clause-kept
 returns-clause-kept g c clean is =
     let old = state g.S.Store c.args.tx.now.conn.now in
     let mid = state g.S.Store c.keep_matching.new.tx.conn.now in
-    let early : HasCleanDisk mid = omega (arith, c.add_manifest_link.ensures.survives.clean) in
+    let early : HasCleanDisk mid = was_clean c.add_manifest_link.ensures.survives clean in
     commit_then old mid (state g.S.Store c.add_manifest_link.new.tx.conn.now)
     (c.keep_matching.ensures.kept early is.ready) (c.add_manifest_link.ensures.kept clean (c.in_ok-content.ensures.content early is.ready).0)
 

@@ -1,4 +1,4 @@
-use Rattle.std.proofs.Common.{◌≡◌, ◌∙◌, arith, true, ap}
+use Rattle.std.proofs.Common.{◌≡◌, ◌∙◌, true, ap}
 use Rattle.sqlite.specs.State.{HasCleanDisk}
 use Rattle.sqlite.specs.Held.{state}
 use Rattle.registry_model.specs.Ask.{text_in}
@@ -6,11 +6,12 @@ use Rattle.store_schema.proofs.Selects.{commit_then, survives_both}
 use Rattle.store_world.specs.Registry.{is_repo}
 use Rattle.store_statements.specs.Held.{held}
 use Rattle.store_writes.proofs.ManifestPuts.{then_ok, tagged_put}
+use Rattle.store_writes.proofs.CleanBefore.{was_clean}
 use Rattle.store_writes.proofs.manifest_puts.add_tagged.Goals as goal
 
 pub returns-clause-made : goal.returns-clause-made
 returns-clause-made g c clean is there fresh =
-    let mid : HasCleanDisk (state g.S.Store c.add_manifest.new.tx.conn.now) = omega (arith, c.put_tag_if.ensures.survives.clean) in
+    let mid : HasCleanDisk (state g.S.Store c.add_manifest.new.tx.conn.now) = was_clean c.put_tag_if.ensures.survives clean in
     let first = c.in_ok-add_manifest.ensures.made mid is there fresh in
     let still : is_repo (held (state g.S.Store c.add_manifest.new.tx.conn.now)).repos c.args.repo.now ≡ true = ap (λ rows. is_repo rows c.args.repo.now) first.repos ∙ there in
     then_ok c.put_tag_if.result (tagged_put (state g.S.Store c.args.tx.now.conn.now) (state g.S.Store c.add_manifest.new.tx.conn.now) (state g.S.Store c.put_tag_if.new.tx.conn.now) c.args.repo.now c.args.digest.now c.args.bytes.now (text_in c.args.tag) first)
@@ -18,7 +19,7 @@ returns-clause-made g c clean is there fresh =
 
 pub returns-clause-kept : goal.returns-clause-kept
 returns-clause-kept g c clean is there fresh =
-    let mid : HasCleanDisk (state g.S.Store c.add_manifest.new.tx.conn.now) = omega (arith, c.put_tag_if.ensures.survives.clean) in
+    let mid : HasCleanDisk (state g.S.Store c.add_manifest.new.tx.conn.now) = was_clean c.put_tag_if.ensures.survives clean in
     commit_then (state g.S.Store c.args.tx.now.conn.now) (state g.S.Store c.add_manifest.new.tx.conn.now) (state g.S.Store c.put_tag_if.new.tx.conn.now) (c.add_manifest.ensures.kept mid is) (c.put_tag_if.ensures.kept clean (c.in_ok-add_manifest.ensures.made mid is there fresh).whole)
 
 pub returns-clause-survives : goal.returns-clause-survives

@@ -1,4 +1,4 @@
-use Rattle.std.proofs.Common.{◌≡◌, ◌∙◌, arith, sym, true, None}
+use Rattle.std.proofs.Common.{◌≡◌, ◌∙◌, sym, true, None, refl}
 use Rattle.std.specs.Prelude.{find}
 use Rattle.sqlite.specs.State.{HasCleanDisk}
 use Rattle.sqlite.specs.Held.{state}
@@ -9,6 +9,9 @@ use Rattle.store_statements.specs.Held.{held}
 use Rattle.store_writes.specs.Worlds.{IsWhole}
 use Rattle.store_statements.proofs.Transactions.{back_dropped, back_failed, survives_all, told_err}
 use Rattle.store_writes.proofs.ManifestPuts.{whole, makes_turned}
+use Rattle.std.proofs.lemmas.Result.{IfOk-from_err}
+use Rattle.store_writes.proofs.NothingDone.{survives_here}
+use Rattle.store_writes.proofs.CleanBefore.{was_clean}
 use Rattle.store_writes.proofs.manifest_puts.add_tagged_alone.Goals as goal
 
 pub returns-in-Ok-clause-made : goal.returns-in-Ok-clause-made
@@ -16,8 +19,8 @@ returns-in-Ok-clause-made g c had free clean is =
     let begun = c.transaction-tx.ensures.begun in
     let same = c.conn-2-1.given.1 (sym (c.add_tagged.ensures.same_reference ∙ c.transaction-tx.ensures.same_reference)) in
     let late : HasCleanDisk (state g.S.Store c.commit.new.self.0) = rw same at clean in
-    let mid : HasCleanDisk (state g.S.Store c.add_tagged.new.tx.conn.now) = omega (arith, c.commit.ensures.survives.clean) in
-    let first : HasCleanDisk (state g.S.Store c.transaction-tx.result.conn.now) = omega (arith, c.add_tagged.ensures.survives.clean) in
+    let mid : HasCleanDisk (state g.S.Store c.add_tagged.new.tx.conn.now) = was_clean c.commit.ensures.survives late in
+    let first : HasCleanDisk (state g.S.Store c.transaction-tx.result.conn.now) = was_clean c.add_tagged.ensures.survives mid in
     let settled = is in
     let set : IsWhole (state g.S.Store c.transaction-tx.result.conn.now) = rw begun (whole (state g.S.Store c.args.conn.now) settled) in
     let there : is_repo (held (state g.S.Store c.transaction-tx.result.conn.now)).repos c.args.repo.now ≡ true = rw begun (had (rw begun at first)) in
@@ -40,8 +43,8 @@ returns-in-Err-clause-back g c had free clean is =
     let begun = c.transaction-tx.ensures.begun in
     let same = c.conn-2-1.given.1 (sym (c.add_tagged.ensures.same_reference ∙ c.transaction-tx.ensures.same_reference)) in
     let late : HasCleanDisk (state g.S.Store c.commit.new.self.0) = rw same at clean in
-    let mid : HasCleanDisk (state g.S.Store c.add_tagged.new.tx.conn.now) = omega (arith, c.commit.ensures.survives.clean) in
-    let first : HasCleanDisk (state g.S.Store c.transaction-tx.result.conn.now) = omega (arith, c.add_tagged.ensures.survives.clean) in
+    let mid : HasCleanDisk (state g.S.Store c.add_tagged.new.tx.conn.now) = was_clean c.commit.ensures.survives late in
+    let first : HasCleanDisk (state g.S.Store c.transaction-tx.result.conn.now) = was_clean c.add_tagged.ensures.survives mid in
     let settled = is in
     let set : IsWhole (state g.S.Store c.transaction-tx.result.conn.now) = rw begun (whole (state g.S.Store c.args.conn.now) settled) in
     let there : is_repo (held (state g.S.Store c.transaction-tx.result.conn.now)).repos c.args.repo.now ≡ true = rw begun (had (rw begun at first)) in
@@ -54,8 +57,8 @@ returns-in_err-add_tagged-clause-back g c had free clean is =
     let begun = c.transaction-tx.ensures.begun in
     let same = c.conn-1.given.1 (sym (c.add_tagged.ensures.same_reference ∙ c.transaction-tx.ensures.same_reference)) in
     let late : HasCleanDisk (state g.S.Store c.drop-tx.new.self.0) = rw same at clean in
-    let mid : HasCleanDisk (state g.S.Store c.add_tagged.new.tx.conn.now) = omega (arith, c.drop-tx.ensures.survives.clean) in
-    let first : HasCleanDisk (state g.S.Store c.transaction-tx.result.conn.now) = omega (arith, c.add_tagged.ensures.survives.clean) in
+    let mid : HasCleanDisk (state g.S.Store c.add_tagged.new.tx.conn.now) = was_clean c.drop-tx.ensures.survives late in
+    let first : HasCleanDisk (state g.S.Store c.transaction-tx.result.conn.now) = was_clean c.add_tagged.ensures.survives mid in
     let settled = is in
     let set : IsWhole (state g.S.Store c.transaction-tx.result.conn.now) = rw begun (whole (state g.S.Store c.args.conn.now) settled) in
     let there : is_repo (held (state g.S.Store c.transaction-tx.result.conn.now)).repos c.args.repo.now ≡ true = rw begun (had (rw begun at first)) in
@@ -67,3 +70,21 @@ pub returns-in_err-add_tagged-clause-survives : goal.returns-in_err-add_tagged-c
 returns-in_err-add_tagged-clause-survives g c =
     let same = c.conn-1.given.1 (sym (c.add_tagged.ensures.same_reference ∙ c.transaction-tx.ensures.same_reference)) in
     rw same (survives_all (state g.S.Store c.args.conn.now) (state g.S.Store c.add_tagged.new.tx.conn.now) (state g.S.Store c.drop-tx.new.self.0) _ _ (survives_begin g.S.Store c.args.conn.now (state g.S.Store c.add_tagged.new.tx.conn.now) _ (rw (c.transaction-tx.ensures.begun) at c.add_tagged.ensures.survives)) c.drop-tx.ensures.survives)
+
+pub returns-then-not-is_autocommit-clause-made : goal.returns-then-not-is_autocommit-clause-made
+returns-then-not-is_autocommit-clause-made g c had free clean is = tt
+
+pub returns-in_err-add_tagged-clause-made : goal.returns-in_err-add_tagged-clause-made
+returns-in_err-add_tagged-clause-made g c had free clean is = IfOk-from_err c.from_residual.result _ c.from_residual.ensures.0
+
+pub returns-in-Err-clause-made : goal.returns-in-Err-clause-made
+returns-in-Err-clause-made g c had free clean is = tt
+
+pub returns-then-not-is_autocommit-clause-back : goal.returns-then-not-is_autocommit-clause-back
+returns-then-not-is_autocommit-clause-back g c had free clean is is_open = (refl, refl)
+
+pub returns-in-Ok-clause-back : goal.returns-in-Ok-clause-back
+returns-in-Ok-clause-back g c had free clean is = tt
+
+pub returns-then-not-is_autocommit-clause-survives : goal.returns-then-not-is_autocommit-clause-survives
+returns-then-not-is_autocommit-clause-survives g c = survives_here (state g.S.Store c.args.conn.now)

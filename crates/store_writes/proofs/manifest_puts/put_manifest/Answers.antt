@@ -1,4 +1,4 @@
-use Rattle.std.proofs.Common.{◌∙◌, arith, refl, sym}
+use Rattle.std.proofs.Common.{◌∙◌, refl, sym}
 use Rattle.std.specs.Prelude.{find, Option, ⊤}
 use Rattle.sqlite.specs.State.{HasCleanDisk}
 use Rattle.sqlite.specs.Held.{state}
@@ -10,20 +10,21 @@ use Rattle.store_statements.specs.ManifestShown.{manifest_link}
 use Rattle.store_statements.proofs.SettledAfter.{stays_then}
 use Rattle.store_statements.proofs.Transactions.{survives_all}
 use Rattle.store_writes.proofs.ManifestPuts.{then_ok, found_none, found_some, repo_there, fresh_still, made_there, made_new, memory_unspent}
+use Rattle.store_writes.proofs.CleanBefore.{was_clean}
 use Rattle.store_writes.proofs.manifest_puts.put_manifest.Goals as goal
 
 pub returns-in-Ok-Some-clause-made : goal.returns-in-Ok-Some-clause-made
 returns-in-Ok-Some-clause-made g c there clean is =
-    let mid : HasCleanDisk (state g.S.Store c.find_manifest_link.new.conn) = omega (arith, c.tag_there.ensures.survives.clean) in
+    let mid : HasCleanDisk (state g.S.Store c.find_manifest_link.new.conn) = was_clean c.tag_there.ensures.survives clean in
     let some = found_some manifest_link c.in-Ok-Some.field-0-0 (find (has_key c.args.repo.now c.args.digest.now) (held (state g.S.Store c.args.conn.now)).manifests) (sym c.in-Ok-Some.field-0-is ∙ (rw (c.as_str.ensures.text, c.as_str-2.ensures.text) at (c.in-Ok-Some.ensures.found mid is))) in
     then_ok c.tag_there.result (made_there (state g.S.Store c.args.conn.now) (state g.S.Store c.find_manifest_link.new.conn) (state g.S.Store c.tag_there.new.conn) c.args.repo.now c.args.digest.now c.args.bytes.now (text_in c.args.tag) (c.in-Ok-Some.ensures.settled mid is refl).1 some)
-    (rw (c.as_str-in-Ok-Some.ensures.text, c.as_str-in-Ok-Some-2.ensures.text) at (c.tag_there.ensures.made (λ clean. let early : HasCleanDisk (state g.S.Store c.args.conn.now) = omega (arith, c.find_manifest_link.ensures.survives.clean) in
+    (rw (c.as_str-in-Ok-Some.ensures.text, c.as_str-in-Ok-Some-2.ensures.text) at (c.tag_there.ensures.made (λ clean. let early : HasCleanDisk (state g.S.Store c.args.conn.now) = was_clean c.find_manifest_link.ensures.survives clean in
     rw c.as_str-in-Ok-Some.ensures.text (repo_there (state g.S.Store c.args.conn.now) (state g.S.Store c.find_manifest_link.new.conn) c.args.repo.now (c.in-Ok-Some.ensures.settled clean is refl).1 (there early))) clean (c.in-Ok-Some.ensures.settled mid is refl).0))
 
 pub returns-in-Ok-Some-clause-memory : goal.returns-in-Ok-Some-clause-memory
 returns-in-Ok-Some-clause-memory g c there clean is memory =
-    let mid : HasCleanDisk (state g.S.Store c.find_manifest_link.new.conn) = omega (arith, c.tag_there.ensures.survives.clean) in
-    stays_then (state g.S.Store c.args.conn.now) (state g.S.Store c.find_manifest_link.new.conn) (state g.S.Store c.tag_there.new.conn) (c.in-Ok-Some.ensures.settled mid is refl) (c.tag_there.ensures.memory (λ clean. let early : HasCleanDisk (state g.S.Store c.args.conn.now) = omega (arith, c.find_manifest_link.ensures.survives.clean) in
+    let mid : HasCleanDisk (state g.S.Store c.find_manifest_link.new.conn) = was_clean c.tag_there.ensures.survives clean in
+    stays_then (state g.S.Store c.args.conn.now) (state g.S.Store c.find_manifest_link.new.conn) (state g.S.Store c.tag_there.new.conn) (c.in-Ok-Some.ensures.settled mid is refl) (c.tag_there.ensures.memory (λ clean. let early : HasCleanDisk (state g.S.Store c.args.conn.now) = was_clean c.find_manifest_link.ensures.survives clean in
     rw c.as_str-in-Ok-Some.ensures.text (repo_there (state g.S.Store c.args.conn.now) (state g.S.Store c.find_manifest_link.new.conn) c.args.repo.now (c.in-Ok-Some.ensures.settled clean is refl).1 (there early))) clean (c.in-Ok-Some.ensures.settled mid is refl).0 memory)
 
 pub returns-in-Ok-Some-clause-survives : goal.returns-in-Ok-Some-clause-survives
@@ -31,16 +32,16 @@ returns-in-Ok-Some-clause-survives g c = survives_all (state g.S.Store c.args.co
 
 pub returns-in-Ok-None-clause-made : goal.returns-in-Ok-None-clause-made
 returns-in-Ok-None-clause-made g c there clean is =
-    let mid : HasCleanDisk (state g.S.Store c.find_manifest_link.new.conn) = omega (arith, c.put_new.ensures.survives.clean) in
+    let mid : HasCleanDisk (state g.S.Store c.find_manifest_link.new.conn) = was_clean c.put_new.ensures.survives clean in
     then_ok c.put_new.result (made_new (state g.S.Store c.args.conn.now) (state g.S.Store c.find_manifest_link.new.conn) (state g.S.Store c.put_new.new.conn) c.args.repo.now c.args.digest.now c.args.bytes.now (text_in c.args.tag) (c.in-Ok-None.ensures.settled mid is refl).1)
-    (rw (c.as_str-in-Ok-None.ensures.text, c.as_str-in-Ok-None-2.ensures.text) at (c.put_new.ensures.made (λ clean. let early : HasCleanDisk (state g.S.Store c.args.conn.now) = omega (arith, c.find_manifest_link.ensures.survives.clean) in
+    (rw (c.as_str-in-Ok-None.ensures.text, c.as_str-in-Ok-None-2.ensures.text) at (c.put_new.ensures.made (λ clean. let early : HasCleanDisk (state g.S.Store c.args.conn.now) = was_clean c.find_manifest_link.ensures.survives clean in
     rw c.as_str-in-Ok-None.ensures.text (repo_there (state g.S.Store c.args.conn.now) (state g.S.Store c.find_manifest_link.new.conn) c.args.repo.now (c.in-Ok-None.ensures.settled clean is refl).1 (there early))) (λ clean. let none = found_none manifest_link (find (has_key c.args.repo.now c.args.digest.now) (held (state g.S.Store c.args.conn.now)).manifests) (sym c.in-Ok-None.field-0-is ∙ (rw (c.as_str.ensures.text, c.as_str-2.ensures.text) at (c.in-Ok-None.ensures.found clean is))) in
     rw (c.as_str-in-Ok-None.ensures.text, c.as_str-in-Ok-None-2.ensures.text) (fresh_still (state g.S.Store c.args.conn.now) (state g.S.Store c.find_manifest_link.new.conn) c.args.repo.now c.args.digest.now (c.in-Ok-None.ensures.settled clean is refl).1 none)) clean (c.in-Ok-None.ensures.settled mid is refl).0))
 
 pub returns-in-Ok-None-clause-memory : goal.returns-in-Ok-None-clause-memory
 returns-in-Ok-None-clause-memory g c there clean is memory =
-    let mid : HasCleanDisk (state g.S.Store c.find_manifest_link.new.conn) = omega (arith, c.put_new.ensures.survives.clean) in
-    stays_then (state g.S.Store c.args.conn.now) (state g.S.Store c.find_manifest_link.new.conn) (state g.S.Store c.put_new.new.conn) (c.in-Ok-None.ensures.settled mid is refl) (c.put_new.ensures.memory (λ clean. let early : HasCleanDisk (state g.S.Store c.args.conn.now) = omega (arith, c.find_manifest_link.ensures.survives.clean) in
+    let mid : HasCleanDisk (state g.S.Store c.find_manifest_link.new.conn) = was_clean c.put_new.ensures.survives clean in
+    stays_then (state g.S.Store c.args.conn.now) (state g.S.Store c.find_manifest_link.new.conn) (state g.S.Store c.put_new.new.conn) (c.in-Ok-None.ensures.settled mid is refl) (c.put_new.ensures.memory (λ clean. let early : HasCleanDisk (state g.S.Store c.args.conn.now) = was_clean c.find_manifest_link.ensures.survives clean in
     rw c.as_str-in-Ok-None.ensures.text (repo_there (state g.S.Store c.args.conn.now) (state g.S.Store c.find_manifest_link.new.conn) c.args.repo.now (c.in-Ok-None.ensures.settled clean is refl).1 (there early))) (λ clean. let none = found_none manifest_link (find (has_key c.args.repo.now c.args.digest.now) (held (state g.S.Store c.args.conn.now)).manifests) (sym c.in-Ok-None.field-0-is ∙ (rw (c.as_str.ensures.text, c.as_str-2.ensures.text) at (c.in-Ok-None.ensures.found clean is))) in
     rw (c.as_str-in-Ok-None.ensures.text, c.as_str-in-Ok-None-2.ensures.text) (fresh_still (state g.S.Store c.args.conn.now) (state g.S.Store c.find_manifest_link.new.conn) c.args.repo.now c.args.digest.now (c.in-Ok-None.ensures.settled clean is refl).1 none)) clean (c.in-Ok-None.ensures.settled mid is refl).0 memory)
 

@@ -1,20 +1,21 @@
-use Rattle.std.proofs.Common.{arith}
 use Rattle.sqlite.specs.State.{HasCleanDisk}
 use Rattle.sqlite.specs.Held.{state}
 use Rattle.store_statements.proofs.Transactions.{stays_back, survives_all}
+use Rattle.store_writes.proofs.CleanBefore.{was_clean}
+use Rattle.store_writes.proofs.FaultsTold.{never_done, fault_is}
 use Rattle.store_writes.proofs.manifest_puts.tag_there.Goals as goal
 
 pub returns-in-Err-clause-memory : goal.returns-in-Err-clause-memory
 returns-in-Err-clause-memory g c there clean is memory =
-    let late : HasCleanDisk (state g.S.Store c.put_tag_alone.new.conn) = omega (arith, c.checked_fault.ensures.survives.clean) in
+    let late : HasCleanDisk (state g.S.Store c.put_tag_alone.new.conn) = was_clean c.checked_fault.ensures.survives clean in
     stays_back (state g.S.Store c.args.conn.now) (state g.S.Store c.put_tag_alone.new.conn) (state g.S.Store c.checked_fault.new.conn) is
-    (c.in-Err.ensures.back there late is) (c.checked_fault.ensures.memory clean (let e = memory in cc))
+    (c.in-Err.ensures.back there late is) (c.checked_fault.ensures.memory clean (fault_is memory))
 
 pub returns-in-Ok-clause-made : goal.returns-in-Ok-clause-made
 returns-in-Ok-clause-made g c there clean is = c.in-Ok.ensures.made there clean is
 
 pub returns-in-Ok-clause-memory : goal.returns-in-Ok-clause-memory
-returns-in-Ok-clause-memory g c there clean is memory = absurd (cc)
+returns-in-Ok-clause-memory g c there clean is memory = absurd (never_done memory)
 
 pub returns-in-Ok-clause-survives : goal.returns-in-Ok-clause-survives
 returns-in-Ok-clause-survives g c = c.put_tag_alone.ensures.survives

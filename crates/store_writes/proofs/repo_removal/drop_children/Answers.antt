@@ -1,4 +1,4 @@
-use Rattle.std.proofs.Common.{OnOk, arith, subst}
+use Rattle.std.proofs.Common.{OnOk, subst}
 use Rattle.sqlite.specs.State.{HasCleanDisk}
 use Rattle.sqlite.specs.Held.{state}
 use Rattle.store_schema.proofs.Selects.{commit_then, survives_both}
@@ -6,11 +6,12 @@ use Rattle.store_statements.specs.Held.{Becomes, held}
 use Rattle.store_world.specs.Keys.{of_second}
 use Rattle.store_statements.specs.Steps.{grants_without}
 use Rattle.store_statements.specs.Drops.{without_links, without_sessions}
+use Rattle.store_writes.proofs.CleanBefore.{was_clean}
 use Rattle.store_writes.proofs.repo_removal.drop_children.Goals as goal
 
 pub returns-in_err-drop_sessions-clause-kept : goal.returns-in_err-drop_sessions-clause-kept
 returns-in_err-drop_sessions-clause-kept g c clean is =
-    let clean-1 : HasCleanDisk (state g.S.Store c.drop_links.new.tx.conn.now) = omega (arith, c.drop_sessions.ensures.survives.clean) in
+    let clean-1 : HasCleanDisk (state g.S.Store c.drop_links.new.tx.conn.now) = was_clean c.drop_sessions.ensures.survives clean in
     let step-1 : Becomes (state g.S.Store c.drop_links.new.tx.conn.now) (without_links c.args.name.now (held (state g.S.Store c.args.tx.now.conn.now))) = c.in_ok-drop_links.ensures.dropped clean-1 is in
     commit_then (state g.S.Store c.args.tx.now.conn.now) (state g.S.Store c.drop_links.new.tx.conn.now) (state g.S.Store c.drop_sessions.new.tx.conn.now) (c.drop_links.ensures.kept clean-1 is) (c.drop_sessions.ensures.kept clean step-1.0)
 
@@ -19,16 +20,16 @@ returns-in_err-drop_sessions-clause-survives g c = survives_both (state g.S.Stor
 
 pub returns-clause-dropped : goal.returns-clause-dropped
 returns-clause-dropped g c clean is =
-    let clean-2 : HasCleanDisk (state g.S.Store c.drop_sessions.new.tx.conn.now) = omega (arith, c.take_grants.ensures.survives.clean) in
-    let clean-1 : HasCleanDisk (state g.S.Store c.drop_links.new.tx.conn.now) = omega (arith, c.drop_sessions.ensures.survives.clean) in
+    let clean-2 : HasCleanDisk (state g.S.Store c.drop_sessions.new.tx.conn.now) = was_clean c.take_grants.ensures.survives clean in
+    let clean-1 : HasCleanDisk (state g.S.Store c.drop_links.new.tx.conn.now) = was_clean c.drop_sessions.ensures.survives clean-2 in
     let step-1 : Becomes (state g.S.Store c.drop_links.new.tx.conn.now) (without_links c.args.name.now (held (state g.S.Store c.args.tx.now.conn.now))) = c.in_ok-drop_links.ensures.dropped clean-1 is in
     let step-2 : Becomes (state g.S.Store c.drop_sessions.new.tx.conn.now) (without_sessions c.args.name.now (without_links c.args.name.now (held (state g.S.Store c.args.tx.now.conn.now)))) = subst (λ x. Becomes (state g.S.Store c.drop_sessions.new.tx.conn.now) (without_sessions c.args.name.now x)) step-1.1 (c.in_ok-drop_sessions.ensures.dropped clean-2 step-1.0) in
     subst (λ x. OnOk c.take_grants.result (Becomes (state g.S.Store c.take_grants.new.tx.conn.now) (grants_without (of_second c.args.name.now) x))) step-2.1 (c.take_grants.ensures.taken clean step-2.0)
 
 pub returns-clause-kept : goal.returns-clause-kept
 returns-clause-kept g c clean is =
-    let clean-2 : HasCleanDisk (state g.S.Store c.drop_sessions.new.tx.conn.now) = omega (arith, c.take_grants.ensures.survives.clean) in
-    let clean-1 : HasCleanDisk (state g.S.Store c.drop_links.new.tx.conn.now) = omega (arith, c.drop_sessions.ensures.survives.clean) in
+    let clean-2 : HasCleanDisk (state g.S.Store c.drop_sessions.new.tx.conn.now) = was_clean c.take_grants.ensures.survives clean in
+    let clean-1 : HasCleanDisk (state g.S.Store c.drop_links.new.tx.conn.now) = was_clean c.drop_sessions.ensures.survives clean-2 in
     let step-1 : Becomes (state g.S.Store c.drop_links.new.tx.conn.now) (without_links c.args.name.now (held (state g.S.Store c.args.tx.now.conn.now))) = c.in_ok-drop_links.ensures.dropped clean-1 is in
     let step-2 : Becomes (state g.S.Store c.drop_sessions.new.tx.conn.now) (without_sessions c.args.name.now (without_links c.args.name.now (held (state g.S.Store c.args.tx.now.conn.now)))) = subst (λ x. Becomes (state g.S.Store c.drop_sessions.new.tx.conn.now) (without_sessions c.args.name.now x)) step-1.1 (c.in_ok-drop_sessions.ensures.dropped clean-2 step-1.0) in
     commit_then (state g.S.Store c.args.tx.now.conn.now) (state g.S.Store c.drop_sessions.new.tx.conn.now) (state g.S.Store c.take_grants.new.tx.conn.now) (commit_then (state g.S.Store c.args.tx.now.conn.now) (state g.S.Store c.drop_links.new.tx.conn.now) (state g.S.Store c.drop_sessions.new.tx.conn.now) (c.drop_links.ensures.kept clean-1 is) (c.drop_sessions.ensures.kept clean-2 step-1.0)) (c.take_grants.ensures.kept clean step-2.0)

@@ -1,4 +1,4 @@
-use Rattle.std.proofs.Common.{OnOk, arith, subst}
+use Rattle.std.proofs.Common.{OnOk, subst}
 use Rattle.sqlite.specs.State.{HasCleanDisk}
 use Rattle.sqlite.specs.Held.{state}
 use Rattle.store_schema.proofs.Selects.{commit_then, survives_both}
@@ -7,17 +7,18 @@ use Rattle.store_world.specs.Keys.{of_first}
 use Rattle.store_statements.specs.Steps.{repos_without}
 use Rattle.store_statements.specs.Drops.{without_children}
 use Rattle.store_statements.proofs.ChildLemmas.{childless_now}
+use Rattle.store_writes.proofs.CleanBefore.{was_clean}
 use Rattle.store_writes.proofs.repo_removal.drop_rows.Goals as goal
 
 pub returns-clause-dropped : goal.returns-clause-dropped
 returns-clause-dropped g c clean is none =
-    let clean-1 : HasCleanDisk (state g.S.Store c.drop_children.new.tx.conn.now) = omega (arith, c.take_repo.ensures.survives.clean) in
+    let clean-1 : HasCleanDisk (state g.S.Store c.drop_children.new.tx.conn.now) = was_clean c.take_repo.ensures.survives clean in
     let step-1 : Becomes (state g.S.Store c.drop_children.new.tx.conn.now) (without_children c.args.name.now (held (state g.S.Store c.args.tx.now.conn.now))) = c.in_ok-drop_children.ensures.dropped clean-1 is in
     subst (λ x. OnOk c.take_repo.result (Becomes (state g.S.Store c.take_repo.new.tx.conn.now) (repos_without (of_first c.args.name.now) x))) step-1.1 (c.take_repo.ensures.taken clean step-1.0 (childless_now c.args.name.now (held (state g.S.Store c.args.tx.now.conn.now)) (held (state g.S.Store c.drop_children.new.tx.conn.now)) none step-1.1))
 
 pub returns-clause-kept : goal.returns-clause-kept
 returns-clause-kept g c clean is =
-    let clean-1 : HasCleanDisk (state g.S.Store c.drop_children.new.tx.conn.now) = omega (arith, c.take_repo.ensures.survives.clean) in
+    let clean-1 : HasCleanDisk (state g.S.Store c.drop_children.new.tx.conn.now) = was_clean c.take_repo.ensures.survives clean in
     let step-1 : Becomes (state g.S.Store c.drop_children.new.tx.conn.now) (without_children c.args.name.now (held (state g.S.Store c.args.tx.now.conn.now))) = c.in_ok-drop_children.ensures.dropped clean-1 is in
     commit_then (state g.S.Store c.args.tx.now.conn.now) (state g.S.Store c.drop_children.new.tx.conn.now) (state g.S.Store c.take_repo.new.tx.conn.now) (c.drop_children.ensures.kept clean-1 is) (c.take_repo.ensures.kept clean step-1.0)
 

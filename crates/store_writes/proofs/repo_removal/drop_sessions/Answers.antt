@@ -1,21 +1,22 @@
-use Rattle.std.proofs.Common.{OnOk, arith, subst}
+use Rattle.std.proofs.Common.{OnOk, subst}
 use Rattle.sqlite.specs.State.{HasCleanDisk}
 use Rattle.sqlite.specs.Held.{state}
 use Rattle.store_schema.proofs.Selects.{commit_then, survives_both}
 use Rattle.store_statements.specs.Held.{Becomes, held}
 use Rattle.store_world.specs.Keys.{of_first}
 use Rattle.store_statements.specs.Steps.{pieces_without, uploads_without}
+use Rattle.store_writes.proofs.CleanBefore.{was_clean}
 use Rattle.store_writes.proofs.repo_removal.drop_sessions.Goals as goal
 
 pub returns-clause-dropped : goal.returns-clause-dropped
 returns-clause-dropped g c clean is =
-    let clean-1 : HasCleanDisk (state g.S.Store c.take_pieces.new.tx.conn.now) = omega (arith, c.take_uploads.ensures.survives.clean) in
+    let clean-1 : HasCleanDisk (state g.S.Store c.take_pieces.new.tx.conn.now) = was_clean c.take_uploads.ensures.survives clean in
     let step-1 : Becomes (state g.S.Store c.take_pieces.new.tx.conn.now) (pieces_without (of_first c.args.name.now) (held (state g.S.Store c.args.tx.now.conn.now))) = c.in_ok-take_pieces.ensures.taken clean-1 is in
     subst (λ x. OnOk c.take_uploads.result (Becomes (state g.S.Store c.take_uploads.new.tx.conn.now) (uploads_without (of_first c.args.name.now) x))) step-1.1 (c.take_uploads.ensures.taken clean step-1.0)
 
 pub returns-clause-kept : goal.returns-clause-kept
 returns-clause-kept g c clean is =
-    let clean-1 : HasCleanDisk (state g.S.Store c.take_pieces.new.tx.conn.now) = omega (arith, c.take_uploads.ensures.survives.clean) in
+    let clean-1 : HasCleanDisk (state g.S.Store c.take_pieces.new.tx.conn.now) = was_clean c.take_uploads.ensures.survives clean in
     let step-1 : Becomes (state g.S.Store c.take_pieces.new.tx.conn.now) (pieces_without (of_first c.args.name.now) (held (state g.S.Store c.args.tx.now.conn.now))) = c.in_ok-take_pieces.ensures.taken clean-1 is in
     commit_then (state g.S.Store c.args.tx.now.conn.now) (state g.S.Store c.take_pieces.new.tx.conn.now) (state g.S.Store c.take_uploads.new.tx.conn.now) (c.take_pieces.ensures.kept clean-1 is) (c.take_uploads.ensures.kept clean step-1.0)
 

@@ -1,4 +1,4 @@
-use Rattle.std.proofs.Common.{◌∙◌, arith, refl, sym}
+use Rattle.std.proofs.Common.{◌∙◌, refl, sym}
 use Rattle.std.specs.Prelude.{find, Option}
 use Rattle.sqlite.specs.State.{HasCleanDisk}
 use Rattle.sqlite.specs.Held.{state}
@@ -10,20 +10,23 @@ use Rattle.store_writes.proofs.SessionWrites.{finishes_there, finishes_new}
 use Rattle.store_statements.specs.Held.{held}
 use Rattle.store_statements.proofs.Transactions.{survives_all}
 use Rattle.store_writes.proofs.WritesAfterReads.{none_found, stays_after, memory_told}
+use Rattle.store_writes.proofs.CleanBefore.{was_clean}
+use Rattle.store_writes.proofs.FaultsTold.{fault_is, never_done, never_storage}
+use Rattle.store_writes.proofs.NothingDone.{survives_here}
 use Rattle.store_writes.proofs.session_finish.finish.Goals as goal
 
 pub returns-in-Ok-clause-made : goal.returns-in-Ok-clause-made
 returns-in-Ok-clause-made g c is_open clean is =
     let mid = state g.S.Store c.find_blob_link.new.conn in
-    let late : HasCleanDisk mid = omega (arith, c.take_session_alone.ensures.survives.clean) in
+    let late : HasCleanDisk mid = was_clean c.take_session_alone.ensures.survives clean in
     rw (c.as_str-repo.ensures.text, c.as_str-digest.ensures.text) at (finishes_there (state g.S.Store c.args.conn.now) mid (state g.S.Store c.take_session_alone.new.conn) c.as_str-repo.result.now c.args.number c.as_str-digest.result.now c.args.bytes.now c.in-Ok-Some.field-0-0
     is (c.in-Ok-Some.ensures.settled late is refl) (sym c.in-Ok-Some.field-0-is ∙ c.in-Ok-Some.ensures.found late is) (c.in-Ok.ensures.made clean (c.in-Ok-Some.ensures.settled late is refl).0))
 
 pub returns-in-Ok-end_session_alone-clause-made : goal.returns-in-Ok-end_session_alone-clause-made
 returns-in-Ok-end_session_alone-clause-made g c is_open clean is =
     let mid = state g.S.Store c.find_blob_link.new.conn in
-    let late : HasCleanDisk mid = omega (arith, c.end_session_alone.ensures.survives.clean) in
-    let early : HasCleanDisk (state g.S.Store c.args.conn.now) = omega (arith, c.end_session_alone.ensures.survives.clean, c.find_blob_link.ensures.survives.clean) in
+    let late : HasCleanDisk mid = was_clean c.end_session_alone.ensures.survives clean in
+    let early : HasCleanDisk (state g.S.Store c.args.conn.now) = was_clean c.find_blob_link.ensures.survives (was_clean c.end_session_alone.ensures.survives clean) in
     let none = none_found blob_link (find (has_key c.as_str-repo.result.now c.as_str-digest.result.now) (held (state g.S.Store c.args.conn.now)).blobs) (sym c.in-Ok-None.field-0-is ∙ c.in-Ok-None.ensures.found late is) in
     finishes_new (state g.S.Store c.args.conn.now) mid (state g.S.Store c.end_session_alone.new.conn) c.args.repo.now c.args.number c.args.digest.now c.args.bytes.now is (is_open early) (c.in-Ok-None.ensures.settled late is refl)
     (rw (c.as_str-repo.ensures.text, c.as_str-digest.ensures.text) at none) (rw (c.as_str-repo.ensures.text, c.as_str-digest.ensures.text) at (c.in-Ok-end_session_alone.ensures.made (λ clean. still_none (state g.S.Store c.args.conn.now) (state g.S.Store c.find_blob_link.new.conn) c.as_str-repo.result.now c.as_str-digest.result.now (c.in-Ok-None.ensures.settled clean is refl) (sym c.in-Ok-None.field-0-is ∙ c.in-Ok-None.ensures.found clean is)) clean (c.in-Ok-None.ensures.settled late is refl).0))
@@ -36,10 +39,10 @@ returns-in-Ok-end_session_alone-clause-survives g c = survives_all (state g.S.St
 
 pub returns-in-Err-take_session_alone-clause-memory : goal.returns-in-Err-take_session_alone-clause-memory
 returns-in-Err-take_session_alone-clause-memory g c clean is memory =
-    let late : HasCleanDisk (state g.S.Store c.take_session_alone.new.conn) = omega (arith, c.checked_fault.ensures.survives.clean) in
-    let early : HasCleanDisk (state g.S.Store c.find_blob_link.new.conn) = omega (arith, c.checked_fault.ensures.survives.clean, c.take_session_alone.ensures.survives.clean) in
+    let late : HasCleanDisk (state g.S.Store c.take_session_alone.new.conn) = was_clean c.checked_fault.ensures.survives clean in
+    let early : HasCleanDisk (state g.S.Store c.find_blob_link.new.conn) = was_clean c.take_session_alone.ensures.survives (was_clean c.checked_fault.ensures.survives clean) in
     stays_after (state g.S.Store c.args.conn.now) (state g.S.Store c.find_blob_link.new.conn) (state g.S.Store c.take_session_alone.new.conn) (state g.S.Store c.checked_fault.new.conn) (c.in-Ok-Some.ensures.settled early is refl)
-    (c.in-Err-take_session_alone.ensures.back late (c.in-Ok-Some.ensures.settled early is refl).0) (c.checked_fault.ensures.memory clean (let e = memory in cc))
+    (c.in-Err-take_session_alone.ensures.back late (c.in-Ok-Some.ensures.settled early is refl).0) (c.checked_fault.ensures.memory clean (fault_is memory))
 
 pub returns-in-Err-take_session_alone-clause-survives : goal.returns-in-Err-take_session_alone-clause-survives
 returns-in-Err-take_session_alone-clause-survives g c =
@@ -47,10 +50,10 @@ returns-in-Err-take_session_alone-clause-survives g c =
 
 pub returns-in-Err-end_session_alone-clause-memory : goal.returns-in-Err-end_session_alone-clause-memory
 returns-in-Err-end_session_alone-clause-memory g c clean is memory =
-    let late : HasCleanDisk (state g.S.Store c.end_session_alone.new.conn) = omega (arith, c.checked_fault-in-Err-end_session_alone.ensures.survives.clean) in
-    let early : HasCleanDisk (state g.S.Store c.find_blob_link.new.conn) = omega (arith, c.checked_fault-in-Err-end_session_alone.ensures.survives.clean, c.end_session_alone.ensures.survives.clean) in
+    let late : HasCleanDisk (state g.S.Store c.end_session_alone.new.conn) = was_clean c.checked_fault-in-Err-end_session_alone.ensures.survives clean in
+    let early : HasCleanDisk (state g.S.Store c.find_blob_link.new.conn) = was_clean c.end_session_alone.ensures.survives (was_clean c.checked_fault-in-Err-end_session_alone.ensures.survives clean) in
     stays_after (state g.S.Store c.args.conn.now) (state g.S.Store c.find_blob_link.new.conn) (state g.S.Store c.end_session_alone.new.conn) (state g.S.Store c.checked_fault-in-Err-end_session_alone.new.conn) (c.in-Ok-None.ensures.settled early is refl)
-    (c.in-Err-end_session_alone.ensures.back (λ clean. still_none (state g.S.Store c.args.conn.now) (state g.S.Store c.find_blob_link.new.conn) c.as_str-repo.result.now c.as_str-digest.result.now (c.in-Ok-None.ensures.settled clean is refl) (sym c.in-Ok-None.field-0-is ∙ c.in-Ok-None.ensures.found clean is)) late (c.in-Ok-None.ensures.settled early is refl).0) (c.checked_fault-in-Err-end_session_alone.ensures.memory clean (let e = memory in cc))
+    (c.in-Err-end_session_alone.ensures.back (λ clean. still_none (state g.S.Store c.args.conn.now) (state g.S.Store c.find_blob_link.new.conn) c.as_str-repo.result.now c.as_str-digest.result.now (c.in-Ok-None.ensures.settled clean is refl) (sym c.in-Ok-None.field-0-is ∙ c.in-Ok-None.ensures.found clean is)) late (c.in-Ok-None.ensures.settled early is refl).0) (c.checked_fault-in-Err-end_session_alone.ensures.memory clean (fault_is memory))
 
 pub returns-in-Err-end_session_alone-clause-survives : goal.returns-in-Err-end_session_alone-clause-survives
 returns-in-Err-end_session_alone-clause-survives g c =
@@ -58,3 +61,30 @@ returns-in-Err-end_session_alone-clause-survives g c =
 
 pub returns-in-Err-clause-memory : goal.returns-in-Err-clause-memory
 returns-in-Err-clause-memory g c clean is memory = c.in-Err.ensures.settled clean is (memory_told (Option BlobLink) c.in-Err.fault memory)
+
+pub returns-in-Ok-clause-memory : goal.returns-in-Ok-clause-memory
+returns-in-Ok-clause-memory g c clean is memory = absurd (never_done memory)
+
+pub returns-in-Ok-end_session_alone-clause-memory : goal.returns-in-Ok-end_session_alone-clause-memory
+returns-in-Ok-end_session_alone-clause-memory g c clean is memory = absurd (never_done memory)
+
+pub returns-in-Err-take_session_alone-clause-made : goal.returns-in-Err-take_session_alone-clause-made
+returns-in-Err-take_session_alone-clause-made g c is_open clean is = tt
+
+pub returns-in-Err-end_session_alone-clause-made : goal.returns-in-Err-end_session_alone-clause-made
+returns-in-Err-end_session_alone-clause-made g c is_open clean is = tt
+
+pub returns-in-Err-clause-made : goal.returns-in-Err-clause-made
+returns-in-Err-clause-made g c is_open clean is = tt
+
+pub returns-in-Err-clause-survives : goal.returns-in-Err-clause-survives
+returns-in-Err-clause-survives g c = c.find_blob_link.ensures.survives
+
+pub returns-then-number-gt-LARGEST-clause-made : goal.returns-then-number-gt-LARGEST-clause-made
+returns-then-number-gt-LARGEST-clause-made g c is_open clean is = tt
+
+pub returns-then-number-gt-LARGEST-clause-memory : goal.returns-then-number-gt-LARGEST-clause-memory
+returns-then-number-gt-LARGEST-clause-memory g c clean is memory = absurd (never_storage memory)
+
+pub returns-then-number-gt-LARGEST-clause-survives : goal.returns-then-number-gt-LARGEST-clause-survives
+returns-then-number-gt-LARGEST-clause-survives g c = survives_here (state g.S.Store c.args.conn.now)

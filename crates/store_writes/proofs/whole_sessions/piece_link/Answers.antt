@@ -1,4 +1,5 @@
-use Rattle.std.proofs.Common.{refl}
+use Rattle.std.proofs.Common.{refl, ◌∙◌, ap}
+use Rattle.store_writes.specs.Whole.{only_link}
 use Rattle.store_writes.proofs.whole_sessions.piece_link.Goals as goal
 
 pub returns-in-Ok-clause-settled : goal.returns-in-Ok-clause-settled
@@ -15,3 +16,6 @@ returns-in-Err-clause-settled g c clean is unspent = c.in-Err.ensures.settled cl
 
 pub returns-in-Err-clause-survives : goal.returns-in-Err-clause-survives
 returns-in-Err-clause-survives g c = c.pieces_in_order.ensures.survives
+
+pub returns-in-Ok-clause-found : goal.returns-in-Ok-clause-found
+returns-in-Ok-clause-found g c clean is = (rw c.deref.ensures.value at c.only.ensures) ∙ ap (only_link c.args.size) (c.in-Ok.ensures.found clean is)
