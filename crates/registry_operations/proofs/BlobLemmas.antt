@@ -1,5 +1,5 @@
 -- Blobs in a repository that is there.
-use Rattle.std.proofs.Common.{◌≡◌, ◌∙◌, ℕ, ◌≤◌, arith, Bool, true, false, cond, None, Some, refl, sym, ap, subst}
+use Rattle.std.proofs.Common.{◌≡◌, ◌∙◌, ℕ, ◌<◌, ◌≤◌, arith, Bool, true, false, cond, None, Some, refl, sym, ap, subst}
 use Rattle.std.proofs.lemmas.Bool.Decides.{nat_tests}
 use Rattle.std.specs.Prelude.{Result, Option, option_map, is_some, length, nat_lt, ◌&&◌}
 use Rattle.std.specs.Option.{option_and_then}
@@ -7,7 +7,7 @@ use Rattle.std.specs.FinMap.{get}
 use Rattle.oci_names.specs.Text.{Text}
 use Rattle.oci_names.specs.Digest.{is_digest, is_verified, matches, verdict_of}
 use Rattle.oci_names.specs.declared.digest.Verdict.TheVariants.{Matches, Differs, Unsupported}
-use Rattle.registry_model.specs.declared.refusal.Refusal.TheVariants.{BlobUnknown, InvalidDigest, QuotaExceeded}
+use Rattle.registry_model.specs.declared.refusal.Refusal.TheVariants.{BlobUnknown, InvalidDigest, DigestMismatch, ContentTooLarge, QuotaExceeded}
 use Rattle.registry_model.specs.declared.reply.Status.TheVariants.{Accepted}
 use Rattle.oci_names.specs.declared.fault.Fault.{Fault}
 use Rattle.registry_model.specs.declared.reply.Reply.{Reply}
@@ -117,6 +117,17 @@ matched true true e = (refl, refl)
 matched true false e = absurd (cc)
 matched false m e = absurd (cc)
 
+differing : (v m : Bool) → cond v (cond m Matches Differs) Unsupported ≡ Differs → (v ≡ true) × (m ≡ false)
+differing true true e = absurd (cc)
+differing true false e = (refl, refl)
+differing false m e = absurd (cc)
+
+is_large : (n : ℕ) → largest_blob < n → nat_lt largest_blob n ≡ true
+is_large n h = grind (arith, nat_tests)
+
+not_large : (n : ℕ) → n ≤ largest_blob → nat_lt largest_blob n ≡ false
+not_large n h = grind (arith, nat_tests)
+
 module _ (text body : Text) where
   verified : is_digest text ≡ true → is_verified text ≡ true → can_verify text ≡ true
   verified d v = ap (λ b. b && is_verified text) d ∙ v
@@ -127,6 +138,12 @@ module _ (text body : Text) where
   module _ (r : Repo) (name : Text) where
     push_invalid : can_verify text ≡ false → push_blob r name text body ≡ refuses InvalidDigest
     push_invalid v = rw v refl
+
+    push_large : can_verify text ≡ true → nat_lt largest_blob (length body) ≡ true → push_blob r name text body ≡ refuses ContentTooLarge
+    push_large v l = rw (v, l) refl
+
+    push_other : can_verify text ≡ true → nat_lt largest_blob (length body) ≡ false → matches text body ≡ false → push_blob r name text body ≡ refuses DigestMismatch
+    push_other v l m = rw (v, l, m) refl
 
     pub push_matches : can_verify text ≡ true → nat_lt largest_blob (length body) ≡ false → matches text body ≡ true
         → push_blob r name text body ≡ within_quota r (with_blob r text body) (created_blob name text)
@@ -143,6 +160,19 @@ module _ (s s' : State) (name : Text) (unspent : s.spent ≡ false) (there : has
     pushes_unverified v e =
         tells_it s s' name unspent there (λ r. push_blob r name text body) a (refused InvalidDigest)
         (λ r here. push_invalid text body r name (unverified text body (unsupported (is_verified text) (matches text body) v))) stays e
+
+    -- a body that is too large, whether it matches or not
+    pub pushes_large : is_digest text ≡ true → is_verified text ≡ true → largest_blob < length body → a ≡ refused ContentTooLarge → Done a name (λ r. push_blob r name text body) s s'
+    pushes_large d v large e =
+        tells_it s s' name unspent there (λ r. push_blob r name text body) a (refused ContentTooLarge)
+        (λ r here. push_large text body r name (verified text body d v) (is_large (length body) large)) stays e
+
+    -- one that does not match
+    pub pushes_other : is_digest text ≡ true → verdict_of text body ≡ Differs → length body ≤ largest_blob → a ≡ refused DigestMismatch → Done a name (λ r. push_blob r name text body) s s'
+    pushes_other d v small e =
+        let found = differing (is_verified text) (matches text body) v in
+        tells_it s s' name unspent there (λ r. push_blob r name text body) a (refused DigestMismatch)
+        (λ r here. push_other text body r name (verified text body d found.0) (not_large (length body) small) found.1) stays e
 
   -- the quota's verdict is that of the repository which is there
   over_there : (r : Repo) → repo_at s.world name ≡ Some r → (b : Bool) → b ≡ blob_grows_over s.world name text (length body) 0 → goes_over r (with_blob r text body) ≡ b
@@ -162,11 +192,11 @@ module _ (s s' : State) (name : Text) (unspent : s.spent ≡ false) (there : has
       makes_it s s' name unspent there (λ r. within_quota r (with_blob r text body) (created_blob name text)) a (created_blob name text) (λ r. with_blob r text body)
       (λ r here. ap (λ b. cond b (refuses QuotaExceeded) (makes (created_blob name text) (with_blob r text body))) (over_there r here false within)) after e
 
+pub differs_by : (text body : Text) → verdict_of text body ≡ Differs → is_verified text ≡ true
+differs_by text body v = (differing (is_verified text) (matches text body) v).0
+
 pub matched_by : (text body : Text) → verdict_of text body ≡ Matches → (is_verified text ≡ true) × (matches text body ≡ true)
 matched_by text body v = matched (is_verified text) (matches text body) v
-
-not_large : (n : ℕ) → n ≤ largest_blob → nat_lt largest_blob n ≡ false
-not_large n h = grind (arith, nat_tests)
 
 -- a body that matches, added under the digest of the text
 pub push_added : (r : Result Reply Fault) (s s' : State) (name text body digest : Text) → digest ≡ text → is_digest text ≡ true → verdict_of text body ≡ Matches

@@ -1,4 +1,5 @@
 pub mod RepoOutcomes
+pub mod FailedCalls
 pub mod DigestLemmas
 pub mod QuotaLemmas
 pub mod BlobLemmas

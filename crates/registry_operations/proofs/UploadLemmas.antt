@@ -14,6 +14,7 @@ use Rattle.registry_model.specs.declared.reply.Status.TheVariants.{Accepted}
 use Rattle.registry_model.specs.World.{Repo, World, repo_at, has_repo}
 use Rattle.registry_model.specs.Limits.{largest_blob}
 use Rattle.registry_model.specs.Answer.{Answer, refused}
+use Rattle.registry_model.specs.Heads.{is_sent}
 use Rattle.registry_model.specs.Range.{range_verdict}
 use Rattle.registry_model.specs.Decision.{Decision, refuses, tells, makes, within_quota}
 use Rattle.registry_model.specs.Sessions.{Session, session_numbered, session_named, session_reply, range_checked, appended, append_to, append_chunk}
@@ -108,6 +109,17 @@ chunk_refused Fits name u more next a e = by_size (nat_lt largest_blob (u.size +
 chunk_refused Malformed name u more next a e = ap tells (sym (same_Some a _ e))
 chunk_refused OutOfOrder name u more next a e = ap tells (sym (same_Some a _ e))
 chunk_refused Unequal name u more next a e = ap tells (sym (same_Some a _ e))
+
+-- what it is answered with has its content itself
+pub refusal_sent : (v : RangeVerdict) (name : Text) (u : Upload) (more : ℕ) (a : Answer) → Some a ≡ chunk_refusal v name u more → is_sent a.body ≡ true
+refusal_sent Fits name u more a e = by_size (nat_lt largest_blob (u.size + more)) e
+  where
+    by_size : (b : Bool) → Some a ≡ cond b (Some (refused ContentTooLarge)) None → is_sent a.body ≡ true
+    by_size true e = ap (λ x. is_sent x.body) (same_Some a (refused ContentTooLarge) e)
+    by_size false e = absurd (cc)
+refusal_sent Malformed name u more a e = ap (λ x. is_sent x.body) (same_Some a _ e)
+refusal_sent OutOfOrder name u more a e = ap (λ x. is_sent x.body) (same_Some a _ e)
+refusal_sent Unequal name u more a e = ap (λ x. is_sent x.body) (same_Some a _ e)
 
 -- a chunk that is not
 pub chunk_taken : (v : RangeVerdict) (name : Text) (u : Upload) (more : ℕ) (next : Decision) → None ≡ chunk_refusal v name u more

@@ -1,6 +1,10 @@
 use Rattle.std.proofs.Common.{◌≡◌, ◌∙◌, refl, ap, subst, not, false}
 use Rattle.registry_model.specs.Lookups as lookups
 use Rattle.registry_model.specs.Keeping.{State}
+use Rattle.registry_model.specs.Answer.{Answer}
+use Rattle.registry_model.specs.Doing.{course_of_answer}
+use Rattle.registry_model.specs.Heads.{is_sent}
+use Rattle.registry_operations.proofs.FailedCalls.{memory_ran_out, read_failed, write_failed}
 use Rattle.registry_operations.proofs.DigestLemmas.{digest_absent, digest_found}
 use Rattle.registry_operations.proofs.BlobLemmas.{deletes_invalid, deletes_absent, deletes, absent_size, there_size}
 use Rattle.registry_operations.proofs.blobs.delete_blob.Goals as goal
@@ -31,3 +35,48 @@ returns-clause-comes g c honest =
     (subst (λ d. g.K.Keeper.state c.delete_blob.new.self ≡ record { world = lookups.delete_blob s.world c.args.name.now d; spent = false }) read.0
     (subst (λ (x : State). g.K.Keeper.state c.delete_blob.new.self ≡ record { world = lookups.delete_blob x.world c.args.name.now c.in-Some.digest; spent = false }) found.1 (c.in_ok-delete_blob.ensures.made honest)))
     c.bare.ensures
+
+pub returns-in_err-digest : goal.returns-in_err-digest
+returns-in_err-digest g c = memory_ran_out c.from_residual.result c.in_err-digest.field-0.0 _ _ _ _ _ _ c.from_residual.ensures c.in_err-digest.ensures (λ _. refl) c.requires.unspent c.requires.unspent (λ honest. honest)
+
+pub returns-in_default-clause-answers : goal.returns-in_default-clause-answers
+returns-in_default-clause-answers g c = ap course_of_answer c.refusal.ensures
+
+pub returns-in_default-clause-carries : goal.returns-in_default-clause-carries
+returns-in_default-clause-carries g c = ap (λ (a : Answer). is_sent a.body) c.refusal.ensures
+
+pub returns-in_default-clause-spends : goal.returns-in_default-clause-spends
+returns-in_default-clause-spends g c = (c.requires.unspent, c.requires.unspent)
+
+pub returns-in_default-clause-honest : goal.returns-in_default-clause-honest
+returns-in_default-clause-honest g c honest = honest
+
+pub returns-in_err-blob_size : goal.returns-in_err-blob_size
+returns-in_err-blob_size g c = read_failed _ c.from_residual-in_err-blob_size.result c.in_err-blob_size.field-0.0 _ _ _ _ _ _ c.from_residual-in_err-blob_size.ensures c.in_err-blob_size.ensures
+
+pub returns-then-is_none-clause-answers : goal.returns-then-is_none-clause-answers
+returns-then-is_none-clause-answers g c = ap course_of_answer c.refusal-then-is_none.ensures
+
+pub returns-then-is_none-clause-carries : goal.returns-then-is_none-clause-carries
+returns-then-is_none-clause-carries g c = ap (λ (a : Answer). is_sent a.body) c.refusal-then-is_none.ensures
+
+pub returns-then-is_none-clause-spends : goal.returns-then-is_none-clause-spends
+returns-then-is_none-clause-spends g c = c.in_ok-blob_size.ensures.spends
+
+pub returns-then-is_none-clause-honest : goal.returns-then-is_none-clause-honest
+returns-then-is_none-clause-honest g c = c.in_ok-blob_size.ensures.honest
+
+pub returns-in_err-delete_blob : goal.returns-in_err-delete_blob
+returns-in_err-delete_blob g c = write_failed _ c.from_residual-in_err-delete_blob.result c.in_err-delete_blob.field-0.0 _ _ _ _ _ _ _ _ c.from_residual-in_err-delete_blob.ensures (λ between. (c.in_ok-blob_size.ensures.found between).1) c.in_ok-blob_size.ensures.honest c.requires.unspent c.in_err-delete_blob.ensures
+
+pub returns-clause-answers : goal.returns-clause-answers
+returns-clause-answers g c = ap course_of_answer c.bare.ensures
+
+pub returns-clause-carries : goal.returns-clause-carries
+returns-clause-carries g c = ap (λ (a : Answer). is_sent a.body) c.bare.ensures
+
+pub returns-clause-spends : goal.returns-clause-spends
+returns-clause-spends g c = (c.requires.unspent, c.in_ok-delete_blob.ensures.spends.1)
+
+pub returns-clause-honest : goal.returns-clause-honest
+returns-clause-honest g c honest = c.in_ok-blob_size.ensures.honest (c.in_ok-delete_blob.ensures.honest honest)

@@ -3,6 +3,9 @@ use Rattle.std.specs.Prelude.{codes}
 use Rattle.registry_model.specs.declared.reply.Status.TheVariants.{OK}
 use Rattle.registry_model.specs.Answer.{Answer, bare_answer, sent}
 use Rattle.registry_model.specs.Keeping.{bytes_in}
+use Rattle.registry_model.specs.Doing.{course_of_answer}
+use Rattle.registry_model.specs.Heads.{is_sent}
+use Rattle.registry_operations.proofs.FailedCalls.{memory_ran_out, read_failed}
 use Rattle.registry_operations.proofs.DigestLemmas.{digest_absent, digest_found}
 use Rattle.registry_operations.proofs.BlobLemmas.{reads, reads_nothing}
 use Rattle.registry_operations.proofs.blobs.read_blob.Goals as goal
@@ -29,3 +32,39 @@ returns-in-Some-2-clause-comes g c honest =
     (sym (ap bytes_in c.in-Some-2.is) ∙ found.0 ∙ search rules)
     (ap {B = Answer} (λ (a : Answer). record a { digest = Some c.in-Some.digest; content_type = Some (codes "application/octet-stream"); body = sent c.in-Some-2.bytes.items }) c.bare.ensures
     ∙ ap {B = Answer} (λ d. record (bare_answer OK) { digest = Some d; content_type = Some (codes "application/octet-stream"); body = sent c.in-Some-2.bytes.items }) (search rules))
+
+pub returns-in_err-digest : goal.returns-in_err-digest
+returns-in_err-digest g c = memory_ran_out c.from_residual.result c.in_err-digest.field-0.0 _ _ _ _ _ _ c.from_residual.ensures c.in_err-digest.ensures (λ _. refl) c.requires.unspent c.requires.unspent (λ honest. honest)
+
+pub returns-in_default-clause-answers : goal.returns-in_default-clause-answers
+returns-in_default-clause-answers g c = ap course_of_answer c.refusal.ensures
+
+pub returns-in_default-clause-carries : goal.returns-in_default-clause-carries
+returns-in_default-clause-carries g c = ap (λ (a : Answer). is_sent a.body) c.refusal.ensures
+
+pub returns-in_default-clause-spends : goal.returns-in_default-clause-spends
+returns-in_default-clause-spends g c = (c.requires.unspent, c.requires.unspent)
+
+pub returns-in_default-clause-honest : goal.returns-in_default-clause-honest
+returns-in_default-clause-honest g c honest = honest
+
+pub returns-in_err-blob : goal.returns-in_err-blob
+returns-in_err-blob g c = read_failed _ c.from_residual-in_err-blob.result c.in_err-blob.field-0.0 _ _ _ _ _ _ c.from_residual-in_err-blob.ensures c.in_err-blob.ensures
+
+pub returns-in-None-clause-answers : goal.returns-in-None-clause-answers
+returns-in-None-clause-answers g c = ap course_of_answer c.refusal-in-None.ensures
+
+pub returns-in-None-clause-carries : goal.returns-in-None-clause-carries
+returns-in-None-clause-carries g c = ap (λ (a : Answer). is_sent a.body) c.refusal-in-None.ensures
+
+pub returns-in-None-clause-spends : goal.returns-in-None-clause-spends
+returns-in-None-clause-spends g c = c.in_ok-blob.ensures.spends
+
+pub returns-in-None-clause-honest : goal.returns-in-None-clause-honest
+returns-in-None-clause-honest g c = c.in_ok-blob.ensures.honest
+
+pub returns-in-Some-2-clause-spends : goal.returns-in-Some-2-clause-spends
+returns-in-Some-2-clause-spends g c = c.in_ok-blob.ensures.spends
+
+pub returns-in-Some-2-clause-honest : goal.returns-in-Some-2-clause-honest
+returns-in-Some-2-clause-honest g c = c.in_ok-blob.ensures.honest

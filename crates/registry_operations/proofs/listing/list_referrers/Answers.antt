@@ -1,10 +1,13 @@
-use Rattle.std.proofs.Common.{◌∙◌, ap, List}
+use Rattle.std.proofs.Common.{◌∙◌, ap, List, refl}
 use Rattle.oci_manifest.specs.declared.referrers.Referrer.{Referrer}
 use Rattle.oci_manifest.specs.Referrers.{referrers_shown}
 use Rattle.registry_model.specs.Answer.{Answer}
 use Rattle.registry_model.specs.Ask.{text_in}
 use Rattle.registry_model.specs.Keeping.{entries_shown}
 use Rattle.registry_model.specs.Referrers.{referrers_reply}
+use Rattle.registry_model.specs.Doing.{course_of_answer}
+use Rattle.registry_model.specs.Heads.{is_sent}
+use Rattle.registry_operations.proofs.FailedCalls.{memory_ran_out, read_failed}
 use Rattle.registry_operations.proofs.DigestLemmas.{digest_absent, digest_found}
 use Rattle.registry_operations.proofs.ListingLemmas.{lists, lists_nothing}
 use Rattle.registry_operations.proofs.listing.list_referrers.Goals as goal
@@ -23,3 +26,33 @@ returns-clause-comes g c honest =
     (text_in c.filter_in-wanted.result) c.filter_in-wanted.ensures (entries_shown c.in_ok-manifests.manifests) found.0
     (referrers_shown c.in_ok-referrers.referrers.items) c.in_ok-referrers.ensures _
     (c.in_ok-referrers_reply.ensures ∙ ap {A = List Referrer} {B = Answer} (λ x. referrers_reply (text_in c.filter_in-wanted.result) (referrers_shown x)) c.deref.ensures.value)
+
+pub returns-in_err-digest : goal.returns-in_err-digest
+returns-in_err-digest g c = memory_ran_out c.from_residual.result c.in_err-digest.field-0.0 _ _ _ _ _ _ c.from_residual.ensures c.in_err-digest.ensures (λ _. refl) c.requires.unspent c.requires.unspent (λ honest. honest)
+
+pub returns-in_default-clause-answers : goal.returns-in_default-clause-answers
+returns-in_default-clause-answers g c = ap course_of_answer c.refusal.ensures
+
+pub returns-in_default-clause-carries : goal.returns-in_default-clause-carries
+returns-in_default-clause-carries g c = ap (λ (a : Answer). is_sent a.body) c.refusal.ensures
+
+pub returns-in_default-clause-spends : goal.returns-in_default-clause-spends
+returns-in_default-clause-spends g c = (c.requires.unspent, c.requires.unspent)
+
+pub returns-in_default-clause-honest : goal.returns-in_default-clause-honest
+returns-in_default-clause-honest g c honest = honest
+
+pub returns-in_err-manifests : goal.returns-in_err-manifests
+returns-in_err-manifests g c = read_failed _ c.from_residual-in_err-manifests.result c.in_err-manifests.field-0.0 _ _ _ _ _ _ c.from_residual-in_err-manifests.ensures c.in_err-manifests.ensures
+
+pub returns-in_err-referrers : goal.returns-in_err-referrers
+returns-in_err-referrers g c = memory_ran_out c.from_residual-in_err-referrers.result c.in_err-referrers.field-0.0 _ _ _ _ _ _ c.from_residual-in_err-referrers.ensures c.in_err-referrers.ensures (λ honest. (c.in_ok-manifests.ensures.found honest).1) c.requires.unspent c.in_ok-manifests.ensures.spends.1 c.in_ok-manifests.ensures.honest
+
+pub returns-in_err-referrers_reply : goal.returns-in_err-referrers_reply
+returns-in_err-referrers_reply g c = memory_ran_out c.from_residual-in_err-referrers_reply.result c.in_err-referrers_reply.field-0.0 _ _ _ _ _ _ c.from_residual-in_err-referrers_reply.ensures c.in_err-referrers_reply.ensures (λ honest. (c.in_ok-manifests.ensures.found honest).1) c.requires.unspent c.in_ok-manifests.ensures.spends.1 c.in_ok-manifests.ensures.honest
+
+pub returns-clause-spends : goal.returns-clause-spends
+returns-clause-spends g c = c.in_ok-manifests.ensures.spends
+
+pub returns-clause-honest : goal.returns-clause-honest
+returns-clause-honest g c = c.in_ok-manifests.ensures.honest

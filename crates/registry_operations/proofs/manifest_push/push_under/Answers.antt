@@ -1,3 +1,7 @@
+use Rattle.std.proofs.Common.{ap}
+use Rattle.registry_model.specs.Answer.{Answer}
+use Rattle.registry_model.specs.Doing.{course_of_answer}
+use Rattle.registry_model.specs.Heads.{is_sent}
 use Rattle.registry_operations.proofs.PushLemmas.{other_type}
 use Rattle.registry_model.specs.Ask.{text_in}
 use Rattle.registry_operations.proofs.manifest_push.push_under.Goals as goal
@@ -9,3 +13,27 @@ returns-then-not-content_type_fits-clause-comes g c honest =
     let no = c.if-not-content_type_fits.true in
     let e = c.refusal-then-not-content_type_fits.ensures in
     other_type _ c.args.name.now c.args.digest (text_in c.args.content_type) c.args.body.now (c.requires.there honest) c.requires.unspent (text_in c.args.tag) _ read _ fits no _ e
+
+pub returns-then-not-content_type_fits-clause-answers : goal.returns-then-not-content_type_fits-clause-answers
+returns-then-not-content_type_fits-clause-answers g c = ap course_of_answer c.refusal-then-not-content_type_fits.ensures
+
+pub returns-then-not-content_type_fits-clause-carries : goal.returns-then-not-content_type_fits-clause-carries
+returns-then-not-content_type_fits-clause-carries g c = ap (λ (a : Answer). is_sent a.body) c.refusal-then-not-content_type_fits.ensures
+
+pub returns-then-not-content_type_fits-clause-spends : goal.returns-then-not-content_type_fits-clause-spends
+returns-then-not-content_type_fits-clause-spends g c = (c.requires.unspent, c.requires.unspent)
+
+pub returns-then-not-content_type_fits-clause-honest : goal.returns-then-not-content_type_fits-clause-honest
+returns-then-not-content_type_fits-clause-honest g c honest = honest
+
+pub returns-clause-answers : goal.returns-clause-answers
+returns-clause-answers g c = c.keep_manifest.ensures.answers
+
+pub returns-clause-carries : goal.returns-clause-carries
+returns-clause-carries g c = c.keep_manifest.ensures.carries
+
+pub returns-clause-spends : goal.returns-clause-spends
+returns-clause-spends g c = c.keep_manifest.ensures.spends
+
+pub returns-clause-honest : goal.returns-clause-honest
+returns-clause-honest g c = c.keep_manifest.ensures.honest

@@ -1,11 +1,15 @@
-use Rattle.std.proofs.Common.{◌≡◌, ◌∙◌, Some, refl, sym, subst}
+use Rattle.std.proofs.Common.{◌≡◌, ◌∙◌, Some, refl, sym, subst, ap}
 use Rattle.registry_model.specs.World.{repo_at}
 use Rattle.registry_model.specs.Ask.{text_in}
 use Rattle.registry_model.specs.Lookups.{blob_at, blob_size_at}
 use Rattle.registry_model.specs.Mount as mounts
 use Rattle.registry_model.specs.Sessions as sessions
 use Rattle.registry_operations.specs.Operating.{OperatesWith}
-use Rattle.registry_operations.proofs.RepoOutcomes.{there_is, told, same_act}
+use Rattle.registry_model.specs.Answer.{Answer}
+use Rattle.registry_model.specs.Doing.{course_of_answer}
+use Rattle.registry_model.specs.Heads.{is_sent}
+use Rattle.registry_operations.proofs.FailedCalls.{memory_ran_out, read_failed}
+use Rattle.registry_operations.proofs.RepoOutcomes.{there_is, told, same_act, spends_after}
 use Rattle.registry_operations.proofs.DigestLemmas.{digest_absent, digest_found}
 use Rattle.registry_operations.proofs.MountLemmas.{source_has, invalid_mount, opens_instead, mounts_from}
 use Rattle.registry_operations.proofs.mounting.mount_blob.Goals as goal
@@ -53,3 +57,45 @@ returns-in-Some-2-clause-comes g c honest =
     (mounts_from s.world here.0 c.args.token.now name c.in-Some.wanted c.args.digest.now (text_in c.args.«from») u read.0 read.1 (sym c.in-Some-2.is ∙ asked.0))
     (subst (λ x. OperatesWith c.mount_from.result name (λ w r. mounts.mounted r name c.in-Some.wanted (blob_at w u.name c.in-Some.wanted)) x (g.K.Keeper.state c.mount_from.new.keeper)) asked.1
     (c.mount_from.ensures.comes honest))
+
+pub returns-in_err-wanted : goal.returns-in_err-wanted
+returns-in_err-wanted g c = memory_ran_out c.from_residual.result c.in_err-wanted.field-0.0 _ _ _ _ _ _ c.from_residual.ensures c.in_err-wanted.ensures (λ _. refl) c.requires.unspent c.requires.unspent (λ honest. honest)
+
+pub returns-in_default-clause-answers : goal.returns-in_default-clause-answers
+returns-in_default-clause-answers g c = ap course_of_answer c.refusal.ensures
+
+pub returns-in_default-clause-carries : goal.returns-in_default-clause-carries
+returns-in_default-clause-carries g c = ap (λ (a : Answer). is_sent a.body) c.refusal.ensures
+
+pub returns-in_default-clause-spends : goal.returns-in_default-clause-spends
+returns-in_default-clause-spends g c = (c.requires.unspent, c.requires.unspent)
+
+pub returns-in_default-clause-honest : goal.returns-in_default-clause-honest
+returns-in_default-clause-honest g c honest = honest
+
+pub returns-in_err-find_source : goal.returns-in_err-find_source
+returns-in_err-find_source g c = read_failed _ c.from_residual-in_err-find_source.result c.in_err-find_source.field-0.0 _ _ _ _ _ _ c.from_residual-in_err-find_source.ensures c.in_err-find_source.ensures
+
+pub returns-in-None-clause-answers : goal.returns-in-None-clause-answers
+returns-in-None-clause-answers g c = c.open_session.ensures.answers
+
+pub returns-in-None-clause-carries : goal.returns-in-None-clause-carries
+returns-in-None-clause-carries g c = c.open_session.ensures.carries
+
+pub returns-in-None-clause-spends : goal.returns-in-None-clause-spends
+returns-in-None-clause-spends g c = spends_after c.open_session.result (g.K.Keeper.state c.args.keeper.now) _ _ c.requires.unspent c.open_session.ensures.spends
+
+pub returns-in-None-clause-honest : goal.returns-in-None-clause-honest
+returns-in-None-clause-honest g c honest = c.in_ok-find_source.ensures.honest (c.open_session.ensures.honest honest)
+
+pub returns-in-Some-2-clause-answers : goal.returns-in-Some-2-clause-answers
+returns-in-Some-2-clause-answers g c = c.mount_from.ensures.answers
+
+pub returns-in-Some-2-clause-carries : goal.returns-in-Some-2-clause-carries
+returns-in-Some-2-clause-carries g c = c.mount_from.ensures.carries
+
+pub returns-in-Some-2-clause-spends : goal.returns-in-Some-2-clause-spends
+returns-in-Some-2-clause-spends g c = spends_after c.mount_from.result (g.K.Keeper.state c.args.keeper.now) _ _ c.requires.unspent c.mount_from.ensures.spends
+
+pub returns-in-Some-2-clause-honest : goal.returns-in-Some-2-clause-honest
+returns-in-Some-2-clause-honest g c honest = c.in_ok-find_source.ensures.honest (c.mount_from.ensures.honest honest)

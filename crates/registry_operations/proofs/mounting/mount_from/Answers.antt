@@ -1,6 +1,11 @@
 use Rattle.registry_model.specs.World.{repo_at}
 use Rattle.registry_model.specs.Lookups.{blob_at, with_mounted}
 use Rattle.registry_model.specs.Mount as mounts
+use Rattle.std.proofs.Common.{ap}
+use Rattle.registry_model.specs.Answer.{Answer}
+use Rattle.registry_model.specs.Doing.{course_of_answer}
+use Rattle.registry_model.specs.Heads.{is_sent}
+use Rattle.registry_operations.proofs.FailedCalls.{read_failed, write_failed}
 use Rattle.registry_operations.proofs.RepoOutcomes.{there_is, told, made}
 use Rattle.registry_operations.proofs.MountLemmas.{mount_refused, mount_taken}
 use Rattle.registry_operations.proofs.mounting.mount_from.Goals as goal
@@ -29,3 +34,36 @@ returns-clause-comes g c honest =
     (with_mounted c.args.digest (blob_at s.world from c.args.digest))
     (rw asked.1 at (c.in_ok-mount.ensures.made honest))
     (mount_taken s.world name from c.args.digest c.args.source.now.size here.0 here.1 (c.requires.source before) c.in_ok-blob_goes_over.field-0 asked.0 c.if-branch.false)
+
+pub returns-in_err-blob_goes_over : goal.returns-in_err-blob_goes_over
+returns-in_err-blob_goes_over g c = read_failed _ c.from_residual.result c.in_err-blob_goes_over.field-0.0 _ _ _ _ _ _ c.from_residual.ensures c.in_err-blob_goes_over.ensures
+
+pub returns-then-branch-clause-answers : goal.returns-then-branch-clause-answers
+returns-then-branch-clause-answers g c = ap course_of_answer c.refusal.ensures
+
+pub returns-then-branch-clause-carries : goal.returns-then-branch-clause-carries
+returns-then-branch-clause-carries g c = ap (λ (a : Answer). is_sent a.body) c.refusal.ensures
+
+pub returns-then-branch-clause-spends : goal.returns-then-branch-clause-spends
+returns-then-branch-clause-spends g c = c.in_ok-blob_goes_over.ensures.spends
+
+pub returns-then-branch-clause-honest : goal.returns-then-branch-clause-honest
+returns-then-branch-clause-honest g c = c.in_ok-blob_goes_over.ensures.honest
+
+pub returns-in_default : goal.returns-in_default
+returns-in_default g c = record { comes = λ honest. (c.in_ok-blob_goes_over.ensures.found honest).1; answers = tt; carries = tt; spends = c.in_ok-blob_goes_over.ensures.spends; honest = c.in_ok-blob_goes_over.ensures.honest }
+
+pub returns-in_err-mount : goal.returns-in_err-mount
+returns-in_err-mount g c = write_failed _ c.from_residual-in_err-mount.result c.in_err-mount.field-0.0 _ _ _ _ _ _ _ _ c.from_residual-in_err-mount.ensures (λ between. (c.in_ok-blob_goes_over.ensures.found between).1) c.in_ok-blob_goes_over.ensures.honest c.requires.unspent c.in_err-mount.ensures
+
+pub returns-clause-answers : goal.returns-clause-answers
+returns-clause-answers g c = ap course_of_answer (c.created_blob.ensures.shown c.args.name.now c.in-Ok.ensures)
+
+pub returns-clause-carries : goal.returns-clause-carries
+returns-clause-carries g c = c.created_blob.ensures.carries
+
+pub returns-clause-spends : goal.returns-clause-spends
+returns-clause-spends g c = (c.requires.unspent, c.in_ok-mount.ensures.spends.1)
+
+pub returns-clause-honest : goal.returns-clause-honest
+returns-clause-honest g c honest = c.in_ok-blob_goes_over.ensures.honest (c.in_ok-mount.ensures.honest honest)

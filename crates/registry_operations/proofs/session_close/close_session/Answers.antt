@@ -1,8 +1,12 @@
 use Rattle.std.proofs.Common.{◌≡◌, ◌∙◌, length, Some, sym, ap, subst}
+use Rattle.registry_model.specs.Answer.{Answer}
 use Rattle.registry_model.specs.Ask.{text_in}
+use Rattle.registry_model.specs.Doing.{course_of_answer}
+use Rattle.registry_model.specs.Heads.{is_sent}
 use Rattle.registry_model.specs.Lookups.{session_size_at}
 use Rattle.registry_operations.proofs.RepoOutcomes.{spends_after}
-use Rattle.registry_operations.proofs.UploadLemmas.{upload_is, none_in, chunk_fits}
+use Rattle.registry_operations.proofs.FailedCalls.{read_failed, memory_ran_out}
+use Rattle.registry_operations.proofs.UploadLemmas.{upload_is, none_in, chunk_fits, refusal_sent}
 use Rattle.registry_operations.proofs.DigestLemmas.{not_found, is_verifiable}
 use Rattle.registry_operations.proofs.SessionCloseLemmas.{ends_unknown, ends_undigested, ends_unverified, ends_refused, ends_taken}
 use Rattle.registry_operations.proofs.session_close.close_session.Goals as goal
@@ -74,6 +78,12 @@ returns-in-Err-clause-spends g c = c.in_ok-upload.ensures.spends
 pub returns-in-Err-clause-honest : goal.returns-in-Err-clause-honest
 returns-in-Err-clause-honest g c = c.in_ok-upload.ensures.honest
 
+pub returns-in-Ok-Some-clause-answers : goal.returns-in-Ok-Some-clause-answers
+returns-in-Ok-Some-clause-answers g c = rw c.in-Ok-Some.field-0-is at c.in-Ok-Some.ensures.answers
+
+pub returns-in-Ok-Some-clause-carries : goal.returns-in-Ok-Some-clause-carries
+returns-in-Ok-Some-clause-carries g c = refusal_sent c.last_verdict-verdict.result c.args.name.now c.in-Some.upload (length c.args.body.now) _ (rw c.in-Ok-Some.field-0-is at c.in-Ok-Some.ensures.refusal)
+
 pub returns-in-Ok-Some-clause-spends : goal.returns-in-Ok-Some-clause-spends
 returns-in-Ok-Some-clause-spends g c = c.in_ok-upload.ensures.spends
 
@@ -97,3 +107,38 @@ close_with-requires-clause-unspent g c = c.in_ok-upload.ensures.spends.1
 
 pub close_with-requires-clause-fits : goal.close_with-requires-clause-fits
 close_with-requires-clause-fits g c = chunk_fits c.last_verdict-verdict.result c.args.name.now c.in-Some.upload (length c.args.body.now) (rw c.in-Ok-None.field-0-is at c.in-Ok-None.ensures.refusal)
+
+pub returns-in_err-upload : goal.returns-in_err-upload
+returns-in_err-upload g c = read_failed _ c.from_residual.result c.in_err-upload.field-0.0 _ _ _ _ _ _ c.from_residual.ensures c.in_err-upload.ensures
+
+pub returns-in_err-verifiable : goal.returns-in_err-verifiable
+returns-in_err-verifiable g c =
+    let early = c.in_ok-upload.ensures in
+    memory_ran_out c.from_residual-in_err-verifiable.result c.in_err-verifiable.field-0.0 _ _ _ _ _ _ c.from_residual-in_err-verifiable.ensures c.in_err-verifiable.ensures (λ honest. (early.found honest).1) c.requires.unspent early.spends.1 early.honest
+
+pub returns-in-Err-clause-comes : goal.returns-in-Err-clause-comes
+returns-in-Err-clause-comes g c honest = (c.in_ok-upload.ensures.found honest).1
+
+pub returns-in-Err-clause-answers : goal.returns-in-Err-clause-answers
+returns-in-Err-clause-answers g c = tt
+
+pub returns-in-Err-clause-carries : goal.returns-in-Err-clause-carries
+returns-in-Err-clause-carries g c = tt
+
+pub returns-in_default-clause-answers : goal.returns-in_default-clause-answers
+returns-in_default-clause-answers g c = ap course_of_answer c.refusal.ensures
+
+pub returns-in_default-clause-carries : goal.returns-in_default-clause-carries
+returns-in_default-clause-carries g c = ap (λ (a : Answer). is_sent a.body) c.refusal.ensures
+
+pub returns-in_default-digest-clause-answers : goal.returns-in_default-digest-clause-answers
+returns-in_default-digest-clause-answers g c = ap course_of_answer c.refusal-in_default-digest.ensures
+
+pub returns-in_default-digest-clause-carries : goal.returns-in_default-digest-clause-carries
+returns-in_default-digest-clause-carries g c = ap (λ (a : Answer). is_sent a.body) c.refusal-in_default-digest.ensures
+
+pub returns-in_default-2-clause-answers : goal.returns-in_default-2-clause-answers
+returns-in_default-2-clause-answers g c = ap course_of_answer c.refusal-in_default-2.ensures
+
+pub returns-in_default-2-clause-carries : goal.returns-in_default-2-clause-carries
+returns-in_default-2-clause-carries g c = ap (λ (a : Answer). is_sent a.body) c.refusal-in_default-2.ensures

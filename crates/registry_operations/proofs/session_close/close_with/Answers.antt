@@ -2,7 +2,7 @@ use Rattle.std.proofs.Common.{◌≡◌, ◌++◌, length, rules, refl}
 use Rattle.registry_model.specs.Sessions.{finished}
 use Rattle.registry_model.specs.Lookups.{bytes_or_none, session_at}
 use Rattle.registry_operations.specs.Uploads.{bytes_so_far, finish_with}
-use Rattle.registry_operations.proofs.RepoOutcomes.{same_act, made}
+use Rattle.registry_operations.proofs.RepoOutcomes.{same_act, made, spends_after}
 use Rattle.registry_operations.proofs.UploadLemmas.{found_session}
 use Rattle.registry_operations.proofs.SessionCloseLemmas.{none_so_far, finish_unread, known}
 use Rattle.registry_operations.proofs.session_close.close_with.Goals as goal
@@ -27,3 +27,39 @@ returns-then-branch-clause-comes g c honest =
     made s _ name (λ r. finish_with r name number c.args.digest (bytes_so_far r number ++ c.args.body.now)) f.repo f.at _ _ (c.created_blob.ensures.shown name c.in-Ok.ensures)
     (λ r. finished r number c.args.digest (bytes_or_none (session_at s.world name number))) did.1
     (finish_unread s.world name number c.args.upload.size f c.args.digest did.0 c.args.body.now none)
+
+pub returns-then-upload-eq0-clause-answers : goal.returns-then-upload-eq0-clause-answers
+returns-then-upload-eq0-clause-answers g c = c.finish.ensures.answers
+
+pub returns-then-upload-eq0-clause-carries : goal.returns-then-upload-eq0-clause-carries
+returns-then-upload-eq0-clause-carries g c = c.finish.ensures.carries
+
+pub returns-then-upload-eq0-clause-spends : goal.returns-then-upload-eq0-clause-spends
+returns-then-upload-eq0-clause-spends g c = c.finish.ensures.spends
+
+pub returns-then-upload-eq0-clause-honest : goal.returns-then-upload-eq0-clause-honest
+returns-then-upload-eq0-clause-honest g c = c.finish.ensures.honest
+
+pub returns-then-not-is_empty-clause-answers : goal.returns-then-not-is_empty-clause-answers
+returns-then-not-is_empty-clause-answers g c = c.close_read.ensures.answers
+
+pub returns-then-not-is_empty-clause-carries : goal.returns-then-not-is_empty-clause-carries
+returns-then-not-is_empty-clause-carries g c = c.close_read.ensures.carries
+
+pub returns-then-not-is_empty-clause-spends : goal.returns-then-not-is_empty-clause-spends
+returns-then-not-is_empty-clause-spends g c = c.close_read.ensures.spends
+
+pub returns-then-not-is_empty-clause-honest : goal.returns-then-not-is_empty-clause-honest
+returns-then-not-is_empty-clause-honest g c = c.close_read.ensures.honest
+
+pub returns-clause-answers : goal.returns-clause-answers
+returns-clause-answers g c = c.close_read-2.ensures.answers
+
+pub returns-clause-carries : goal.returns-clause-carries
+returns-clause-carries g c = c.close_read-2.ensures.carries
+
+pub returns-clause-spends : goal.returns-clause-spends
+returns-clause-spends g c = spends_after c.close_read-2.result (g.K.Keeper.state c.args.keeper.now) _ _ c.requires.unspent c.close_read-2.ensures.spends
+
+pub returns-clause-honest : goal.returns-clause-honest
+returns-clause-honest g c honest = c.in_ok-finish_known.ensures.honest (c.close_read-2.ensures.honest honest)

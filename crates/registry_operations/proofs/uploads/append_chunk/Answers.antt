@@ -1,9 +1,14 @@
-use Rattle.std.proofs.Common.{◌∙◌, refl, sym}
+use Rattle.std.proofs.Common.{◌≡◌, ◌∙◌, length, Some, refl, sym, ap, subst}
+use Rattle.registry_model.specs.Answer.{Answer}
 use Rattle.registry_model.specs.Ask.{text_in}
+use Rattle.registry_model.specs.Doing.{course_of_answer}
+use Rattle.registry_model.specs.Heads.{is_sent}
+use Rattle.registry_model.specs.Lookups.{session_size_at}
 use Rattle.registry_model.specs.Sessions as sessions
 use Rattle.registry_operations.specs.Uploads.{append_more}
-use Rattle.registry_operations.proofs.RepoOutcomes.{told, same_act}
-use Rattle.registry_operations.proofs.UploadLemmas.{found_session, upload_is, none_in, patch_unknown, patch_refused, patch_taken}
+use Rattle.registry_operations.proofs.RepoOutcomes.{told, same_act, spends_after}
+use Rattle.registry_operations.proofs.FailedCalls.{read_failed}
+use Rattle.registry_operations.proofs.UploadLemmas.{found_session, upload_is, none_in, chunk_fits, refusal_sent, patch_unknown, patch_refused, patch_taken}
 use Rattle.registry_operations.proofs.uploads.append_chunk.Goals as goal
 
 pub returns-in-Ok-Some-clause-comes : goal.returns-in-Ok-Some-clause-comes
@@ -33,3 +38,58 @@ returns-in_default-clause-comes g c honest =
     let asked = c.in_ok-upload.ensures.found honest in
     patch_unknown (g.K.Keeper.state c.args.keeper.now) _ c.args.name.now c.args.reference.now (text_in c.args.range) c.args.body.now (c.requires.there (c.in_ok-upload.ensures.honest honest))
     (sym (none_in c.in_ok-upload.field-0 c.in_default.not-Some) ∙ asked.0) _ c.refusal.ensures c.requires.unspent asked.1
+
+pub returns-in_err-upload : goal.returns-in_err-upload
+returns-in_err-upload g c = read_failed _ c.from_residual.result c.in_err-upload.field-0.0 _ _ _ _ _ _ c.from_residual.ensures c.in_err-upload.ensures
+
+pub returns-in_default-clause-answers : goal.returns-in_default-clause-answers
+returns-in_default-clause-answers g c = ap course_of_answer c.refusal.ensures
+
+pub returns-in_default-clause-carries : goal.returns-in_default-clause-carries
+returns-in_default-clause-carries g c = ap (λ (a : Answer). is_sent a.body) c.refusal.ensures
+
+pub returns-in_default-clause-spends : goal.returns-in_default-clause-spends
+returns-in_default-clause-spends g c = c.in_ok-upload.ensures.spends
+
+pub returns-in_default-clause-honest : goal.returns-in_default-clause-honest
+returns-in_default-clause-honest g c = c.in_ok-upload.ensures.honest
+
+pub append-requires-clause-unspent : goal.append-requires-clause-unspent
+append-requires-clause-unspent g c = c.in_ok-upload.ensures.spends.1
+
+pub returns-in-Err : goal.returns-in-Err
+returns-in-Err g c = record { comes = λ honest. (c.in_ok-upload.ensures.found honest).1; answers = tt; carries = tt; spends = c.in_ok-upload.ensures.spends; honest = c.in_ok-upload.ensures.honest }
+
+pub returns-in-Ok-Some-clause-spends : goal.returns-in-Ok-Some-clause-spends
+returns-in-Ok-Some-clause-spends g c = c.in_ok-upload.ensures.spends
+
+pub returns-in-Ok-Some-clause-honest : goal.returns-in-Ok-Some-clause-honest
+returns-in-Ok-Some-clause-honest g c = c.in_ok-upload.ensures.honest
+
+pub returns-in-Ok-None-clause-answers : goal.returns-in-Ok-None-clause-answers
+returns-in-Ok-None-clause-answers g c = c.append.ensures.answers
+
+pub returns-in-Ok-None-clause-carries : goal.returns-in-Ok-None-clause-carries
+returns-in-Ok-None-clause-carries g c = c.append.ensures.carries
+
+pub returns-in-Ok-None-clause-spends : goal.returns-in-Ok-None-clause-spends
+returns-in-Ok-None-clause-spends g c = spends_after c.append.result (g.K.Keeper.state c.args.keeper.now) _ _ c.requires.unspent c.append.ensures.spends
+
+pub returns-in-Ok-None-clause-honest : goal.returns-in-Ok-None-clause-honest
+returns-in-Ok-None-clause-honest g c honest = c.in_ok-upload.ensures.honest (c.append.ensures.honest honest)
+
+pub returns-in-Ok-Some-clause-answers : goal.returns-in-Ok-Some-clause-answers
+returns-in-Ok-Some-clause-answers g c = rw c.in-Ok-Some.field-0-is at c.in-Ok-Some.ensures.answers
+
+pub returns-in-Ok-Some-clause-carries : goal.returns-in-Ok-Some-clause-carries
+returns-in-Ok-Some-clause-carries g c = refusal_sent c.range_fits-verdict.result c.args.name.now c.in-Some.upload (length c.args.body.now) _ (rw c.in-Ok-Some.field-0-is at c.in-Ok-Some.ensures.refusal)
+
+pub append-requires-clause-open : goal.append-requires-clause-open
+append-requires-clause-open g c honest =
+    let s = g.K.Keeper.state c.args.keeper.now in
+    let u = c.in-Some.upload in
+    let asked = c.in_ok-upload.ensures.found honest in
+    subst (λ x. session_size_at x.world c.args.name.now u.number ≡ Some u.size) (sym asked.1) (upload_is s.world c.args.name.now c.args.reference.now u (sym c.in-Some.is ∙ asked.0)).1
+
+pub append-requires-clause-fits : goal.append-requires-clause-fits
+append-requires-clause-fits g c = chunk_fits c.range_fits-verdict.result c.args.name.now c.in-Some.upload (length c.args.body.now) (rw c.in-Ok-None.field-0-is at c.in-Ok-None.ensures.refusal)
