@@ -292,7 +292,7 @@ fn command<'a>(alloc: Global) -> Result<Command<'a>, AllocError>
 /// No database is opened here, and no server is asked.
 pub fn read_words<'a, S: AsStr>(alloc: Global, words: &'a [S]) -> Result<Task<'a>, Told<'a>>
     ensures read { IfOk result (IsTask (map S.text words.entry.now)) }
-    ensures refused { IfErr result IsToldOfWords }
+    ensures refused { IfErr result (IsToldOfWords (map S.text words.entry.now)) }
 {
     let command = match command(alloc) {
         Ok(command) => command,

@@ -1,4 +1,6 @@
 //! Words that are not read, and how that is told.
+ghost use Rattle.std.specs.Prelude.{List};
+ghost use Rattle.oci_names.specs.Text.{Text};
 ghost use Rattle.registry_orders.specs.Failures.{IsOfWords};
 ghost use Rattle.registry_orders.specs.Reading.{IsToldOfWords};
 
@@ -31,7 +33,7 @@ fn wanted(word: &str, matches: &ArgMatches) -> Option<Cause> {
 
 /// How it is told that the words of a subcommand are not read.
 pub fn told_of<'a>(word: &'a str, matches: &ArgMatches, failure: Failure) -> Told<'a>
-    ensures { IsOfWords failure → IsToldOfWords result }
+    ensures { (words : List Text) → IsOfWords failure → IsToldOfWords words result }
 {
     if failure != Failure::InvalidOptions {
         return Told::Failed(failure);

@@ -4,6 +4,7 @@ use Rattle.std.specs.Prelude.{◌≡◌, ◌≢◌, ℕ, ◌⊎◌, ⊤, List, R
 use Rattle.oci_names.specs.Text.{Text}
 use Rattle.registry_model.specs.Keeping.{State}
 use Rattle.registry_orders.specs.declared.failure.Failure.{Failure}
+use Rattle.registry_orders.specs.declared.failure.Failure.TheVariants.{OutOfMemory}
 use Rattle.registry_orders.specs.declared.limits.Limits.{Limits}
 use Rattle.registry_orders.specs.declared.tasks.Task.{Task}
 use Rattle.registry_orders.specs.declared.tasks.Task.TheVariants as task
@@ -18,6 +19,7 @@ use Rattle.registry_orders.specs.Orders.{change_with}
 use Rattle.registry_orders.specs.Tokens.{IsFirstLine}
 use Rattle.registry_orders.specs.Failures.{status_of, status_if, IsOfWords, IsOfOpening}
 use Rattle.registry_orders.specs.Tasks.{IsTask}
+use Rattle.registry_orders.specs.Reading.{fit}
 use Rattle.registry_program.specs.Program.{Streams, IsUntouched, GivesUp, ServesMemory, ServesStored, Tells}
 use Rattle.registry_orders.specs.Outputs.{Output, output, IsSilent}
 use Rattle.order_carrying.specs.Carrying.{IsCarriedOut}
@@ -96,9 +98,11 @@ RunsTask at (task.TokenOrder place source change) status e =
     RunsTokenOrder at place source change status e
 RunsTask at (task.Migration path) status e = IsUntouched e × EndsMigration status
 
--- words are not read, and nothing is done; or something is told of them
-abbrev pub IsNotRead : ℕ → Streams → Type 0
-IsNotRead status e = ((f : Failure) × IsOfWords f × GivesUp f status e) ⊎ Tells status e
+-- words are not read, and nothing is done; or something is told of them: help, the version, or what is wrong
+-- with words that do not fit the command line, and of others that memory is wanting
+abbrev pub IsNotRead : List Text → ℕ → Streams → Type 0
+IsNotRead words status e = ((f : Failure) × IsOfWords f × GivesUp f status e)
+    ⊎ (Tells status e × (fit words → status ≡ status_of OutOfMemory))
 
 -- the task wants a token, and there is none
 abbrev pub LacksToken : Task → ℕ → Streams → Type 0
@@ -110,7 +114,7 @@ LacksToken _ status e = ⊥
 abbrev pub RunsWords : (Text → Opened) → List Text → ℕ → Streams → Type 0
 RunsWords at words status e =
     ((task : Task) × IsTask words task × (status ≢ 2) × RunsTask at task status e)
-    ⊎ (((task : Task) × IsTask words task × LacksToken task status e) ⊎ IsNotRead status e)
+    ⊎ (((task : Task) × IsTask words task × LacksToken task status e) ⊎ IsNotRead words status e)
 
 -- the words take a line of standard input for a token
 abbrev pub IsByInput : Task → Type 0

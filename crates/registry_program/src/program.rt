@@ -5,6 +5,8 @@ ghost use Rattle.registry_program.specs.Together.{serves_within};
 ghost use Rattle.registry_program.specs.Program.{streams, Tells};
 ghost use Rattle.registry_program.specs.Running.{RunsOrder, RunsAt, RunsStored, RunsServer, EndsMigration};
 ghost use Rattle.registry_program.specs.Running.{RunsWords, IsSparedFor};
+ghost use Rattle.clap.specs.Values.{kind_of};
+ghost use Rattle.registry_orders.specs.Failures.{status_of};
 ghost use Rattle.registry_orders.specs.Outputs.{output, IsSilent};
 
 use crate::gathering::serve_together;
@@ -36,6 +38,8 @@ use std::time::Clock;
 /// Answers a command line that is a mistake, or that asks for help or the version.
 fn tell<W: Write, E: Write>(alloc: Global, error: &Error, out: &mut W, err: &mut E) -> u8
     ensures tells { Tells result (streams None None (W.contents out.old) (W.contents out.new)) }
+    ensures wanting { kind_of error.now ≡ ErrorKind.OutOfMemory
+        → result ≡ status_of Failure.OutOfMemory }
 {
     if error.kind() == ErrorKind::OutOfMemory {
         return say(err, Failure::OutOfMemory);

@@ -1,4 +1,5 @@
-use Rattle.std.proofs.Common.{inl, map, arith}
+use Rattle.std.proofs.Common.{inl, inr, map, refl, arith}
+use Rattle.registry_orders.specs.declared.failure.Failure.TheVariants.{InvalidOptions}
 use Rattle.registry_orders.specs.declared.tasks.Task.TheVariants.{Memory}
 use Rattle.registry_program.specs.Stored.{OverAt}
 use Rattle.registry_program.proofs.ExitStatuses.{memory_read}
@@ -25,3 +26,11 @@ returns-in-Ok-TokenOrder-clause-refused g c more less =
     let found = c.in-Ok-TokenOrder in
     order_spares (OverAt g.K.Keeper.is_honest g.K.Keeper.state (g.O.Opener.opens c.args.opener.now)) (map g.S.AsStr.text c.args.words.now)
     found.place found.source found.change _ _ read c.run_token_order.ensures.runs (c.run_token_order.ensures.silent more (omega arith))
+
+pub returns-in-Err-Options-clause-runs : goal.returns-in-Err-Options-clause-runs
+returns-in-Err-Options-clause-runs g c = inr (inr (inl (InvalidOptions, tt, (c.say_at.ensures, record { left = refl; held = refl }))))
+
+pub returns-in-Err-Line-clause-runs : goal.returns-in-Err-Line-clause-runs
+returns-in-Err-Line-clause-runs g c =
+    let told = rw c.in-Err-Line.field-0-is at c.in-Err-Line.ensures.refused in
+    inr (inr (inr ((refl, c.tell.ensures.tells.1), λ fits. c.tell.ensures.wanting (told fits))))
