@@ -30,7 +30,7 @@ words_of StdioOptions =
     codes "wants --db PATH, or --memory with --repo NAME=QUOTA and --grant TOKEN=NAME=LEVEL"
 words_of TokenOptions = codes "wants one of --token TOKEN and --token-file PATH"
 words_of PlaceOptions = codes "wants one of --db PATH and --orders PATH"
-words_of TogetherOptions = codes "--orders and --log want --at-once of 2 or more"
+words_of TogetherOptions = codes "--orders, --log and --stop-at-eof want --at-once of 2 or more"
 words_of NoFile = codes "no such file"
 words_of Unreadable = codes "cannot be read"
 words_of NoToken = codes "the first line is no token"

@@ -72,9 +72,15 @@ idle = with_default (codes "60") (within 1 86400 (option (codes "idle")))
 abbrev pub subcommand : Text → List Rule → Shape
 subcommand word options = record (new_shape word) { rules = options }
 
+-- `serve` but for what is beside it
+abbrev pub serving_within : Shape
+serving_within = subcommand (codes "serve")
+    (required db ∷ listen ∷ connections ∷ at_once ∷ buffer ∷ idle ∷ [])
+
 abbrev pub serve : Shape
 serve = subcommand (codes "serve")
-    (required db ∷ listen ∷ connections ∷ at_once ∷ buffer ∷ idle ∷ orders ∷ flag (codes "log") ∷ [])
+    (required db ∷ listen ∷ connections ∷ at_once ∷ buffer ∷ idle ∷ orders ∷ flag (codes "log")
+    ∷ flag (codes "stop-at-eof") ∷ [])
 
 abbrev pub stdio : Shape
 stdio = subcommand (codes "stdio")
@@ -82,6 +88,9 @@ stdio = subcommand (codes "stdio")
 
 abbrev pub migrate : Shape
 migrate = subcommand (codes "migrate") (required db ∷ [])
+
+abbrev pub stop : Shape
+stop = subcommand (codes "stop") (required orders ∷ [])
 
 -- an order wants one of `--db` and `--orders`
 abbrev pub ordering : Text → Shape
@@ -120,7 +129,7 @@ list_commands =
 
 abbrev pub other_commands : List Shape
 other_commands = grant ∷ over_token (codes "revoke") ∷ ordering (codes "clear") ∷ ordering (codes "usage")
-    ∷ migrate ∷ []
+    ∷ migrate ∷ stop ∷ []
 
 abbrev pub with_subcommands : List Shape → App → App
 with_subcommands subs a = record { top = record a.top { is_leaf = false }; subs = a.subs ++ subs }

@@ -1,10 +1,10 @@
 -- What the words of a command line ask for (profile).
-use Rattle.std.specs.Prelude.{◌≡◌, ◌↔◌, ℕ, Bool, true, false, List, [], Option, Some, None, codes, option_map}
-use Rattle.std.specs.Borrow.{Bor}
+use Rattle.std.specs.Prelude.{◌≡◌, ◌↔◌, ◌||◌, ℕ, Bool, true, false, is_some, List, [], Option, Some, None, codes, option_map}
 use Rattle.clap.specs.Words.{Row, first_of, one_of, subcommand_of}
 use Rattle.oci_names.specs.Text.{Text}
+use Rattle.registry_orders.specs.declared.beside.Beside.{Beside}
 use Rattle.registry_orders.specs.declared.tasks.Task.{Task}
-use Rattle.registry_orders.specs.declared.tasks.Task.TheVariants.{Memory, Stored, Server, Order, TokenOrder, Migration}
+use Rattle.registry_orders.specs.declared.tasks.Task.TheVariants.{Memory, Stored, Server, Order, TokenOrder, Migration, Stop}
 use Rattle.registry_orders.specs.CommandLine.{registry}
 use Rattle.registry_orders.specs.Limits.{AreLimitsIn}
 use Rattle.registry_orders.specs.Options.{texts_of, HasFlag, IsNumberOf, SpellsSetup}
@@ -12,12 +12,17 @@ use Rattle.registry_orders.specs.Orders.{HasValue, IsOrderIn, IsTokenChangeIn}
 use Rattle.registry_orders.specs.Places.{IsPlaceIn}
 use Rattle.registry_orders.specs.Tokens.{IsTokenFrom}
 
--- where a server takes orders, and whether it says each request; with one connection at once there is neither
-abbrev pub IsBesideIn : List Row → ℕ → Option (Bor Text) → Bool → Type 0
-IsBesideIn options at_once orders log =
-    (option_map (λ path. path.now) orders ≡ first_of (codes "orders") options)
-    × ((log ≡ true) ↔ HasFlag options (codes "log"))
-    × (at_once ≡ 1 → (orders ≡ None) × (log ≡ false))
+-- there is something beside serving
+abbrev pub is_any_beside : Beside → Bool
+is_any_beside b = is_some b.orders || b.log || b.stop_at_eof
+
+-- where a server takes orders, whether it says each request, and whether it ends at the end of standard
+-- input; with one connection at once there is none of it
+pub record IsBesideIn (options : List Row) (at_once : ℕ) (b : Beside) : Type 0 where
+  pub orders : option_map (λ path. path.now) b.orders ≡ first_of (codes "orders") options
+  pub log : (b.log ≡ true) ↔ HasFlag options (codes "log")
+  pub stop_at_eof : (b.stop_at_eof ≡ true) ↔ HasFlag options (codes "stop-at-eof")
+  pub none : at_once ≡ 1 → is_any_beside b ≡ false
 
 -- the word of the subcommand, and the options that it was given, say what the task is
 abbrev pub IsTaskIn : Text → List Row → Task → Type 0
@@ -27,15 +32,16 @@ IsTaskIn word options (Memory setup) =
 IsTaskIn word options (Stored path) =
     (word ≡ codes "stdio") × ¬ (HasFlag options (codes "memory")) × HasValue options (codes "db") path.now
     × (texts_of (codes "repo") options ≡ []) × (texts_of (codes "grant") options ≡ [])
-IsTaskIn word options (Server path address connections limits orders log) =
+IsTaskIn word options (Server path address connections limits beside) =
     (word ≡ codes "serve") × HasValue options (codes "db") path.now
     × HasValue options (codes "listen") address.now
     × IsNumberOf (one_of (codes "connections") options) connections × AreLimitsIn options limits
-    × IsBesideIn options limits.at_once orders log
+    × IsBesideIn options limits.at_once beside
 IsTaskIn word options (Order place order) = IsPlaceIn options place × IsOrderIn word options order
 IsTaskIn word options (TokenOrder place source change) =
     IsPlaceIn options place × IsTokenFrom options source × IsTokenChangeIn word options change
 IsTaskIn word options (Migration path) = (word ≡ codes "migrate") × HasValue options (codes "db") path.now
+IsTaskIn word options (Stop path) = (word ≡ codes "stop") × HasValue options (codes "orders") path.now
 
 -- the same of a subcommand that was found, with its options
 abbrev pub IsTaskOf : Option (Text × List Row) → Task → Type 0

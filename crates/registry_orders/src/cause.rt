@@ -86,7 +86,9 @@ impl Cause {
             }
             Cause::TokenOptions => "wants one of --token TOKEN and --token-file PATH",
             Cause::PlaceOptions => "wants one of --db PATH and --orders PATH",
-            Cause::TogetherOptions => "--orders and --log want --at-once of 2 or more",
+            Cause::TogetherOptions => {
+                "--orders, --log and --stop-at-eof want --at-once of 2 or more"
+            }
             Cause::NoFile => "no such file",
             Cause::Unreadable => "cannot be read",
             Cause::NoToken => "the first line is no token",

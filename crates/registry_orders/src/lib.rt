@@ -6,6 +6,7 @@
 //! a path or an address.
 #![tactic(auto)]
 
+pub mod beside;
 pub mod cause;
 pub mod failure;
 pub mod given;
@@ -19,6 +20,7 @@ pub mod tasks;
 pub mod tokens;
 pub mod unread;
 
+pub use beside::Beside;
 pub use cause::Cause;
 pub use failure::Failure;
 pub use limits::Limits;

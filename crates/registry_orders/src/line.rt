@@ -129,8 +129,9 @@ fn connections<'a>(alloc: Global) -> Arg<'a>
         .default_value("9223372036854775807")
 }
 
-fn serve<'a>(alloc: Global) -> Result<Command<'a>, AllocError>
-    ensures { IfOk result (IsSub spec.serve) }
+/// One that serves connections within limits.
+fn serving<'a>(alloc: Global) -> Result<Command<'a>, AllocError>
+    ensures { IfOk result (IsSub spec.serving_within) }
 {
     Command::new(alloc, "serve")
         .about("Serve connections")
@@ -139,9 +140,17 @@ fn serve<'a>(alloc: Global) -> Result<Command<'a>, AllocError>
         .arg(connections(alloc))?
         .arg(at_once(alloc))?
         .arg(buffer(alloc))?
-        .arg(idle(alloc))?
+        .arg(idle(alloc))
+}
+
+fn serve<'a>(alloc: Global) -> Result<Command<'a>, AllocError>
+    ensures { IfOk result (IsSub spec.serve) }
+{
+    let stopping = "End when the other end of standard input is closed";
+    serving(alloc)?
         .arg(orders(alloc, "Take orders at this socket"))?
-        .arg(flag(alloc, "log", "Say each request on standard error"))
+        .arg(flag(alloc, "log", "Say each request on standard error"))?
+        .arg(flag(alloc, "stop-at-eof", stopping))
 }
 
 fn migrate<'a>(alloc: Global) -> Result<Command<'a>, AllocError>
@@ -150,6 +159,15 @@ fn migrate<'a>(alloc: Global) -> Result<Command<'a>, AllocError>
     Command::new(alloc, "migrate")
         .about("Take over a database of schema 1, once")
         .arg(database(alloc).required(true))
+}
+
+fn stop<'a>(alloc: Global) -> Result<Command<'a>, AllocError>
+    ensures { IfOk result (IsSub spec.stop) }
+{
+    Command::new(alloc, "stop").about("End a server").arg(orders(
+        alloc,
+        "The socket at which it takes orders",
+    ).required(true))
 }
 
 /// A subcommand that orders something, of a database or of the server that holds it.
@@ -266,25 +284,38 @@ fn with_other_commands<'a>(alloc: Global, command: Command<'a>) -> Result<Comman
     let command = with(command, ordering(alloc, "clear", clearing))?;
     let listing = "List what the repositories hold";
     let command = with(command, ordering(alloc, "usage", listing))?;
-    with(command, migrate(alloc))
+    let command = with(command, migrate(alloc))?;
+    with(command, stop(alloc))
+}
+
+/// The program by itself, with no subcommand.
+fn program<'a>(alloc: Global) -> Result<Command<'a>, AllocError>
+    ensures { IfOk result (IsApp spec.program) }
+{
+    let command = Command::new(alloc, "registry").bin_name("registry")?;
+    Ok(
+        command
+            .about("An OCI artifact registry")
+            .version("0.1.0")
+            .no_binary_name(true)
+            .subcommand_required(true),
+    )
+}
+
+fn with_serving<'a>(alloc: Global, command: Command<'a>) -> Result<Command<'a>, AllocError>
+    ensures { IsApp spec.program command.entry → IfOk result (IsApp spec.serving) }
+{
+    let command = with(command, serve(alloc))?;
+    with(command, stdio(alloc))
 }
 
 /// The command line.
 fn command<'a>(alloc: Global) -> Result<Command<'a>, AllocError>
     ensures { IfOk result (IsApp spec.registry) }
 {
-    let command = Command::new(alloc, "registry")
-        .bin_name("registry")?
-        .about("An OCI artifact registry")
-        .version("0.1.0")
-        .no_binary_name(true)
-        .subcommand_required(true)
-        .subcommand(serve(alloc)?)?
-        .subcommand(stdio(alloc)?)?;
-    with_other_commands(
-        alloc,
-        with_lists(alloc, with_repo_commands(alloc, command)?)?,
-    )
+    let command = with_serving(alloc, program(alloc)?)?;
+    let command = with_repo_commands(alloc, command)?;
+    with_other_commands(alloc, with_lists(alloc, command)?)
 }
 
 /// Reads the words: what `clap` refuses is told first, then options that do not go together or do not

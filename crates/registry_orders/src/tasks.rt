@@ -4,6 +4,7 @@ ghost use Rattle.clap.specs.Words.{found_of, rows_of};
 ghost use Rattle.registry_orders.specs.Failures.{IsOfWords};
 ghost use Rattle.registry_orders.specs.Tasks.{IsTaskIn};
 
+use crate::beside::{Beside, beside_given};
 use crate::failure::Failure;
 use crate::given::{is_given, number_given, text_given, texts_given};
 use crate::limits::{Limits, limits_given};
@@ -29,10 +30,7 @@ pub enum Task<'a> {
         address: &'a str,
         connections: u64,
         limits: Limits,
-        /// The socket at which orders are taken; none with one connection at once.
-        orders: Option<&'a str>,
-        /// Whether each request is said on standard error; not with one connection at once.
-        log: bool,
+        beside: Beside<'a>,
     },
     /// Carry out an order, here or by a server.
     Order {
@@ -47,6 +45,10 @@ pub enum Task<'a> {
     },
     /// Take over the registry of schema 1 at a path.
     Migration {
+        path: &'a str,
+    },
+    /// End the server that takes orders at the socket at a path.
+    Stop {
         path: &'a str,
     },
 }
@@ -70,7 +72,7 @@ fn stdio_task<'a>(alloc: Global, matches: &ArgMatches<'a>) -> Result<Task<'a>, F
 }
 
 /// What `registry serve` is to serve, and how. Where connections are served one after the other, nobody hears
-/// orders meanwhile, and nobody says requests.
+/// orders or the end of standard input meanwhile, and nobody says requests.
 fn serve_task<'a>(matches: &ArgMatches<'a>) -> Result<Task<'a>, Failure>
     ensures read { IfOk result (IsTaskIn (codes "serve") (rows_of (found_of matches.now))) }
     ensures refused { IfErr result IsOfWords }
@@ -79,18 +81,13 @@ fn serve_task<'a>(matches: &ArgMatches<'a>) -> Result<Task<'a>, Failure>
     let address = text_given(matches, "listen").ok_or(Failure::InvalidOptions)?;
     let connections = number_given(matches, "connections")?;
     let limits = limits_given(matches)?;
-    let orders = text_given(matches, "orders");
-    let log = is_given(matches, "log");
-    if limits.at_once == 1 && (orders.is_some() || log) {
-        return Err(Failure::InvalidOptions);
-    }
+    let beside = beside_given(matches, limits.at_once)?;
     Ok(Task::Server {
         path,
         address,
         connections,
         limits,
-        orders,
-        log,
+        beside,
     })
 }
 
@@ -128,6 +125,14 @@ fn migration_task<'a>(matches: &ArgMatches<'a>) -> Result<Task<'a>, Failure>
     Ok(Task::Migration { path })
 }
 
+fn stop_task<'a>(matches: &ArgMatches<'a>) -> Result<Task<'a>, Failure>
+    ensures read { IfOk result (IsTaskIn (codes "stop") (rows_of (found_of matches.now))) }
+    ensures refused { IfErr result IsOfWords }
+{
+    let path = text_given(matches, "orders").ok_or(Failure::InvalidOptions)?;
+    Ok(Task::Stop { path })
+}
+
 /// The task of a subcommand, by its word and its options.
 pub(crate) fn task_of<'a>(
     alloc: Global,
@@ -141,6 +146,7 @@ pub(crate) fn task_of<'a>(
         "stdio" => stdio_task(alloc, matches),
         "serve" => serve_task(matches),
         "migrate" => migration_task(matches),
+        "stop" => stop_task(matches),
         "grant" | "revoke" => token_task(alloc, word, matches),
         _ => order_task(alloc, word, matches),
     }

@@ -1,19 +1,11 @@
-use Rattle.std.proofs.Common.{◌∙◌, ap, codes}
+use Rattle.std.proofs.Common.{codes}
 use Rattle.std.proofs.lemmas.Result.{IfOk-weaker}
-use Rattle.clap.specs.Words.{new_app}
-use Rattle.clap.specs.Simple.{app_of_fields}
 use Rattle.registry_orders.specs.CommandLine as spec
-use Rattle.registry_orders.proofs.CommandLemmas.{arg_added, required_rule}
+use Rattle.registry_orders.proofs.CommandLemmas.{arg_added}
 use Rattle.registry_orders.proofs.line.serve.Goals as goal
 
 pub returns : goal.returns
 returns c =
-    let begun = ap app_of_fields c.about.ensures ∙ c.new.ensures.app in
-    let first = arg_added (new_app (codes "serve")) (spec.required spec.db) c.about.result c.in_ok-arg.field-0 c.required.result begun (required_rule spec.db c.database.result c.required.result c.database.ensures c.required.ensures) c.in_ok-arg.ensures in
-    let second = arg_added _ spec.listen c.in_ok-arg.field-0 c.in_ok-arg-2.field-0 c.address.result first c.address.ensures c.in_ok-arg-2.ensures in
-    let third = arg_added _ spec.connections c.in_ok-arg-2.field-0 c.in_ok-arg-3.field-0 c.connections.result second c.connections.ensures c.in_ok-arg-3.ensures in
-    let fourth = arg_added _ spec.at_once c.in_ok-arg-3.field-0 c.in_ok-arg-4.field-0 c.at_once.result third c.at_once.ensures c.in_ok-arg-4.ensures in
-    let fifth = arg_added _ spec.buffer c.in_ok-arg-4.field-0 c.in_ok-arg-5.field-0 c.buffer.result fourth c.buffer.ensures c.in_ok-arg-5.ensures in
-    let sixth = arg_added _ spec.idle c.in_ok-arg-5.field-0 c.in_ok-arg-6.field-0 c.idle.result fifth c.idle.ensures c.in_ok-arg-6.ensures in
-    let seventh = arg_added _ spec.orders c.in_ok-arg-6.field-0 c.in_ok-arg-7.field-0 c.orders.result sixth c.orders.ensures c.in_ok-arg-7.ensures in
-    IfOk-weaker c.arg-8.result _ _ (λ r. arg_added _ (spec.flag (codes "log")) c.in_ok-arg-7.field-0 r c.flag.result seventh c.flag.ensures) c.arg-8.ensures
+    let first = arg_added (spec.alone spec.serving_within) spec.orders c.in_ok-serving.field-0 c.in_ok-arg.field-0 c.orders.result c.in_ok-serving.ensures c.orders.ensures c.in_ok-arg.ensures in
+    let second = arg_added _ (spec.flag (codes "log")) c.in_ok-arg.field-0 c.in_ok-arg-2.field-0 c.flag.result first c.flag.ensures c.in_ok-arg-2.ensures in
+    IfOk-weaker c.arg-3.result _ _ (λ r. arg_added _ (spec.flag (codes "stop-at-eof")) c.in_ok-arg-2.field-0 r c.flag-2.result second c.flag-2.ensures) c.arg-3.ensures

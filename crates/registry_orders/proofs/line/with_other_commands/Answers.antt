@@ -8,4 +8,5 @@ returns c is =
     let two = c.in_ok-command-2.ensures _ (spec.over_token (codes "revoke")) one c.over_token.ensures refl in
     let three = c.in_ok-command-3.ensures _ (spec.ordering (codes "clear")) two c.ordering.ensures refl in
     let four = c.in_ok-command-4.ensures _ (spec.ordering (codes "usage")) three c.ordering-2.ensures refl in
-    c.with-5.ensures _ spec.migrate four c.migrate.ensures refl
+    let five = c.in_ok-command-5.ensures _ spec.migrate four c.migrate.ensures refl in
+    c.with-6.ensures _ spec.stop five c.stop.ensures refl
