@@ -152,7 +152,7 @@ writes_behind s (order.List l f) front after s' h =
 
 -- ---- the answer
 
-done_text : (written : Text) → (48 ∷ 10 ∷ []) ++ written ≡ answer_text 0 written
+pub done_text : (written : Text) → (48 ∷ 10 ∷ []) ++ written ≡ answer_text 0 written
 done_text written = ap (λ d. d ++ newline ++ written) (sym (decimal_digit 0 (omega arith)))
 
 pub answered_done : (s : State) (o : Order) (v : Unit {0}) (front after : Text) (s' : State) → front ≡ 48 ∷ 10 ∷ []

@@ -19,6 +19,7 @@ use Rattle.registry_orders.specs.declared.orders.Change.TheVariants.{AddRepo, Se
 use Rattle.registry_orders.specs.declared.orders.Order.{Order}
 use Rattle.registry_orders.specs.declared.orders.Order.TheVariants as order
 use Rattle.order_messages.specs.Lines.{digit_of, form_word, held_word, words_of_listing, words_of_change, words_of, line_of, IsProperListing, IsProperChange, IsProper, Spells, SpellsNone}
+use Rattle.order_messages.specs.Stopping.{stop_line}
 use Rattle.order_messages.proofs.LineLemmas.{split, split_line}
 use native.Mathlib.Bridge.{le_prop}
 use std.HLevel.{prop→path_p}
@@ -166,3 +167,23 @@ words_same order.Usage (order.List m g) e = let key = ap key_of e in absurd (ome
 
 pub one_order : (line : Text) (o p : Order) → Spells line o → Spells line p → o ≡ p
 one_order line o p h k = words_same o p (sym (split_line o h.1) ∙ ap split (sym h.0 ∙ k.0) ∙ split_line p k.1)
+
+-- ---- the line that asks a server to stop
+
+key_is_other : (o : Order) → key_of (words_of o) ≢ key_of (codes "stop" ∷ [])
+key_is_other (order.Change (AddRepo m q)) e = omega arith
+key_is_other (order.Change (SetQuota m q)) e = omega arith
+key_is_other (order.Change (DropRepo m)) e = omega arith
+key_is_other (order.Change (DropSessions m)) e = omega arith
+key_is_other (order.Change (Prune m)) e = omega arith
+key_is_other (order.Change (Grant t m l)) e = omega arith
+key_is_other (order.Change (Revoke t m)) e = omega arith
+key_is_other (order.Change Clear) e = omega arith
+key_is_other order.Usage e = omega arith
+key_is_other (order.List l f) e = omega arith
+
+split_stop : split stop_line ≡ codes "stop" ∷ []
+split_stop = refl
+
+pub stop_spells_none : SpellsNone stop_line
+stop_spells_none o h = key_is_other o (ap key_of (sym (split_line o h.1) ∙ ap split (sym h.0) ∙ split_stop))

@@ -2,3 +2,4 @@ pub mod Lines
 pub mod Reading
 pub mod Answers
 pub mod Answering
+pub mod Stopping

@@ -1,6 +1,6 @@
 -- Those who give orders, one after the other.
-use Rattle.std.proofs.Common.{◌≡◌, ℕ, zero, suc, inl, inr, Bool, true, false, ◌≤◌, ◌==◌, min, nat_le, arith, Option, option_map, position, List, [], ◌∷◌, ◌++◌, set, take, drop, ◌+◌, ◌<◌, length, get_or, Some, refl, sym, ap, ◌∙◌, subst, append-nil, append_assoc}
-use Rattle.std.specs.List.{remove}
+use Rattle.std.proofs.Common.{◌≡◌, ◌≢◌, ◌⊎◌, ℕ, zero, suc, inl, inr, Bool, true, false, ◌||◌, ◌≤◌, ◌==◌, min, nat_le, arith, Option, option_map, position, List, [], ◌∷◌, ◌++◌, set, take, drop, ◌+◌, ◌<◌, length, get_or, Some, refl, sym, ap, ◌∙◌, subst, append-nil, append_assoc}
+use Rattle.std.specs.List.{remove, list_any}
 use Rattle.std.proofs.lemmas.List.{map-append, map-set, set-get_or, take_more, take_more_set, take_all, take-map, drop-map, drop_more, drop-set-lt}
 use Rattle.std.specs.Prelude.{MatchOption}
 use Rattle.std.proofs.lemmas.Bool.Decides.{nat_tests}
@@ -9,14 +9,19 @@ use Rattle.oci_names.specs.Text.{Text}
 use Rattle.registry_model.specs.Keeping.{State}
 use Rattle.order_messages.specs.Answering.{AnswersLine, IsOneStep}
 use Rattle.registry_loop.specs.Together.{LeadsBeside}
-use Rattle.registry_loop.specs.Calling.{Called, fresh, line_in, Obeys, Attends, AttendsAll, Come, Stay}
+use Rattle.order_messages.specs.Stopping.{stop_line, stop_answer}
+use Rattle.registry_loop.specs.Calling.{Called, fresh, line_in, CarriesOutLine, Obeys, Attends, AttendsAll, Come, Stay}
 use Rattle.registry_loop.specs.declared.caller.Caller.{Caller}
 use Rattle.registry_loop.specs.Calls.{called, all_called}
 use Rattle.registry_loop.proofs.TogetherLemmas.{beside_none, beside_then, beside_step}
 
 obeyed : (line : Text) (new : Called) (s s' : State) → Obeys line new s s' → IsOneStep s s'
-obeyed line new s s' (inl x) = x.0
-obeyed line new s s' (inr x) = inl x.0
+obeyed line new s s' (inl x) = inl x.1.same
+obeyed line new s s' (inr x) = carried x.2
+  where
+    carried : CarriesOutLine line new s s' → IsOneStep s s'
+    carried (inl y) = y.0
+    carried (inr y) = inl y.0
 
 one_attended : (old new : Called) (s s' : State) → Attends old new s s' → IsOneStep s s'
 one_attended old new s s' x = by_old old.answered refl
@@ -54,6 +59,16 @@ pub obeyed_line : (P : Type 0) (heard line : Text) (new : Called) (s s' : State)
 obeyed_line P heard line new s s' e a o =
     subst (λ (x : Option Text). MatchOption x P (λ l. (new.answered ≡ true) × Obeys l new s s')) (sym e) (a, o)
 
+-- what is done of a line, where it asks the server to stop exactly if it says so
+pub obeyed_by : (line : Text) (stops : Bool) (new : Called) (s s' : State) → (stops ≡ true → line ≡ stop_line) → (line ≡ stop_line → stops ≡ true) → new.stops ≡ stops
+    → (line ≡ stop_line → s' ≡ s) → (line ≡ stop_line → (new.answer ≡ stop_answer) ⊎ (new.over ≡ true))
+    → (line ≢ stop_line → CarriesOutLine line new s s') → Obeys line new s s'
+obeyed_by line true new s s' is back e same answered carried =
+    inl (is refl, record { same = same (is refl); stops = e; answered = answered (is refl) })
+obeyed_by line false new s s' is back e same answered carried =
+    let other : line ≢ stop_line = λ h. let x = back h in cc in
+    inr (other, e, carried other)
+
 -- all that is done for them leaves all connections as they are
 pub all_beside : (old new : List Called) (s s' : State) → AttendsAll old new s s' → LeadsBeside s s'
 all_beside [] [] s s' x = subst (LeadsBeside s) (sym x) (beside_none s)
@@ -64,16 +79,29 @@ all_beside (c ∷ old) (d ∷ new) s s' x =
 
 -- what was carried out is told, as far as it goes
 pub told : (old mid new : Called) (s s' : State) → new.heard ≡ mid.heard → new.answered ≡ mid.answered → new.answer ≡ mid.answer
-    → (mid.over ≡ true → new.over ≡ true) → (mid.answered ≡ false → new.over ≡ mid.over) → Attends old mid s s' → Attends old new s s'
-told old mid new s s' h a w over unsaid x = record {
+    → (mid.over ≡ true → new.over ≡ true) → (mid.answered ≡ false → new.over ≡ mid.over) → new.stops ≡ mid.stops → Attends old mid s s' → Attends old new s s'
+told old mid new s s' h a w over unsaid stops x = record {
   before = λ e. let b = x.before e in (a ∙ b.0, h ∙ b.1, w ∙ b.2, b.3);
   now = λ e f. let y = x.now e (sym a ∙ f) in (y.0, ap line_in h ∙ y.1, obeys_on y.0 y.2);
   not_yet = λ f. let y = x.not_yet (sym a ∙ f) in (y.0, λ g. ap line_in h ∙ y.1 (sym (unsaid (sym a ∙ f)) ∙ g));
+  no_line = λ e. stops ∙ x.no_line (quiet_on e);
 }
   where
+    carried_on : (line : Text) → CarriesOutLine line mid s s' → CarriesOutLine line new s s'
+    carried_on line (inl y) = inl (y.0, subst (λ (t : Text). AnswersLine s line t s') (sym w) y.1)
+    carried_on line (inr y) = inr (y.0, over y.1)
+
+    answered_on : (mid.answer ≡ stop_answer) ⊎ (mid.over ≡ true) → (new.answer ≡ stop_answer) ⊎ (new.over ≡ true)
+    answered_on (inl e) = inl (w ∙ e)
+    answered_on (inr e) = inr (over e)
+
     obeys_on : (line : Text) → Obeys line mid s s' → Obeys line new s s'
-    obeys_on line (inl y) = inl (y.0, subst (λ (t : Text). AnswersLine s line t s') (sym w) y.1)
-    obeys_on line (inr y) = inr (y.0, over y.1)
+    obeys_on line (inl y) = inl (y.0, record { same = y.1.same; stops = stops ∙ y.1.stops; answered = answered_on y.1.answered })
+    obeys_on line (inr y) = inr (y.0, stops ∙ y.1, carried_on line y.2)
+
+    quiet_on : (old.answered ≡ true) ⊎ (new.answered ≡ false) → (old.answered ≡ true) ⊎ (mid.answered ≡ false)
+    quiet_on (inl e) = inl e
+    quiet_on (inr e) = inr (sym a ∙ e)
 
 -- one more was attended
 pub attended_more : (old new : List Called) (c d : Called) (s t s' : State) → AttendsAll old new s t → Attends c d t s' → AttendsAll (old ++ c ∷ []) (new ++ d ∷ []) s s'
@@ -168,3 +196,9 @@ attended_step i xs ys d v s t s' lt lt' e one all =
     (subst (λ (l : List Called). AttendsAll (all_called (take i ys) ++ called (get_or xs i d) ∷ []) l s s')
     (sym (ap all_called (take_more_set xs i v lt) ∙ map-append called (take i xs) (v ∷ [])))
     (attended_more (all_called (take i ys)) (all_called (take i xs)) (called (get_or xs i d)) (called v) s t s' all one))
+
+-- ---- who asked the server to stop
+
+pub shown_stops : (xs : List Caller) → list_any (λ c. c.stops) (all_called xs) ≡ list_any (λ c. c.stops) xs
+shown_stops [] = refl
+shown_stops (x ∷ xs) = ap (λ (b : Bool). x.stops || b) (shown_stops xs)

@@ -1,15 +1,17 @@
-//! Somebody who gives one order over a socket.
-ghost use Rattle.std.specs.Prelude.{◌≡◌, ◌==◌, true, false, position, MatchOption};
+//! Somebody who gives one order over a socket, or asks the server to stop.
+ghost use Rattle.std.specs.Prelude.{◌≡◌, ◌≢◌, ◌==◌, true, false, position, MatchOption, IfOk, OnErr};
+ghost use Rattle.order_messages.specs.Answering.{AnswersLine, IsOneStep};
+ghost use Rattle.order_messages.specs.Stopping.{stop_line, stop_answer};
 ghost use Rattle.registry_loop.specs.Calling.{Attends, Obeys, fresh, line_in};
 ghost use Rattle.registry_loop.specs.Calls.{called};
 
 use mio::Token;
 use mio::event::Event;
 use mio::net::UnixStream;
-use order_messages::{LONGEST_LINE, answer_line};
+use order_messages::{LONGEST_LINE, answer_line, is_stop, write_stopping};
 use registry_model::Keeper;
 use registry_service::Service;
-use std::alloc::Global;
+use std::alloc::{AllocError, Global};
 use std::io::{ErrorKind, Read, Write};
 use std::time::Duration;
 
@@ -35,6 +37,8 @@ pub struct Caller {
     writable: bool,
     /// There is nothing more to do: it failed, or has its answer.
     pub over: bool,
+    /// It asked the server to stop.
+    pub stops: bool,
     since: Duration,
 }
 
@@ -43,6 +47,27 @@ fn line_end(heard: &[u8]) -> Option<usize>
     ensures { result ≡ position (λ byte. byte == 10) heard.now }
 {
     heard.iter().position(|byte| *byte == b'\n')
+}
+
+/// The answer to a line: to the one that asks the server to stop, and then nothing is done to the service, or
+/// to any other one, which is carried out.
+fn answer_to<K: Keeper>(
+    alloc: Global,
+    service: &mut Service<K>,
+    line: &[u8],
+) -> Result<Vec<u8>, AllocError>
+    ensures honest { K.is_honest service.new → K.is_honest service.old }
+    ensures same { line.now ≡ stop_line → K.state service.new ≡ K.state service.old }
+    ensures stops { line.now ≡ stop_line → IfOk result (λ bytes. bytes.items ≡ stop_answer) }
+    ensures steps { K.is_honest service.new → IsOneStep (K.state service.old) (K.state service.new) }
+    ensures answers { K.is_honest service.new → line.now ≢ stop_line → IfOk result (λ bytes.
+        AnswersLine (K.state service.old) line.now bytes.items (K.state service.new)) }
+    ensures unsaid { K.is_honest service.new → OnErr result (K.state service.new ≡ K.state service.old) }
+{
+    if is_stop(line) {
+        return write_stopping(alloc);
+    }
+    answer_line(alloc, service, line)
 }
 
 impl Caller {
@@ -59,6 +84,7 @@ impl Caller {
             readable: true,
             writable: true,
             over: false,
+            stops: false,
             since: now,
         }
     }
@@ -93,6 +119,7 @@ impl Caller {
     fn hear_once(&mut self, now: Duration)
         ensures answered { self.new.answered ≡ self.old.answered }
         ensures answer { self.new.answer ≡ self.old.answer }
+        ensures stops { self.new.stops ≡ self.old.stops }
     {
         let mut room = [0; LONGEST_LINE];
         match self.stream.read(&mut room) {
@@ -115,6 +142,7 @@ impl Caller {
     fn hear(&mut self, now: Duration)
         ensures answered { self.new.answered ≡ self.old.answered }
         ensures answer { self.new.answer ≡ self.old.answer }
+        ensures stops { self.new.stops ≡ self.old.stops }
         ensures before { self.old.answered ≡ true → called self.new ≡ called self.old }
     {
         if self.answered {
@@ -128,7 +156,7 @@ impl Caller {
         }
     }
 
-    /// Carries the order out, if its line is whole.
+    /// Carries the order out, if its line is whole, or notes that the server is to stop.
     fn obey<K: Keeper>(&mut self, alloc: Global, service: &mut Service<K>)
         ensures honest { K.is_honest service.new → K.is_honest service.old }
         ensures heard { self.new.heard ≡ self.old.heard }
@@ -141,8 +169,10 @@ impl Caller {
             return;
         };
         let end = end.min(self.heard.len());
-        let answer = answer_line(alloc, service, &self.heard[..end]);
+        let stops = is_stop(&self.heard[..end]);
+        let answer = answer_to(alloc, service, &self.heard[..end]);
         self.answered = true;
+        self.stops = stops;
         match answer {
             Ok(answer) => self.answer = answer,
             Err(_) => self.over = true,
@@ -154,6 +184,7 @@ impl Caller {
         ensures heard { self.new.heard ≡ self.old.heard }
         ensures answered { self.new.answered ≡ self.old.answered }
         ensures answer { self.new.answer ≡ self.old.answer }
+        ensures stops { self.new.stops ≡ self.old.stops }
         ensures over { self.old.over ≡ true → self.new.over ≡ true }
     {
         let going = self.answer.get(self.gone..).unwrap_or(&[]);
@@ -180,6 +211,7 @@ impl Caller {
         ensures heard { self.new.heard ≡ self.old.heard }
         ensures answered { self.new.answered ≡ self.old.answered }
         ensures answer { self.new.answer ≡ self.old.answer }
+        ensures stops { self.new.stops ≡ self.old.stops }
         ensures over { self.old.over ≡ true → self.new.over ≡ true }
         ensures unsaid { self.old.answered ≡ false → self.new.over ≡ self.old.over }
     {
@@ -191,7 +223,7 @@ impl Caller {
         }
     }
 
-    /// Reads its line, and carries its order out where it was not and its line is whole.
+    /// Reads its line, and obeys it where it was not and is whole.
     fn go_on<K: Keeper>(&mut self, alloc: Global, service: &mut Service<K>, now: Duration)
         ensures honest { K.is_honest service.new → K.is_honest service.old }
         ensures attends { K.is_honest service.new

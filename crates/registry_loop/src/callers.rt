@@ -1,7 +1,8 @@
 //! Those who give orders while connections are served.
-ghost use Rattle.std.specs.Prelude.{◌≡◌};
+ghost use Rattle.std.specs.Prelude.{◌≡◌, ◌||◌};
+ghost use Rattle.std.specs.List.{list_any};
 ghost use Rattle.registry_loop.specs.Together.{LeadsBeside};
-ghost use Rattle.registry_loop.specs.Calling.{Come, AttendsAll, AttendsRound, Stay};
+ghost use Rattle.registry_loop.specs.Calling.{Come, AttendsAll, AttendsRound, Stay, NotesStop};
 ghost use Rattle.registry_loop.specs.Calls.{all_called};
 
 use crate::caller::Caller;
@@ -31,6 +32,8 @@ pub struct Callers {
     callers: Vec<Caller>,
     /// The token of the one that comes next.
     next: usize,
+    /// One of them, who may be gone, asked the server to stop.
+    stopping: bool,
 }
 
 /// Tells the one that an event is of.
@@ -58,6 +61,13 @@ fn attend_each<K: Keeper>(
     }
 }
 
+/// Whether one of them asked the server to stop.
+fn any_stops(callers: &[Caller]) -> bool
+    ensures { result ≡ list_any (λ c. c.stops) callers.now }
+{
+    callers.iter().any(|caller| caller.stops)
+}
+
 impl Callers {
     /// Nobody but those who come to the listener. An error is that of the system.
     pub fn new(
@@ -70,6 +80,7 @@ impl Callers {
             knocks: false,
             callers: Vec::new(alloc),
             next: DESK.0 + 1,
+            stopping: false,
         };
         if let Some(listener) = listener {
             listener.set_nonblocking(true)?;
@@ -86,6 +97,13 @@ impl Callers {
         self.callers.is_empty() && !self.knocks
     }
 
+    /// Whether one who came asked the server to stop.
+    pub fn is_asked_to_stop(&self) -> bool
+        ensures { result ≡ self.now.stopping }
+    {
+        self.stopping
+    }
+
     /// Whether something is to be done before anything happens.
     pub fn is_any_ready(&self) -> bool {
         let takes = self.knocks && self.callers.len() < MOST;
@@ -94,7 +112,8 @@ impl Callers {
 
     /// Tells the one that an event is of.
     pub fn note(&mut self, event: &Event)
-        ensures { all_called self.new.callers.items ≡ all_called self.old.callers.items }
+        ensures same { all_called self.new.callers.items ≡ all_called self.old.callers.items }
+        ensures stopping { self.new.stopping ≡ self.old.stopping }
     {
         if event.token() == DESK {
             self.knocks = true;
@@ -104,7 +123,8 @@ impl Callers {
 
     /// Takes the next one that came.
     fn accept_next(&mut self, alloc: Global, registry: &Registry, now: Duration)
-        ensures { Come (all_called self.old.callers.items) (all_called self.new.callers.items) }
+        ensures come { Come (all_called self.old.callers.items) (all_called self.new.callers.items) }
+        ensures stopping { self.new.stopping ≡ self.old.stopping }
     {
         let Some(listener) = &self.listener else {
             self.knocks = false;
@@ -129,13 +149,25 @@ impl Callers {
 
     /// Takes those who came, as far as there is room.
     fn accept_all(&mut self, alloc: Global, registry: &Registry, now: Duration)
-        ensures { Come (all_called self.old.callers.items) (all_called self.new.callers.items) }
+        ensures come { Come (all_called self.old.callers.items) (all_called self.new.callers.items) }
+        ensures stopping { self.new.stopping ≡ self.old.stopping }
     {
         for _ in 0..MOST {
             if !self.knocks || self.callers.len() >= MOST {
                 return;
             }
             self.accept_next(alloc, registry, now);
+        }
+    }
+
+    /// Notes whether one of those who are there asked the server to stop.
+    fn note_stop(&mut self)
+        ensures callers { self.new.callers ≡ self.old.callers }
+        ensures stopping { self.new.stopping
+            ≡ (self.old.stopping || list_any (λ c. c.stops) self.old.callers.items) }
+    {
+        if any_stops(&self.callers) {
+            self.stopping = true;
         }
     }
 
@@ -149,7 +181,8 @@ impl Callers {
 
     /// Lets the one at a place go, if it is to go; says where the next is.
     fn dismiss_if(&mut self, at: usize, now: Duration) -> usize
-        ensures { Stay (all_called self.new.callers.items) (all_called self.old.callers.items) }
+        ensures stay { Stay (all_called self.new.callers.items) (all_called self.old.callers.items) }
+        ensures stopping { self.new.stopping ≡ self.old.stopping }
     {
         if self.is_to_go(at, now) && at < self.callers.len() {
             self.callers.remove(at);
@@ -160,7 +193,8 @@ impl Callers {
 
     /// Lets those go that are to go.
     fn dismiss_all(&mut self, now: Duration)
-        ensures { Stay (all_called self.new.callers.items) (all_called self.old.callers.items) }
+        ensures stay { Stay (all_called self.new.callers.items) (all_called self.old.callers.items) }
+        ensures stopping { self.new.stopping ≡ self.old.stopping }
     {
         let mut at = 0;
         for _ in 0..self.callers.len() {
@@ -169,7 +203,7 @@ impl Callers {
     }
 
     /// One round: takes those who came, carries out the order of each whose line got whole, answers, and lets
-    /// go.
+    /// go. Who asks the server to stop is heard though it goes.
     pub fn attend<K: Keeper>(
         &mut self,
         alloc: Global,
@@ -181,11 +215,15 @@ impl Callers {
         ensures attends { K.is_honest service.new
             → AttendsRound (all_called self.old.callers.items) (all_called self.new.callers.items)
             (K.state service.old) (K.state service.new) }
+        ensures stops { K.is_honest service.new
+            → NotesStop (all_called self.old.callers.items) (all_called self.new.callers.items)
+            self.old.stopping self.new.stopping (K.state service.old) (K.state service.new) }
         ensures leads { K.is_honest service.new
             → LeadsBeside (K.state service.old) (K.state service.new) }
     {
         self.accept_all(alloc, registry, now);
         attend_each(&mut self.callers, alloc, service, now);
+        self.note_stop();
         self.dismiss_all(now);
     }
 

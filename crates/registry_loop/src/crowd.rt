@@ -10,6 +10,7 @@ use crate::gathering::Gathering;
 use crate::log::Log;
 use crate::peer::Peer;
 use crate::peers::{forget, is_any_ready, leaves, note};
+use crate::stopping::{is_end, watch};
 use mio::net::TcpListener;
 use mio::{Events, Interest, Poll, Token};
 use registry_model::Keeper;
@@ -18,11 +19,12 @@ use registry_server::{Bounds, Connections, Turn};
 use registry_service::Service;
 use std::alloc::Global;
 use std::io::Write;
+use std::os::fd::RawFd;
 use std::os::unix::net::UnixListener;
 use std::time::{Clock, Duration};
 use std::{io, net};
 
-/// The listener's token; the others are numbers of connections, which are below it.
+/// The listener's token; the others are below it (`stopping`, `callers`), first the numbers of connections.
 const LISTENER: Token = Token(usize::MAX);
 
 /// How many bytes are read at once.
@@ -34,11 +36,14 @@ pub(crate) const EVENTS: usize = 256;
 /// How many seconds it is waited at most, so that silence is noticed.
 const WAIT: u64 = 1;
 
-/// Where connections are taken, and where orders are, if they are.
+/// Where connections are taken, and where orders are, if they are; and what is watched beside them, if
+/// anything: a descriptor that is never read, as that of standard input. Where nobody holds its other end any
+/// more, the server stops. The system refuses to watch a file or the null device, which have no other end.
 #[derive(Drop)]
 pub struct Doors {
     pub listener: net::TcpListener,
     pub orders: Option<UnixListener>,
+    pub watched: Option<RawFd>,
 }
 
 /// A listener, and the sockets that were taken there; and those who give orders.
@@ -57,7 +62,11 @@ pub struct Crowd<'a, T: Clock, E: Write> {
     /// Some connection may have a turn to take.
     pending: bool,
     pub(crate) peers: Vec<Peer>,
-    callers: Callers,
+    pub(crate) callers: Callers,
+    /// Nobody holds the other end of what is watched.
+    pub(crate) ended: bool,
+    /// Since when it is to stop.
+    pub(crate) stops: Option<Duration>,
     room: Vec<u8>,
     pub(crate) now: Duration,
 }
@@ -76,7 +85,7 @@ fn bounds_for(at_once: usize, buffer: u64) -> Bounds
 
 impl<'a, T: Clock, E: Write> Crowd<'a, T, E> {
     /// Nobody but those who come to the listener, of whom so many are taken. An error is that of the system,
-    /// or want of memory.
+    /// also where it refuses to watch what is to be watched, or want of memory.
     pub fn new<N: net::Net>(
         alloc: Global,
         net: &N,
@@ -86,12 +95,17 @@ impl<'a, T: Clock, E: Write> Crowd<'a, T, E> {
         limits: Limits,
         connections: u64,
     ) -> io::Result<Crowd<'a, T, E>> {
-        let Doors { listener, orders } = doors;
+        let Doors {
+            listener,
+            orders,
+            watched,
+        } = doors;
         listener.set_nonblocking(true)?;
         let mut listener = TcpListener::from_std(listener);
         let poll = Poll::new(net)?;
         poll.registry()
             .register(&mut listener, LISTENER, Interest::READABLE)?;
+        watch(poll.registry(), watched)?;
         let callers = Callers::new(alloc, poll.registry(), orders)?;
         Ok(Crowd {
             clock,
@@ -105,6 +119,8 @@ impl<'a, T: Clock, E: Write> Crowd<'a, T, E> {
             pending: false,
             peers: Vec::new(alloc),
             callers,
+            ended: false,
+            stops: None,
             room: vec![in alloc; 0; ROOM]?,
             now: Duration::ZERO,
         })
@@ -134,6 +150,7 @@ impl<'a, T: Clock, E: Write> Crowd<'a, T, E> {
             if event.token() == LISTENER {
                 self.knocks = true;
             }
+            self.ended = self.ended || is_end(event);
             self.callers.note(event);
             note(&mut self.peers, event);
         }
@@ -236,7 +253,9 @@ impl<'a, T: Clock, E: Write> Crowd<'a, T, E> {
     /// Whether the connection at a place is to go.
     fn is_to_go(&self, connections: &Connections, at: usize, pressed: bool) -> bool {
         match self.peers.get(at) {
-            Some(peer) => leaves(peer, connections, self.now, pressed),
+            Some(peer) => {
+                self.goes_by_stop(peer) || leaves(peer, connections, self.now, pressed)
+            }
             None => false,
         }
     }
@@ -307,8 +326,9 @@ impl<'a, T: Clock, E: Write> Crowd<'a, T, E> {
         self.callers.attend(alloc, registry, service, now);
     }
 
-    /// One round: takes those who came, reads, has requests answered and orders carried out, writes, and lets
-    /// go. Behind it none is open that has been silent for as long as may be.
+    /// One round: takes those who came, reads, has requests answered and orders carried out, begins to stop
+    /// if that was asked, writes, and lets go. Behind it none is open that has been silent for as long as may
+    /// be.
     fn serve_round<K: Keeper>(
         &mut self,
         alloc: Global,
@@ -327,6 +347,7 @@ impl<'a, T: Clock, E: Write> Crowd<'a, T, E> {
         self.hear_all(connections);
         self.answer_all(alloc, connections, service);
         self.take_orders(alloc, service);
+        self.stop_if_asked();
         self.tell_all(connections);
         self.dismiss_all(alloc, connections);
         self.dismiss_silent(connections);

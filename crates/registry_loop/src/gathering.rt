@@ -12,8 +12,9 @@ pub trait Gathering {
     /// About how many bytes of requests and of replies they may have in hand.
     ghost buffer: { Self → ℕ };
 
-    /// Serves those who come, at most so many at once, until all have come and gone, or the service is spent:
-    /// then everybody goes, and the answer is `false`. An error is that nobody can come.
+    /// Serves those who come, at most so many at once, until all have come and gone, as they have soon where
+    /// somebody asks the server to stop; or the service is spent: then everybody goes, and the answer is
+    /// `false`. An error is that nobody can come.
     fn serve_all<K: Keeper>(
         &mut self,
         alloc: Global,

@@ -1,7 +1,8 @@
 //! Many sockets by readiness, in one thread that waits in one place.
 //!
 //! The crate above relies on `Gathering`, which `Crowd` meets: one ledger of all that the service did
-//! explains every connection. Which socket is read or written when, no contract says.
+//! explains every connection. Which socket is read or written when, and that a server that is to stop ends,
+//! no contract says.
 #![tactic(auto)]
 
 pub mod caller;
@@ -12,6 +13,7 @@ pub mod limit;
 pub mod log;
 pub mod peer;
 mod peers;
+mod stopping;
 mod taking;
 
 pub use crowd::{Crowd, Doors};

@@ -87,6 +87,11 @@ impl Peer {
         self.coming == 0 && self.going == 0
     }
 
+    /// It is between two requests, and nobody who was refused and is heard on.
+    pub fn is_done(&self) -> bool {
+        self.rests() && !self.refused
+    }
+
     /// What it sends is read, and let fall.
     pub fn drains(&self) -> bool {
         self.refused && self.readable && !self.failed && self.wants == Some(Wants::Nothing)

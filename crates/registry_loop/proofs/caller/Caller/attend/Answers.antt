@@ -7,4 +7,4 @@ pub returns-clause-attends : goal.returns-clause-attends
 returns-clause-attends g c honest =
     let said = c.tell.ensures in
     told (called c.args.self.now) (called c.go_on.new.self) (called c.tell.new.self) _ _ (ap (λ v. v.items) said.heard) said.answered (ap (λ v. v.items) said.answer)
-    said.over said.unsaid (c.go_on.ensures.attends honest)
+    said.over said.unsaid said.stops (c.go_on.ensures.attends honest)

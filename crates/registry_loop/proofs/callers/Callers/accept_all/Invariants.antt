@@ -1,6 +1,10 @@
+use Rattle.std.proofs.Common.{◌≡◌}
 use Rattle.registry_loop.specs.Calling.{Come}
 use Rattle.registry_loop.specs.Calls.{all_called}
 use Rattle.registry_loop.proofs.callers.Callers.accept_all.Given as goal
 
 abbrev pub invariant-loop : goal.invariant-loop
-invariant-loop l = Come (all_called l.fn.self.callers.items) (all_called l.self.callers.items)
+invariant-loop l = record {
+  come : Come (all_called l.fn.self.callers.items) (all_called l.self.callers.items);
+  stopping : l.self.stopping ≡ l.fn.self.stopping;
+}

@@ -1,6 +1,10 @@
+use Rattle.std.proofs.Common.{◌≡◌}
 use Rattle.registry_loop.specs.Calling.{Stay}
 use Rattle.registry_loop.specs.Calls.{all_called}
 use Rattle.registry_loop.proofs.callers.Callers.dismiss_all.Given as goal
 
 abbrev pub invariant-loop : goal.invariant-loop
-invariant-loop l = Stay (all_called l.self.callers.items) (all_called l.fn.self.callers.items)
+invariant-loop l = record {
+  stay : Stay (all_called l.self.callers.items) (all_called l.fn.self.callers.items);
+  stopping : l.self.stopping ≡ l.fn.self.stopping;
+}
