@@ -31,7 +31,8 @@ many large pushes at once take no more memory than they may. A listener that was
 the next request; lines that are no orders, and callers that say nothing, change nothing and hold up no request; of a
 server that is killed amid orders all that were done are there, and the next one takes its socket over; who cannot take
 orders, or give them, is told why. `--log` says each request on a line, without its token and its query; without it
-what fails is said alone, and why.
+what fails is said alone, and why. A server that is asked to stop, by an order or by the end of standard input, lets go
+who has nothing in hand, answers who has, and ends with status 0 and one file that holds all.
 """
 import concurrent.futures
 import os
@@ -51,6 +52,7 @@ from hostile.ordering import give_orders
 from hostile.refusing import Refusing
 from hostile.said import wrong
 from hostile.sessions import open_sessions
+from hostile.stopping import stop_servers
 
 # the status where a machine lacks what this needs
 CANNOT_RUN = 3
@@ -93,6 +95,7 @@ def main():
             hand_over(room)
         if "orders" in words:
             give_orders(refusing, room)
+            stop_servers(room)
     print(f"{len(wrong)} wrong" if wrong else "nothing was lost, and nothing answered wrongly")
     return 1 if wrong else 0
 

@@ -111,9 +111,10 @@ const TOLD: [(u8, &[u8], &str); 20] = [
     (
         2,
         b"registry: invalid options\n\
-            registry: serve: --orders and --log want --at-once of 2 or more\n",
+            registry: serve: --orders, --log and --stop-at-eof want --at-once of 2 or more\n",
         "serve --db broken --listen nowhere --at-once 1 --orders f
-        serve --db broken --listen nowhere --at-once 1 --log",
+        serve --db broken --listen nowhere --at-once 1 --log
+        serve --db broken --listen nowhere --at-once 1 --stop-at-eof",
     ),
     (
         2,
@@ -173,7 +174,8 @@ const TOLD: [(u8, &[u8], &str); 20] = [
         drop --orders nowhere --name team/app
         grant --orders nowhere --token t1 --name team/app --level 3
         revoke --orders nowhere --token t1 --name team/app
-        usage --orders nowhere",
+        usage --orders nowhere
+        stop --orders nowhere",
     ),
     (
         4,
@@ -185,7 +187,7 @@ const TOLD: [(u8, &[u8], &str); 20] = [
 
 /// Numbers out of their range and options that are missing, which are told before a name that is none;
 /// and an unknown word.
-const UNREADABLE: [&str; 15] = [
+const UNREADABLE: [&str; 17] = [
     "grant --db f --token t1 --name A --level 4",
     "grant --db f --token t1 --name A --level 0",
     "repo --db f --name A --quota 9223372036854775808",
@@ -194,6 +196,8 @@ const UNREADABLE: [&str; 15] = [
     "repo --orders f --name A",
     "migrate",
     "migrate --orders f",
+    "stop",
+    "stop --db f",
     "serve --db f",
     "serve --db f --listen nowhere --connections 9223372036854775808",
     "serve --db f --listen nowhere --at-once 0",

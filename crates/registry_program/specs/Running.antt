@@ -86,17 +86,19 @@ abbrev pub EndsMigration : ℕ → Type 0
 EndsMigration status = (status ≡ 0) ⊎ ((f : Failure) × IsOfOpening f × (status ≡ status_of f))
 
 -- what a task comes to: a registry over memory that is set up so is served; or the one at the path is, by one
--- connection or over sockets, or is taken over; or an order is carried out or sent
+-- connection or over sockets, or is taken over; or an order is carried out or sent, or the line that ends a
+-- server is
 abbrev pub RunsTask : (Text → Opened) → Task → ℕ → Streams → Type 0
 RunsTask at (task.Memory setup) status e = ServesMemory setup status e
 RunsTask at (task.Stored path) status e = RunsStored (at path.now) status e
-RunsTask at (task.Server path address connections limits orders log) status e =
+RunsTask at (task.Server path address connections limits beside) status e =
     (e.left' ≡ e.left) × RunsServer limits (at path.now) status (output_of e)
 RunsTask at (task.Order place order) status e =
     (e.left' ≡ e.left) × RunsAt at place order status (output_of e)
 RunsTask at (task.TokenOrder place source change) status e =
     RunsTokenOrder at place source change status e
 RunsTask at (task.Migration path) status e = IsUntouched e × EndsMigration status
+RunsTask at (task.Stop path) status e = (e.left' ≡ e.left) × IsSent status (output_of e)
 
 -- words are not read, and nothing is done; or something is told of them: help, the version, or what is wrong
 -- with words that do not fit the command line, and of others that memory is wanting

@@ -1,5 +1,5 @@
--- Orders that are sent to the server that holds the registry (profile). What a socket takes and gives is not
--- known here: what the server did is its own contract.
+-- Lines that are sent to the server that holds the registry: orders, and the one that ends it (profile). What
+-- a socket takes and gives is not known here: what the server did is its own contract.
 use Rattle.std.specs.Prelude.{◌≡◌, ◌≢◌, ◌≤◌, ℕ, ◌⊎◌, ◌==◌, ⊤, if◌then◌else◌}
 use Rattle.std.specs.Io.KnownBytes.{Appends}
 use Rattle.oci_names.specs.Text.{Text}

@@ -16,6 +16,6 @@ pub mod tokens;
 pub use gathering::serve_together;
 pub use order_socket::listen_for_orders;
 pub use program::run_words;
-pub use sending::send_order;
+pub use sending::{send_order, send_stop};
 pub use sockets::{Entrance, connections_are_private, serve, serve_one};
 pub use stdio::{serve_from, serve_memory, serve_stdio};

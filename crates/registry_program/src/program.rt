@@ -12,7 +12,7 @@ ghost use Rattle.registry_orders.specs.Outputs.{output, IsSilent};
 use crate::gathering::serve_together;
 use crate::listening::{Listeners, introduce, listen};
 use crate::order_socket::stop_orders;
-use crate::sending::send_order;
+use crate::sending::{send_order, send_stop};
 use crate::sockets::serve;
 use crate::stdio::{serve_from, serve_memory};
 use crate::tokens::run_token_order;
@@ -26,12 +26,13 @@ use registry_orders::cause::{explain, say_at};
 use registry_orders::failure::say;
 use registry_orders::line::read_words;
 use registry_orders::unread::Told;
-use registry_orders::{Failure, Limits, Order, Place, Task};
+use registry_orders::{Beside, Failure, Limits, Order, Place, Task};
 use std::alloc::Global;
 use std::convert::AsStr;
 use std::io;
 use std::io::{Read, Write};
 use std::net::{Net, TcpListener, TcpStream};
+use std::os::fd::RawFd;
 use std::rt::Files;
 use std::time::Clock;
 
@@ -152,17 +153,21 @@ fn run_stored<K: Keeper + Drop, O: Opener<K>, R: Read, W: Write, E: Write>(
     }
 }
 
+/// The descriptor of standard input.
+const STANDARD_INPUT: RawFd = 0;
+
 /// What `registry serve` was told but for its registry.
 #[derive(Clone, Copy)]
 struct Serving<'a> {
     address: &'a str,
     connections: u64,
     limits: Limits,
-    orders: Option<&'a str>,
-    log: bool,
+    beside: Beside<'a>,
 }
 
-/// Serves so many connections that are taken at a listener, one after the other or together.
+/// Serves so many connections that are taken at a listener, one after the other or together. A server that is
+/// to end with standard input fails at once where that is a file, the null device or closed: nobody holds
+/// another end of these.
 fn serve_taken<T: Clock + Net, K: Keeper + Drop, O: Opener<K>, W: Write, E: Write>(
     rt: &T,
     alloc: Global,
@@ -185,10 +190,11 @@ fn serve_taken<T: Clock + Net, K: Keeper + Drop, O: Opener<K>, W: Write, E: Writ
         return serve(alloc, opener, path, kept, &mut listener, connections, out);
     }
     let at_once = limits.at_once as usize;
-    let log = Log::new(err, serving.log);
+    let log = Log::new(err, serving.beside.log);
     let doors = Doors {
         listener,
         orders: listeners.orders,
+        watched: serving.beside.stop_at_eof.then_some(STANDARD_INPUT),
     };
     match Crowd::new(alloc, rt, rt, log, doors, limits, connections) {
         Ok(mut crowd) => serve_together(alloc, opener, path, kept, &mut crowd, at_once, out),
@@ -241,12 +247,13 @@ fn run_server<
         Ok(kept) => kept,
         Err(failure) => return say_at(err, failure, path, opener.cause(path, failure)),
     };
-    let listeners = match listen(rt, serving.address, serving.orders) {
+    let orders = serving.beside.orders;
+    let listeners = match listen(rt, serving.address, orders) {
         Ok(listeners) => listeners,
         Err(none) => return say_at(err, Failure::ConnectionFailure, none.place, none.cause),
     };
     let served = serve_bound(rt, opener, path, kept, listeners, serving, out, err);
-    stop_orders(rt, serving.orders);
+    stop_orders(rt, orders);
     match served {
         Ok(()) => 0,
         Err(failure) => say_at(err, failure, path, opener.cause(path, failure)),
@@ -301,16 +308,14 @@ pub fn run_words<
                 address,
                 connections,
                 limits,
-                orders,
-                log,
+                beside,
             },
         ) => {
             let serving = Serving {
                 address,
                 connections,
                 limits,
-                orders,
-                log,
+                beside,
             };
             run_server(rt, opener, path, serving, out, err)
         }
@@ -325,6 +330,7 @@ pub fn run_words<
             },
         ) => run_token_order(rt, alloc, opener, place, source, change, reader, out, err),
         Ok(Task::Migration { path }) => run_migration::<K, O, E>(opener, path, err),
+        Ok(Task::Stop { path }) => send_stop(rt, alloc, path, out, err),
         Err(Told::Failed(failure)) => say(err, failure),
         Err(Told::Options { word, cause }) => {
             say_at(err, Failure::InvalidOptions, word, Some(cause))

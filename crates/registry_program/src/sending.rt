@@ -1,12 +1,11 @@
-//! Orders that are sent to the server that holds the registry.
+//! Lines that are sent to the server that holds the registry: orders, and the one that ends it.
 ghost use Rattle.std.specs.Prelude.{◌≡◌, ◌≢◌, ◌<◌, ◌≤◌, ◌++◌, OnOk, IfOk, IfErr, IfSome};
 ghost use Rattle.std.specs.Io.KnownBytes.{Appends};
-ghost use Rattle.order_messages.specs.Lines.{line_of};
 ghost use Rattle.registry_orders.specs.Outputs.{newline};
 ghost use Rattle.registry_orders.specs.Outputs.{output, IsSilent};
 ghost use Rattle.registry_program.specs.Sending.{IsOfSending, Shows, Relays, IsSent};
 
-use order_messages::{Answer, read_answer, write_order};
+use order_messages::{Answer, STOP, read_answer, write_order};
 use registry_orders::cause::say_at;
 use registry_orders::failure::say;
 use registry_orders::{Cause, Failure, Order};
@@ -50,15 +49,15 @@ fn cause_of_connecting(kind: ErrorKind) -> Option<Cause> {
     }
 }
 
-/// Writes the line of an order.
-fn write_line<S: Write>(alloc: Global, order: &Order, stream: &mut S) -> Result<(), Failure>
+/// Writes a line, and its end.
+fn write_line<S: Write>(alloc: Global, line: &str, stream: &mut S) -> Result<(), Failure>
     ensures written { OnOk result (Appends (S.contents stream.old) (S.contents stream.new)
-        (line_of order.now ++ newline)) }
+        (line.now ++ newline)) }
     ensures refused { IfErr result IsOfSending }
 {
-    let mut line = write_order(alloc, order)?;
-    line.push('\n')?;
-    match stream.write_all(line.as_bytes()) {
+    let mut whole = String::from_str(alloc, line)?;
+    whole.push('\n')?;
+    match stream.write_all(whole.as_bytes()) {
         Ok(()) => Ok(()),
         Err(_) => Err(Failure::ConnectionFailure),
     }
@@ -81,8 +80,8 @@ fn read_all<R: Read + Drop>(alloc: Global, reader: R) -> Result<Vec<u8>, Failure
     }
 }
 
-/// What the server that takes orders at a path answers to one.
-fn ask<T: Net>(rt: &T, alloc: Global, path: &str, order: &Order) -> Result<Vec<u8>, NoAnswer>
+/// What the server that takes orders at a path answers to a line.
+fn ask<T: Net>(rt: &T, alloc: Global, path: &str, line: &str) -> Result<Vec<u8>, NoAnswer>
     ensures { IfErr result (λ none. IsOfSending none.failure) }
 {
     let stream = match UnixStream::connect(rt, path) {
@@ -95,7 +94,7 @@ fn ask<T: Net>(rt: &T, alloc: Global, path: &str, order: &Order) -> Result<Vec<u
         }
     };
     let mut writer = &stream;
-    write_line(alloc, order, &mut writer)?;
+    write_line(alloc, line, &mut writer)?;
     match stream.shutdown(Shutdown::Write) {
         Ok(()) => Ok(read_all(alloc, &stream)?),
         Err(_) => Err(NoAnswer::from(Failure::ConnectionFailure)),
@@ -136,10 +135,32 @@ fn relay<W: Write, E: Write>(bytes: &[u8], out: &mut W, err: &mut E) -> u8
     }
 }
 
-/// Sends an order to the server that takes them at the socket at a path, and does what it answers: the
-/// status is the server's, and its text goes to standard output where the order was carried out, and else
-/// to standard error. Where there is no server, no answer, or one of more than 64 MiB, it is a failed
+/// Sends a line to the server that takes orders at the socket at a path, and does what it answers: the
+/// status is the server's, and its text goes to standard output where the line was carried out, and else to
+/// standard error. Where there is no server, no answer, or one of more than 64 MiB, it is a failed
 /// connection. The status is 3 where memory is wanting for it.
+fn send_line<T: Net, W: Write, E: Write>(
+    rt: &T,
+    alloc: Global,
+    path: &str,
+    line: &str,
+    out: &mut W,
+    err: &mut E,
+) -> u8
+    ensures sent { IsSent result (output (W.contents out.old) (W.contents out.new)) }
+    ensures silent { 0 < result → result < 4
+        → IsSilent (output (W.contents out.old) (W.contents out.new)) }
+    ensures status { result ≤ 4 }
+    ensures read { result ≢ 2 }
+{
+    match ask(rt, alloc, path, line) {
+        Ok(answer) => relay(answer.as_slice(), out, err),
+        Err(none) => say_at(err, none.failure, path, none.cause),
+    }
+}
+
+/// Sends an order to the server that takes them at the socket at a path, and does what it answers, as
+/// `send_line` has it.
 pub fn send_order<T: Net, W: Write, E: Write>(
     rt: &T,
     alloc: Global,
@@ -154,8 +175,26 @@ pub fn send_order<T: Net, W: Write, E: Write>(
     ensures status { result ≤ 4 }
     ensures read { result ≢ 2 }
 {
-    match ask(rt, alloc, path, order) {
-        Ok(answer) => relay(answer.as_slice(), out, err),
-        Err(none) => say_at(err, none.failure, path, none.cause),
+    match write_order(alloc, order) {
+        Ok(line) => send_line(rt, alloc, path, line.as_str(), out, err),
+        Err(_) => say(err, Failure::OutOfMemory),
     }
+}
+
+/// Asks the server that takes orders at the socket at a path to stop, and does what it answers, likewise. It
+/// answers at once, and ends when the connections that have something in hand are done with.
+pub fn send_stop<T: Net, W: Write, E: Write>(
+    rt: &T,
+    alloc: Global,
+    path: &str,
+    out: &mut W,
+    err: &mut E,
+) -> u8
+    ensures sent { IsSent result (output (W.contents out.old) (W.contents out.new)) }
+    ensures silent { 0 < result → result < 4
+        → IsSilent (output (W.contents out.old) (W.contents out.new)) }
+    ensures status { result ≤ 4 }
+    ensures read { result ≢ 2 }
+{
+    send_line(rt, alloc, path, STOP, out, err)
 }

@@ -11,6 +11,7 @@ use std::alloc::Global;
 use std::fs;
 use std::io::{Read, Write};
 use std::net::{Shutdown, TcpListener, TcpStream};
+use std::os::fd::AsRawFd;
 use std::os::unix::net::{UnixListener, UnixStream};
 use std::test::Fail;
 
@@ -96,6 +97,7 @@ fn three_clients_are_served_two_at_once(rt: HostRuntime) -> Result<(), Fail> {
     let doors = Doors {
         listener,
         orders: None,
+        watched: None,
     };
     let said = served(&rt, doors, &mut service, 3)?;
     let mut both = Vec::new(alloc);
@@ -121,6 +123,7 @@ fn a_refusal_is_told_to_one_who_still_sends(rt: HostRuntime) -> Result<(), Fail>
     let doors = Doors {
         listener,
         orders: None,
+        watched: None,
     };
     let mut service = Service::new(MapKeeper::new(alloc));
     served(&rt, doors, &mut service, 1)?;
@@ -177,6 +180,7 @@ fn a_limit_is_said(rt: HostRuntime) -> Result<(), Fail> {
     let doors = Doors {
         listener,
         orders: None,
+        watched: None,
     };
     let mut service = Service::new(MapKeeper::new(alloc));
     let said = served(&rt, doors, &mut service, 1)?;
@@ -216,6 +220,7 @@ fn orders_are_carried_out_beside_connections(rt: HostRuntime) -> Result<(), Fail
     let doors = Doors {
         listener,
         orders: Some(orders),
+        watched: None,
     };
     let mut service = Service::new(MapKeeper::new(alloc));
     let late = ordered(&rt, "orders.sock", b"usa")?;
@@ -234,5 +239,71 @@ fn orders_are_carried_out_beside_connections(rt: HostRuntime) -> Result<(), Fail
     let name = RepoName::parse(alloc, "team/app")?;
     let mut keeper = service.into_keeper();
     assert_eq!(rt; keeper.level(&token, &name), Ok(Some(Level::Pull)));
+    Ok(())
+}
+
+/// Somebody who is quiet, one who is between two requests, and many who may still come: who asks the server
+/// to stop is answered, the two are let go, and the server ends. An order that came in time is answered.
+#[test]
+fn a_server_that_is_asked_to_stops(rt: HostRuntime) -> Result<(), Fail> {
+    let alloc = rt.alloc();
+    // An earlier run may have left one.
+    let _ = fs::remove_file(&rt, "stopping.sock");
+    let orders = UnixListener::bind(&rt, "stopping.sock")?;
+    let mut order = ordered(&rt, "stopping.sock", b"repo team/app 1000\n")?;
+    let mut stop = ordered(&rt, "stopping.sock", b"stop\n")?;
+    let listener = TcpListener::bind(&rt, "127.0.0.1:0")?;
+    let mut quiet = TcpStream::connect(&rt, listener.local_addr()?)?;
+    let mut resting = TcpStream::connect(&rt, listener.local_addr()?)?;
+    resting.write_all(HELD)?;
+    let doors = Doors {
+        listener,
+        orders: Some(orders),
+        watched: None,
+    };
+    let mut service = Service::new(MapKeeper::new(alloc));
+    add(alloc, &mut service)?;
+    grant(alloc, &mut service)?;
+    served(&rt, doors, &mut service, u64::MAX)?;
+    assert_eq!(rt; answered(alloc, &mut stop)?.as_str(), "0\n");
+    assert_eq!(rt;
+        answered(alloc, &mut order)?.as_str(),
+        "1\nregistry: repository already there\n"
+    );
+    assert_eq!(rt; told(alloc, &mut quiet)?.len(), 0);
+    assert_eq!(rt; told(alloc, &mut resting)?.as_slice(), HELD_REPLY);
+    Ok(())
+}
+
+/// A server stops where the other end of what it watches is closed, though something waits there unread, and
+/// not as long as it is open.
+#[test]
+fn a_server_stops_with_what_it_watches(rt: HostRuntime) -> Result<(), Fail> {
+    let alloc = rt.alloc();
+    let listener = TcpListener::bind(&rt, "127.0.0.1:0")?;
+    let mut client = TcpStream::connect(&rt, listener.local_addr()?)?;
+    client.write_all(CLOSING)?;
+    let (near, mut far) = UnixStream::pair(&rt)?;
+    far.write_all(b"nobody reads this")?;
+    let mut service = Service::new(MapKeeper::new(alloc));
+    add(alloc, &mut service)?;
+    grant(alloc, &mut service)?;
+    let doors = Doors {
+        listener,
+        orders: None,
+        watched: Some(near.as_raw_fd()),
+    };
+    served(&rt, doors, &mut service, 1)?;
+    assert_eq!(rt; told(alloc, &mut client)?.as_slice(), CLOSING_REPLY);
+    drop(far);
+    let listener = TcpListener::bind(&rt, "127.0.0.1:0")?;
+    let mut late = TcpStream::connect(&rt, listener.local_addr()?)?;
+    let doors = Doors {
+        listener,
+        orders: None,
+        watched: Some(near.as_raw_fd()),
+    };
+    served(&rt, doors, &mut service, u64::MAX)?;
+    assert_eq!(rt; told(alloc, &mut late)?.len(), 0);
     Ok(())
 }

@@ -2,7 +2,9 @@
 
 use crate::setting::same;
 use oci_names::{RepoName, Token};
-use order_messages::{Unread, answer_line, read_answer, read_order, write_order};
+use order_messages::{
+    STOP, Unread, answer_line, is_stop, read_answer, read_order, write_order, write_stopping,
+};
 use registry_maps::MapKeeper;
 use registry_model::Level;
 use registry_orders::{Change, Order};
@@ -152,5 +154,23 @@ fn answers_are_read(rt: HostRuntime) -> Result<(), Fail> {
 fn a_line_that_is_none(rt: HostRuntime) -> Result<(), Fail> {
     let unread = read_order(rt.alloc(), b"usage ").map(|_| ()).err();
     same(&rt, 0, unread, Some(Unread::Malformed));
+    Ok(())
+}
+
+/// The line that asks a server to stop, and none beside it; it is no order, and is answered that it is done.
+#[test]
+fn one_line_asks_to_stop(rt: HostRuntime) -> Result<(), Fail> {
+    let alloc = rt.alloc();
+    same(&rt, 0, is_stop(STOP.as_bytes()), true);
+    let others: [&[u8]; 7] = [
+        b"", b"sto", b"stops", b"stop ", b" stop", b"STOP", b"stop\n",
+    ];
+    for (place, line) in others.iter().enumerate() {
+        same(&rt, place, is_stop(line), false);
+    }
+    let unread = read_order(alloc, STOP.as_bytes()).map(|_| ()).err();
+    same(&rt, 1, unread, Some(Unread::Malformed));
+    let answer = write_stopping(alloc)?;
+    same(&rt, 2, answer.as_slice(), DONE.as_bytes());
     Ok(())
 }

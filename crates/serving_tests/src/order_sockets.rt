@@ -2,7 +2,7 @@
 use registry_model::Level;
 use registry_orders::options::{name_of, token_of};
 use registry_orders::{Cause, Change, Order};
-use registry_program::{listen_for_orders, send_order};
+use registry_program::{listen_for_orders, send_order, send_stop};
 use std::alloc::Global;
 use std::fmt::Debug;
 use std::io::{Read, Write};
@@ -141,6 +141,26 @@ fn an_order_that_is_sent_is_refused(rt: HostRuntime) -> Result<(), Fail> {
         same(&rt, sent.status, status);
         same(&rt, sent.out.len(), 0);
         same(&rt, sent.err.as_slice(), lines);
+    }
+    Ok(())
+}
+
+/// Who asks a server to stop sends that line, and is told its answer.
+#[test]
+fn a_server_is_asked_to_stop(rt: HostRuntime) -> Result<(), Fail> {
+    let alloc = rt.alloc();
+    for (answer, status, lines) in [(b"0\n".as_slice(), 0, b"".as_slice()), (b"", 4, BROKEN)] {
+        let (near, mut far) = UnixStream::pair(&rt)?;
+        far.write_all(answer)?;
+        far.shutdown(Shutdown::Write)?;
+        let (mut out, mut err) = (Vec::new(alloc), Vec::new(alloc));
+        let found = send_stop(&Wire { near }, alloc, "orders", &mut out, &mut err);
+        let mut line = Vec::new(alloc);
+        far.read_to_end(&mut line)?;
+        same(&rt, line.as_slice(), b"stop\n".as_slice());
+        same(&rt, found, status);
+        same(&rt, out.len(), 0);
+        same(&rt, err.as_slice(), lines);
     }
     Ok(())
 }
