@@ -56,7 +56,7 @@ def processor_time(server):
     return (int(fields[11]) + int(fields[12])) / os.sysconf("SC_CLK_TCK")
 
 
-def stop_amid_work(server, db, stop, by):
+def stop_amid_work(server, db, stop, by, waits=lambda: True):
     """One who rests between two requests, one who never spoke, one amid the body of a PUT, and one who comes late."""
     say(works(server), f"by {by}: a server is at work")
     put = request("PUT", f"{opened(server)}?digest={digest(HELLO)}", HELLO)
@@ -70,6 +70,7 @@ def stop_amid_work(server, db, stop, by):
     say(all(both), "who rests, and who never spoke, is let go", [f"{both}"])
     say(time.monotonic() - began_at < PATIENCE / 2, "and not only in the end")
     say(server.process.poll() is None, "the server waits for the one that is amid a body")
+    say(waits(), "and who stops it waits for the server")
     late = began(server, push(ABC), 1 << 20)
     time.sleep(0.5)
     half.sendall(put[-2:])
@@ -85,10 +86,26 @@ def stop_amid_work(server, db, stop, by):
     server.process.stdout.close()
 
 
+def asking(at):
+    """Somebody who asks a server to stop, and waits until it has."""
+    return subprocess.Popen([REGISTRY, "stop", "--orders", at], stdout=subprocess.PIPE, stderr=subprocess.PIPE)
+
+
+def is_told_so(asked, what):
+    try:
+        said = asked.communicate(timeout=SECONDS)
+    except subprocess.TimeoutExpired:
+        asked.kill()
+        said = asked.communicate()
+    is_told((asked.returncode, *said), (0, b"", b""), what)
+
+
 def stop_by_order(room):
     db, at = prepared(room, "stopped")
     server = Server(db, "--orders", at, **QUIET)
-    stop_amid_work(server, db, lambda: is_told(ordered(at, "stop"), (0, b"", b""), "who asks it to stop is told so"), "an order")
+    asked = []
+    stop_amid_work(server, db, lambda: asked.append(asking(at)), "an order", lambda: asked[0].poll() is None)
+    is_told_so(asked[0], "who asked it to stop is told when it has")
     say(not os.path.exists(at), "its socket is gone")
     failed = f"registry: connection failure\nregistry: {at}: no server takes orders here\n".encode()
     is_told(ordered(at, "stop"), (4, b"", failed), "and who asks again is told that no server is there")
@@ -101,10 +118,11 @@ def stop_in_the_end(room):
     stalled = began(server, push(ABC), 20)
     time.sleep(0.2)
     began_at = time.monotonic()
-    is_told(ordered(at, "stop"), (0, b"", b""), "a server is asked to stop amid half a head")
-    is_told(ordered(at, "stop"), (0, b"", b""), "and once more")
-    say(server.process.wait(SECONDS) == 0, "it ends")
+    both = asking(at), asking(at)
+    say(server.process.wait(SECONDS) == 0, "a server that is asked to stop amid half a head ends")
     took = time.monotonic() - began_at
+    for asked in both:
+        is_told_so(asked, "and each who asked is told")
     say(PATIENCE - 1 < took < 6 * PATIENCE, f"after {took:.1f} s")
     say(rest_of(stalled) == b"", "without a word to who stopped there")
     stalled.close()

@@ -103,16 +103,20 @@ impl Caller {
 
     /// Whether it has something to say, or takes its answer.
     pub fn is_ready(&self) -> bool {
-        if self.answered {
+        if self.over {
+            false
+        } else if self.answered {
             self.writable
         } else {
             self.readable
         }
     }
 
-    /// Whether it is to go.
+    /// Whether it is to go. One that asked the server to stop stays as long as the server does, and sees by
+    /// the end of what it reads that the server has ended.
     pub fn leaves(&self, now: Duration) -> bool {
-        self.over || now.saturating_sub(self.since) >= Duration::from_secs(PATIENCE)
+        let silent = now.saturating_sub(self.since) >= Duration::from_secs(PATIENCE);
+        !self.stops && (self.over || silent)
     }
 
     /// Reads once.

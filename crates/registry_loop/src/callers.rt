@@ -227,11 +227,11 @@ impl Callers {
         self.dismiss_all(now);
     }
 
-    /// Everybody goes, with what can be told at once.
+    /// Everybody goes, with what can be told at once, but who asked the server to stop.
     pub fn leave(&mut self, now: Duration) {
         for caller in self.callers.iter_mut() {
             caller.tell(now);
         }
-        self.callers.clear();
+        self.callers.retain(|caller| caller.stops);
     }
 }

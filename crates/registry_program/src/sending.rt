@@ -182,7 +182,7 @@ pub fn send_order<T: Net, W: Write, E: Write>(
 }
 
 /// Asks the server that takes orders at the socket at a path to stop, and does what it answers, likewise. It
-/// answers at once, and ends when the connections that have something in hand are done with.
+/// ends when the connections that have something in hand are done with, and its answer ends with it.
 pub fn send_stop<T: Net, W: Write, E: Write>(
     rt: &T,
     alloc: Global,
