@@ -13,6 +13,8 @@ from hostile.writes import ABC, AT, HELLO, digest, push, request
 
 # for so many seconds a server that is to stop waits for who has something in hand
 PATIENCE = 10
+# a page of the database has so many bytes
+PAGE = 4096
 QUIET = {"stderr": subprocess.DEVNULL}
 
 
@@ -67,20 +69,20 @@ def stop_amid_work(server, db, stop, by, waits=lambda: True):
     stop()
     began_at = time.monotonic()
     both = closed(resting, 2), closed(quiet, 2)
-    say(all(both), "who rests, and who never spoke, is let go", [f"{both}"])
+    is_told(both, (True, True), "who rests, and who never spoke, is let go")
     say(time.monotonic() - began_at < PATIENCE / 2, "and not only in the end")
     say(server.process.poll() is None, "the server waits for the one that is amid a body")
     say(waits(), "and who stops it waits for the server")
     late = began(server, push(ABC), 1 << 20)
     time.sleep(0.5)
     half.sendall(put[-2:])
-    reply = rest_of(half)
-    say(reply.startswith(b"HTTP/1.1 201 "), "which has its reply when the rest comes", [reply[:60]])
+    is_told(rest_of(half)[:13], b"HTTP/1.1 201 ", "which has its reply when the rest comes")
     say(server.process.wait(SECONDS) == 0, "then the server ends with status 0")
     say(time.monotonic() - began_at < PATIENCE, "before its patience is at its end")
     say(b"201" not in rest_of(late), "who came when it was to stop is not answered")
     blobs, log = alone(db)
-    say(blobs == ["2"], "the file alone has all that was pushed", [f"{blobs}; the log has {log} bytes"])
+    is_told(blobs, ["2"], "the file alone has all that was pushed")
+    say(log < PAGE, f"and no page of it is in the log, which has {log} bytes")
     for it in (resting, quiet, half, late):
         it.close()
     server.process.stdout.close()
@@ -147,8 +149,9 @@ def watch_what_has_no_end(room):
     with open(__file__, "rb") as file:
         for name, given in (("the null device", subprocess.DEVNULL), ("a file", file)):
             ran = subprocess.run(words, stdin=given, capture_output=True, timeout=SECONDS)
-            held = ran.returncode == 4 and ran.stdout == b"" and ran.stderr.endswith(b"\nregistry: connection failure\n")
-            say(held, f"where standard input is {name}, a server that is to end with it fails at once", [f"{ran}"])
+            found = ran.returncode, ran.stdout, ran.stderr.splitlines()[-1:]
+            wanted = 4, b"", [b"registry: connection failure"]
+            is_told(found, wanted, f"where standard input is {name}, a server that is to end with it fails at once")
     server = Server(db, stdin=subprocess.PIPE, **QUIET)
     server.process.stdin.close()
     time.sleep(0.5)
