@@ -1,0 +1,2 @@
+pub mod WrongLemmas
+pub mod WholeLemmas

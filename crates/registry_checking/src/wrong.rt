@@ -1,0 +1,48 @@
+//! What no sound registry has.
+ghost use Rattle.std.specs.Prelude.{◌≡◌};
+ghost use Rattle.registry_checking.specs.Lines.{words_of};
+
+use oci_names::{Digest, RepoName, Tag};
+
+/// What is wrong with a blob or a manifest.
+#[derive(Clone, Copy, Debug, PartialEq, Eq)]
+pub enum Flaw {
+    /// Its bytes are not those of its digest.
+    OtherBytes,
+    /// Another size is told than that of its bytes.
+    OtherSize,
+    /// A manifest whose bytes read as none.
+    NoManifest,
+    /// It could not be read, and the look at the registry ended there.
+    Unreadable,
+}
+
+impl Flaw {
+    /// What is said of it.
+    pub fn words(self) -> &'static str
+        ensures { result.now ≡ words_of self }
+    {
+        match self {
+            Flaw::OtherBytes => "not the bytes of this digest",
+            Flaw::OtherSize => "not as many bytes as it is told to have",
+            Flaw::NoManifest => "no manifest",
+            Flaw::Unreadable => "cannot be read",
+        }
+    }
+}
+
+/// Something that is wrong in a repository.
+#[derive(Drop)]
+pub enum Wrong {
+    /// A blob or a manifest.
+    Content {
+        repo: RepoName,
+        digest: Digest,
+        flaw: Flaw,
+    },
+    /// A tag that names no manifest.
+    Tag {
+        repo: RepoName,
+        tag: Tag,
+    },
+}
