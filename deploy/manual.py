@@ -20,7 +20,7 @@ A refused command.
 The command line.
 .TP
 .B 3
-Storage, schema or memory.
+Storage, schema, memory or damage.
 .TP
 .B 4
 A socket, reading or writing failed.

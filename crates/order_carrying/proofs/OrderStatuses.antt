@@ -25,3 +25,4 @@ order_status failure.InvalidToken is e = is
 order_status failure.InvalidOptions is e = is
 order_status (failure.Schema n) is e = is
 order_status failure.NotARegistry is e = is
+order_status failure.Damaged is e = is

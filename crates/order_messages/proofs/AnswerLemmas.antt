@@ -40,6 +40,7 @@ one_step s order.Usage (Err failure.InvalidToken) out s' h = absurd h
 one_step s order.Usage (Err failure.InvalidOptions) out s' h = absurd h
 one_step s order.Usage (Err (failure.Schema n)) out s' h = absurd h
 one_step s order.Usage (Err failure.NotARegistry) out s' h = absurd h
+one_step s order.Usage (Err failure.Damaged) out s' h = absurd h
 one_step s (order.List l f) (Ok v) out s' h = inl h.3
 one_step s (order.List l f) (Err failure.NoRepo) out s' h = inl h.1
 one_step s (order.List l f) (Err failure.OutOfMemory) out s' h = inl h.1
@@ -52,6 +53,7 @@ one_step s (order.List l f) (Err failure.InvalidToken) out s' h = absurd h
 one_step s (order.List l f) (Err failure.InvalidOptions) out s' h = absurd h
 one_step s (order.List l f) (Err (failure.Schema n)) out s' h = absurd h
 one_step s (order.List l f) (Err failure.NotARegistry) out s' h = absurd h
+one_step s (order.List l f) (Err failure.Damaged) out s' h = absurd h
 
 -- ---- a command that is refused changes nothing
 
@@ -93,6 +95,7 @@ failure_keeps s order.Usage failure.InvalidToken out s' known h = absurd h
 failure_keeps s order.Usage failure.InvalidOptions out s' known h = absurd h
 failure_keeps s order.Usage (failure.Schema n) out s' known h = absurd h
 failure_keeps s order.Usage failure.NotARegistry out s' known h = absurd h
+failure_keeps s order.Usage failure.Damaged out s' known h = absurd h
 failure_keeps s (order.List l f) failure.NoRepo out s' known h = h.1
 failure_keeps s (order.List l f) failure.OutOfMemory out s' known h = h.1
 failure_keeps s (order.List l f) failure.StorageFailure out s' known h = absurd (known refl)
@@ -104,6 +107,7 @@ failure_keeps s (order.List l f) failure.InvalidToken out s' known h = absurd h
 failure_keeps s (order.List l f) failure.InvalidOptions out s' known h = absurd h
 failure_keeps s (order.List l f) (failure.Schema n) out s' known h = absurd h
 failure_keeps s (order.List l f) failure.NotARegistry out s' known h = absurd h
+failure_keeps s (order.List l f) failure.Damaged out s' known h = absurd h
 
 -- ---- what was written
 
@@ -121,6 +125,7 @@ writes_nothing s order.Usage failure.InvalidToken out s' h = absurd h
 writes_nothing s order.Usage failure.InvalidOptions out s' h = absurd h
 writes_nothing s order.Usage (failure.Schema n) out s' h = absurd h
 writes_nothing s order.Usage failure.NotARegistry out s' h = absurd h
+writes_nothing s order.Usage failure.Damaged out s' h = absurd h
 writes_nothing s (order.List l f) failure.NoRepo out s' h = (refl, h.1, h.2)
 writes_nothing s (order.List l f) failure.OutOfMemory out s' h = (refl, h.1)
 writes_nothing s (order.List l f) failure.StorageFailure out s' h = (refl, h.1)
@@ -132,6 +137,7 @@ writes_nothing s (order.List l f) failure.InvalidToken out s' h = absurd h
 writes_nothing s (order.List l f) failure.InvalidOptions out s' h = absurd h
 writes_nothing s (order.List l f) (failure.Schema n) out s' h = absurd h
 writes_nothing s (order.List l f) failure.NotARegistry out s' h = absurd h
+writes_nothing s (order.List l f) failure.Damaged out s' h = absurd h
 
 -- what an order that is done writes stands behind what was there
 pub record Wrote (s : State) (o : Order) (front after : Text) (s' : State) : Type 0 where

@@ -2,6 +2,7 @@
 //! in memory.
 use oci_names::RepoName;
 use order_carrying::carry_out;
+use registry_checking::Watch;
 use registry_connection::serve_connection;
 use registry_http::End;
 use registry_maps::MapKeeper;
@@ -83,6 +84,10 @@ fn prepared(alloc: Global) -> Result<MapKeeper, Failure> {
     let level = Level::Delete;
     let granted = ordered(alloc, made, Change::Grant { token, name, level })?;
     Ok(pushed(alloc, granted, PUSH))
+}
+
+impl Watch for Shelf {
+    fn looked_at(&self, _done: u64, _of: u64) {}
 }
 
 impl Opener<MapKeeper> for Shelf {

@@ -31,6 +31,7 @@ const TOLD: [(u8, &[u8], &str); 20] = [
         grant --db f --token=-x --name team/app --level 3
         revoke --db f --token t1 --name team/app
         clear --db f
+        check --db f
         migrate --db f
         migrate --db old",
     ),
@@ -138,6 +139,7 @@ const TOLD: [(u8, &[u8], &str); 20] = [
             registry: other: a database, but no registry's\n",
         "clear --db other
         serve --db other --listen nowhere
+        check --db other
         migrate --db other",
     ),
     (
@@ -146,6 +148,7 @@ const TOLD: [(u8, &[u8], &str); 20] = [
             registry: broken: in use by another process; \
             a server that holds it takes orders by --orders\n",
         "usage --db broken
+        check --db broken
         migrate --db broken",
     ),
     (
@@ -187,13 +190,16 @@ const TOLD: [(u8, &[u8], &str); 20] = [
 
 /// Numbers out of their range and options that are missing, which are told before a name that is none;
 /// and an unknown word.
-const UNREADABLE: [&str; 17] = [
+const UNREADABLE: [&str; 20] = [
     "grant --db f --token t1 --name A --level 4",
     "grant --db f --token t1 --name A --level 0",
     "repo --db f --name A --quota 9223372036854775808",
     "repo --db f --name A --quota many",
     "repo --db f --name A",
     "repo --orders f --name A",
+    "check",
+    "check --orders f",
+    "check --db f --name A",
     "migrate",
     "migrate --orders f",
     "stop",

@@ -3,7 +3,8 @@ ghost use Rattle.registry_orders.specs.Failures.{IsOfOpening};
 
 use crate::beginning::begin;
 use crate::looking::cause_at;
-use crate::progress::Progress;
+use crate::progress::{Progress, show_looked_at};
+use registry_checking::Watch;
 use registry_model::Keeper;
 use registry_opening::Opener;
 use registry_orders::{Cause, Failure};
@@ -63,6 +64,12 @@ fn of_opening(fault: OpenFault) -> Failure
         OpenFault::Storage => Failure::StorageFailure,
         OpenFault::Schema(found) => Failure::Schema(found),
         OpenFault::NotARegistry => Failure::NotARegistry,
+    }
+}
+
+impl<F: Supposed> Watch for Databases<'_, F> {
+    fn looked_at(&self, done: u64, of: u64) {
+        show_looked_at(&mut self.rt.stderr(), done, of);
     }
 }
 

@@ -1,4 +1,4 @@
-//! How far a migration is, shown on a terminal.
+//! How far a migration or a check is, shown on a terminal.
 use std::io::{IsTerminal, Stderr, Write};
 use store_moves::{OldTable, Watch};
 use store_upgrade::MovedRows;
@@ -40,4 +40,17 @@ impl Watch for Progress {
         };
         let _ = write!(self.err, "\rregistry: {done} of {of} {rows}\u{1b}[K");
     }
+}
+
+/// How far a check is, on one line of standard error that is written over itself; nothing where that is no
+/// terminal.
+pub fn show_looked_at(err: &mut Stderr, done: u64, of: u64) {
+    if !err.is_terminal() {
+        return;
+    }
+    let end = if done == of { "\n" } else { "" };
+    let _ = write!(
+        err,
+        "\rregistry: {done} of {of} blobs and manifests\u{1b}[K{end}"
+    );
 }

@@ -2,11 +2,13 @@ ghost use Rattle.std.specs.Prelude.{◌≡◌, ℕ, false, List, IfOk, IfErr};
 ghost use Rattle.registry_model.specs.Keeping.{State};
 ghost use Rattle.registry_orders.specs.Failures.{IsOfOpening};
 
+use registry_checking::Watch;
 use registry_model::Keeper;
 use registry_orders::{Cause, Failure};
 
-/// What opens registries over databases; `K` is the keeper that an opening gives.
-pub trait Opener<K: Keeper> {
+/// What opens registries over databases; `K` is the keeper that an opening gives. It may also show how far a
+/// check of one is.
+pub trait Opener<K: Keeper>: Watch {
     // The states in which a registry at a path may be found.
     ghost opens: { Self → List ℕ → State → Type 0 };
 

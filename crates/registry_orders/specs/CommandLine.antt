@@ -86,8 +86,9 @@ abbrev pub stdio : Shape
 stdio = subcommand (codes "stdio")
     (db ∷ flag (codes "memory") ∷ repeated (codes "repo") ∷ repeated (codes "grant") ∷ [])
 
-abbrev pub migrate : Shape
-migrate = subcommand (codes "migrate") (required db ∷ [])
+-- over a database that no server holds
+abbrev pub over_database : Text → Shape
+over_database word = subcommand word (required db ∷ [])
 
 abbrev pub stop : Shape
 stop = subcommand (codes "stop") (required orders ∷ [])
@@ -129,7 +130,7 @@ list_commands =
 
 abbrev pub other_commands : List Shape
 other_commands = grant ∷ over_token (codes "revoke") ∷ ordering (codes "clear") ∷ ordering (codes "usage")
-    ∷ migrate ∷ stop ∷ []
+    ∷ over_database (codes "check") ∷ over_database (codes "migrate") ∷ stop ∷ []
 
 abbrev pub with_subcommands : List Shape → App → App
 with_subcommands subs a = record { top = record a.top { is_leaf = false }; subs = a.subs ++ subs }

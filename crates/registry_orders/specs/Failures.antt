@@ -6,9 +6,10 @@ use Rattle.oci_names.specs.declared.fault.NameFault.TheVariants as text
 use Rattle.registry_model.specs.declared.admin.AdminFault.{AdminFault}
 use Rattle.registry_model.specs.declared.admin.AdminFault.TheVariants as command
 use Rattle.registry_orders.specs.declared.failure.Failure.{Failure}
-use Rattle.registry_orders.specs.declared.failure.Failure.TheVariants.{NoRepo, NoGrant, RepoThere, InvalidName, InvalidToken, InvalidOptions, OutOfMemory, StorageFailure, Schema, NotARegistry, ConnectionFailure}
+use Rattle.registry_orders.specs.declared.failure.Failure.TheVariants.{NoRepo, NoGrant, RepoThere, InvalidName, InvalidToken, InvalidOptions, OutOfMemory, StorageFailure, Schema, NotARegistry, Damaged, ConnectionFailure}
 
--- 1: a refused command; 2: the command line; 3: storage, schema or memory; 4: a socket, reading or writing
+-- 1: a refused command; 2: the command line; 3: storage, schema, memory or damage; 4: a socket, reading or
+-- writing
 abbrev pub status_of : Failure → ℕ
 status_of NoRepo = 1
 status_of NoGrant = 1
@@ -20,6 +21,7 @@ status_of OutOfMemory = 3
 status_of StorageFailure = 3
 status_of (Schema found) = 3
 status_of NotARegistry = 3
+status_of Damaged = 3
 status_of ConnectionFailure = 4
 
 abbrev pub text_of : Failure → List ℕ
@@ -33,6 +35,7 @@ text_of OutOfMemory = codes "registry: out of memory"
 text_of StorageFailure = codes "registry: storage failure"
 text_of (Schema found) = codes "registry: schema " ++ signed_decimal found ++ codes " is not supported"
 text_of NotARegistry = codes "registry: not a registry"
+text_of Damaged = codes "registry: damaged"
 text_of ConnectionFailure = codes "registry: connection failure"
 
 -- why a command is not carried out

@@ -4,7 +4,7 @@ use Rattle.clap.specs.Words.{Row, first_of, one_of, subcommand_of}
 use Rattle.oci_names.specs.Text.{Text}
 use Rattle.registry_orders.specs.declared.beside.Beside.{Beside}
 use Rattle.registry_orders.specs.declared.tasks.Task.{Task}
-use Rattle.registry_orders.specs.declared.tasks.Task.TheVariants.{Memory, Stored, Server, Order, TokenOrder, Migration, Stop}
+use Rattle.registry_orders.specs.declared.tasks.Task.TheVariants.{Memory, Stored, Server, Order, TokenOrder, Check, Migration, Stop}
 use Rattle.registry_orders.specs.CommandLine.{registry}
 use Rattle.registry_orders.specs.Limits.{AreLimitsIn}
 use Rattle.registry_orders.specs.Options.{texts_of, HasFlag, IsNumberOf, SpellsSetup}
@@ -40,6 +40,7 @@ IsTaskIn word options (Server path address connections limits beside) =
 IsTaskIn word options (Order place order) = IsPlaceIn options place × IsOrderIn word options order
 IsTaskIn word options (TokenOrder place source change) =
     IsPlaceIn options place × IsTokenFrom options source × IsTokenChangeIn word options change
+IsTaskIn word options (Check path) = (word ≡ codes "check") × HasValue options (codes "db") path.now
 IsTaskIn word options (Migration path) = (word ≡ codes "migrate") × HasValue options (codes "db") path.now
 IsTaskIn word options (Stop path) = (word ≡ codes "stop") × HasValue options (codes "orders") path.now
 

@@ -21,11 +21,13 @@ pub enum Failure {
     /// The database has this schema, which is another than the one that is read.
     Schema(i64),
     NotARegistry,
+    /// Something is wrong in a registry, which was said on standard output.
+    Damaged,
     ConnectionFailure,
 }
 
 impl Failure {
-    /// The exit status: 1 a refused command, 2 the command line, 3 storage, schema or memory, 4 a
+    /// The exit status: 1 a refused command, 2 the command line, 3 storage, schema, memory or damage, 4 a
     /// socket, reading or writing.
     pub fn status(self) -> u8
         ensures { result ≡ status_of self }
@@ -41,6 +43,7 @@ impl Failure {
             Failure::StorageFailure => 3,
             Failure::Schema(_) => 3,
             Failure::NotARegistry => 3,
+            Failure::Damaged => 3,
             Failure::ConnectionFailure => 4,
         }
     }
@@ -65,6 +68,7 @@ impl fmt::Display for Failure {
             Failure::StorageFailure => f.write_str("registry: storage failure"),
             Failure::Schema(found) => write!(f, "registry: schema {found} is not supported"),
             Failure::NotARegistry => f.write_str("registry: not a registry"),
+            Failure::Damaged => f.write_str("registry: damaged"),
             Failure::ConnectionFailure => f.write_str("registry: connection failure"),
         }
     }

@@ -153,11 +153,16 @@ fn serve<'a>(alloc: Global) -> Result<Command<'a>, AllocError>
         .arg(flag(alloc, "stop-at-eof", stopping))
 }
 
-fn migrate<'a>(alloc: Global) -> Result<Command<'a>, AllocError>
-    ensures { IfOk result (IsSub spec.migrate) }
+/// One over a database that no server holds.
+fn over_database<'a>(
+    alloc: Global,
+    word: &'a str,
+    about: &'a str,
+) -> Result<Command<'a>, AllocError>
+    ensures { IfOk result (IsSub (spec.over_database word.entry.now)) }
 {
-    Command::new(alloc, "migrate")
-        .about("Take over a database of schema 1, once")
+    Command::new(alloc, word)
+        .about(about)
         .arg(database(alloc).required(true))
 }
 
@@ -284,7 +289,10 @@ fn with_other_commands<'a>(alloc: Global, command: Command<'a>) -> Result<Comman
     let command = with(command, ordering(alloc, "clear", clearing))?;
     let listing = "List what the repositories hold";
     let command = with(command, ordering(alloc, "usage", listing))?;
-    let command = with(command, migrate(alloc))?;
+    let checking = "Read all that a database holds, and say what is wrong";
+    let command = with(command, over_database(alloc, "check", checking))?;
+    let migrating = "Take over a database of schema 1, once";
+    let command = with(command, over_database(alloc, "migrate", migrating))?;
     with(command, stop(alloc))
 }
 

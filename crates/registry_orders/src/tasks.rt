@@ -43,6 +43,10 @@ pub enum Task<'a> {
         source: TokenSource<'a>,
         change: TokenChange,
     },
+    /// Look for what is wrong in the registry at a path.
+    Check {
+        path: &'a str,
+    },
     /// Take over the registry of schema 1 at a path.
     Migration {
         path: &'a str,
@@ -117,12 +121,17 @@ fn token_task<'a>(alloc: Global, word: &str, matches: &ArgMatches<'a>) -> Result
     })
 }
 
-fn migration_task<'a>(matches: &ArgMatches<'a>) -> Result<Task<'a>, Failure>
-    ensures read { IfOk result (IsTaskIn (codes "migrate") (rows_of (found_of matches.now))) }
+/// The task of a subcommand over a database that no server holds.
+fn database_task<'a>(word: &str, matches: &ArgMatches<'a>) -> Result<Task<'a>, Failure>
+    ensures read { IfOk result (IsTaskIn word.now (rows_of (found_of matches.now))) }
     ensures refused { IfErr result IsOfWords }
 {
     let path = text_given(matches, "db").ok_or(Failure::InvalidOptions)?;
-    Ok(Task::Migration { path })
+    match word {
+        "check" => Ok(Task::Check { path }),
+        "migrate" => Ok(Task::Migration { path }),
+        _ => Err(Failure::InvalidOptions),
+    }
 }
 
 fn stop_task<'a>(matches: &ArgMatches<'a>) -> Result<Task<'a>, Failure>
@@ -145,7 +154,7 @@ pub(crate) fn task_of<'a>(
     match word {
         "stdio" => stdio_task(alloc, matches),
         "serve" => serve_task(matches),
-        "migrate" => migration_task(matches),
+        "check" | "migrate" => database_task(word, matches),
         "stop" => stop_task(matches),
         "grant" | "revoke" => token_task(alloc, word, matches),
         _ => order_task(alloc, word, matches),

@@ -24,7 +24,7 @@ fn wanted(word: &str, matches: &ArgMatches) -> Option<Cause> {
     match word {
         "stdio" => Some(Cause::StdioOptions),
         "serve" => Some(Cause::TogetherOptions),
-        "migrate" | "stop" => None,
+        "check" | "migrate" | "stop" => None,
         _ if place_given(matches).is_err() => Some(Cause::PlaceOptions),
         "grant" | "revoke" => Some(Cause::TokenOptions),
         _ => None,

@@ -15,6 +15,7 @@ use Rattle.registry_orders.specs.declared.options.RepoOption.{RepoOption}
 use Rattle.registry_orders.specs.declared.options.GrantOption.{GrantOption}
 use Rattle.registry_orders.specs.Failures.{status_of, IsOfConnection, IsOfOpening, IsOfServing}
 use Rattle.registry_orders.specs.Setting.{with_repos, with_levels, levels_if, world_by, SetsUp}
+use Rattle.registry_program.specs.Checking.{IsOfCheck}
 use Rattle.registry_program.specs.Failures.{status_after}
 use Rattle.registry_program.specs.Program.{Streams, GivesUp, IsUntouched, ServesFrom, ServesMemory, Tells}
 
@@ -35,6 +36,7 @@ stopped setup failure.InvalidToken s status e m spent g = refused setup failure.
 stopped setup failure.InvalidOptions s status e m spent g = refused setup failure.InvalidOptions status e m g
 stopped setup (failure.Schema n) s status e m spent g = refused setup (failure.Schema n) status e m g
 stopped setup failure.NotARegistry s status e m spent g = refused setup failure.NotARegistry status e m g
+stopped setup failure.Damaged s status e m spent g = refused setup failure.Damaged status e m g
 stopped setup failure.ConnectionFailure s status e m spent g = refused setup failure.ConnectionFailure status e m g
 
 -- a failed connection is told by 3 or 4
@@ -50,6 +52,7 @@ connection_status failure.InvalidOptions is = absurd is
 connection_status failure.OutOfMemory is = absurd is
 connection_status (failure.Schema n) is = absurd is
 connection_status failure.NotARegistry is = absurd is
+connection_status failure.Damaged is = absurd is
 
 -- and so is an address that is not served
 pub serving_status : (f : Failure) → IsOfServing f → 3 ≤ status_of f
@@ -58,6 +61,7 @@ serving_status failure.StorageFailure is = omega arith
 serving_status failure.OutOfMemory is = omega arith
 serving_status (failure.Schema n) is = omega arith
 serving_status failure.NotARegistry is = omega arith
+serving_status failure.Damaged is = absurd is
 serving_status failure.NoRepo is = absurd is
 serving_status failure.NoGrant is = absurd is
 serving_status failure.RepoThere is = absurd is
@@ -65,11 +69,27 @@ serving_status failure.InvalidName is = absurd is
 serving_status failure.InvalidToken is = absurd is
 serving_status failure.InvalidOptions is = absurd is
 
+-- and so is a check that does not end well
+pub check_status : (f : Failure) → IsOfCheck f → 3 ≤ status_of f
+check_status failure.Damaged is = omega arith
+check_status failure.OutOfMemory is = omega arith
+check_status failure.StorageFailure is = omega arith
+check_status failure.ConnectionFailure is = omega arith
+check_status (failure.Schema n) is = absurd is
+check_status failure.NotARegistry is = absurd is
+check_status failure.NoRepo is = absurd is
+check_status failure.NoGrant is = absurd is
+check_status failure.RepoThere is = absurd is
+check_status failure.InvalidName is = absurd is
+check_status failure.InvalidToken is = absurd is
+check_status failure.InvalidOptions is = absurd is
+
 pub serving_of_opening : (f : Failure) → IsOfOpening f → IsOfServing f
 serving_of_opening failure.StorageFailure is = tt
 serving_of_opening failure.OutOfMemory is = tt
 serving_of_opening (failure.Schema n) is = tt
 serving_of_opening failure.NotARegistry is = tt
+serving_of_opening failure.Damaged is = is
 serving_of_opening failure.ConnectionFailure is = tt
 serving_of_opening failure.NoRepo is = is
 serving_of_opening failure.NoGrant is = is
@@ -154,6 +174,9 @@ memory_read setup status e (inr m) two = go (world_by setup) (setup_fault setup)
         → MatchResult r (λ w. ServesFrom w status e) (λ f. GivesUp f status e) → ⊥
     go (Ok w) fault s = serving_read w status e s two
     go (Err f) fault g = let one : status ≡ 1 = g.0 ∙ fault f refl in omega arith
+
+pub opening_status : (f : Failure) → IsOfOpening f → 3 ≤ status_of f
+opening_status f is = serving_status f (serving_of_opening f is)
 
 pub opening_read : (f : Failure) → IsOfOpening f → status_of f ≢ 2
 opening_read f is two = let more : 3 ≤ status_of f = serving_status f (serving_of_opening f is) in omega arith

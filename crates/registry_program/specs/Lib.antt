@@ -4,4 +4,5 @@ pub mod Stored
 pub mod Sockets
 pub mod Together
 pub mod Sending
+pub mod Checking
 pub mod Running

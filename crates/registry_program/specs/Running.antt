@@ -23,6 +23,7 @@ use Rattle.registry_orders.specs.Reading.{fit}
 use Rattle.registry_program.specs.Program.{Streams, IsUntouched, GivesUp, ServesMemory, ServesStored, Tells}
 use Rattle.registry_orders.specs.Outputs.{Output, output, IsSilent}
 use Rattle.order_carrying.specs.Carrying.{IsCarriedOut}
+use Rattle.registry_program.specs.Checking.{IsChecked}
 use Rattle.registry_program.specs.Sending.{IsSent}
 use Rattle.registry_program.specs.Sockets.{ServesAddress}
 use Rattle.registry_program.specs.Together.{serves_within}
@@ -41,6 +42,10 @@ IsNotOpened status o = (f : Failure) × IsOfOpening f × (status ≡ status_of f
 -- the order over a registry that is opened
 abbrev pub RunsOrder : Opened → Order → ℕ → Output → Type 0
 RunsOrder over order status o = IsNotOpened status o ⊎ over (λ s s'. IsCarriedOut s order status o s')
+
+-- what a registry that is opened holds is looked at
+abbrev pub RunsCheck : Opened → ℕ → Output → Type 0
+RunsCheck over status o = IsNotOpened status o ⊎ over (λ s s'. IsChecked s status o s')
 
 -- the order at its place: over the registry that is opened there, or sent to the server that holds it
 abbrev pub RunsAt : (Text → Opened) → Place → Order → ℕ → Output → Type 0
@@ -86,8 +91,8 @@ abbrev pub EndsMigration : ℕ → Type 0
 EndsMigration status = (status ≡ 0) ⊎ ((f : Failure) × IsOfOpening f × (status ≡ status_of f))
 
 -- what a task comes to: a registry over memory that is set up so is served; or the one at the path is, by one
--- connection or over sockets, or is taken over; or an order is carried out or sent, or the line that ends a
--- server is
+-- connection or over sockets, or is taken over, or is looked at for what is wrong; or an order is carried out
+-- or sent, or the line that ends a server is
 abbrev pub RunsTask : (Text → Opened) → Task → ℕ → Streams → Type 0
 RunsTask at (task.Memory setup) status e = ServesMemory setup status e
 RunsTask at (task.Stored path) status e = RunsStored (at path.now) status e
@@ -97,6 +102,8 @@ RunsTask at (task.Order place order) status e =
     (e.left' ≡ e.left) × RunsAt at place order status (output_of e)
 RunsTask at (task.TokenOrder place source change) status e =
     RunsTokenOrder at place source change status e
+RunsTask at (task.Check path) status e =
+    (e.left' ≡ e.left) × RunsCheck (at path.now) status (output_of e)
 RunsTask at (task.Migration path) status e = IsUntouched e × EndsMigration status
 RunsTask at (task.Stop path) status e = (e.left' ≡ e.left) × IsSent status (output_of e)
 

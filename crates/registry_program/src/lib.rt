@@ -4,6 +4,7 @@
 //! standard input, output and error, and with an opener of the registries that lie in databases.
 #![tactic(auto)]
 
+mod checking;
 pub mod gathering;
 pub mod listening;
 pub mod order_socket;

@@ -9,6 +9,7 @@ ghost use Rattle.clap.specs.Values.{kind_of};
 ghost use Rattle.registry_orders.specs.Failures.{status_of};
 ghost use Rattle.registry_orders.specs.Outputs.{output, IsSilent};
 
+use crate::checking::run_check;
 use crate::gathering::serve_together;
 use crate::listening::{Listeners, introduce, listen};
 use crate::order_socket::stop_orders;
@@ -61,7 +62,7 @@ fn tell<W: Write, E: Write>(alloc: Global, error: &Error, out: &mut W, err: &mut
 
 /// Closes what an order or a connection was for, and where its storage has failed, says on a line behind
 /// that, where it can be seen, what is wrong with the path.
-fn end_at<K: Keeper + Drop, O: Opener<K>, E: Write>(
+pub(crate) fn end_at<K: Keeper + Drop, O: Opener<K>, E: Write>(
     opener: &O,
     path: &str,
     ended: Ended<K>,
@@ -329,6 +330,7 @@ pub fn run_words<
                 change,
             },
         ) => run_token_order(rt, alloc, opener, place, source, change, reader, out, err),
+        Ok(Task::Check { path }) => run_check(alloc, opener, path, out, err),
         Ok(Task::Migration { path }) => run_migration::<K, O, E>(opener, path, err),
         Ok(Task::Stop { path }) => send_stop(rt, alloc, path, out, err),
         Err(Told::Failed(failure)) => say(err, failure),

@@ -1,7 +1,6 @@
 use Rattle.std.proofs.Common.{◌∙◌, true, ap}
 use Rattle.clap.specs.Words.{Shape}
 use Rattle.clap.specs.Simple.{app_of_fields, on_top}
-use Rattle.registry_orders.specs.CommandLine as spec
 use Rattle.registry_orders.proofs.line.program.Goals as goal
 
 pub returns : goal.returns

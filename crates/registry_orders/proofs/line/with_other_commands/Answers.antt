@@ -8,5 +8,6 @@ returns c is =
     let two = c.in_ok-command-2.ensures _ (spec.over_token (codes "revoke")) one c.over_token.ensures refl in
     let three = c.in_ok-command-3.ensures _ (spec.ordering (codes "clear")) two c.ordering.ensures refl in
     let four = c.in_ok-command-4.ensures _ (spec.ordering (codes "usage")) three c.ordering-2.ensures refl in
-    let five = c.in_ok-command-5.ensures _ spec.migrate four c.migrate.ensures refl in
-    c.with-6.ensures _ spec.stop five c.stop.ensures refl
+    let five = c.in_ok-command-5.ensures _ (spec.over_database (codes "check")) four c.over_database.ensures refl in
+    let six = c.in_ok-command-6.ensures _ (spec.over_database (codes "migrate")) five c.over_database-2.ensures refl in
+    c.with-7.ensures _ spec.stop six c.stop.ensures refl

@@ -1,12 +1,12 @@
-use Rattle.std.proofs.Common.{◌∙◌, ap, codes}
+use Rattle.std.proofs.Common.{◌∙◌, ap}
 use Rattle.std.proofs.lemmas.Result.{IfOk-weaker}
 use Rattle.clap.specs.Words.{new_app}
 use Rattle.clap.specs.Simple.{app_of_fields}
 use Rattle.registry_orders.specs.CommandLine as spec
 use Rattle.registry_orders.proofs.CommandLemmas.{arg_added, required_rule}
-use Rattle.registry_orders.proofs.line.migrate.Goals as goal
+use Rattle.registry_orders.proofs.line.over_database.Goals as goal
 
 pub returns : goal.returns
 returns c =
     let begun = ap app_of_fields c.about.ensures ∙ c.new.ensures.app in
-    IfOk-weaker c.arg.result _ _ (λ r. arg_added (new_app (codes "migrate")) (spec.required spec.db) c.about.result r c.required.result begun (required_rule spec.db c.database.result c.required.result c.database.ensures c.required.ensures)) c.arg.ensures
+    IfOk-weaker c.arg.result _ _ (λ r. arg_added (new_app c.args.word.now) (spec.required spec.db) c.about.result r c.required.result begun (required_rule spec.db c.database.result c.required.result c.database.ensures c.required.ensures)) c.arg.ensures
