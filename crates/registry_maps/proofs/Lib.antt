@@ -1,3 +1,4 @@
 pub mod SeenMaps
 pub mod SeenRepositories
 pub mod SeenWorlds
+pub mod LevelsOn

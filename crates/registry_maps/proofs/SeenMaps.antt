@@ -43,11 +43,11 @@ pub map-same : {A : Type 0} (o : Option A) → option_map (λ (v : A). v) o ≡ 
 map-same None = refl
 map-same (Some x) = refl
 
-both : (a b : Bool) → T a → T b → T (a && b)
+pub both : (a b : Bool) → T a → T b → T (a && b)
 both true b p q = q
 both false b p q = p
 
-less_tested : (r : Ordering) → r ≡ Less → T (is_lt r)
+pub less_tested : (r : Ordering) → r ≡ Less → T (is_lt r)
 less_tested r e = subst (λ x. T (is_lt x)) (sym e) tt
 
 -- a value that a map has, put again or shown as before

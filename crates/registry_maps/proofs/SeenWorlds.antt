@@ -17,8 +17,8 @@ use Rattle.oci_names.specs.declared.fault.Fault.{Fault}
 use Rattle.registry_model.specs.declared.level.Level.{Level}
 use Rattle.registry_maps.specs.declared.repository.Repository.{Repository}
 use Rattle.registry_model.specs.World.{text_cmp, Repo, Grants, repo_at, is_known, new_repo, update_repo, with_grants}
-use Rattle.registry_model.specs.Command.{set_repo, drop_repo, grant, revoke}
-use Rattle.registry_model.specs.Keeping.{State, ReadsBy, Writes, WritesBy, Spends}
+use Rattle.registry_model.specs.Command.{set_repo, drop_repo, grant, revoke, revoke_all}
+use Rattle.registry_model.specs.Keeping.{State, ReadsBy, ReadsSo, Writes, WritesBy, Spends}
 use Rattle.registry_maps.specs.Maps.{seen, repo_of, levels_in, grants_in, world_of, state_of, Makes, or_memory}
 use Rattle.registry_model.proofs.TextOrder.{text_total, exact_texts, bytes_same}
 use Rattle.registry_maps.proofs.SeenMaps.{same_test, get_seen, seen_put, seen_removed, seen_stays, at_some, at_none, remove_empty}
@@ -38,6 +38,11 @@ pub reads_memory : {A B : Type 0} (show : A → B) (r : Result A AllocError) (q 
     → IfOk r (λ v. show v ≡ value) → ReadsBy show q value s s
 reads_memory show (Ok v) q value s e h = subst (λ x. ReadsBy show x value s s) (sym e) (h, refl)
 reads_memory show (Err x) q value s e h = subst (λ x. ReadsBy show x value s s) (sym e) refl
+
+pub reads_so_memory : {A : Type 0} (IsSo : A → Type 0) (r : Result A AllocError) (q : Result A Fault) (s : State) → q ≡ or_memory r
+    → IfOk r IsSo → ReadsSo IsSo q s s
+reads_so_memory IsSo (Ok v) q s e h = subst (λ x. ReadsSo IsSo x s s) (sym e) (h, refl)
+reads_so_memory IsSo (Err x) q s e h = subst (λ x. ReadsSo IsSo x s s) (sym e) refl
 
 pub spends_memory : {A : Type 0} (r : Result A AllocError) (q : Result A Fault) (s t : State) → q ≡ or_memory r → s.spent ≡ false → t.spent ≡ false → Spends q s t
 spends_memory (Ok v) q s t e h k = subst (λ x. Spends x s t) (sym e) (h, k)
@@ -179,6 +184,22 @@ nothing_revoked m g token name none = λ i. record {
     step : (other : Text) (b : Bool) → bytes_eq other token ≡ b → grants_in g other ≡ cond b (remove (grants_in g token) name) (grants_in g other)
     step other true k = ap (grants_in g) (bytes_same other token k) ∙ ungranted g token none ∙ sym (remove_empty text_total exact_texts name) ∙ ap (λ x. remove x name) (sym (ungranted g token none))
     step other false k = refl
+
+-- a token whose entry went has no level
+pub all_revoked : (m : Repos) (g n : Granted) (token : Text) → Updates text_cmp g n token None
+    → state_of m n ≡ record { world = revoke_all (world_of m g) token; spent = false }
+all_revoked m g n token h = λ i. record {
+  world = record { repos = seen text_cmp repo_of m.entries; grants = λ other. at other i };
+  spent = false;
+}
+  where
+    step : (other : Text) (b : Bool) → option_map_or (λ (l : Levels). levels_in l.entries) (cond b None (btree.get text_cmp g other)) empty ≡ cond b empty (grants_in g other)
+    step other true = refl
+    step other false = refl
+
+    at : (other : Text) → grants_in n other ≡ cond (bytes_eq other token) empty (grants_in g other)
+    at other = ap (λ o. option_map_or (λ (l : Levels). levels_in l.entries) o empty) (h.0 other)
+        ∙ step other (eq_by_cmp text_cmp token other) ∙ ap (λ b. cond b empty (grants_in g other)) (is_eq-slice_cmp token other ∙ same_test token other)
 
 -- ---- a repository that goes
 

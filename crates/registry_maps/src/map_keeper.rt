@@ -1,11 +1,11 @@
 //! The keeper over ordered maps.
-ghost use Rattle.std.specs.Prelude.{◌≡◌, ◌≤◌, IfOk};
+ghost use Rattle.std.specs.Prelude.{◌≡◌, ◌≤◌};
 ghost use Rattle.registry_model.specs.World.{no_world, repo_at, update_repo};
 ghost use Rattle.registry_model.specs.Doing.{keeps};
 ghost use Rattle.registry_model.specs.Limits.{largest};
-ghost use Rattle.registry_model.specs.Lookups.{usages_of};
-ghost use Rattle.registry_model.specs.Keeping.{usages_shown};
 ghost use Rattle.registry_maps.specs.Maps.{world_of};
+
+mod listing;
 
 use crate::levels::{set_level, take_level};
 use crate::memory::or_memory;
@@ -13,7 +13,7 @@ use crate::repository::Repository;
 use oci_manifest::{Kind, Manifest};
 use oci_names::{Digest, Fault, RepoName, Tag, Token};
 use registry_model::{Keeper, Level, Quota, Usage};
-use std::alloc::{AllocError, Global};
+use std::alloc::Global;
 use std::collections::BTreeMap;
 
 /// A keeper over ordered maps, whose bytes lie in memory. It never answers `Fault::Storage`.
@@ -48,18 +48,6 @@ impl MapKeeper {
         if let Some(repository) = self.repos.get_mut(name) {
             repository.last = last;
         }
-    }
-
-    /// What each repository holds, in byte order of names.
-    fn all_usages(&self, alloc: Global) -> Result<Vec<(RepoName, Usage)>, AllocError>
-        ensures { IfOk result
-            (λ all. usages_shown all ≡ usages_of (world_of self.now.repos self.now.grants)) }
-    {
-        let mut all = Vec::new(alloc);
-        for (name, repository) in self.repos.iter() {
-            all.push((name.clone()?, repository.usage()))?;
-        }
-        Ok(all)
     }
 }
 
@@ -216,6 +204,10 @@ impl Keeper for MapKeeper {
 
     fn usages(&mut self, alloc: Global) -> Result<Vec<(RepoName, Usage)>, Fault> {
         or_memory(self.all_usages(alloc))
+    }
+
+    fn levels(&mut self, alloc: Global, repo: &RepoName) -> Result<Vec<(Token, Level)>, Fault> {
+        or_memory(self.levels_on(alloc, repo))
     }
 
     fn blob_digests(&mut self, alloc: Global, repo: &RepoName) -> Result<Vec<Digest>, Fault> {
@@ -382,6 +374,11 @@ impl Keeper for MapKeeper {
         if let Some(levels) = self.grants.get_mut(token) {
             take_level(levels, name);
         }
+        Ok(())
+    }
+
+    fn revoke_all(&mut self, token: &Token) -> Result<(), Fault> {
+        self.grants.remove(token);
         Ok(())
     }
 

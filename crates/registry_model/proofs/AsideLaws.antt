@@ -2,20 +2,20 @@
 use Rattle.std.proofs.Common.{◌≡◌, ◌∙◌, ℕ, ◌≤◌, ◌⊎◌, inl, inr, Bool, true, false, cond, nat_le, List, All, Option, Some, None, IfSome, OnSome, refl, sym, ap, subst, arith}
 use Rattle.std.specs.Prelude.{is_some, bytes_eq}
 use Rattle.std.specs.Ordering.{eq_by_cmp}
-use Rattle.std.specs.FinMap.{get, insert, remove, get-insert, get-remove}
+use Rattle.std.specs.FinMap.{get, insert, remove, empty, get-empty, get-insert, get-remove}
 use Rattle.std.proofs.lemmas.Bool.Decides.{nat_tests}
 use Rattle.oci_names.specs.Text.{Text}
 use Rattle.oci_names.specs.Token.{is_token}
 use Rattle.registry_model.specs.declared.level.Level.{Level}
 use Rattle.registry_model.specs.declared.admin.AdminCommand.{AdminCommand}
-use Rattle.registry_model.specs.declared.admin.AdminCommand.TheVariants.{AddRepo, SetQuota, DropRepo, Grant, Revoke, DropSessions, Prune, Clear}
+use Rattle.registry_model.specs.declared.admin.AdminCommand.TheVariants.{AddRepo, SetQuota, DropRepo, Grant, Revoke, RevokeAll, DropSessions, Prune, Clear}
 use Rattle.registry_model.specs.declared.admin.AdminFault.{AdminFault}
 use Rattle.registry_model.specs.declared.refusal.Refusal.TheVariants.{TokenRequired}
 use Rattle.registry_model.specs.World.{text_cmp, Repo, Grants, World, repo_at, level_at, update_repo}
 use Rattle.registry_model.specs.Ask.{Ask}
 use Rattle.registry_model.specs.Decision.{refuses}
 use Rattle.registry_model.specs.Operation.{addressed, rank, rank_of}
-use Rattle.registry_model.specs.Command.{with_quota, grant, revoke, drop_repo, without_sessions, refusal_of, carried_out, after_command}
+use Rattle.registry_model.specs.Command.{with_quota, grant, revoke, revoke_all, drop_repo, without_sessions, refusal_of, carried_out, after_command}
 use Rattle.registry_model.specs.Pruning.{pruned}
 use Rattle.registry_model.specs.Judging.{decision, judged, changed, after_request}
 use Rattle.registry_model.specs.Team.{Team, IsTeamOf, view, Step, asks, orders, is_reading, GivesNoPush, NeverPushes, MayNotPush, IsElsewhere, OwnOrAside}
@@ -72,6 +72,11 @@ revoked_low w token name u n true e low =
     rw e (removed_low (w.grants token) name n _ refl (subst (λ x. rank_of (level_at w x n) ≤ 1) (bytes_same u token e) low))
 revoked_low w token name u n false e low = rw e low
 
+-- of a token whose levels all went, and of the others
+emptied_low : (w : World) (token u n : Text) (b : Bool) → bytes_eq u token ≡ b → rank_of (level_at w u n) ≤ 1 → rank_of (level_at (revoke_all w token) u n) ≤ 1
+emptied_low w token u n true e low = rw (e, get-empty text_cmp) (omega arith)
+emptied_low w token u n false e low = rw e low
+
 other_token : (team : Team) (token other : Text) → team.tokens token ≡ false → team.tokens other ≡ true → (b : Bool) → bytes_eq other token ≡ b → b ≡ false
 other_token team token other out in_team true e = absurd (let bad : true ≡ false = sym in_team ∙ ap team.tokens (bytes_same other token e) ∙ out in cc)
 other_token team token other out in_team false e = refl
@@ -102,6 +107,12 @@ module _ (first : World) (all : List Step) (team : Team) (mine : IsTeamOf first 
     low = λ u n h. revoked_low w token name u n _ refl (s.low u n h);
   }
 
+  since_revoke_all : (token : Text) → team.tokens token ≡ false → Since first all team (revoke_all w token)
+  since_revoke_all token out = record {
+    same = λ other t. ap (λ b. cond b empty (w.grants other)) (other_token team token other out t (bytes_eq other token) refl) ∙ s.same other t;
+    low = λ u n h. emptied_low w token u n _ refl (s.low u n h);
+  }
+
   since_drop : (name : Text) → team.names name ≡ false → Since first all team (drop_repo w name)
   since_drop name out = record {
     same = λ token t. remove_absent (w.grants token) name (no_level w team now_mine token name t out) ∙ s.same token t;
@@ -115,6 +126,7 @@ module _ (first : World) (all : List Step) (team : Team) (mine : IsTeamOf first 
   since_order (DropRepo name) h gives = since_drop name.now h
   since_order (Grant token name level) h gives = since_grant token.now name.now level h gives
   since_order (Revoke token name) h gives = since_revoke token.now name.now h
+  since_order (RevokeAll token) h gives = since_revoke_all token.now h
   since_order (DropSessions name) h gives = kept_grants first all team w _ (updated_grants w name.now without_sessions (repo_at w name.now)) s
   since_order (Prune name) h gives = kept_grants first all team w _ (updated_grants w name.now pruned (repo_at w name.now)) s
   since_order Clear h gives = s
@@ -172,6 +184,7 @@ module _ (first : World) (all : List Step) (team : Team) (mine : IsTeamOf first 
   carried_aside (DropRepo name) h = dropped_outside w team now_mine name.now h
   carried_aside (Grant token name level) h = with_grants_outside w team token.now (insert (w.grants token.now) name.now level) h
   carried_aside (Revoke token name) h = with_grants_outside w team token.now (remove (w.grants token.now) name.now) h
+  carried_aside (RevokeAll token) h = with_grants_outside w team token.now empty h
   carried_aside (DropSessions name) h = updated_outside w team name.now without_sessions (repo_at w name.now) h
   carried_aside (Prune name) h = updated_outside w team name.now pruned (repo_at w name.now) h
   carried_aside Clear h = refl

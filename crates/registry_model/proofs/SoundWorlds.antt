@@ -1,7 +1,7 @@
 -- Requests and commands keep a sound world sound.
 use Rattle.std.proofs.Common.{◌≡◌, ◌∙◌, inl, inr, ℕ, ◌≤◌, Bool, true, false, cond, List, [], ◌∷◌, Option, Some, None, IfSome, refl, sym, ap, subst, arith}
 use Rattle.std.specs.Prelude.{is_some, bytes_eq}
-use Rattle.std.specs.FinMap.{get, insert, remove, get-empty}
+use Rattle.std.specs.FinMap.{get, insert, remove, empty, get-empty}
 use Rattle.oci_names.specs.Text.{Text}
 use Rattle.oci_names.specs.RepoName.{is_repo_name}
 use Rattle.oci_names.specs.Token.{is_token}
@@ -10,7 +10,7 @@ use Rattle.registry_model.specs.declared.quota.Quota.{Quota}
 use Rattle.registry_model.specs.declared.request.Verb.{Verb}
 use Rattle.registry_model.specs.declared.request.Verb.TheVariants as verb
 use Rattle.registry_model.specs.declared.admin.AdminCommand.{AdminCommand}
-use Rattle.registry_model.specs.declared.admin.AdminCommand.TheVariants.{AddRepo, SetQuota, DropRepo, Grant, Revoke, DropSessions, Prune, Clear}
+use Rattle.registry_model.specs.declared.admin.AdminCommand.TheVariants.{AddRepo, SetQuota, DropRepo, Grant, Revoke, RevokeAll, DropSessions, Prune, Clear}
 use Rattle.registry_model.specs.declared.admin.AdminFault.{AdminFault}
 use Rattle.registry_model.specs.declared.admin.AdminFault.TheVariants.{NoRepo}
 use Rattle.registry_model.specs.World.{text_cmp, Repo, Grants, World, no_world, repo_at, has_repo, is_known, with_repo, update_repo, with_grants}
@@ -21,7 +21,7 @@ use Rattle.registry_model.specs.Ask.{Ask}
 use Rattle.registry_model.specs.Operation.{Operation, operation_of, addressed}
 use Rattle.registry_model.specs.Decision.{in_repo}
 use Rattle.registry_model.specs.Judging.{operate, allows, granted, decide, at_base, served_on, decision, judged, changed, after_request}
-use Rattle.registry_model.specs.Command.{with_quota, set_repo, grant, revoke, drop_repo, without_sessions, refusal_of, after_command}
+use Rattle.registry_model.specs.Command.{with_quota, set_repo, grant, revoke, revoke_all, drop_repo, without_sessions, refusal_of, after_command}
 use Rattle.registry_model.specs.Pruning.{pruned}
 use Rattle.registry_model.specs.Team.{Step, asks, orders}
 use Rattle.registry_model.specs.Runs.{Outcome, after, after_all}
@@ -117,6 +117,9 @@ module _ (w : World) (s : IsSound w) where
   sound_revoke : (token name : Text) → IsSound (revoke w token name)
   sound_revoke token name = sound_with_grants token (remove (w.grants token) name) (λ other x e. s.grants token other x (got_remove text_total exact_texts (w.grants token) name other x e).0)
 
+  sound_revoke_all : (token : Text) → IsSound (revoke_all w token)
+  sound_revoke_all token = sound_with_grants token empty (λ other x e. absurd (not_Some x (sym (get-empty text_cmp other) ∙ e)))
+
   sound_drop : (name : Text) → IsSound (drop_repo w name)
   sound_drop name = record {
     repos = λ other r e. s.repos other r (got_remove text_total exact_texts w.repos name other r e).0;
@@ -148,6 +151,7 @@ module _ (w : World) (s : IsSound w) where
   sound_after_command (DropRepo name) = unless (refusal_of w (DropRepo name)) _ (λ _. sound_drop name.now)
   sound_after_command (Grant token name level) = unless (refusal_of w (Grant token name level)) _ (λ e. sound_grant token.now name.now level (is_there (has_repo w name.now) e))
   sound_after_command (Revoke token name) = unless (refusal_of w (Revoke token name)) _ (λ _. sound_revoke token.now name.now)
+  sound_after_command (RevokeAll token) = unless (refusal_of w (RevokeAll token)) _ (λ _. sound_revoke_all token.now)
   sound_after_command (DropSessions name) = unless (refusal_of w (DropSessions name)) _ (λ _. sound_update name.now without_sessions sound_without_sessions (repo_at w name.now) refl)
   sound_after_command (Prune name) = unless (refusal_of w (Prune name)) _ (λ _. sound_update name.now pruned sound_pruned (repo_at w name.now) refl)
   sound_after_command Clear = s

@@ -1,10 +1,10 @@
 -- Texts in their order, as keys of finite maps.
 use Rattle.std.proofs.Common.{◌≡◌, ◌∙◌, Bool, true, false, cond, None, Some, refl, sym, ap}
-use Rattle.std.specs.Prelude.{Option, bytes_eq}
+use Rattle.std.specs.Prelude.{T, List, Option, bytes_eq}
 use Rattle.std.specs.declared.cmp.Ordering.TheVariants.{Equal}
 use Rattle.std.specs.Ordering.{eq_by_cmp}
 use Rattle.std.specs.Cmp.{IsTotalOrder, Equal-is}
-use Rattle.std.specs.FinMap.{FinMap, get, insert, remove, retain_keys, get-insert, get-remove, get-retain_keys, same_map, IsAntisymmetric, slice_cmp-IsAntisymmetric, nat_cmp-IsAntisymmetric}
+use Rattle.std.specs.FinMap.{FinMap, entries, find, is_sorted, entries-from_sorted, get-from_sorted, get, insert, remove, retain_keys, get-insert, get-remove, get-retain_keys, same_map, IsAntisymmetric, slice_cmp-IsAntisymmetric, nat_cmp-IsAntisymmetric}
 use Rattle.std.proofs.lemmas.Cmp.{nat_list_cmp_total}
 use Rattle.std.proofs.lemmas.Map.Text.{is_eq-slice_cmp}
 use Rattle.oci_names.specs.Text.{Text}
@@ -70,3 +70,11 @@ module _ {X : Type 0} (m : FinMap text_cmp X) where
       step : (q : Text) (b : Bool) → eq_by_cmp text_cmp q k ≡ b → cond b None (get m q) ≡ get m q
       step q true e = sym (ap (get m) (same_key q k e) ∙ none)
       step q false e = refl
+
+-- two lists in order that answer alike are one
+pub one_list : {X : Type 0} (es fs : List (Text × X)) → T (is_sorted text_cmp es) → T (is_sorted text_cmp fs)
+    → ((q : Text) → find text_cmp q es ≡ find text_cmp q fs) → es ≡ fs
+one_list es fs p q same =
+    sym (entries-from_sorted text_cmp es p)
+    ∙ ap entries (same_map text_total exact_texts _ _ (λ k. get-from_sorted text_cmp es k p ∙ same k ∙ sym (get-from_sorted text_cmp fs k q)))
+    ∙ entries-from_sorted text_cmp fs q

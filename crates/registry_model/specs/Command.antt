@@ -4,10 +4,10 @@ use Rattle.std.specs.FinMap.{insert, remove, empty}
 use Rattle.oci_names.specs.Text.{Text}
 use Rattle.registry_model.specs.declared.level.Level.{Level}
 use Rattle.registry_model.specs.declared.admin.AdminCommand.{AdminCommand}
-use Rattle.registry_model.specs.declared.admin.AdminCommand.TheVariants.{AddRepo, SetQuota, DropRepo, Grant, Revoke, DropSessions, Prune, Clear}
+use Rattle.registry_model.specs.declared.admin.AdminCommand.TheVariants.{AddRepo, SetQuota, DropRepo, Grant, Revoke, RevokeAll, DropSessions, Prune, Clear}
 use Rattle.registry_model.specs.declared.admin.AdminFault.{AdminFault}
 use Rattle.registry_model.specs.declared.admin.AdminFault.TheVariants.{NoRepo, NoGrant, RepoThere}
-use Rattle.registry_model.specs.World.{Repo, World, repo_at, has_repo, level_at, new_repo, with_repo, update_repo, with_grants}
+use Rattle.registry_model.specs.World.{Repo, World, repo_at, has_repo, is_known, level_at, new_repo, with_repo, update_repo, with_grants}
 use Rattle.registry_model.specs.Pruning.{prune}
 
 -- a repository that is there keeps all but its quota
@@ -24,6 +24,10 @@ grant w token name level = with_grants w token (insert (w.grants token) name lev
 
 abbrev pub revoke : World → Text → Text → World
 revoke w token name = with_grants w token (remove (w.grants token) name)
+
+-- the token has no level any more
+abbrev pub revoke_all : World → Text → World
+revoke_all w token = with_grants w token empty
 
 -- the repository goes, with every level on it
 abbrev pub drop_repo : World → Text → World
@@ -48,6 +52,7 @@ refusal_of w (SetQuota name quota) = unless_there w name.now
 refusal_of w (DropRepo name) = unless_there w name.now
 refusal_of w (Grant token name level) = unless_there w name.now
 refusal_of w (Revoke token name) = if is_some (level_at w token.now name.now) then None else Some NoGrant
+refusal_of w (RevokeAll token) = if is_known (w.grants token.now) then None else Some NoGrant
 refusal_of w (DropSessions name) = unless_there w name.now
 refusal_of w (Prune name) = unless_there w name.now
 refusal_of w Clear = None
@@ -59,6 +64,7 @@ carried_out w (SetQuota name quota) = set_repo w name.now quota.bytes
 carried_out w (DropRepo name) = drop_repo w name.now
 carried_out w (Grant token name level) = grant w token.now name.now level
 carried_out w (Revoke token name) = revoke w token.now name.now
+carried_out w (RevokeAll token) = revoke_all w token.now
 carried_out w (DropSessions name) = drop_sessions w name.now
 carried_out w (Prune name) = prune w name.now
 carried_out w Clear = w

@@ -20,6 +20,12 @@ ReadsBy show (Ok v) value s s' = (show v ≡ value) × (s' ≡ s)
 ReadsBy show (Err Memory) value s s' = s' ≡ s
 ReadsBy show (Err Storage) value s s' = ⊤
 
+-- a read gives a value of which something is so, or gives up, and nothing changes
+abbrev pub ReadsSo : {A : Type 0} → (A → Type 0) → Result A Fault → State → State → Type 0
+ReadsSo IsSo (Ok v) s s' = IsSo v × (s' ≡ s)
+ReadsSo IsSo (Err Memory) s s' = s' ≡ s
+ReadsSo IsSo (Err Storage) s s' = ⊤
+
 abbrev pub Reads : {A : Type 0} → Result A Fault → A → State → State → Type 0
 Reads {A} r value s s' = ReadsBy {A = A} {B = A} (λ v. v) r value s s'
 

@@ -1,12 +1,13 @@
 -- What a keeper's reads find, and what its writes make, by names. Nothing is found where the repository is
 -- not there, and a write to one that is not there makes nothing.
-use Rattle.std.specs.Prelude.{ℕ, List, [], ◌++◌, map, false, Option, Some, None, length, option_map}
+use Rattle.std.specs.Prelude.{◌≡◌, ℕ, T, List, [], ◌++◌, map, false, Option, Some, None, length, option_map}
 use Rattle.std.specs.Option.{option_and_then, option_map_or}
-use Rattle.std.specs.FinMap.{get, len, keys, entries}
+use Rattle.std.specs.FinMap.{get, len, keys, entries, find, is_sorted}
 use Rattle.oci_names.specs.Text.{Text}
 use Rattle.oci_manifest.specs.declared.kind.Kind.{Kind}
+use Rattle.registry_model.specs.declared.level.Level.{Level}
 use Rattle.registry_model.specs.declared.quota.Usage.{Usage}
-use Rattle.registry_model.specs.World.{Repo, World, repo_at, update_repo}
+use Rattle.registry_model.specs.World.{Repo, World, repo_at, level_at, text_cmp, update_repo}
 use Rattle.registry_model.specs.Usage.{usage_of}
 use Rattle.registry_model.specs.Blobs.{with_blob, without_blob}
 use Rattle.registry_model.specs.Sessions.{opened, appended, finished}
@@ -73,6 +74,11 @@ blob_digests_at w name = option_map_or (λ r. keys r.blobs) (repo_at w name) []
 
 abbrev pub manifest_digests_at : World → Text → List Text
 manifest_digests_at w name = option_map_or (λ r. keys r.manifests) (repo_at w name) []
+
+-- the tokens that have a level on a repository, each once and in byte order, with that level
+pub record AreLevelsOn (w : World) (name : Text) (levels : List (Text × Level)) : Type 0 where
+  pub rise : T (is_sorted text_cmp levels)
+  pub each : (token : Text) → find text_cmp token levels ≡ level_at w token name
 
 -- ---- writes
 

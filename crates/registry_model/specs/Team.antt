@@ -5,7 +5,7 @@ use Rattle.oci_names.specs.Text.{Text}
 use Rattle.registry_model.specs.declared.request.Verb.{Verb}
 use Rattle.registry_model.specs.declared.request.Verb.TheVariants.{Get, Head}
 use Rattle.registry_model.specs.declared.admin.AdminCommand.{AdminCommand}
-use Rattle.registry_model.specs.declared.admin.AdminCommand.TheVariants.{AddRepo, SetQuota, DropRepo, Grant, Revoke, DropSessions, Prune, Clear}
+use Rattle.registry_model.specs.declared.admin.AdminCommand.TheVariants.{AddRepo, SetQuota, DropRepo, Grant, Revoke, RevokeAll, DropSessions, Prune, Clear}
 use Rattle.registry_model.specs.World.{World, level_at}
 use Rattle.registry_model.specs.Form.{Form}
 use Rattle.registry_model.specs.Ask.{Ask}
@@ -85,6 +85,7 @@ OwnOrAside w steps team (orders (SetQuota name quota)) = team.names name.now ≡
 OwnOrAside w steps team (orders (DropRepo name)) = team.names name.now ≡ false
 OwnOrAside w steps team (orders (Grant token name level)) = team.tokens token.now ≡ false
 OwnOrAside w steps team (orders (Revoke token name)) = team.tokens token.now ≡ false
+OwnOrAside w steps team (orders (RevokeAll token)) = team.tokens token.now ≡ false
 OwnOrAside w steps team (orders (DropSessions name)) = team.names name.now ≡ false
 OwnOrAside w steps team (orders (Prune name)) = team.names name.now ≡ false
 OwnOrAside w steps team (orders Clear) = ⊤

@@ -29,6 +29,10 @@ pub enum AdminCommand<'a> {
         token: &'a Token,
         name: &'a RepoName,
     },
+    /// Takes every level of a token away, on whatever repositories.
+    RevokeAll {
+        token: &'a Token,
+    },
     /// Ends every open upload session of a repository; their numbers are not used again.
     DropSessions {
         name: &'a RepoName,

@@ -3,11 +3,11 @@ ghost use Rattle.oci_names.specs.Digest.{matches};
 ghost use Rattle.oci_manifest.specs.Manifest.{shown, manifest_in};
 ghost use Rattle.registry_model.specs.Limits.{largest, largest_blob, largest_manifest, most_sessions};
 ghost use Rattle.registry_model.specs.World.{is_known, has_repo, level_at};
-ghost use Rattle.registry_model.specs.Lookups.{blob_at, blob_size_at, manifest_at, manifest_size_at, tag_at, page_at, manifests_on_at, session_at, session_size_at, sessions_open_at, last_number_at, usage_at, usages_of, blob_digests_at, manifest_digests_at, bytes_or_none, put_blob, open_session, append, finish, mount, put_manifest, delete_blob, delete_manifest, delete_tag};
-ghost use Rattle.registry_model.specs.Command.{set_repo, drop_repo, grant, revoke, drop_sessions};
+ghost use Rattle.registry_model.specs.Lookups.{AreLevelsOn, blob_at, blob_size_at, manifest_at, manifest_size_at, tag_at, page_at, manifests_on_at, session_at, session_size_at, sessions_open_at, last_number_at, usage_at, usages_of, blob_digests_at, manifest_digests_at, bytes_or_none, put_blob, open_session, append, finish, mount, put_manifest, delete_blob, delete_manifest, delete_tag};
+ghost use Rattle.registry_model.specs.Command.{set_repo, drop_repo, grant, revoke, revoke_all, drop_sessions};
 ghost use Rattle.registry_model.specs.Pruning.{delete_blobs};
 ghost use Rattle.registry_model.specs.Ask.{text_in};
-ghost use Rattle.registry_model.specs.Keeping.{State, Reads, ReadsBy, Writes, WritesBy, Spends, bytes_in, manifest_shown, page_shown, entries_shown, usages_shown, digests_shown};
+ghost use Rattle.registry_model.specs.Keeping.{State, Reads, ReadsBy, ReadsSo, Writes, WritesBy, Spends, bytes_in, manifest_shown, page_shown, entries_shown, usages_shown, digests_shown};
 ghost use Rattle.registry_model.specs.Closing.{session_matches, finish_as_is, WritesWhereSo};
 
 use crate::{Level, Quota, Usage};
@@ -180,6 +180,14 @@ pub trait Keeper {
     /// What each repository holds and may hold, in byte order of names.
     fn usages(&mut self, alloc: Global) -> Result<Vec<(RepoName, Usage)>, Fault>
         ensures found { is_honest self.new → ReadsBy usages_shown result (usages_of (state self.old).world)
+            (state self.old) (state self.new) }
+        ensures spends { Spends result (state self.old) (state self.new) }
+        ensures honest { is_honest self.new → is_honest self.old };
+
+    /// The tokens that have a level on a repository, in byte order, with their levels.
+    fn levels(&mut self, alloc: Global, repo: &RepoName) -> Result<Vec<(Token, Level)>, Fault>
+        ensures found { is_honest self.new
+            → ReadsSo (λ v. AreLevelsOn (state self.old).world repo.now v.items) result
             (state self.old) (state self.new) }
         ensures spends { Spends result (state self.old) (state self.new) }
         ensures honest { is_honest self.new → is_honest self.old };
@@ -378,6 +386,15 @@ pub trait Keeper {
         requires granted { is_honest self.old → (state self.old).spent ≡ false
             → is_some (level_at (state self.old).world token.now name.now) ≡ true }
         ensures made { is_honest self.new → Writes result (revoke (state self.old).world token.now name.now)
+            (state self.old) (state self.new) }
+        ensures spends { Spends result (state self.old) (state self.new) }
+        ensures honest { is_honest self.new → is_honest self.old };
+
+    /// Takes every level of a token away (`known` tells that it has one).
+    fn revoke_all(&mut self, token: &Token) -> Result<(), Fault>
+        requires granted { is_honest self.old → (state self.old).spent ≡ false
+            → is_known ((state self.old).world.grants token.now) ≡ true }
+        ensures made { is_honest self.new → Writes result (revoke_all (state self.old).world token.now)
             (state self.old) (state self.new) }
         ensures spends { Spends result (state self.old) (state self.new) }
         ensures honest { is_honest self.new → is_honest self.old };

@@ -5,6 +5,8 @@ ghost use Rattle.std.specs.Prelude.{◌≡◌, ◌≢◌, ◌≤◌, ℕ, true, 
 ghost use Rattle.oci_names.specs.Text.{Text};
 ghost use Rattle.oci_manifest.specs.Manifest.{ManifestShown, manifest_in};
 ghost use Rattle.registry_model.specs.World.{World, Grants, Repo, repo_at};
+ghost use Rattle.registry_model.specs.declared.level.Level.{Level};
+ghost use Rattle.registry_model.specs.Lookups.{AreLevelsOn};
 ghost use Rattle.registry_model.specs.Ask.{Ask};
 ghost use Rattle.registry_model.specs.Heads.{as_head, as_get, without_content};
 ghost use Rattle.registry_model.specs.Judging.{decision, reply_to, after_request};
@@ -72,6 +74,12 @@ pub fn pruning_keeps_what_is_named()
     ensures elsewhere { (w : World) (name other : Text) → name ≢ other
         → repo_at (prune w name) other ≡ repo_at w other }
     ensures grants { (w : World) (name : Text) → (prune w name).grants ≡ w.grants }
+{}
+
+/// The tokens with a level on a repository are one list: what is asked of it says it whole.
+pub fn levels_are_one_list()
+    ensures { (w : World) (name : Text) (levels others : List (Text × Level))
+        → AreLevelsOn w name levels → AreLevelsOn w name others → levels ≡ others }
 {}
 
 /// Steps one after the other: one outcome for each, the definitions' up to a storage failure, and to

@@ -52,6 +52,10 @@ pub fn apply_command<K: Keeper>(
             Some(_) => keeper.revoke(token, name).map_err(given_up),
             None => Err(AdminFault::NoGrant),
         },
+        AdminCommand::RevokeAll { token } => match keeper.known(token).map_err(given_up)? {
+            true => keeper.revoke_all(token).map_err(given_up),
+            false => Err(AdminFault::NoGrant),
+        },
         AdminCommand::DropSessions { name } => match keeper.has_repo(name).map_err(given_up)? {
             true => keeper.drop_sessions(name).map_err(given_up),
             false => Err(AdminFault::NoRepo),

@@ -4,16 +4,16 @@ ghost use Rattle.registry_model.specs.declared.refusal.Refusal.TheVariants.{Toke
 ghost use Rattle.registry_model.specs.Answer.{answer_of, refused};
 ghost use Rattle.registry_model.specs.Ask.{ask_of};
 ghost use Rattle.registry_model.specs.Doing.{Does, SpendsAs, CarriesOut, course_of_answer, course_of_result};
-ghost use Rattle.registry_model.specs.Keeping.{Reads, ReadsBy, Spends, usages_shown, digests_shown};
-ghost use Rattle.registry_model.specs.Lookups.{usages_of, tag_at, blob_digests_at, blob_size_at, manifest_digests_at};
+ghost use Rattle.registry_model.specs.Keeping.{Reads, ReadsBy, ReadsSo, Spends, usages_shown, digests_shown};
+ghost use Rattle.registry_model.specs.Lookups.{AreLevelsOn, usages_of, tag_at, blob_digests_at, blob_size_at, manifest_digests_at};
 ghost use Rattle.registry_model.specs.World.{has_repo};
 ghost use Rattle.registry_operations.specs.Pruning.{names_at, unnamed_at};
 ghost use Rattle.registry_service.specs.Tags.{tags_shown, tags_at};
 
 use crate::admin_commands::apply_command;
 use crate::judging::judge;
-use oci_names::{Digest, Fault, RepoName, Tag};
-use registry_model::{AdminCommand, AdminFault, Keeper, Reply, Request, Usage};
+use oci_names::{Digest, Fault, RepoName, Tag, Token};
+use registry_model::{AdminCommand, AdminFault, Keeper, Level, Reply, Request, Usage};
 use registry_operations::{names_at, unnamed};
 use std::alloc::Global;
 use std::marker::Model;
@@ -85,6 +85,18 @@ impl<K: Keeper> Service<K> {
         ensures honest { K.is_honest self.new → K.is_honest self.old }
     {
         self.keeper.usages(alloc)
+    }
+
+    /// The tokens that have a level on a repository, in byte order, with their levels; none where it is not
+    /// there.
+    pub fn levels(&mut self, alloc: Global, name: &RepoName) -> Result<Vec<(Token, Level)>, Fault>
+        ensures found { K.is_honest self.new
+            → ReadsSo (λ v. AreLevelsOn (K.state self.old).world name.now v.items) result
+            (K.state self.old) (K.state self.new) }
+        ensures spends { Spends result (K.state self.old) (K.state self.new) }
+        ensures honest { K.is_honest self.new → K.is_honest self.old }
+    {
+        self.keeper.levels(alloc, name)
     }
 
     /// Whether a repository is there.
