@@ -7,11 +7,11 @@ use Rattle.sqlite.specs.Held.{Held, state}
 use Rattle.oci_names.specs.declared.fault.Fault.{Fault}
 use Rattle.oci_names.specs.declared.fault.Fault.TheVariants.{Memory, Storage}
 use Rattle.registry_model.specs.World.{World}
-use Rattle.registry_model.specs.Keeping.{State, ReadsBy, Writes, WritesBy}
+use Rattle.registry_model.specs.Keeping.{State, ReadsBy, ReadsSo, Writes, WritesBy}
 use Rattle.registry_store.specs.Kept.{Kept}
 use Rattle.store_world.specs.Tables.{Tables}
 use Rattle.store_statements.specs.Held.{IsSettled, StaysSettled, SettlesOn, is_storage, world_in, held}
-use Rattle.registry_store.proofs.KeeperStates.{found, wrote, stood}
+use Rattle.registry_store.proofs.KeeperStates.{found, found_so, wrote, stood}
 
 abbrev tables : {S : Type 0} → Ghosts S → Held S → Tables
 tables g conn = held (state g conn)
@@ -48,6 +48,21 @@ module _ {S : Type 0} (g : Ghosts S) (conn : Held S) (old : Kept S) (spent : Boo
       → ReadsBy show r (look (world_in (state g old.conn))) before (after later)
   read_told show look r answer later same notes finds stays =
       subst (λ x. ReadsBy show x (look (world_in (state g old.conn))) before (after later)) (sym same) (read show look answer later notes finds stays)
+
+  read_so : {A : Type 0} (P : World → A → Type 0) (answer : Result A Fault) (later : Bool) → later ≡ (is_storage answer || spent)
+      → IfOk answer (λ v. P (world_in (state g conn)) v) → (is_storage answer ≡ false → StaysSettled (state g conn) (state g new))
+      → ReadsSo (P (world_in (state g old.conn))) answer before (after later)
+  read_so P (Ok v) later notes finds stays =
+      (found_so g conn old spent is P v finds, subst (λ b. ◌≡◌ {A = State} (after b) before) (sym notes) (stood g conn old spent is new (stays refl).1))
+  read_so P (Err Memory) later notes finds stays = subst (λ b. ◌≡◌ {A = State} (after b) before) (sym notes) (stood g conn old spent is new (stays refl).1)
+  read_so P (Err Storage) later notes finds stays = tt
+
+  -- a read tells a value of which something is so
+  pub read_so_told : {A : Type 0} (P : World → A → Type 0) (r answer : Result A Fault) (later : Bool) → r ≡ answer → later ≡ (is_storage answer || spent)
+      → IfOk answer (λ v. P (world_in (state g conn)) v) → (is_storage answer ≡ false → StaysSettled (state g conn) (state g new))
+      → ReadsSo (P (world_in (state g old.conn))) r before (after later)
+  read_so_told P r answer later same notes finds stays =
+      subst (λ x. ReadsSo (P (world_in (state g old.conn))) x before (after later)) (sym same) (read_so P answer later notes finds stays)
 
   write : {A : Type 0} (change : World → World) (answer : Result A Fault) (later : Bool) → spent ≡ false → later ≡ (is_storage answer || spent)
       → OnOk answer (SettlesOn (state g new) (change (world_in (state g conn)))) → (answer ≡ Err Memory → StaysSettled (state g conn) (state g new))

@@ -24,6 +24,10 @@ module _ {S : Type 0} (g : Ghosts S) (conn : Held S) (old : Kept S) (spent : Boo
   pub found : {A : Type 0} (look : World → A) (v : A) → v ≡ look (world_in (state g conn)) → v ≡ look (world_in (state g old.conn))
   found look v e = subst (λ (k : Kept S). v ≡ look (world_in (state g k.conn))) is e
 
+  -- a read found a value of which something is so
+  pub found_so : {A : Type 0} (P : World → A → Type 0) (v : A) → P (world_in (state g conn)) v → P (world_in (state g old.conn)) v
+  found_so P v h = subst (λ (k : Kept S). P (world_in (state g k.conn)) v) is h
+
   -- what a caller knows of the world, said of the connection
   pub asked : (P : World → Type 0) (ours : Bool) → spent ≡ false → ours ≡ true → (HasCleanDisk (state g old.conn) × (ours ≡ true) → old.spent ≡ false → P (world_in (state g old.conn)))
       → HasCleanDisk (state g conn) → P (world_in (state g conn))

@@ -151,6 +151,10 @@ impl<S: Alter, O: Origin> Keeper for Store<S, O> {
         unless_spent!(self, store_reads::usages(alloc, &mut self.conn))
     }
 
+    fn levels(&mut self, alloc: Global, repo: &RepoName) -> Result<Vec<(Token, Level)>, Fault> {
+        unless_spent!(self, store_reads::levels(alloc, &mut self.conn, repo))
+    }
+
     fn blob_digests(&mut self, alloc: Global, repo: &RepoName) -> Result<Vec<Digest>, Fault> {
         unless_spent!(self, store_reads::blob_digests(alloc, &mut self.conn, repo))
     }
@@ -318,6 +322,10 @@ impl<S: Alter, O: Origin> Keeper for Store<S, O> {
 
     fn revoke(&mut self, token: &Token, name: &RepoName) -> Result<(), Fault> {
         unless_spent!(self, store_writes::revoke(&mut self.conn, token, name))
+    }
+
+    fn revoke_all(&mut self, token: &Token) -> Result<(), Fault> {
+        unless_spent!(self, store_writes::revoke_all(&mut self.conn, token))
     }
 
     fn drop_sessions(&mut self, name: &RepoName) -> Result<(), Fault> {

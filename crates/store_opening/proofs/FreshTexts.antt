@@ -30,10 +30,12 @@ unfolding understood everything same_name grants_stand
 grant_texts = record {
   find = record { is = refl; plain = (refl, refl); unlisted = refl };
   known = record { is = refl; plain = (refl, refl); unlisted = refl };
+  list = record { is = refl; plain = (refl, refl); unlisted = refl };
   add = record { is = refl; plain = (refl, refl); unlisted = refl };
   set_level = record { is = refl; plain = (refl, refl); unlisted = refl };
   take = record { is = refl; plain = (refl, refl); unlisted = refl };
   take_all = record { is = refl; plain = (refl, refl); unlisted = refl };
+  take_token = record { is = refl; plain = (refl, refl); unlisted = refl };
 }
 
 pub tag_texts : KnowsTagTexts fresh_schema tags_stand

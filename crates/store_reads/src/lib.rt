@@ -4,6 +4,7 @@
 mod blobs;
 mod contents;
 mod grants;
+mod level_lists;
 mod manifests;
 mod pages;
 mod referrers;
@@ -16,6 +17,7 @@ mod uploads;
 
 pub use blobs::{blob, blob_digests, blob_size};
 pub use grants::{known, level};
+pub use level_lists::levels;
 pub use manifests::{manifest, manifest_digests, manifest_size};
 pub use pages::tags_after;
 pub use referrers::manifests_of_subject;

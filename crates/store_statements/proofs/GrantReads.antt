@@ -8,16 +8,18 @@ use Rattle.std.proofs.lemmas.Bool.{lt-ltb, ne_eqb}
 use Rattle.sqlite.specs.declared.types.Value.TheVariants.{Text}
 use Rattle.sqlite.specs.Order.{Row, column}
 use Rattle.sqlite.specs.State.{State, Shown}
+use Rattle.sqlite_keyed.specs.Lists.{sort_by}
 use Rattle.store_schema.specs.Schema.{grants_table}
 use Rattle.store_schema.specs.Layout.{equals}
-use Rattle.store_schema.proofs.Selects.{Answer, is_text, one_test}
-use Rattle.store_schema.proofs.Writes.{passes}
-use Rattle.store_world.specs.Keys.{has_key, of_first, same_key}
+use Rattle.store_schema.proofs.Selects.{Answer}
+use Rattle.store_world.specs.Keys.{has_key, of_first, of_second, same_key}
 use Rattle.store_world.specs.Tables.{IsGrantRow}
-use Rattle.store_statements.specs.GrantTexts.{grant_find, grant_known}
+use Rattle.store_statements.specs.GrantTexts.{grant_find, grant_known, grant_list}
 use Rattle.store_statements.specs.Held.{held, HoldsTables}
+use Rattle.store_statements.specs.Shown.{by_token}
 use Rattle.store_statements.proofs.Keys.{key_parts}
-use Rattle.store_statements.proofs.GrantRows.{key_test}
+use Rattle.store_statements.proofs.GrantRows.{key_test, repo_test, token_test}
+use Rattle.store_statements.proofs.InOrder.{orders_tokens}
 use Rattle.store_statements.proofs.Selected.{lists, finds}
 
 pub shows_level : (token repo : List ℕ) (old new : State) (r : Answer) → HoldsTables old.now → IfOk r (λ rows. Shown grant_find (Text token ∷ Text repo ∷ []) old new rows.items)
@@ -25,13 +27,15 @@ pub shows_level : (token repo : List ℕ) (old new : State) (r : Answer) → Hol
 shows_level token repo old new r h shown = finds grants_table IsGrantRow same_key grant_find _ (equals 1 0 ∷ equals 2 1 ∷ []) _ (Text token ∷ Text repo ∷ []) (has_key token repo) old new r
     h.known.grant_texts.find h.known.grants.stored h.tables.grants (key_test token repo []) (key_parts token repo) shown
 
-token_test : (token : List ℕ) (r : Row) → IsGrantRow r → passes (Text token ∷ []) (equals 1 0 ∷ []) r ≡ of_first token r
-token_test token r it = one_test _ _ (is_text (column r 1) _ token it.token)
-
 pub shows_known : (token : List ℕ) (old new : State) (r : Answer) → HoldsTables old.now → IfOk r (λ rows. Shown grant_known (Text token ∷ []) old new rows.items)
     → IfOk r (λ rows. IsPermutation (map (λ r. column r 3 ∷ []) (filter (of_first token) (held old).grants)) rows.items)
 shows_known token old new r h shown = lists grants_table IsGrantRow same_key grant_known _ (equals 1 0 ∷ []) _ (Text token ∷ []) (of_first token) old new r
     h.known.grant_texts.known h.known.grants.stored h.tables.grants (token_test token) shown
+
+pub shows_levels : (repo : List ℕ) (old new : State) (r : Answer) → HoldsTables old.now → IfOk r (λ rows. Shown grant_list (Text repo ∷ []) old new rows.items)
+    → IfOk r (λ rows. rows.items ≡ map (λ r. column r 1 ∷ column r 3 ∷ []) (sort_by by_token (filter (of_second repo) (held old).grants)))
+shows_levels repo old new r h shown = orders_tokens IsGrantRow grant_list _ _ _ _ _ (Text repo ∷ []) repo old new r
+    h.known.grants.stored h.tables.grants.types h.tables.grants.apart h.known.grant_texts.list (repo_test repo) (λ r it. it.token) shown
 
 -- rows are shown where there are grants
 pub known_by_rows : (token : List ℕ) (s : State) (rows : List Row) → IsPermutation (map (λ r. column r 3 ∷ []) (filter (of_first token) (held s).grants)) rows

@@ -17,10 +17,10 @@ use Rattle.store_schema.specs.Layout.{placed, equals}
 use Rattle.store_schema.proofs.Lists.{none_found}
 use Rattle.store_schema.proofs.Selects.{is_text, both_tests, one_test}
 use Rattle.store_schema.proofs.Writes.{passes, either}
-use Rattle.store_world.specs.Keys.{has_key, of_second, same_key}
+use Rattle.store_world.specs.Keys.{has_key, of_first, of_second, same_key}
 use Rattle.store_world.specs.Tables.{Tables, AreTables, AreRows, IsGrantRow, level_number, level_of}
 use Rattle.store_world.specs.Changes.{with_level, grant_columns, Comes}
-use Rattle.store_statements.specs.GrantTexts.{grant_take, grant_take_all, grant_set_level, grant_add}
+use Rattle.store_statements.specs.GrantTexts.{grant_take, grant_take_all, grant_take_token, grant_set_level, grant_add}
 use Rattle.store_statements.specs.Held.{held, HoldsTables, Becomes}
 use Rattle.store_statements.specs.Steps.{grants_without, grants_changed, GrantComes}
 use Rattle.store_statements.proofs.OtherTables.{only_grants, contents_beside_grants}
@@ -35,8 +35,11 @@ put_are t rows a r = record { repos = a.repos; grants = r; tags = a.tags; blobs 
 pub key_test : (token repo : List ℕ) (more : Row) (r : Row) → IsGrantRow r → passes (Text token ∷ Text repo ∷ more) (equals 1 0 ∷ equals 2 1 ∷ []) r ≡ has_key token repo r
 key_test token repo more r it = both_tests _ _ _ _ (is_text (column r 1) _ token it.token) (is_text (column r 2) _ repo it.repo)
 
-repo_test : (repo : List ℕ) (r : Row) → IsGrantRow r → passes (Text repo ∷ []) (equals 2 0 ∷ []) r ≡ of_second repo r
+pub repo_test : (repo : List ℕ) (r : Row) → IsGrantRow r → passes (Text repo ∷ []) (equals 2 0 ∷ []) r ≡ of_second repo r
 repo_test repo r it = one_test _ _ (is_text (column r 2) _ repo it.repo)
+
+pub token_test : (token : List ℕ) (r : Row) → IsGrantRow r → passes (Text token ∷ []) (equals 1 0 ∷ []) r ≡ of_first token r
+token_test token r it = one_test _ _ (is_text (column r 1) _ token it.token)
 
 -- a level's number stands for it
 pub level_again : (level : Level) → level_of (level_number level) ≡ level
@@ -56,6 +59,10 @@ took token repo old new n h ran = statements.takes grants_table IsGrantRow same_
 took_all : (repo : List ℕ) (old new : State) (n : ℕ) → HoldsTables old.now → Executes grant_take_all (Text repo ∷ []) old new (Ok n) → (held new ≡ grants_without (of_second repo) (held old)) × HoldsTables new.now
 took_all repo old new n h ran = statements.takes grants_table IsGrantRow same_key (λ t rows. record t { grants = rows }) (λ schema k. k.grants) (λ a b k keeps rows e. only_grants a b k keeps rows e) (λ a b k keeps is. contents_beside_grants a b k keeps is) (λ db t. t.grants) put_are
     grant_take_all (equals 2 0 ∷ []) (Text repo ∷ []) (of_second repo) old new n h h.known.grants_alone h.known.grant_texts.take_all (repo_test repo) ran
+
+took_token : (token : List ℕ) (old new : State) (n : ℕ) → HoldsTables old.now → Executes grant_take_token (Text token ∷ []) old new (Ok n) → (held new ≡ grants_without (of_first token) (held old)) × HoldsTables new.now
+took_token token old new n h ran = statements.takes grants_table IsGrantRow same_key (λ t rows. record t { grants = rows }) (λ schema k. k.grants) (λ a b k keeps rows e. only_grants a b k keeps rows e) (λ a b k keeps is. contents_beside_grants a b k keeps is) (λ db t. t.grants) put_are
+    grant_take_token (equals 1 0 ∷ []) (Text token ∷ []) (of_first token) old new n h h.known.grants_alone h.known.grant_texts.take_token (token_test token) ran
 
 -- ---- a row changes
 
@@ -94,6 +101,10 @@ took_by token repo old new (Ok n) h ran = let it = took token repo old new n h r
 pub took_all_by : (repo : List ℕ) (old new : State) (r : Result ℕ Error) → HoldsTables old.now → ExecutesInside 0 grant_take_all (Text repo ∷ []) old new r → OnOk r (Becomes new (grants_without (of_second repo) (held old)))
 took_all_by repo old new (Err e) h ran = tt
 took_all_by repo old new (Ok n) h ran = let it = took_all repo old new n h ran.0 in (record { inside = ran.1.mode; holds = it.1 }, it.0)
+
+pub took_token_by : (token : List ℕ) (old new : State) (r : Result ℕ Error) → HoldsTables old.now → ExecutesInside 0 grant_take_token (Text token ∷ []) old new r → OnOk r (Becomes new (grants_without (of_first token) (held old)))
+took_token_by token old new (Err e) h ran = tt
+took_token_by token old new (Ok n) h ran = let it = took_token token old new n h ran.0 in (record { inside = ran.1.mode; holds = it.1 }, it.0)
 
 pub set_by : (token repo : List ℕ) (level : Level) (old new : State) (r : Result ℕ Error) → HoldsTables old.now → ExecutesInside 0 grant_set_level (Text token ∷ Text repo ∷ Int (pos (level_number level)) ∷ []) old new r
     → OnOk r (Becomes new (grants_changed (has_key token repo) (with_level level) (held old))) × IfOk r (λ n. n ≡ length (filter (has_key token repo) (held old).grants))

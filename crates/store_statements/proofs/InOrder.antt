@@ -1,9 +1,10 @@
--- The rows that a SELECT shows in the order of the text in their second column, which no two of one repository share.
+-- The rows that a SELECT shows in the order of the text in a column, which no two of one repository share: their second, and of grants their first.
 use Rattle.std.proofs.Common.{◌≡◌, ◌∙◌, ℕ, List, [], ◌∷◌, map, Bool, true, false, cond, Ok, Err, IfOk, Ordering, Less, Equal, Greater, is_gt, is_eq, sym, ap, subst, refl}
 use Rattle.std.specs.Prelude.{◌^◌, ◌&&◌, nat_le, filter, bytes_eq}
 use Rattle.std.specs.Ordering.{nat_cmp, ordering_then}
 use Rattle.std.specs.Cmp.Lexicographic.{slice_cmp}
 use Rattle.std.specs.List.{AllByRecursion}
+use Rattle.std.proofs.Math.Bool.{and-true}
 use Rattle.std.specs.List.Sorted.{IsPermutation}
 use Rattle.std.proofs.lemmas.Map.Text.{is_eq-slice_cmp}
 use Rattle.sqlite.specs.declared.types.Value.{Value}
@@ -15,6 +16,7 @@ use Rattle.sqlite.specs.Query.{Query, IsAnswer, Output, output, output_cmp, limi
 use Rattle.sqlite.specs.Command.TheVariants.{Select}
 use Rattle.sqlite.specs.Program.{overlay}
 use Rattle.sqlite.specs.State.{State, Shown}
+use Rattle.registry_model.specs.World.{text_cmp}
 use Rattle.sqlite.proofs.Callers.{reads_as}
 use Rattle.sqlite_value.proofs.OrderLemmas.{value_cmp-Text}
 use Rattle.sqlite_sql.proofs.QueryLemmas.{output_cmp_total}
@@ -27,9 +29,10 @@ use Rattle.store_schema.specs.Layout.{Means}
 use Rattle.store_schema.proofs.Lists.{bytes_eq-sym, bytes_eq_true}
 use Rattle.store_schema.proofs.Selects.{Answer, chosen, one_each, map-map, means_command, stored_here}
 use Rattle.store_schema.proofs.Writes.{passes}
-use Rattle.store_world.specs.Keys.{of_first, same_key}
+use Rattle.store_world.specs.Keys.{of_first, of_second, same_key}
 use Rattle.store_schema.specs.Ordered.{ordered_from}
 use Rattle.store_statements.specs.ManifestShown.{by_second}
+use Rattle.store_statements.specs.Shown.{by_token}
 
 -- ---- sorting by orders that agree
 
@@ -77,30 +80,52 @@ then_equal Greater = refl
 text_order : (v w : Value) (s t : List ℕ) → v ≡ Text s → w ≡ Text t → value_cmp v w ≡ slice_cmp nat_cmp s t
 text_order v w s t e f = rw (e, f) (value_cmp-Text s t)
 
-abbrev the_query : ℕ → List Term → List Term → Term → Query
-the_query tree terms project limit = record (ordered_from tree terms project 2) { limit = limit }
+abbrev pub by_column : ℕ → Row → Row → Ordering
+by_column at a b = text_cmp (bytes_at a at) (bytes_at b at)
 
-module _ (tree : ℕ) (terms project : List Term) (limit : Term) (params : Row) where
+abbrev the_query : ℕ → ℕ → List Term → List Term → Term → Query
+the_query at tree terms project limit = record (ordered_from tree terms project at) { limit = limit }
+
+module _ (at tree : ℕ) (terms project : List Term) (limit : Term) (params : Row) where
   abbrev q : Query
-  q = the_query tree terms project limit
+  q = the_query at tree terms project limit
 
   abbrev out : Row → Output
   out r = output q (params ∷ r ∷ [])
 
-  agree : (a b : Row) → IsTextAt a 2 → IsTextAt b 2 → output_cmp q (out a) (out b) ≡ by_second a b
-  agree a b s t = then_equal (value_cmp (column a 2) (column b 2)) ∙ text_order (column a 2) (column b 2) _ _ s t
+  agree : (a b : Row) → IsTextAt a at → IsTextAt b at → output_cmp q (out a) (out b) ≡ by_column at a b
+  agree a b s t = then_equal (value_cmp (column a at) (column b at)) ∙ text_order (column a at) (column b at) _ _ s t
 
-  in_order : (db : Trees) (some rows : List Row) → chosen params terms (db tree) ≡ some → AllByRecursion (λ r. IsTextAt r 2) some → IsAscending (λ a b. bytes_eq (bytes_at a 2) (bytes_at b 2) ≡ false) some → IsAnswer q db params rows
-      → rows ≡ limited (as_count (eval limit (params ∷ []))) (map (λ r. eval_all project (params ∷ r ∷ [])) (sort_by by_second some))
+  in_order : (db : Trees) (some rows : List Row) → chosen params terms (db tree) ≡ some → AllByRecursion (λ r. IsTextAt r at) some → IsAscending (λ a b. bytes_eq (bytes_at a at) (bytes_at b at) ≡ false) some → IsAnswer q db params rows
+      → rows ≡ limited (as_count (eval limit (params ∷ []))) (map (λ r. eval_all project (params ∷ r ∷ [])) (sort_by (by_column at) some))
   in_order db some rows e types apart a =
       let staged : a.staged ≡ map (λ r. params ∷ r ∷ []) some = a.grouped ∙ one_each _ (λ r. params ∷ r ∷ []) (db tree) ∙ ap (map (λ r. params ∷ r ∷ [])) e in
       let kept : a.kept ≡ map out some = a.distinct ∙ ap (map (output q)) staged ∙ map-map (output q) (λ r. params ∷ r ∷ []) some in
       let untied : IsAscending (λ x y. is_eq (output_cmp q x y) ≡ false) (map out some) = ascending-map (λ x y. is_eq (output_cmp q x y) ≡ false) out some
-      (ascending_in (λ r. IsTextAt r 2) _ (λ x y. is_eq (output_cmp q (out x) (out y)) ≡ false) (λ x y s t h. ap is_eq (agree x y s t) ∙ is_eq-slice_cmp (bytes_at x 2) (bytes_at y 2) ∙ h) some types apart) in
+      (ascending_in (λ r. IsTextAt r at) _ (λ x y. is_eq (output_cmp q (out x) (out y)) ≡ false) (λ x y s t h. ap is_eq (agree x y s t) ∙ is_eq-slice_cmp (bytes_at x at) (bytes_at y at) ∙ h) some types apart) in
       let order : a.ordered ≡ sort_by (output_cmp q) (map out some) = sorted_is-sort_by (output_cmp q) (output_cmp_total q) (map out some) a.ordered untied (subst (λ l. IsPermutation l a.ordered) kept a.same) a.sorted in
       let shown : map (λ (o : Output). o.1) a.ordered ≡ map (λ r. eval_all project (params ∷ r ∷ [])) (sort_by (λ x y. output_cmp q (out x) (out y)) some) =
       ap (map (λ (o : Output). o.1)) (order ∙ sort_by-map (output_cmp q) out some) ∙ map-map (λ (o : Output). o.1) out _ in
-      a.shown ∙ ap (limited (as_count (eval limit (params ∷ [])))) (shown ∙ ap (map (λ r. eval_all project (params ∷ r ∷ []))) (sort_same (λ r. IsTextAt r 2) _ by_second agree some types))
+      a.shown ∙ ap (limited (as_count (eval limit (params ∷ [])))) (shown ∙ ap (map (λ r. eval_all project (params ∷ r ∷ []))) (sort_same (λ r. IsTextAt r at) _ (by_column at) agree some types))
+
+-- by a column that no two of the rows share
+pub orders_by : (at : ℕ) (Is : Row → Type 0) (text : List ℕ) (names : List (List ℕ)) (tree : ℕ) (terms project : List Term) (limit : Term) (params : Row) (p : Row → Bool) (old new : State) (r : Answer)
+    → nat_le (2 ^ 31) tree ≡ false → AllByRecursion Is (old.now.trees tree) → IsAscending (λ a b. same_key a b ≡ false) (old.now.trees tree)
+    → Means old.now.schema text (Select (record { lets = []; body = the_query at tree terms project limit }) names)
+    → ((r : Row) → Is r → passes params terms r ≡ p r) → ((r : Row) → Is r → IsTextAt r at)
+    → ((a b : Row) → p a ≡ true → p b ≡ true → same_key a b ≡ false → bytes_eq (bytes_at a at) (bytes_at b at) ≡ false)
+    → IfOk r (λ rows. Shown text params old new rows.items)
+    → IfOk r (λ rows. rows.items ≡ limited (as_count (eval limit (params ∷ []))) (map (λ r. eval_all project (params ∷ r ∷ [])) (sort_by (by_column at) (filter p (old.now.trees tree)))))
+orders_by at Is text names tree terms project limit params p old new (Err e) stored types apart means test is_text parts h = tt
+orders_by at Is text names tree terms project limit params p old new (Ok rows) stored types apart means test is_text parts h =
+    let table = old.now.trees tree in
+    let read = reads_as text params old new old.now.schema refl _ (means_command old.now.schema text _ means) means.plain means.unlisted rows.items h in
+    let some : chosen params terms (overlay old.now.trees [] tree) ≡ filter p table = ap (chosen params terms) (stored_here tree old.now.trees stored) ∙ filter_same (passes params terms) p table (all_weaker Is (λ r. passes params terms r ≡ p r) test table types) in
+    in_order at tree terms project limit params (overlay old.now.trees []) (filter p table) rows.items some
+    (all-filter (λ r. IsTextAt r at) p table (all_weaker Is (λ r. IsTextAt r at) is_text table types))
+    (ascending_in (λ r. p r ≡ true) (λ a b. same_key a b ≡ false) (λ a b. bytes_eq (bytes_at a at) (bytes_at b at) ≡ false) parts (filter p table)
+    (kept_pass p table) (ascending-filter (λ a b. same_key a b ≡ false) p table apart))
+    (read.answer Null)
 
 -- rows of one repository have no second column twice
 second_apart : (repo : List ℕ) (a b : Row) → of_first repo a ≡ true → of_first repo b ≡ true → same_key a b ≡ false → bytes_eq (bytes_at a 2) (bytes_at b 2) ≡ false
@@ -110,17 +135,24 @@ second_apart repo a b ea eb e =
 
 pub orders : (Is : Row → Type 0) (text : List ℕ) (names : List (List ℕ)) (tree : ℕ) (terms project : List Term) (limit : Term) (params : Row) (p : Row → Bool) (repo : List ℕ) (old new : State) (r : Answer)
     → nat_le (2 ^ 31) tree ≡ false → AllByRecursion Is (old.now.trees tree) → IsAscending (λ a b. same_key a b ≡ false) (old.now.trees tree)
-    → Means old.now.schema text (Select (record { lets = []; body = the_query tree terms project limit }) names)
+    → Means old.now.schema text (Select (record { lets = []; body = the_query 2 tree terms project limit }) names)
     → ((r : Row) → Is r → passes params terms r ≡ p r) → ((r : Row) → Is r → IsTextAt r 2) → ((r : Row) → p r ≡ true → of_first repo r ≡ true)
     → IfOk r (λ rows. Shown text params old new rows.items)
     → IfOk r (λ rows. rows.items ≡ limited (as_count (eval limit (params ∷ []))) (map (λ r. eval_all project (params ∷ r ∷ [])) (sort_by by_second (filter p (old.now.trees tree)))))
-orders Is text names tree terms project limit params p repo old new (Err e) stored types apart means test is_text within h = tt
-orders Is text names tree terms project limit params p repo old new (Ok rows) stored types apart means test is_text within h =
-    let table = old.now.trees tree in
-    let read = reads_as text params old new old.now.schema refl _ (means_command old.now.schema text _ means) means.plain means.unlisted rows.items h in
-    let some : chosen params terms (overlay old.now.trees [] tree) ≡ filter p table = ap (chosen params terms) (stored_here tree old.now.trees stored) ∙ filter_same (passes params terms) p table (all_weaker Is (λ r. passes params terms r ≡ p r) test table types) in
-    in_order tree terms project limit params (overlay old.now.trees []) (filter p table) rows.items some
-    (all-filter (λ r. IsTextAt r 2) p table (all_weaker Is (λ r. IsTextAt r 2) is_text table types))
-    (ascending_in (λ r. of_first repo r ≡ true) (λ a b. same_key a b ≡ false) (λ a b. bytes_eq (bytes_at a 2) (bytes_at b 2) ≡ false) (second_apart repo) (filter p table)
-    (all_weaker (λ r. p r ≡ true) (λ r. of_first repo r ≡ true) within (filter p table) (kept_pass p table)) (ascending-filter (λ a b. same_key a b ≡ false) p table apart))
-    (read.answer Null)
+orders Is text names tree terms project limit params p repo old new r stored types apart means test is_text within h =
+    orders_by 2 Is text names tree terms project limit params p old new r stored types apart means test is_text (λ a b ea eb e. second_apart repo a b (within a ea) (within b eb) e) h
+
+-- rows of grants on one repository have no token twice
+first_apart : (repo : List ℕ) (a b : Row) → of_second repo a ≡ true → of_second repo b ≡ true → same_key a b ≡ false → bytes_eq (bytes_at a 1) (bytes_at b 1) ≡ false
+first_apart repo a b ea eb e =
+    let second : bytes_eq (bytes_at b 2) (bytes_at a 2) ≡ true = ap (bytes_eq (bytes_at b 2)) (bytes_eq_true _ _ ea) ∙ eb in
+    bytes_eq-sym (bytes_at a 1) (bytes_at b 1) ∙ sym (and-true (bytes_eq (bytes_at b 1) (bytes_at a 1))) ∙ sym (ap (λ x. bytes_eq (bytes_at b 1) (bytes_at a 1) && x) second) ∙ e
+
+pub orders_tokens : (Is : Row → Type 0) (text : List ℕ) (names : List (List ℕ)) (tree : ℕ) (terms project : List Term) (limit : Term) (params : Row) (repo : List ℕ) (old new : State) (r : Answer)
+    → nat_le (2 ^ 31) tree ≡ false → AllByRecursion Is (old.now.trees tree) → IsAscending (λ a b. same_key a b ≡ false) (old.now.trees tree)
+    → Means old.now.schema text (Select (record { lets = []; body = the_query 1 tree terms project limit }) names)
+    → ((r : Row) → Is r → passes params terms r ≡ of_second repo r) → ((r : Row) → Is r → IsTextAt r 1)
+    → IfOk r (λ rows. Shown text params old new rows.items)
+    → IfOk r (λ rows. rows.items ≡ limited (as_count (eval limit (params ∷ []))) (map (λ r. eval_all project (params ∷ r ∷ [])) (sort_by by_token (filter (of_second repo) (old.now.trees tree)))))
+orders_tokens Is text names tree terms project limit params repo old new r stored types apart means test is_text h =
+    orders_by 1 Is text names tree terms project limit params (of_second repo) old new r stored types apart means test is_text (first_apart repo) h

@@ -21,3 +21,7 @@ repo_row r = record { quota = natural_at r 2; last = natural_at r 3 }
 -- repositories in the order of their names
 abbrev pub by_name : Row → Row → Ordering
 by_name a b = text_cmp (bytes_at a 1) (bytes_at b 1)
+
+-- grants in the order of their tokens
+abbrev pub by_token : Row → Row → Ordering
+by_token a b = text_cmp (bytes_at a 1) (bytes_at b 1)

@@ -3,12 +3,14 @@ ghost use Rattle.std.specs.Prelude.{◌≡◌, ◌∷◌, [], pos, map, nat_lt, 
 ghost use Rattle.std.specs.Option.{option_to_list};
 ghost use Rattle.std.specs.List.Sorted.{IsPermutation};
 ghost use Rattle.sqlite.specs.Order.{column};
+ghost use Rattle.sqlite_keyed.specs.Lists.{sort_by};
 ghost use Rattle.store_schema.specs.Rows.{natural_at};
 ghost use Rattle.store_world.specs.Keys.{has_key, of_first, of_second};
 ghost use Rattle.store_world.specs.Tables.{level_number, level_of};
 ghost use Rattle.store_world.specs.Changes.{with_level, grant_columns};
 ghost use Rattle.store_statements.specs.Between.{ChangesNothing, FailsAsWas, Finds, Stays};
 ghost use Rattle.store_statements.specs.Clauses.{Adds, Changes, FindsInside, KeepsInside, Lasts, LastsUncommitted};
+ghost use Rattle.store_statements.specs.Shown.{by_token};
 ghost use Rattle.store_statements.specs.Steps.{grants_without, grants_changed, GrantComes};
 
 use crate::open_check::checked_fault;
@@ -58,6 +60,23 @@ pub fn take_grants<S: Alter>(tx: &mut Transaction<'_, S>, repo: &str) -> Result<
     ensures survives { LastsUncommitted S.Store tx.old.conn.now tx.new.conn.now }
 {
     match tx.execute("DELETE FROM registry_grants WHERE repo = ?1", params![repo]) {
+        Ok(_) => Ok(()),
+        Err(error) => Err(fault_of(error)),
+    }
+}
+
+/// Takes each grant to the token out.
+pub fn take_token_grants<S: Alter>(tx: &mut Transaction<'_, S>, token: &str) -> Result<(), Fault>
+    ensures taken { Changes S.Store tx.old.conn.now tx.new.conn.now result
+        (grants_without (of_first token.now)) }
+    ensures kept { KeepsInside S.Store tx.old.conn.now tx.new.conn.now }
+    ensures same_reference { tx.new.conn.ghost_name ≡ tx.old.conn.ghost_name }
+    ensures survives { LastsUncommitted S.Store tx.old.conn.now tx.new.conn.now }
+{
+    match tx.execute(
+        "DELETE FROM registry_grants WHERE token = ?1",
+        params![token],
+    ) {
         Ok(_) => Ok(()),
         Err(error) => Err(fault_of(error)),
     }
@@ -130,7 +149,7 @@ fn level_rows<S: Alter>(
 }
 
 /// The level that a column's number stands for.
-fn level_in(number: u64) -> Level
+pub fn level_in(number: u64) -> Level
     ensures { result ≡ level_of number }
 {
     match number {
@@ -206,4 +225,19 @@ pub fn is_known<S: Alter>(conn: &mut Connection<S>, token: &str) -> Result<bool,
         Ok(rows) => Ok(!rows.is_empty()),
         Err(error) => Err(checked_fault(conn, fault_of(error))),
     }
+}
+
+/// The token of each grant on the repository, in byte order, with the number of its level.
+pub fn token_rows<S: Alter>(conn: &mut Connection<S>, repo: &str) -> Result<Vec<Row>, Error>
+    ensures shown { Finds S.Store conn.old conn.new result
+        (λ t rows. rows.items ≡ map (λ r. column r 1 ∷ column r 3 ∷ [])
+        (sort_by by_token (filter (of_second repo.now) t.grants))) }
+    ensures same { ChangesNothing S.Store conn.old conn.new result }
+    ensures err { FailsAsWas S.Store conn.old conn.new result }
+    ensures survives { Lasts S.Store conn.old conn.new }
+{
+    conn.query_all(
+        "SELECT token, level FROM registry_grants WHERE repo = ?1 ORDER BY token",
+        params![repo],
+    )
 }

@@ -1,5 +1,5 @@
 //! The manifests that name a digest as their subject.
-ghost use Rattle.std.specs.Prelude.{◌≡◌, ◌∷◌, ◌++◌, [], true, OnOk, IfOk, map, filter};
+ghost use Rattle.std.specs.Prelude.{◌≡◌, ◌∷◌, [], true, IfOk, map, filter};
 ghost use Rattle.sqlite.specs.Order.{column};
 ghost use Rattle.sqlite_keyed.specs.Lists.{sort_by};
 ghost use Rattle.oci_names.specs.Digest.{is_digest};
@@ -50,25 +50,15 @@ fn referrer_in(alloc: Global, row: &Row) -> Result<(Digest, ContentId), Fault>
     }
 }
 
-fn push(
-    referrers: &mut Vec<(Digest, ContentId)>,
-    referrer: (Digest, ContentId),
-) -> Result<(), Fault>
-    ensures { OnOk result (referrers.new.items ≡ referrers.old.items ++ referrer ∷ []) }
-{
-    match referrers.push(referrer) {
-        Ok(()) => Ok(()),
-        Err(_) => Err(Fault::Memory),
-    }
-}
-
 fn referrers_in(alloc: Global, rows: &[Row]) -> Result<Vec<(Digest, ContentId)>, Fault>
     ensures { IfOk result (λ found. found.items ≡ map referrer_shown rows.now) }
 {
     let mut referrers = Vec::new(alloc);
     for row in rows {
         let referrer = referrer_in(alloc, row)?;
-        push(&mut referrers, referrer)?;
+        let Ok(()) = referrers.push(referrer) else {
+            return Err(Fault::Memory);
+        };
     }
     Ok(referrers)
 }

@@ -1,5 +1,5 @@
 //! Pages of the tags of a repository.
-ghost use Rattle.std.specs.Prelude.{◌≡◌, ◌∷◌, ◌++◌, [], OnOk, IfOk, map, filter, length};
+ghost use Rattle.std.specs.Prelude.{◌≡◌, ◌∷◌, [], IfOk, map, filter, length};
 ghost use Rattle.sqlite.specs.declared.types.Value.TheVariants.{Int};
 ghost use Rattle.sqlite.specs.Order.{column};
 ghost use Rattle.sqlite.specs.Query.{limited, as_count};
@@ -56,15 +56,6 @@ fn page_rows<S: Alter>(
     )
 }
 
-fn push_tag(tags: &mut Vec<Tag>, tag: Tag) -> Result<(), Fault>
-    ensures { OnOk result (tags.new.items ≡ tags.old.items ++ tag ∷ []) }
-{
-    match tags.push(tag) {
-        Ok(()) => Ok(()),
-        Err(_) => Err(Fault::Memory),
-    }
-}
-
 /// The tags that the rows show, in the order of the rows.
 fn tags_in(alloc: Global, rows: &[Row]) -> Result<Vec<Tag>, Fault>
     ensures { IfOk result (λ tags. tags.items ≡ map (λ row. bytes_at row 0) rows.now) }
@@ -72,7 +63,9 @@ fn tags_in(alloc: Global, rows: &[Row]) -> Result<Vec<Tag>, Fault>
     let mut tags = Vec::new(alloc);
     for row in rows {
         let tag = tag_at(alloc, row, 0)?;
-        push_tag(&mut tags, tag)?;
+        let Ok(()) = tags.push(tag) else {
+            return Err(Fault::Memory);
+        };
     }
     Ok(tags)
 }

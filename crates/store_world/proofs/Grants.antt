@@ -1,23 +1,23 @@
 -- Grants: found by their rows, set, added and taken.
 use Rattle.std.proofs.Common.{◌≡◌, List, map, Bool, true, false, cond, None, Some, refl, sym, ap, ◌∙◌, pos}
 use Rattle.std.specs.Prelude.{bytes_eq, find, option_map, if◌then◌else◌}
-use Rattle.std.specs.FinMap.{insert, from_entries}
+use Rattle.std.specs.FinMap.{insert, empty, from_entries}
 use Rattle.sqlite.specs.declared.types.Value.TheVariants.{Int}
 use Rattle.sqlite.specs.Order.{Row}
 use Rattle.oci_names.specs.Text.{Text}
 use Rattle.registry_model.specs.declared.level.Level.{Level}
 use Rattle.registry_model.specs.declared.level.Level.TheVariants.{Pull, Push, Delete}
 use Rattle.registry_model.specs.World.{Grants, level_at, with_grants}
-use Rattle.registry_model.specs.Command.{grant, revoke}
+use Rattle.registry_model.specs.Command.{grant, revoke, revoke_all}
 use Rattle.store_schema.specs.Rows.{bytes_at, natural_at}
 use Rattle.store_schema.proofs.Lists.{bytes_eq_true}
-use Rattle.store_world.specs.Keys.{has_key, same_key}
+use Rattle.store_world.specs.Keys.{of_first, has_key, same_key}
 use Rattle.store_world.specs.Tables.{Tables, IsGrantRow, level_of, level_number}
 use Rattle.store_world.specs.World.{grant_entry, grants_of, world_of}
 use Rattle.store_world.specs.Registry.{is_repo, IsRegistry}
 use Rattle.store_world.specs.Changes.{without, changed, with_level, Comes, grant_columns}
 use Rattle.store_world.proofs.Base.{grant_found}
-use Rattle.store_world.proofs.Others.{within_key, others_without, others_changed, others_came}
+use Rattle.store_world.proofs.Others.{within_itself, within_key, none_left, others_without, others_changed, others_came}
 use Rattle.store_world.proofs.Kept.{all_without, all_changed, all_came, rows_without, rows_changed, rows_came, same_key-sym}
 use Rattle.store_world.proofs.Named.{named_came, named_without, named_changed}
 use Rattle.store_world.proofs.Frames.{with_grants_rows}
@@ -80,3 +80,13 @@ grant_taken t token name is = (
   where
     p : Row → Bool
     p = has_key token name
+
+-- each grant to a token goes
+pub token_taken : (t : Tables) (token : Text) → IsRegistry t → let after : Tables = record t { grants = without (of_first token) t.grants } in (world_of after ≡ revoke_all (world_of t) token) × IsRegistry after
+token_taken t token is = (
+  granted t (without p t.grants) token empty (λ other e. ap (λ xs. from_entries (map grant_entry xs)) (others_without token other p t.grants (within_itself token) e)) (ap (λ xs. from_entries (map grant_entry xs)) (none_left p t.grants)),
+  with_grants_rows t (without p t.grants) is (rows_without IsGrantRow same_key p t.grants is.tables.grants) (all_without _ p t.grants is.agree.granted),
+)
+  where
+    p : Row → Bool
+    p = of_first token

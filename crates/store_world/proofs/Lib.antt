@@ -24,6 +24,7 @@ pub mod Ordered
 pub mod Pages
 pub mod Referrers
 pub mod Usages
+pub mod Levels
 pub mod Sorting
 pub mod Pieces
 pub mod SessionMaps

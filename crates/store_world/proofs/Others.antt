@@ -74,6 +74,15 @@ within_session name number r e = (both_true _ _ e).0
 pub others_without : (name other : Text) (p : Row → Bool) (rows : List Row) → Within name p → bytes_eq other name ≡ false → filter (of_first other) (without p rows) ≡ filter (of_first other) rows
 others_without name other p rows within apart = filter_apart p (of_first other) (parts_within name other p within apart) rows
 
+-- and of this name none are left
+pub none_left : (p : Row → Bool) (rows : List Row) → filter p (without p rows) ≡ []
+none_left p [] = refl
+none_left p (r ∷ rs) = step (p r) refl (none_left p rs)
+  where
+    step : (b : Bool) → p r ≡ b → filter p (without p rs) ≡ [] → filter p (cond (not b) (r ∷ without p rs) (without p rs)) ≡ []
+    step true e more = more
+    step false e more = ap (λ b. cond b (r ∷ filter p (without p rs)) (filter p (without p rs))) e ∙ more
+
 pub others_changed : (name other : Text) (p : Row → Bool) (f : Row → Row) (rows : List Row) → Within name p → ((r : Row) → bytes_at (f r) 1 ≡ bytes_at r 1) → bytes_eq other name ≡ false
     → filter (of_first other) (changed p f rows) ≡ filter (of_first other) rows
 others_changed name other p f rows within keeps apart = map_apart p (of_first other) f (parts_within name other p within apart) (λ r. ap (λ n. bytes_eq n other) (keeps r)) rows

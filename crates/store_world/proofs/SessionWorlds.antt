@@ -1,6 +1,6 @@
 -- What the writes of upload sessions make of the world that the rows stand for.
-use Rattle.std.proofs.Common.{◌≡◌, ◌+◌, ◌==◌, ◌&&◌, ℕ, ℤ, List, [], ◌∷◌, ◌++◌, length, Bool, true, false, cond, None, Some, refl, sym, ap, ◌∙◌, arith}
-use Rattle.std.specs.Prelude.{bytes_eq, find, filter, not}
+use Rattle.std.proofs.Common.{◌≡◌, ◌+◌, ◌==◌, ◌&&◌, ℕ, ℤ, List, [], ◌++◌, length, Bool, true, false, cond, None, Some, refl, sym, ap, ◌∙◌, arith}
+use Rattle.std.specs.Prelude.{bytes_eq, find}
 use Rattle.std.specs.Option.{option_map_or}
 use Rattle.std.specs.List.{AllByRecursion}
 use Rattle.std.specs.Ordering.{eq_by_cmp, nat_cmp}
@@ -21,6 +21,7 @@ use Rattle.store_world.specs.World.{pieces_of, joined, blobs_of, manifests_of, t
 use Rattle.store_world.specs.Registry.{last_in, Reach, PieceAgrees, IsRegistry}
 use Rattle.store_world.specs.Changes.{without, changed, with_last, with_size, upload_columns, piece_columns, Comes}
 use Rattle.store_world.proofs.Base.{found_named, updated, updated_in_place}
+use Rattle.store_world.proofs.Others.{none_left}
 use Rattle.store_world.proofs.Pieces.{pieces_other, joined_put}
 use Rattle.store_world.proofs.SessionMaps.{has_session, session_get, same_sessions, sessions_set, sessions_less, sessions_none}
 use Rattle.store_world.proofs.SessionRows.{number_came, number_gone, has_came, has_changed, has_without, has_without_all, pieces_without, pieces_without_all, no_pieces, number_free}
@@ -168,14 +169,6 @@ world_ended t name number = sessions_updated t pieces uploads name (without_sess
 
 abbrev pub tables_cleared : Tables → Text → Tables
 tables_cleared t name = with_sessions t (without (of_first name) t.pieces) (without (of_first name) t.uploads)
-
-none_left : (p : Row → Bool) (rows : List Row) → filter p (without p rows) ≡ []
-none_left p [] = refl
-none_left p (r ∷ rs) = step (p r) refl (none_left p rs)
-  where
-    step : (b : Bool) → p r ≡ b → filter p (without p rs) ≡ [] → filter p (cond (not b) (r ∷ without p rs) (without p rs)) ≡ []
-    step true e more = more
-    step false e more = ap (λ b. cond b (r ∷ filter p (without p rs)) (filter p (without p rs))) e ∙ more
 
 pub world_cleared : (t : Tables) (name : Text) → world_of (tables_cleared t name) ≡ drop_sessions (world_of t) name
 world_cleared t name = sessions_updated t pieces uploads name without_sessions others (λ r e. other_sessions t pieces uploads name r e (λ m. empty) (sessions_none t.contents pieces uploads name (none_left (of_first name) t.uploads)))

@@ -1,8 +1,8 @@
-//! The level of a token on a repository is given and taken away.
+//! The level of a token on a repository is given and taken away, and every level of one.
 ghost use Rattle.std.specs.Prelude.{◌≡◌, true};
 ghost use Rattle.registry_model.specs.World.{has_repo};
-ghost use Rattle.registry_model.specs.Command.{grant, revoke};
-ghost use Rattle.store_world.specs.Keys.{has_key};
+ghost use Rattle.registry_model.specs.Command.{grant, revoke, revoke_all};
+ghost use Rattle.store_world.specs.Keys.{has_key, of_first};
 ghost use Rattle.store_statements.specs.Between.{CommitsTables, GoesBack, IsCommitted, MakesWorld, Relates, StaysOnMemory};
 ghost use Rattle.store_statements.specs.Clauses.{GoesOn, KeepsInside, Lasts, LastsUncommitted, RelatesInside, WorldHas};
 ghost use Rattle.store_writes.specs.Puts.{LevelIsPut};
@@ -12,7 +12,7 @@ use crate::transaction::{alone, checked};
 use oci_names::{Fault, RepoName, Token};
 use registry_model::Level;
 use sqlite::{Alter, Connection, Transaction};
-use store_statements::grants::{add_grant, set_level, take_grant};
+use store_statements::grants::{add_grant, set_level, take_grant, take_token_grants};
 
 /// Takes a grant out, in a transaction of its own.
 fn take_grant_alone<S: Alter>(
@@ -39,6 +39,25 @@ pub fn revoke<S: Alter>(
     ensures survives { Lasts S.Store conn.old conn.new }
 {
     checked!(conn, take_grant_alone(conn, token.as_str(), name.as_str()))
+}
+
+/// Takes each grant to a token out, in a transaction of its own.
+fn take_token_alone<S: Alter>(conn: &mut Connection<S>, token: &str) -> Result<(), Fault>
+    ensures made { CommitsTables S.Store conn.old conn.new result
+        (grants_without (of_first token.now)) }
+    ensures back { GoesBack S.Store conn.old conn.new result }
+    ensures survives { Lasts S.Store conn.old conn.new }
+{
+    alone!(conn, tx, take_token_grants(&mut tx, token))
+}
+
+/// Takes every level of a token away.
+pub fn revoke_all<S: Alter>(conn: &mut Connection<S>, token: &Token) -> Result<(), Fault>
+    ensures made { MakesWorld S.Store conn.old conn.new result (λ w. revoke_all w token.now) }
+    ensures memory { StaysOnMemory S.Store conn.old conn.new result }
+    ensures survives { Lasts S.Store conn.old conn.new }
+{
+    checked!(conn, take_token_alone(conn, token.as_str()))
 }
 
 /// Sets the level, where there is a grant, and else adds one.

@@ -20,7 +20,7 @@ pub use blob_mounts::mount;
 pub use blob_puts::put_blob;
 pub use content_clearing::clear;
 pub use deletions::{delete_blob, delete_blobs, delete_manifest, delete_tag};
-pub use grant_changes::{grant, revoke};
+pub use grant_changes::{grant, revoke, revoke_all};
 pub use known_finish::finish_known;
 pub use manifest_puts::put_manifest;
 pub use quota_changes::set_repo;

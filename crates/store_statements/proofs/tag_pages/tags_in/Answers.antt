@@ -6,4 +6,4 @@ use Rattle.store_statements.proofs.tag_pages.tags_in.Goals as goal
 pub loop-row-preserved : goal.loop-row-preserved
 loop-row-preserved c =
     let low : c.loop-row.row-index < length c.args.rows.now = omega arith in
-    mapped_more (λ row. bytes_at row 0) c.args.rows.now c.loop-row.row-index c.row-item.result c.in_ok-tag.tag c.loop-row.tags.items _ low c.row-item.is c.in_ok-tag.ensures c.loop-row.invariant c.in_ok-push_tag.ensures
+    mapped_more (λ row. bytes_at row 0) c.args.rows.now c.loop-row.row-index c.row-item.result c.in_ok-tag.tag c.loop-row.tags.items _ low c.row-item.is c.in_ok-tag.ensures c.loop-row.invariant c.in-Ok.ensures.items

@@ -1,0 +1,85 @@
+//! Who has what level on a repository.
+ghost use Rattle.std.specs.Prelude.{◌≡◌, map, filter, IfOk};
+ghost use Rattle.sqlite_keyed.specs.Lists.{sort_by};
+ghost use Rattle.registry_model.specs.Lookups.{AreLevelsOn};
+ghost use Rattle.store_world.specs.Keys.{of_second};
+ghost use Rattle.store_statements.specs.Between.{ChangesNothing, FailsAsWas, Finds, Stays, Tells};
+ghost use Rattle.store_statements.specs.Clauses.{Lasts};
+ghost use Rattle.store_statements.specs.Shown.{by_token};
+ghost use Rattle.store_reads.specs.LevelLists.{token_level, token_level_shown};
+
+use oci_names::{Fault, NameFault, RepoName, Token};
+use registry_model::Level;
+use sqlite::{Alter, Connection, Row};
+use std::alloc::Global;
+use store_contents::fault_of;
+use store_statements::grants::{level_in, token_rows};
+use store_statements::open_check::checked_fault;
+
+/// The token and the level that the row shows. `Fault::Storage` where what is there is none.
+fn token_level_in(alloc: Global, row: &Row) -> Result<(Token, Level), Fault>
+    ensures { IfOk result (λ it. it ≡ token_level_shown row.now) }
+{
+    let text: String = match row.get(0) {
+        Ok(text) => text,
+        Err(error) => return Err(fault_of(error)),
+    };
+    let number: u64 = match row.get(1) {
+        Ok(number) => number,
+        Err(error) => return Err(fault_of(error)),
+    };
+    match Token::parse(alloc, text.as_str()) {
+        Ok(token) => Ok((token, level_in(number))),
+        Err(NameFault::Memory) => Err(Fault::Memory),
+        Err(_) => Err(Fault::Storage),
+    }
+}
+
+/// The token and the level of each row, in the order of the rows.
+fn levels_in(alloc: Global, rows: &[Row]) -> Result<Vec<(Token, Level)>, Fault>
+    ensures { IfOk result (λ levels. levels.items ≡ map token_level_shown rows.now) }
+{
+    let mut levels = Vec::new(alloc);
+    for row in rows {
+        let level = token_level_in(alloc, row)?;
+        let Ok(()) = levels.push(level) else {
+            return Err(Fault::Memory);
+        };
+    }
+    Ok(levels)
+}
+
+fn select_levels<S: Alter>(
+    alloc: Global,
+    conn: &mut Connection<S>,
+    repo: &str,
+) -> Result<Vec<(Token, Level)>, Fault>
+    ensures found { Finds S.Store conn.old conn.new result
+        (λ t levels. levels.items ≡ map token_level
+        (sort_by by_token (filter (of_second repo.now) t.grants))) }
+    ensures same { ChangesNothing S.Store conn.old conn.new result }
+    ensures err { FailsAsWas S.Store conn.old conn.new result }
+    ensures survives { Lasts S.Store conn.old conn.new }
+{
+    match token_rows(conn, repo) {
+        Ok(rows) => levels_in(alloc, &rows),
+        Err(error) => Err(fault_of(error)),
+    }
+}
+
+/// The tokens that have a level on a repository, in byte order, with their levels.
+pub fn levels<S: Alter>(
+    alloc: Global,
+    conn: &mut Connection<S>,
+    repo: &RepoName,
+) -> Result<Vec<(Token, Level)>, Fault>
+    ensures found { Tells S.Store conn.old conn.new result
+        (λ w levels. AreLevelsOn w repo.now levels.items) }
+    ensures settled { Stays S.Store conn.old conn.new result }
+    ensures survives { Lasts S.Store conn.old conn.new }
+{
+    match select_levels(alloc, conn, repo.as_str()) {
+        Ok(levels) => Ok(levels),
+        Err(fault) => Err(checked_fault(conn, fault)),
+    }
+}
