@@ -1,5 +1,5 @@
 pub mod CauseLemmas
-pub mod CommandLemmas
+pub mod FoundLemmas
 pub mod GivenLemmas
 pub mod OutputLemmas
 pub mod SettingLemmas

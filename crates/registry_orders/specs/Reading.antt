@@ -4,7 +4,7 @@ use Rattle.clap.specs.Takes.{takes}
 use Rattle.clap.specs.Values.{kind_of}
 use Rattle.clap.specs.declared.error.kind.ErrorKind.TheVariants.{OutOfMemory}
 use Rattle.oci_names.specs.Text.{Text}
-use Rattle.registry_orders.specs.CommandLine.{registry}
+use Rattle.command_line.specs.CommandLine.{registry}
 use Rattle.registry_orders.specs.declared.unread.Told.{Told}
 use Rattle.registry_orders.specs.declared.unread.Told.TheVariants.{Failed, Options, Line}
 use Rattle.registry_orders.specs.Failures.{IsOfWords}

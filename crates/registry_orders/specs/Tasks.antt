@@ -5,10 +5,10 @@ use Rattle.oci_names.specs.Text.{Text}
 use Rattle.registry_orders.specs.declared.beside.Beside.{Beside}
 use Rattle.registry_orders.specs.declared.tasks.Task.{Task}
 use Rattle.registry_orders.specs.declared.tasks.Task.TheVariants.{Memory, Stored, Server, Order, TokenOrder, Check, Migration, Stop}
-use Rattle.registry_orders.specs.CommandLine.{registry}
+use Rattle.command_line.specs.CommandLine.{registry}
 use Rattle.registry_orders.specs.Limits.{AreLimitsIn}
 use Rattle.registry_orders.specs.Options.{texts_of, HasFlag, IsNumberOf, SpellsSetup}
-use Rattle.registry_orders.specs.Orders.{HasValue, IsOrderIn, IsTokenChangeIn}
+use Rattle.registry_orders.specs.Orders.{HasValue, IsOrderIn, IsTokenOrderIn}
 use Rattle.registry_orders.specs.Places.{IsPlaceIn}
 use Rattle.registry_orders.specs.Tokens.{IsTokenFrom}
 
@@ -38,8 +38,8 @@ IsTaskIn word options (Server path address connections limits beside) =
     × IsNumberOf (one_of (codes "connections") options) connections × AreLimitsIn options limits
     × IsBesideIn options limits.at_once beside
 IsTaskIn word options (Order place order) = IsPlaceIn options place × IsOrderIn word options order
-IsTaskIn word options (TokenOrder place source change) =
-    IsPlaceIn options place × IsTokenFrom options source × IsTokenChangeIn word options change
+IsTaskIn word options (TokenOrder place source order) =
+    IsPlaceIn options place × IsTokenFrom options source × IsTokenOrderIn word options order
 IsTaskIn word options (Check path) = (word ≡ codes "check") × HasValue options (codes "db") path.now
 IsTaskIn word options (Migration path) = (word ≡ codes "migrate") × HasValue options (codes "db") path.now
 IsTaskIn word options (Stop path) = (word ≡ codes "stop") × HasValue options (codes "orders") path.now

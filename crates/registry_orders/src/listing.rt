@@ -1,6 +1,6 @@
 //! What an operator asks to see, and in which form.
 
-use oci_names::RepoName;
+use oci_names::{RepoName, Token};
 
 /// What is listed of a repository.
 #[derive(Clone, Copy, Debug, PartialEq, Eq)]
@@ -13,13 +13,31 @@ pub enum Held {
     Unnamed,
 }
 
+/// How much of a token a list shows.
+#[derive(Clone, Copy, Debug, PartialEq, Eq)]
+pub enum Shown {
+    /// Its first four characters.
+    Beginning,
+    /// All of it.
+    Whole,
+}
+
 /// What is listed.
 #[derive(Drop)]
 pub enum Listing {
     /// The names of the repositories.
     Repos,
     /// What the repository of a name holds.
-    InRepo { name: RepoName, what: Held },
+    InRepo {
+        name: RepoName,
+        what: Held,
+    },
+    /// The levels of tokens on repositories: on one or on all, of one token or of all.
+    Grants {
+        name: Option<RepoName>,
+        token: Option<Token>,
+        shown: Shown,
+    },
 }
 
 /// How a list is written.

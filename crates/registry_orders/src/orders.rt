@@ -2,13 +2,14 @@ ghost use Rattle.std.specs.Prelude.{◌≡◌, Some, IfOk, IfErr, codes};
 ghost use Rattle.clap.specs.Words.{found_of, rows_of, one_of};
 ghost use Rattle.registry_orders.specs.Failures.{IsOfWords};
 ghost use Rattle.registry_orders.specs.Options.{IsNumberOf, IsLevelOf};
-ghost use Rattle.registry_orders.specs.Orders.{HasValue, HasToken, IsCommandOf, IsChangeIn, IsTokenChangeIn, IsHeldIn, IsFormIn, IsOrderIn};
-ghost use Rattle.registry_orders.specs.Orders.{change_with};
+ghost use Rattle.registry_orders.specs.Orders.{HasValue, HasToken, IsNameIf, IsTokenIf, IsCommandOf, IsChangeIn, IsTokenOrderIn, IsHeldIn, IsShownIn, IsFormIn, IsOrderIn};
+ghost use Rattle.registry_orders.specs.Orders.{order_with};
 
 use crate::failure::Failure;
 use crate::given::{is_given, number_given, text_given};
-use crate::listing::{Form, Held, Listing};
+use crate::listing::{Form, Held, Listing, Shown};
 use crate::options::{level_numbered, name_of, token_of};
+use crate::tokens::is_token_given;
 use clap::ArgMatches;
 use oci_names::{RepoName, Token};
 use registry_model::{AdminCommand, Level, Quota};
@@ -50,6 +51,10 @@ pub enum Change {
         token: Token,
         name: RepoName,
     },
+    /// Takes every level of a token away, on whatever repositories.
+    RevokeAll {
+        token: Token,
+    },
     /// Frees what no repository holds any more.
     Clear,
 }
@@ -64,23 +69,47 @@ pub enum Order {
     List { listing: Listing, form: Form },
 }
 
-/// A change but for its token.
+/// An order but for its token.
 #[derive(Drop)]
-pub enum TokenChange {
+pub enum TokenOrder {
     /// Gives a token a level on a repository.
-    Grant { name: RepoName, level: Level },
+    Grant {
+        name: RepoName,
+        level: Level,
+    },
     /// Takes a token's level on a repository away.
-    Revoke { name: RepoName },
+    Revoke {
+        name: RepoName,
+    },
+    /// Takes every level of a token away, on whatever repositories.
+    RevokeAll,
+    /// Asks for a list of a token's levels, on one repository or on all.
+    Grants {
+        name: Option<RepoName>,
+        shown: Shown,
+        form: Form,
+    },
 }
 
-impl TokenChange {
-    /// The change with its token.
-    pub fn with(self, token: Token) -> Change
-        ensures { result ≡ change_with self token }
+impl TokenOrder {
+    /// The order with its token.
+    pub fn with(self, token: Token) -> Order
+        ensures { result ≡ order_with self token }
     {
         match self {
-            TokenChange::Grant { name, level } => Change::Grant { token, name, level },
-            TokenChange::Revoke { name } => Change::Revoke { token, name },
+            TokenOrder::Grant { name, level } => {
+                Order::Change(Change::Grant { token, name, level })
+            }
+            TokenOrder::Revoke { name } => Order::Change(Change::Revoke { token, name }),
+            TokenOrder::RevokeAll => Order::Change(Change::RevokeAll { token }),
+            TokenOrder::Grants { name, shown, form } => Order::List {
+                listing: Listing::Grants {
+                    name,
+                    token: Some(token),
+                    shown,
+                },
+                form,
+            },
         }
     }
 }
@@ -108,6 +137,7 @@ impl Change {
                 level: *level,
             },
             Change::Revoke { token, name } => AdminCommand::Revoke { token, name },
+            Change::RevokeAll { token } => AdminCommand::RevokeAll { token },
             Change::Clear => AdminCommand::Clear,
         }
     }
@@ -124,6 +154,17 @@ fn name_in(alloc: Global, matches: &ArgMatches) -> Result<RepoName, Failure>
     }
 }
 
+/// The value of `--name`; none where it is not given.
+fn name_if(alloc: Global, matches: &ArgMatches) -> Result<Option<RepoName>, Failure>
+    ensures found { IfOk result (IsNameIf (rows_of (found_of matches.now))) }
+    ensures refused { IfErr result IsOfWords }
+{
+    match text_given(matches, "name") {
+        Some(text) => Ok(Some(name_of(alloc, text)?)),
+        None => Ok(None),
+    }
+}
+
 /// The value of `--token`, which is the token itself.
 fn token_in(alloc: Global, matches: &ArgMatches) -> Result<Token, Failure>
     ensures found { IfOk result (HasToken (rows_of (found_of matches.now))) }
@@ -135,6 +176,18 @@ fn token_in(alloc: Global, matches: &ArgMatches) -> Result<Token, Failure>
         return Err(Failure::InvalidOptions);
     }
     token_of(alloc, text)
+}
+
+/// The same; none where no token is given.
+fn token_if(alloc: Global, matches: &ArgMatches) -> Result<Option<Token>, Failure>
+    ensures found { IfOk result (IsTokenIf (rows_of (found_of matches.now))) }
+    ensures refused { IfErr result IsOfWords }
+{
+    if is_token_given(matches) {
+        Ok(Some(token_in(alloc, matches)?))
+    } else {
+        Ok(None)
+    }
 }
 
 /// The value of `--quota`, in bytes.
@@ -178,35 +231,50 @@ fn change_of_repo(alloc: Global, word: &str, matches: &ArgMatches) -> Result<Cha
     }
 }
 
-/// Reads a change but for its token, as `read_order` does.
-pub fn read_token_change(
+/// Reads an order but for its token, as `read_order` does.
+pub fn read_token_order(
     alloc: Global,
     word: &str,
     matches: &ArgMatches,
-) -> Result<TokenChange, Failure>
-    ensures read { IfOk result (IsTokenChangeIn word.now (rows_of (found_of matches.now))) }
+) -> Result<TokenOrder, Failure>
+    ensures read { IfOk result (IsTokenOrderIn word.now (rows_of (found_of matches.now))) }
     ensures refused { IfErr result IsOfWords }
 {
-    let name = name_in(alloc, matches)?;
-    match word {
-        "grant" => Ok(TokenChange::Grant {
+    match (word, name_if(alloc, matches)?) {
+        ("grant", Some(name)) => Ok(TokenOrder::Grant {
             name,
             level: level_in(matches)?,
         }),
-        "revoke" => Ok(TokenChange::Revoke { name }),
+        ("revoke", Some(name)) => Ok(TokenOrder::Revoke { name }),
+        ("revoke", None) => Ok(TokenOrder::RevokeAll),
+        ("grants", name) => Ok(TokenOrder::Grants {
+            name,
+            shown: shown_in(matches),
+            form: form_in(matches),
+        }),
         _ => Err(Failure::InvalidOptions),
     }
 }
 
-/// The change of a subcommand that names a token and a repository. An invalid name is told before an
-/// invalid token.
-fn change_of_grant(alloc: Global, word: &str, matches: &ArgMatches) -> Result<Change, Failure>
-    ensures read { IfOk result (IsChangeIn word.now (rows_of (found_of matches.now))) }
+/// The order of a subcommand that wants a token, which is on the command line.
+fn order_of_token(alloc: Global, word: &str, matches: &ArgMatches) -> Result<Order, Failure>
+    ensures read { IfOk result (IsOrderIn word.now (rows_of (found_of matches.now))) }
     ensures refused { IfErr result IsOfWords }
 {
-    let change = read_token_change(alloc, word, matches)?;
+    let order = read_token_order(alloc, word, matches)?;
     let token = token_in(alloc, matches)?;
-    Ok(change.with(token))
+    Ok(order.with(token))
+}
+
+/// How much of a token a list shows.
+fn shown_in(matches: &ArgMatches) -> Shown
+    ensures { IsShownIn (rows_of (found_of matches.now)) result }
+{
+    if is_given(matches, "show-tokens") {
+        Shown::Whole
+    } else {
+        Shown::Beginning
+    }
 }
 
 /// The form of a list.
@@ -246,6 +314,23 @@ fn list_of_repo(alloc: Global, word: &str, matches: &ArgMatches) -> Result<Order
     })
 }
 
+/// The list of the levels of tokens, of one that is on the command line or of all.
+fn list_of_grants(alloc: Global, matches: &ArgMatches) -> Result<Order, Failure>
+    ensures read { IfOk result (IsOrderIn (codes "grants") (rows_of (found_of matches.now))) }
+    ensures refused { IfErr result IsOfWords }
+{
+    let name = name_if(alloc, matches)?;
+    let token = token_if(alloc, matches)?;
+    Ok(Order::List {
+        listing: Listing::Grants {
+            name,
+            token,
+            shown: shown_in(matches),
+        },
+        form: form_in(matches),
+    })
+}
+
 /// Reads what a subcommand of the administrator orders: its word, and the values of its options. A
 /// name that is none is told before a token that is none. `InvalidOptions` is answered to a word that
 /// is no such subcommand, or where a value is missing or out of its range, which `clap` has told then.
@@ -262,7 +347,8 @@ pub fn read_order(alloc: Global, word: &str, matches: &ArgMatches) -> Result<Ord
         }),
         "tags" | "blobs" => list_of_repo(alloc, word, matches),
         "prune" if is_given(matches, "dry-run") => list_of_repo(alloc, word, matches),
-        "grant" | "revoke" => change_of_grant(alloc, word, matches).map(Order::Change),
+        "grants" => list_of_grants(alloc, matches),
+        "grant" | "revoke" => order_of_token(alloc, word, matches),
         _ => change_of_repo(alloc, word, matches).map(Order::Change),
     }
 }

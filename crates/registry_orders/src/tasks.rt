@@ -9,9 +9,9 @@ use crate::failure::Failure;
 use crate::given::{is_given, number_given, text_given, texts_given};
 use crate::limits::{Limits, limits_given};
 use crate::options::Setup;
-use crate::orders::{Order, TokenChange, read_order, read_token_change};
+use crate::orders::{Order, TokenOrder, read_order, read_token_order};
 use crate::place::{Place, place_given};
-use crate::tokens::{TokenSource, token_source};
+use crate::tokens::{TokenSource, is_token_given, token_source};
 use clap::ArgMatches;
 use std::alloc::Global;
 
@@ -37,11 +37,11 @@ pub enum Task<'a> {
         place: Place<'a>,
         order: Order,
     },
-    /// Carry out a change with a token that is read elsewhere, here or by a server.
+    /// Carry out an order with a token that is read elsewhere, here or by a server.
     TokenOrder {
         place: Place<'a>,
         source: TokenSource<'a>,
-        change: TokenChange,
+        order: TokenOrder,
     },
     /// Look for what is wrong in the registry at a path.
     Check {
@@ -104,7 +104,7 @@ fn order_task<'a>(alloc: Global, word: &str, matches: &ArgMatches<'a>) -> Result
     Ok(Task::Order { place, order })
 }
 
-/// A change with a token, which is on the command line or is read elsewhere.
+/// An order with a token, which is on the command line or is read elsewhere.
 fn token_task<'a>(alloc: Global, word: &str, matches: &ArgMatches<'a>) -> Result<Task<'a>, Failure>
     ensures read { IfOk result (IsTaskIn word.now (rows_of (found_of matches.now))) }
     ensures refused { IfErr result IsOfWords }
@@ -113,11 +113,11 @@ fn token_task<'a>(alloc: Global, word: &str, matches: &ArgMatches<'a>) -> Result
         return order_task(alloc, word, matches);
     };
     let place = place_given(matches)?;
-    let change = read_token_change(alloc, word, matches)?;
+    let order = read_token_order(alloc, word, matches)?;
     Ok(Task::TokenOrder {
         place,
         source,
-        change,
+        order,
     })
 }
 
@@ -157,6 +157,8 @@ pub(crate) fn task_of<'a>(
         "check" | "migrate" => database_task(word, matches),
         "stop" => stop_task(matches),
         "grant" | "revoke" => token_task(alloc, word, matches),
+        // without a token, the levels of all are listed
+        "grants" if is_token_given(matches) => token_task(alloc, word, matches),
         _ => order_task(alloc, word, matches),
     }
 }

@@ -1,6 +1,6 @@
 //! Tokens that are not on the command line, but in a file or on standard input.
-ghost use Rattle.std.specs.Prelude.{◌≡◌, IfOk, IfErr, IfSome};
-ghost use Rattle.clap.specs.Words.{found_of, rows_of};
+ghost use Rattle.std.specs.Prelude.{◌≡◌, ◌||◌, IfOk, IfErr, IfSome, codes, is_some};
+ghost use Rattle.clap.specs.Words.{found_of, rows_of, first_of};
 ghost use Rattle.registry_orders.specs.Failures.{IsOfWords};
 ghost use Rattle.registry_orders.specs.Tokens.{IsTokenFrom, IsNextByte, IsFirstLine};
 
@@ -24,7 +24,15 @@ pub enum TokenSource<'a> {
     File(&'a str),
 }
 
-/// Where a change's token is read; none where it is on the command line. The error is that it is given
+/// Whether a token is given, or where one is read.
+pub(crate) fn is_token_given(matches: &ArgMatches) -> bool
+    ensures { result ≡ (is_some (first_of (codes "token") (rows_of (found_of matches.now)))
+        || is_some (first_of (codes "token-file") (rows_of (found_of matches.now)))) }
+{
+    text_given(matches, "token").is_some() || text_given(matches, "token-file").is_some()
+}
+
+/// Where an order's token is read; none where it is on the command line. The error is that it is given
 /// twice, or not at all.
 pub fn token_source<'a>(matches: &ArgMatches<'a>) -> Result<Option<TokenSource<'a>>, Failure>
     ensures found { IfOk result (λ source. IfSome source (IsTokenFrom (rows_of (found_of matches.now)))) }

@@ -26,7 +26,7 @@ fn wanted(word: &str, matches: &ArgMatches) -> Option<Cause> {
         "serve" => Some(Cause::TogetherOptions),
         "check" | "migrate" | "stop" => None,
         _ if place_given(matches).is_err() => Some(Cause::PlaceOptions),
-        "grant" | "revoke" => Some(Cause::TokenOptions),
+        "grant" | "revoke" | "grants" => Some(Cause::TokenOptions),
         _ => None,
     }
 }

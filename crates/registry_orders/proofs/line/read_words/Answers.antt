@@ -3,9 +3,9 @@ use Rattle.clap.specs.Takes.{takes}
 use Rattle.clap.specs.Values.{kind_of}
 use Rattle.clap.specs.declared.error.kind.ErrorKind.TheVariants.{OutOfMemory}
 use Rattle.clap.specs.Words.{App, HasMatchesOf, found_of, rows_of, subcommand_of}
-use Rattle.registry_orders.specs.CommandLine.{registry}
+use Rattle.command_line.specs.CommandLine.{registry}
 use Rattle.registry_orders.specs.Tasks.{IsTaskOf}
-use Rattle.registry_orders.proofs.CommandLemmas.{subcommand_found}
+use Rattle.registry_orders.proofs.FoundLemmas.{subcommand_found}
 use Rattle.registry_orders.proofs.line.read_words.Goals as goal
 
 pub returns-in-Ok-task_of-clause-read : goal.returns-in-Ok-task_of-clause-read

@@ -1,0 +1,9 @@
+use Rattle.std.proofs.lemmas.Result.{IfOk-weaker}
+use Rattle.command_line.specs.CommandLine.{alone}
+use Rattle.command_line.proofs.CommandLemmas.{sub_added}
+use Rattle.command_line.proofs.grammar.with.Goals as goal
+
+pub returns : goal.returns
+returns c app sub is made plain =
+    let below = rw c.in_ok-made.was at made in
+    IfOk-weaker c.subcommand.result _ _ (λ r. sub_added app (alone sub) c.args.command r c.in_ok-made.field-0 is below plain) c.subcommand.ensures

@@ -1,9 +1,0 @@
-use Rattle.std.proofs.Common.{refl, codes}
-use Rattle.registry_orders.specs.CommandLine as spec
-use Rattle.registry_orders.proofs.line.with_lists.Goals as goal
-
-pub returns : goal.returns
-returns c is =
-    let one = c.in_ok-command.ensures spec.over_repos (spec.listing (codes "repos")) is c.listing.ensures refl in
-    let two = c.in_ok-command-2.ensures _ (spec.listing_of_repo (codes "tags")) one c.listing_of_repo.ensures refl in
-    c.with-3.ensures _ (spec.listing_of_repo (codes "blobs")) two c.listing_of_repo-2.ensures refl

@@ -1,9 +1,0 @@
-use Rattle.clap.specs.Words.{found_of, rows_of}
-use Rattle.registry_orders.proofs.TokenLemmas.{with_token}
-use Rattle.registry_orders.proofs.orders.change_of_grant.Goals as goal
-
-pub returns-clause-read : goal.returns-clause-read
-returns-clause-read c =
-    let options = rows_of (found_of c.args.matches.now) in
-    rw c.with.ensures
-    (with_token c.args.word.now options c.in_ok-change.change c.in_ok-token.token c.in_ok-change.ensures.read c.in_ok-token.ensures.found)
