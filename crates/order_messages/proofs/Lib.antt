@@ -1,5 +1,6 @@
 pub mod NumberLemmas
 pub mod PlainWords
+pub mod WordLemmas
 pub mod LineLemmas
 pub mod AnswerLemmas
 pub mod LineLaws

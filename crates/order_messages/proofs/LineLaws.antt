@@ -1,6 +1,6 @@
 -- A line spells one order at most, and is short.
-use Rattle.std.proofs.Common.{◌≡◌, ◌≢◌, ◌∙◌, ℕ, codes, ◌+◌, ◌<◌, ◌≤◌, true, [], ◌∷◌, List, nat_le, ◌*◌, get_or, length, length-append, decimal, sym, refl, ap, arith}
-use Rattle.std.proofs.lemmas.Bool.{and_parts, leb-true}
+use Rattle.std.proofs.Common.{◌≡◌, ◌≢◌, ◌∙◌, ℕ, Bool, Option, Some, None, IfSome, codes, ◌+◌, ◌<◌, ◌≤◌, true, false, [], ◌∷◌, List, nat_le, ◌*◌, get_or, length, length-append, decimal, sym, refl, ap, arith}
+use Rattle.std.proofs.lemmas.Bool.{and_parts, leb-true, false≢true}
 use Rattle.std.proofs.lemmas.Fmt.{decimal_injective, length-decimal-le}
 use Rattle.oci_names.specs.Text.{Text}
 use Rattle.oci_names.specs.RepoName.{is_repo_name, is_path}
@@ -11,14 +11,16 @@ use Rattle.registry_model.specs.declared.quota.Quota.{Quota}
 use Rattle.registry_orders.specs.declared.listing.Held.{Held}
 use Rattle.registry_orders.specs.declared.listing.Held.TheVariants.{Tags, Blobs, Unnamed}
 use Rattle.registry_orders.specs.declared.listing.Listing.{Listing}
-use Rattle.registry_orders.specs.declared.listing.Listing.TheVariants.{Repos, InRepo}
+use Rattle.registry_orders.specs.declared.listing.Listing.TheVariants.{Repos, InRepo, Grants}
+use Rattle.registry_orders.specs.declared.listing.Shown.{Shown}
+use Rattle.registry_orders.specs.declared.listing.Shown.TheVariants.{Beginning, Whole}
 use Rattle.registry_orders.specs.declared.listing.Form.{Form}
 use Rattle.registry_orders.specs.declared.listing.Form.TheVariants.{Lines, Json}
 use Rattle.registry_orders.specs.declared.orders.Change.{Change}
-use Rattle.registry_orders.specs.declared.orders.Change.TheVariants.{AddRepo, SetQuota, DropRepo, DropSessions, Prune, Grant, Revoke, Clear}
+use Rattle.registry_orders.specs.declared.orders.Change.TheVariants.{AddRepo, SetQuota, DropRepo, DropSessions, Prune, Grant, Revoke, RevokeAll, Clear}
 use Rattle.registry_orders.specs.declared.orders.Order.{Order}
 use Rattle.registry_orders.specs.declared.orders.Order.TheVariants as order
-use Rattle.order_messages.specs.Lines.{digit_of, form_word, held_word, words_of_listing, words_of_change, words_of, line_of, IsProperListing, IsProperChange, IsProper, Spells, SpellsNone}
+use Rattle.order_messages.specs.Lines.{digit_of, form_word, held_word, shown_word, or_any, words_of_listing, words_of_change, words_of, line_of, IsProperName, IsProperToken, IsProperListing, IsProperChange, IsProper, Spells, SpellsNone}
 use Rattle.order_messages.specs.Stopping.{stop_line}
 use Rattle.order_messages.proofs.LineLemmas.{split, split_line}
 use native.Mathlib.Bridge.{le_prop}
@@ -49,6 +51,7 @@ change_length (Prune name) h = omega (arith, length-append {A = ℕ}, name_lengt
 change_length (Grant token name level) h =
     omega (arith, length-append {A = ℕ}, name_length name h.0, digit_length level, token_length token h.1)
 change_length (Revoke token name) h = omega (arith, length-append {A = ℕ}, name_length name h.0, token_length token h.1)
+change_length (RevokeAll token) h = omega (arith, length-append {A = ℕ}, token_length token h)
 change_length Clear h = omega arith
 
 form_length : (form : Form) → length (form_word form) ≤ 5
@@ -60,9 +63,23 @@ held_length Tags = omega arith
 held_length Blobs = omega arith
 held_length Unnamed = omega arith
 
+shown_length : (shown : Shown) → length (shown_word shown) ≤ 9
+shown_length Beginning = omega arith
+shown_length Whole = omega arith
+
+name_or_any_length : (name : Option Text) → IsProperName name → length (or_any name) ≤ 255
+name_or_any_length None h = omega arith
+name_or_any_length (Some name) h = name_length name h
+
+token_or_any_length : (token : Option Text) → IsProperToken token → length (or_any token) ≤ 200
+token_or_any_length None h = omega arith
+token_or_any_length (Some token) h = token_length token h
+
 list_length : (l : Listing) (form : Form) → IsProperListing l → length (line_of (order.List l form)) < 600
 list_length Repos form h = omega (arith, length-append {A = ℕ}, form_length form)
 list_length (InRepo name what) form h = omega (arith, length-append {A = ℕ}, form_length form, held_length what, name_length name h)
+list_length (Grants name token shown) form h =
+    omega (arith, length-append {A = ℕ}, form_length form, shown_length shown, name_or_any_length name h.0, token_or_any_length token h.1)
 
 line_length : (o : Order) → IsProper o → length (line_of o) < 600
 line_length (order.Change c) h = change_length c h
@@ -108,6 +125,9 @@ change_same (DropSessions m) (DropSessions n) e = cc
 change_same (Prune m) (Prune n) e = cc
 change_same (Grant t m l) (Grant u n k) e = let same = level_from_digit l k cc in cc
 change_same (Revoke t m) (Revoke u n) e = cc
+change_same (Revoke t m) (RevokeAll u) e = absurd (cc)
+change_same (RevokeAll t) (Revoke u n) e = absurd (cc)
+change_same (RevokeAll t) (RevokeAll u) e = cc
 change_same Clear Clear e = refl
 change_same c d e = let key = ap key_of e in absurd (omega arith)
 
@@ -119,6 +139,7 @@ not_usage (DropSessions m) e = omega arith
 not_usage (Prune m) e = omega arith
 not_usage (Grant t m l) e = omega arith
 not_usage (Revoke t m) e = omega arith
+not_usage (RevokeAll t) e = omega arith
 not_usage Clear e = omega arith
 
 not_list : (c : Change) → key_of (words_of_change c) ≢ key_of (codes "list" ∷ [])
@@ -129,6 +150,7 @@ not_list (DropSessions m) e = omega arith
 not_list (Prune m) e = omega arith
 not_list (Grant t m l) e = omega arith
 not_list (Revoke t m) e = omega arith
+not_list (RevokeAll t) e = omega arith
 not_list Clear e = omega arith
 
 form_from_word : (f g : Form) → form_word f ≡ form_word g → f ≡ g
@@ -142,31 +164,53 @@ held_from_word Blobs Blobs e = refl
 held_from_word Unnamed Unnamed e = refl
 held_from_word a b e = let first = ap (λ t. get_or t 0 0) e in absurd (omega arith)
 
-listing_same : (l m : Listing) → words_of_listing l ≡ words_of_listing m → l ≡ m
-listing_same Repos Repos e = refl
-listing_same Repos (InRepo n b) e = absurd (cc)
-listing_same (InRepo n a) Repos e = absurd (cc)
-listing_same (InRepo m a) (InRepo n b) e = let same = held_from_word a b cc in cc
+shown_from_word : (a b : Shown) → shown_word a ≡ shown_word b → a ≡ b
+shown_from_word Beginning Beginning e = refl
+shown_from_word Whole Whole e = refl
+shown_from_word a b e = let first = ap (λ t. get_or t 0 0) e in absurd (omega arith)
 
-list_same : (l m : Listing) (f g : Form) → words_of (order.List l f) ≡ words_of (order.List m g) → order.List l f ≡ order.List m g
-list_same l m f g e =
+-- `*` is of none, since it is no name and no token
+module _ (is_proper : Text → Bool) (no : is_proper (codes "*") ≡ false) where
+  from_word_or_any : (a b : Option Text) → IfSome a (λ t. is_proper t ≡ true) → IfSome b (λ t. is_proper t ≡ true) → or_any a ≡ or_any b → a ≡ b
+  from_word_or_any None None h k e = refl
+  from_word_or_any (Some t) (Some u) h k e = ap Some e
+  from_word_or_any (Some t) None h k e = absurd (false≢true (sym no ∙ ap is_proper (sym e) ∙ h))
+  from_word_or_any None (Some u) h k e = absurd (false≢true (sym no ∙ ap is_proper e ∙ k))
+
+listing_same : (l m : Listing) → IsProperListing l → IsProperListing m → words_of_listing l ≡ words_of_listing m → l ≡ m
+listing_same Repos Repos h k e = refl
+listing_same (InRepo m a) (InRepo n b) h k e = let same = held_from_word a b cc in cc
+listing_same (Grants m t a) (Grants n u b) h k e =
+    let same = shown_from_word a b cc in
+    let names = from_word_or_any is_repo_name refl m n h.0 k.0 cc in
+    let tokens = from_word_or_any is_token refl t u h.1 k.1 cc in
+    cc
+listing_same Repos (InRepo n b) h k e = absurd (cc)
+listing_same Repos (Grants n u b) h k e = absurd (cc)
+listing_same (InRepo m a) Repos h k e = absurd (cc)
+listing_same (InRepo m a) (Grants n u b) h k e = absurd (cc)
+listing_same (Grants m t a) Repos h k e = absurd (cc)
+listing_same (Grants m t a) (InRepo n b) h k e = absurd (cc)
+
+list_same : (l m : Listing) (f g : Form) → IsProperListing l → IsProperListing m → words_of (order.List l f) ≡ words_of (order.List m g) → order.List l f ≡ order.List m g
+list_same l m f g h k e =
     let forms = form_from_word f g cc in
-    let listings = listing_same l m cc in
+    let listings = listing_same l m h k cc in
     cc
 
-words_same : (o p : Order) → words_of o ≡ words_of p → o ≡ p
-words_same (order.Change c) (order.Change d) e = ap (λ x. order.Change x) (change_same c d e)
-words_same (order.Change c) order.Usage e = absurd (not_usage c (ap key_of e))
-words_same order.Usage (order.Change d) e = absurd (not_usage d (ap key_of (sym e)))
-words_same order.Usage order.Usage e = refl
-words_same (order.List l f) (order.List m g) e = list_same l m f g e
-words_same (order.List l f) (order.Change d) e = absurd (not_list d (ap key_of (sym e)))
-words_same (order.Change c) (order.List m g) e = absurd (not_list c (ap key_of e))
-words_same (order.List l f) order.Usage e = let key = ap key_of e in absurd (omega arith)
-words_same order.Usage (order.List m g) e = let key = ap key_of e in absurd (omega arith)
+words_same : (o p : Order) → IsProper o → IsProper p → words_of o ≡ words_of p → o ≡ p
+words_same (order.Change c) (order.Change d) h k e = ap (λ x. order.Change x) (change_same c d e)
+words_same (order.Change c) order.Usage h k e = absurd (not_usage c (ap key_of e))
+words_same order.Usage (order.Change d) h k e = absurd (not_usage d (ap key_of (sym e)))
+words_same order.Usage order.Usage h k e = refl
+words_same (order.List l f) (order.List m g) h k e = list_same l m f g h k e
+words_same (order.List l f) (order.Change d) h k e = absurd (not_list d (ap key_of (sym e)))
+words_same (order.Change c) (order.List m g) h k e = absurd (not_list c (ap key_of e))
+words_same (order.List l f) order.Usage h k e = let key = ap key_of e in absurd (omega arith)
+words_same order.Usage (order.List m g) h k e = let key = ap key_of e in absurd (omega arith)
 
 pub one_order : (line : Text) (o p : Order) → Spells line o → Spells line p → o ≡ p
-one_order line o p h k = words_same o p (sym (split_line o h.1) ∙ ap split (sym h.0 ∙ k.0) ∙ split_line p k.1)
+one_order line o p h k = words_same o p h.1 k.1 (sym (split_line o h.1) ∙ ap split (sym h.0 ∙ k.0) ∙ split_line p k.1)
 
 -- ---- the line that asks a server to stop
 
@@ -178,6 +222,7 @@ key_is_other (order.Change (DropSessions m)) e = omega arith
 key_is_other (order.Change (Prune m)) e = omega arith
 key_is_other (order.Change (Grant t m l)) e = omega arith
 key_is_other (order.Change (Revoke t m)) e = omega arith
+key_is_other (order.Change (RevokeAll t)) e = omega arith
 key_is_other (order.Change Clear) e = omega arith
 key_is_other order.Usage e = omega arith
 key_is_other (order.List l f) e = omega arith

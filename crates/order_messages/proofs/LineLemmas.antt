@@ -1,5 +1,5 @@
 -- A line's words are its parts between spaces.
-use Rattle.std.proofs.Common.{◌≡◌, ℕ, zero, suc, get_or, ◌<◌, ◌==◌, Bool, true, [], ◌∷◌, ◌&&◌, List, sym, refl, ap, ◌∙◌, arith, decimal, subst}
+use Rattle.std.proofs.Common.{◌≡◌, ℕ, zero, suc, get_or, ◌<◌, ◌==◌, Bool, true, [], ◌∷◌, ◌&&◌, List, Option, Some, None, sym, refl, ap, ◌∙◌, arith, decimal, subst}
 use Rattle.std.specs.Prelude.{IsUtf8}
 use Rattle.std.specs.List.{slice_split, join_with_byte}
 use Rattle.std.proofs.lemmas.Bool.{and_parts, and_from}
@@ -12,18 +12,21 @@ use Rattle.registry_model.specs.declared.quota.Quota.{Quota}
 use Rattle.registry_orders.specs.declared.listing.Held.{Held}
 use Rattle.registry_orders.specs.declared.listing.Held.TheVariants.{Tags, Blobs, Unnamed}
 use Rattle.registry_orders.specs.declared.listing.Listing.{Listing}
-use Rattle.registry_orders.specs.declared.listing.Listing.TheVariants.{Repos, InRepo}
+use Rattle.registry_orders.specs.declared.listing.Listing.TheVariants.{Repos, InRepo, Grants}
+use Rattle.registry_orders.specs.declared.listing.Shown.{Shown}
+use Rattle.registry_orders.specs.declared.listing.Shown.TheVariants.{Beginning, Whole}
 use Rattle.registry_orders.specs.declared.listing.Form.{Form}
 use Rattle.registry_orders.specs.declared.listing.Form.TheVariants.{Lines, Json}
 use Rattle.registry_orders.specs.declared.orders.Change.{Change}
-use Rattle.registry_orders.specs.declared.orders.Change.TheVariants.{AddRepo, SetQuota, DropRepo, DropSessions, Prune, Grant, Revoke, Clear}
+use Rattle.registry_orders.specs.declared.orders.Change.TheVariants.{AddRepo, SetQuota, DropRepo, DropSessions, Prune, Grant, Revoke, RevokeAll, Clear}
 use Rattle.registry_orders.specs.declared.orders.Order.{Order}
 use Rattle.registry_orders.specs.declared.orders.Order.TheVariants as order
 use Rattle.order_messages.specs.declared.reading.Unread.{Unread}
 use Rattle.order_messages.specs.declared.reading.Unread.TheVariants.{Malformed, Memory}
-use Rattle.order_messages.specs.Lines.{space, digit_of, form_word, held_word, words_of_listing, words_of_change, words_of, line_of, IsProperListing, IsProperChange, IsProper, AreWordsOf, Spells}
+use Rattle.order_messages.specs.Lines.{space, digit_of, form_word, held_word, shown_word, or_any, words_of_listing, words_of_change, words_of, line_of, IsProperName, IsProperToken, IsProperListing, IsProperChange, IsProper, AreWordsOf, Spells}
 use Rattle.order_messages.specs.Reading.{IsUnread, AreUnread}
-use Rattle.order_messages.proofs.PlainWords.{plain, plain_name, plain_token, plain_decimal, has_no_space, is_utf8}
+use Rattle.registry_lists.proofs.PlainTokens.{plain, plain_token}
+use Rattle.order_messages.proofs.PlainWords.{plain_name, plain_decimal, has_no_space, is_utf8}
 
 abbrev pub split : Text → List Text
 split t = slice_split (λ b. b == space) t
@@ -78,6 +81,7 @@ plain_change (Grant token name level) h =
     one_more (plain name) (plain (digit_of level) && (plain token && true)) (plain_name name h.0)
     (one_more (plain (digit_of level)) (plain token && true) (plain_digit level) (one_more (plain token) true (plain_token token h.1) refl))
 plain_change (Revoke token name) h = one_more (plain name) (plain token && true) (plain_name name h.0) (one_more (plain token) true (plain_token token h.1) refl)
+plain_change (RevokeAll token) h = one_more (plain token) true (plain_token token h) refl
 plain_change Clear h = refl
 
 plain_form : (form : Form) → plain (form_word form) ≡ true
@@ -89,9 +93,24 @@ plain_held Tags = refl
 plain_held Blobs = refl
 plain_held Unnamed = refl
 
+plain_shown : (shown : Shown) → plain (shown_word shown) ≡ true
+plain_shown Beginning = refl
+plain_shown Whole = refl
+
+plain_name_or_any : (name : Option Text) → IsProperName name → plain (or_any name) ≡ true
+plain_name_or_any None h = refl
+plain_name_or_any (Some name) h = plain_name name h
+
+plain_token_or_any : (token : Option Text) → IsProperToken token → plain (or_any token) ≡ true
+plain_token_or_any None h = refl
+plain_token_or_any (Some token) h = plain_token token h
+
 plain_listing : (l : Listing) → IsProperListing l → all_plain (words_of_listing l) ≡ true
 plain_listing Repos h = refl
 plain_listing (InRepo name what) h = one_more (plain (held_word what)) (plain name && true) (plain_held what) (one_more (plain name) true (plain_name name h) refl)
+plain_listing (Grants name token shown) h =
+    one_more (plain (shown_word shown)) (plain (or_any name) && (plain (or_any token) && true)) (plain_shown shown)
+    (one_more (plain (or_any name)) (plain (or_any token) && true) (plain_name_or_any name h.0) (one_more (plain (or_any token)) true (plain_token_or_any token h.1) refl))
 
 plain_order : (o : Order) → IsProper o → all_plain (words_of o) ≡ true
 plain_order (order.Change change) h = plain_change change h
@@ -110,6 +129,7 @@ some_words (order.Change (DropSessions name)) e = cc
 some_words (order.Change (Prune name)) e = cc
 some_words (order.Change (Grant token name level)) e = cc
 some_words (order.Change (Revoke token name)) e = cc
+some_words (order.Change (RevokeAll token)) e = cc
 some_words (order.Change Clear) e = cc
 some_words order.Usage e = cc
 some_words (order.List listing form) e = cc

@@ -1,5 +1,5 @@
 -- The line of text that spells an order (profile).
-use Rattle.std.specs.Prelude.{◌≡◌, ℕ, true, List, [], ◌∷◌, codes, decimal}
+use Rattle.std.specs.Prelude.{◌≡◌, ℕ, true, List, [], ◌∷◌, Option, Some, None, IfSome, codes, decimal}
 use Rattle.std.specs.List.{join_with_byte}
 use Rattle.oci_names.specs.Text.{Text}
 use Rattle.oci_names.specs.RepoName.{is_repo_name}
@@ -9,11 +9,13 @@ use Rattle.registry_model.specs.declared.level.Level.TheVariants.{Pull, Push, De
 use Rattle.registry_orders.specs.declared.listing.Held.{Held}
 use Rattle.registry_orders.specs.declared.listing.Held.TheVariants.{Tags, Blobs, Unnamed}
 use Rattle.registry_orders.specs.declared.listing.Listing.{Listing}
-use Rattle.registry_orders.specs.declared.listing.Listing.TheVariants.{Repos, InRepo}
+use Rattle.registry_orders.specs.declared.listing.Listing.TheVariants.{Repos, InRepo, Grants}
+use Rattle.registry_orders.specs.declared.listing.Shown.{Shown}
+use Rattle.registry_orders.specs.declared.listing.Shown.TheVariants.{Beginning, Whole}
 use Rattle.registry_orders.specs.declared.listing.Form.{Form}
 use Rattle.registry_orders.specs.declared.listing.Form.TheVariants as form
 use Rattle.registry_orders.specs.declared.orders.Change.{Change}
-use Rattle.registry_orders.specs.declared.orders.Change.TheVariants.{AddRepo, SetQuota, DropRepo, DropSessions, Prune, Grant, Revoke, Clear}
+use Rattle.registry_orders.specs.declared.orders.Change.TheVariants.{AddRepo, SetQuota, DropRepo, DropSessions, Prune, Grant, Revoke, RevokeAll, Clear}
 use Rattle.registry_orders.specs.declared.orders.Order.{Order}
 use Rattle.registry_orders.specs.declared.orders.Order.TheVariants as order
 
@@ -31,6 +33,7 @@ words_of_change (DropSessions name) = codes "sessions" ∷ name ∷ []
 words_of_change (Prune name) = codes "prune" ∷ name ∷ []
 words_of_change (Grant token name level) = codes "grant" ∷ name ∷ digit_of level ∷ token ∷ []
 words_of_change (Revoke token name) = codes "revoke" ∷ name ∷ token ∷ []
+words_of_change (RevokeAll token) = codes "revoke" ∷ token ∷ []
 words_of_change Clear = codes "clear" ∷ []
 
 abbrev pub form_word : Form → Text
@@ -43,9 +46,21 @@ held_word Tags = codes "tags"
 held_word Blobs = codes "blobs"
 held_word Unnamed = codes "unnamed"
 
+-- how much of a token is shown
+abbrev pub shown_word : Shown → Text
+shown_word Beginning = codes "beginning"
+shown_word Whole = codes "whole"
+
+-- `*`, which is no name and no token, stands where none is given
+abbrev pub or_any : Option Text → Text
+or_any None = codes "*"
+or_any (Some word) = word
+
 abbrev pub words_of_listing : Listing → List Text
 words_of_listing Repos = codes "repos" ∷ []
 words_of_listing (InRepo name what) = held_word what ∷ name ∷ []
+words_of_listing (Grants name token shown) =
+    codes "grants" ∷ shown_word shown ∷ or_any name ∷ or_any token ∷ []
 
 -- what is ordered, and of what; a number is decimal, with no leading zero
 abbrev pub words_of : Order → List Text
@@ -68,11 +83,20 @@ IsProperChange (DropSessions name) = is_repo_name name ≡ true
 IsProperChange (Prune name) = is_repo_name name ≡ true
 IsProperChange (Grant token name level) = (is_repo_name name ≡ true) × (is_token token ≡ true)
 IsProperChange (Revoke token name) = (is_repo_name name ≡ true) × (is_token token ≡ true)
+IsProperChange (RevokeAll token) = is_token token ≡ true
 IsProperChange Clear = Unit {0}
+
+-- a repository's name, or none; a token, or none
+abbrev pub IsProperName : Option Text → Type 0
+IsProperName name = IfSome name (λ t. is_repo_name t ≡ true)
+
+abbrev pub IsProperToken : Option Text → Type 0
+IsProperToken token = IfSome token (λ t. is_token t ≡ true)
 
 abbrev pub IsProperListing : Listing → Type 0
 IsProperListing Repos = Unit {0}
 IsProperListing (InRepo name what) = is_repo_name name ≡ true
+IsProperListing (Grants name token shown) = IsProperName name × IsProperToken token
 
 -- its name is a repository's name and its token a token, as they are of each order that there is
 abbrev pub IsProper : Order → Type 0

@@ -5,13 +5,14 @@ ghost use Rattle.registry_model.specs.declared.level.Level.{Level};
 ghost use Rattle.registry_model.specs.declared.quota.Quota.{Quota};
 ghost use Rattle.registry_orders.specs.declared.listing.Form.{Form};
 ghost use Rattle.registry_orders.specs.declared.listing.Held.{Held};
-ghost use Rattle.order_messages.specs.Lines.{space, digit_of, form_word, held_word, Spells, AreWordsOf};
-ghost use Rattle.order_messages.specs.Reading.{IsUnread, AreUnread};
+ghost use Rattle.registry_orders.specs.declared.listing.Shown.{Shown};
+ghost use Rattle.order_messages.specs.Lines.{space, digit_of, form_word, held_word, shown_word, IsProperName, IsProperToken, Spells, AreWordsOf};
+ghost use Rattle.order_messages.specs.Reading.{IsUnread, AreUnread, IsWordOf, IsUnreadWord};
 
 use crate::number::number_in;
 use oci_names::{NameFault, RepoName, Token};
 use registry_model::{Level, Quota};
-use registry_orders::{Change, Form, Held, Listing, Order};
+use registry_orders::{Change, Form, Held, Listing, Order, Shown};
 use std::alloc::{AllocError, Global};
 
 /// Why a line is not read.
@@ -94,6 +95,40 @@ fn held_in(text: &str) -> Option<Held>
     }
 }
 
+/// How much of a token is shown.
+fn shown_in(text: &str) -> Option<Shown>
+    ensures { MatchOption result ((shown : Shown) → ¬ (text.now ≡ shown_word shown))
+        (λ shown. text.now ≡ shown_word shown) }
+{
+    match text {
+        "beginning" => Some(Shown::Beginning),
+        "whole" => Some(Shown::Whole),
+        _ => None,
+    }
+}
+
+/// The name of a repository, or none.
+fn name_in(alloc: Global, text: &str) -> Result<Option<RepoName>, Unread>
+    ensures read { IfOk result (IsWordOf IsProperName text.now) }
+    ensures refused { IfErr result (IsUnreadWord IsProperName text.now) }
+{
+    match text {
+        "*" => Ok(None),
+        _ => Ok(Some(RepoName::parse(alloc, text)?)),
+    }
+}
+
+/// A token, or none.
+fn token_in(alloc: Global, text: &str) -> Result<Option<Token>, Unread>
+    ensures read { IfOk result (IsWordOf IsProperToken text.now) }
+    ensures refused { IfErr result (IsUnreadWord IsProperToken text.now) }
+{
+    match text {
+        "*" => Ok(None),
+        _ => Ok(Some(Token::parse(alloc, text)?)),
+    }
+}
+
 /// The quota of a number of bytes.
 #[tactic(auto, using(crate::proofs::NumberLemmas::quota_is_small, crate::proofs::NumberLemmas::decimal_same))]
 fn quota_in(text: &str) -> Option<Quota>
@@ -118,20 +153,23 @@ fn order_alone(word: &str) -> Result<Order, Unread>
     }
 }
 
-/// The order of a word and a name.
-fn order_of_name(alloc: Global, word: &str, name: &str) -> Result<Order, Unread>
-    ensures read { IfOk result (AreWordsOf (word.now ∷ name.now ∷ [])) }
-    ensures refused { IfErr result (AreUnread (word.now ∷ name.now ∷ [])) }
+/// The order of a word and a name, or a token.
+fn order_of_one(alloc: Global, word: &str, last: &str) -> Result<Order, Unread>
+    ensures read { IfOk result (AreWordsOf (word.now ∷ last.now ∷ [])) }
+    ensures refused { IfErr result (AreUnread (word.now ∷ last.now ∷ [])) }
 {
     match word {
         "drop" => Ok(Order::Change(Change::DropRepo {
-            name: RepoName::parse(alloc, name)?,
+            name: RepoName::parse(alloc, last)?,
         })),
         "sessions" => Ok(Order::Change(Change::DropSessions {
-            name: RepoName::parse(alloc, name)?,
+            name: RepoName::parse(alloc, last)?,
         })),
         "prune" => Ok(Order::Change(Change::Prune {
-            name: RepoName::parse(alloc, name)?,
+            name: RepoName::parse(alloc, last)?,
+        })),
+        "revoke" => Ok(Order::Change(Change::RevokeAll {
+            token: Token::parse(alloc, last)?,
         })),
         _ => Err(Unread::Malformed),
     }
@@ -161,6 +199,29 @@ fn list_of_repo(alloc: Global, form: &str, what: &str, name: &str) -> Result<Ord
     let name = RepoName::parse(alloc, name)?;
     Ok(Order::List {
         listing: Listing::InRepo { name, what },
+        form,
+    })
+}
+
+/// The order of three words behind `list`, a form and `grants`.
+fn list_of_grants(
+    alloc: Global,
+    form: &str,
+    shown: &str,
+    name: &str,
+    token: &str,
+) -> Result<Order, Unread>
+    ensures read { IfOk result (AreWordsOf (codes "list" ∷ form.now ∷ codes "grants" ∷ shown.now
+        ∷ name.now ∷ token.now ∷ [])) }
+    ensures refused { IfErr result (AreUnread (codes "list" ∷ form.now ∷ codes "grants" ∷ shown.now
+        ∷ name.now ∷ token.now ∷ [])) }
+{
+    let form = form_in(form).ok_or(Unread::Malformed)?;
+    let shown = shown_in(shown).ok_or(Unread::Malformed)?;
+    let name = name_in(alloc, name)?;
+    let token = token_in(alloc, token)?;
+    Ok(Order::List {
+        listing: Listing::Grants { name, token, shown },
         form,
     })
 }
@@ -210,6 +271,27 @@ fn order_of_three(
     }
 }
 
+/// The order of five words behind `list`.
+fn order_of_five(
+    alloc: Global,
+    word: &str,
+    form: &str,
+    what: &str,
+    shown: &str,
+    name: &str,
+    token: &str,
+) -> Result<Order, Unread>
+    ensures read { IfOk result (AreWordsOf (word.now ∷ form.now ∷ what.now ∷ shown.now
+        ∷ name.now ∷ token.now ∷ [])) }
+    ensures refused { IfErr result (AreUnread (word.now ∷ form.now ∷ what.now ∷ shown.now
+        ∷ name.now ∷ token.now ∷ [])) }
+{
+    match (word, what) {
+        ("list", "grants") => list_of_grants(alloc, form, shown, name, token),
+        _ => Err(Unread::Malformed),
+    }
+}
+
 /// The order that the words spell.
 fn order_in(alloc: Global, words: &[&str]) -> Result<Order, Unread>
     ensures read { IfOk result (AreWordsOf (map (λ word. word.now) words.now)) }
@@ -217,9 +299,12 @@ fn order_in(alloc: Global, words: &[&str]) -> Result<Order, Unread>
 {
     match words {
         [word] => order_alone(word),
-        [word, name] => order_of_name(alloc, word, name),
+        [word, last] => order_of_one(alloc, word, last),
         [word, name, last] => order_of_two(alloc, word, name, last),
         [word, name, level, token] => order_of_three(alloc, word, name, level, token),
+        [word, form, what, shown, name, token] => {
+            order_of_five(alloc, word, form, what, shown, name, token)
+        }
         _ => Err(Unread::Malformed),
     }
 }

@@ -1,14 +1,18 @@
 //! The line that spells an order.
 ghost use Rattle.std.specs.Prelude.{◌≡◌, ◌<◌, IfOk, string_bytes};
-ghost use Rattle.order_messages.specs.Lines.{line_of, digit_of, form_word, held_word};
+ghost use Rattle.order_messages.specs.Lines.{line_of, digit_of, form_word, held_word, shown_word, or_any};
 
+use oci_names::{RepoName, Token};
 use registry_model::Level;
-use registry_orders::{Change, Form, Held, Listing, Order};
+use registry_orders::{Change, Form, Held, Listing, Order, Shown};
 use std::alloc::{AllocError, Global};
 use std::fmt;
 
 /// A line of an order has fewer bytes than this, without its end (`laws::lines_are_short`).
 pub const LONGEST_LINE: usize = 600;
+
+/// Stands where no repository or no token is given: it is no name and no token.
+const ANY: &str = "*";
 
 /// The number of a level: 1 pull, 2 push, 3 delete.
 fn digit_of(level: Level) -> &'static str
@@ -40,6 +44,33 @@ fn held_word(what: Held) -> &'static str
     }
 }
 
+fn shown_word(shown: Shown) -> &'static str
+    ensures { result.now ≡ shown_word shown }
+{
+    match shown {
+        Shown::Beginning => "beginning",
+        Shown::Whole => "whole",
+    }
+}
+
+fn name_or_any(name: &Option<RepoName>) -> &str
+    ensures { result.now ≡ or_any name.now }
+{
+    match name {
+        Some(name) => name.as_str(),
+        None => ANY,
+    }
+}
+
+fn token_or_any(token: &Option<Token>) -> &str
+    ensures { result.now ≡ or_any token.now }
+{
+    match token {
+        Some(token) => token.as_str(),
+        None => ANY,
+    }
+}
+
 /// The words of a list.
 #[derive(Drop)]
 struct ListLine<'a> {
@@ -62,6 +93,12 @@ impl<'a> fmt::Display for ListLine<'a> {
             Listing::InRepo { name, what } => {
                 let what = held_word(*what);
                 write!(f, "list {form} {what} {}", name.as_str())
+            }
+            Listing::Grants { name, token, shown } => {
+                let shown = shown_word(*shown);
+                let name = name_or_any(name);
+                let token = token_or_any(token);
+                write!(f, "list {form} grants {shown} {name} {token}")
             }
         }
     }
@@ -94,6 +131,7 @@ impl<'a> fmt::Display for ChangeLine<'a> {
             Change::Revoke { token, name } => {
                 write!(f, "revoke {} {}", name.as_str(), token.as_str())
             }
+            Change::RevokeAll { token } => write!(f, "revoke {}", token.as_str()),
             Change::Clear => f.write_str("clear"),
         }
     }

@@ -1,3 +1,5 @@
 pub mod TableLemmas
 pub mod ListLemmas
+pub mod PlainTokens
+pub mod GrantLemmas
 pub mod TextLemmas

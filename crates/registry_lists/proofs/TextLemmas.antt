@@ -4,7 +4,7 @@ use Rattle.serde_json.specs.View.{items_of}
 use Rattle.serde_json.specs.Written.{has_float, items_have_float}
 use Rattle.oci_names.specs.Text.{Text}
 use Rattle.oci_manifest.specs.Member.{text_items}
-use Rattle.registry_lists.specs.Lists.{ItemShown, repo_item, tag_item, blob_item, unnamed_item}
+use Rattle.registry_lists.specs.Lists.{ItemShown, repo_item, tag_item, blob_item, unnamed_item, grant_item}
 use Rattle.registry_lists.specs.Texts.{data_of, list_data}
 
 digests_no_float : (digests : List Text) → items_have_float (text_items digests) ≡ false
@@ -16,6 +16,7 @@ item_no_float (repo_item name) = refl
 item_no_float (tag_item tag digest) = refl
 item_no_float (blob_item digest size manifests) = rw (digests_no_float manifests) refl
 item_no_float (unnamed_item digest) = refl
+item_no_float (grant_item name token level) = refl
 
 items_no_float : (items : List ItemShown) → items_have_float (items_of (map data_of items)) ≡ false
 items_no_float [] = refl

@@ -1,17 +1,16 @@
 -- What the lists of an operator show of the world, item by item (profile).
-use Rattle.std.specs.Prelude.{ℕ, List, [], map, filter, length, Option, Some, option_map, Vec}
+use Rattle.std.specs.Prelude.{ℕ, List, [], map, filter, length, option_map, string_bytes, Vec}
 use Rattle.std.specs.List.{filter_map}
 use Rattle.std.specs.FinMap.{get, entries}
 use Rattle.std.specs.declared.alloc.Global.{Global}
 use Rattle.oci_names.specs.Text.{Text}
-use Rattle.registry_model.specs.World.{Repo, World, repo_at}
+use Rattle.registry_model.specs.declared.level.Level.{Level}
+use Rattle.registry_model.specs.World.{Repo, World}
 use Rattle.registry_model.specs.TagPage.{tags_behind}
 use Rattle.registry_model.specs.Pruning.{names_in, is_among}
 use Rattle.registry_operations.specs.Pruning.{unnamed_of}
 use Rattle.registry_orders.specs.declared.listing.Held.{Held}
 use Rattle.registry_orders.specs.declared.listing.Held.TheVariants.{Tags, Blobs, Unnamed}
-use Rattle.registry_orders.specs.declared.listing.Listing.{Listing}
-use Rattle.registry_orders.specs.declared.listing.Listing.TheVariants.{Repos, InRepo}
 use Rattle.registry_lists.specs.declared.items.Item.{Item}
 use Rattle.registry_lists.specs.declared.items.Item.TheVariants as item
 
@@ -23,12 +22,15 @@ pub data ItemShown : Type 0 where
   blob_item : Text → ℕ → List Text → ItemShown
   -- a blob that no manifest names
   unnamed_item : Text → ItemShown
+  -- a repository's name, a token as it is shown, and its level
+  grant_item : Text → Text → Level → ItemShown
 
 abbrev pub item_shown : Item → ItemShown
 item_shown (item.Repo name) = repo_item name
 item_shown (item.Tag tag digest) = tag_item tag digest
 item_shown (item.Blob digest size manifests) = blob_item digest size manifests.items
 item_shown (item.Unnamed digest) = unnamed_item digest
+item_shown (item.Grant name token level) = grant_item name (string_bytes token) level
 
 abbrev pub items_shown : Vec Item Global → List ItemShown
 items_shown v = map item_shown v.items
@@ -53,8 +55,3 @@ abbrev pub held_of : Held → Repo → List ItemShown
 held_of Tags r = tags_of r
 held_of Blobs r = blobs_of r
 held_of Unnamed r = map unnamed_item (unnamed_of r)
-
--- the items; none of a repository that is not there
-abbrev pub listed : World → Listing → Option (List ItemShown)
-listed w Repos = Some (repos_of w)
-listed w (InRepo name what) = option_map (held_of what) (repo_at w name)

@@ -7,11 +7,13 @@ use Rattle.serde_json.specs.Written.{compact_text}
 use Rattle.oci_names.specs.Text.{Text}
 use Rattle.oci_manifest.specs.Member.{text_items}
 use Rattle.registry_model.specs.World.{World}
+use Rattle.registry_model.specs.Operation.{rank}
 use Rattle.registry_orders.specs.declared.listing.Listing.{Listing}
 use Rattle.registry_orders.specs.declared.listing.Form.{Form}
 use Rattle.registry_orders.specs.declared.listing.Form.TheVariants.{Lines, Json}
 use Rattle.registry_orders.specs.Outputs.{newline}
-use Rattle.registry_lists.specs.Lists.{ItemShown, repo_item, tag_item, blob_item, unnamed_item, listed}
+use Rattle.registry_lists.specs.Lists.{ItemShown, repo_item, tag_item, blob_item, unnamed_item, grant_item}
+use Rattle.registry_lists.specs.Listed.{AreListed}
 
 -- behind each space a digest
 abbrev pub behind_spaces : List Text → Text
@@ -23,6 +25,7 @@ line_of (repo_item name) = name
 line_of (tag_item tag digest) = tag ++ 32 ∷ digest
 line_of (blob_item digest size manifests) = digest ++ 32 ∷ decimal size ++ behind_spaces manifests
 line_of (unnamed_item digest) = digest
+line_of (grant_item name token level) = name ++ 32 ∷ token ++ 32 ∷ decimal (rank level)
 
 -- a line for each
 abbrev pub lines_of : List ItemShown → Text
@@ -37,6 +40,10 @@ data_of (blob_item digest size manifests) =
     (member (codes "manifests") (array (text_items manifests))
     (member (codes "size") (number (unsigned size)) no_members)))
 data_of (unnamed_item digest) = object (member (codes "digest") (string digest) no_members)
+data_of (grant_item name token level) =
+    object (member (codes "level") (number (unsigned (rank level)))
+    (member (codes "name") (string name)
+    (member (codes "token") (string token) no_members)))
 
 abbrev pub list_data : List ItemShown → Data
 list_data items = array (items_of (map data_of items))
@@ -49,9 +56,7 @@ abbrev pub text_of : Form → List ItemShown → Text
 text_of Lines items = lines_of items
 text_of Json items = json_of items
 
--- the text of a list; none of a repository that is not there
-abbrev pub list_of : World → Listing → Form → Option Text
-list_of w listing form = option_map (text_of form) (listed w listing)
-
+-- the text is that of the items; there is none of a repository that is not there
 abbrev pub IsListText : World → Listing → Form → Option Text → Type 0
-IsListText w listing form text = text ≡ list_of w listing form
+IsListText w listing form text =
+    (items : Option (List ItemShown)) × AreListed w listing items × (text ≡ option_map (text_of form) items)

@@ -1,6 +1,9 @@
 //! The items of lists.
+ghost use Rattle.std.specs.Prelude.{◌≡◌};
+ghost use Rattle.registry_model.specs.Operation.{rank};
 
 use oci_names::{Digest, RepoName, Tag};
+use registry_model::Level;
 
 /// An item of a list.
 #[derive(Drop)]
@@ -24,4 +27,21 @@ pub enum Item {
     Unnamed {
         digest: Digest,
     },
+    /// The level of a token on a repository; the token as it is shown.
+    Grant {
+        name: RepoName,
+        token: String,
+        level: Level,
+    },
+}
+
+/// The number of a level: 1 pull, 2 push, 3 delete.
+pub fn number_of(level: Level) -> u8
+    ensures { result ≡ rank level }
+{
+    match level {
+        Level::Pull => 1,
+        Level::Push => 2,
+        Level::Delete => 3,
+    }
 }

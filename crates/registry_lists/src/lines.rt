@@ -1,10 +1,12 @@
 //! Lists of a line for each item.
 ghost use Rattle.std.specs.Prelude.{◌≡◌, ◌∷◌, ◌++◌, map, decimal, string_bytes, IfOk, OnOk};
+ghost use Rattle.registry_model.specs.Operation.{rank};
 ghost use Rattle.registry_lists.specs.Lists.{item_shown};
 ghost use Rattle.registry_lists.specs.Texts.{behind_spaces, line_of, lines_of};
 
-use crate::items::Item;
-use oci_names::Digest;
+use crate::items::{Item, number_of};
+use oci_names::{Digest, RepoName};
+use registry_model::Level;
 use std::alloc::{AllocError, Global};
 
 /// Writes a text, a space and another text.
@@ -44,6 +46,23 @@ fn push_blob(
     push_behind_spaces(text, manifests)
 }
 
+/// Writes a level: the repository's name, the token as it is shown, and the level's number.
+fn push_grant(
+    alloc: Global,
+    text: &mut String,
+    name: &RepoName,
+    token: &str,
+    level: Level,
+) -> Result<(), AllocError>
+    ensures { OnOk result (string_bytes text.new ≡ string_bytes text.old
+        ++ (name.now ++ 32 ∷ token.now ++ 32 ∷ decimal (rank level))) }
+{
+    push_two(text, name.as_str(), token)?;
+    let number = number_of(level);
+    let number = format!(in alloc; " {number}")?;
+    text.push_str(number.as_str())
+}
+
 /// Writes an item, without the line's end.
 fn push_item(alloc: Global, text: &mut String, item: &Item) -> Result<(), AllocError>
     ensures { OnOk result (string_bytes text.new
@@ -58,6 +77,9 @@ fn push_item(alloc: Global, text: &mut String, item: &Item) -> Result<(), AllocE
             manifests,
         } => push_blob(alloc, text, digest, *size, manifests),
         Item::Unnamed { digest } => text.push_str(digest.as_str()),
+        Item::Grant { name, token, level } => {
+            push_grant(alloc, text, name, token.as_str(), *level)
+        }
     }
 }
 

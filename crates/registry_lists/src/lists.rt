@@ -1,10 +1,12 @@
 //! The text of a list.
 ghost use Rattle.std.specs.Prelude.{◌≡◌, map, string_bytes, MatchResult};
-ghost use Rattle.registry_model.specs.Keeping.{ReadsBy, Spends};
-ghost use Rattle.registry_lists.specs.Lists.{item_shown, listed};
+ghost use Rattle.registry_model.specs.Keeping.{ReadsSo, Spends};
+ghost use Rattle.registry_lists.specs.Lists.{item_shown};
+ghost use Rattle.registry_lists.specs.Listed.{AreListed};
 ghost use Rattle.registry_lists.specs.Texts.{text_of, IsListText};
 ghost use Rattle.registry_lists.specs.Reading.{items_if, TellsText};
 
+use crate::grants::grants;
 use crate::items::Item;
 use crate::lines::as_lines;
 use crate::objects::as_json;
@@ -22,7 +24,7 @@ fn items<K: Keeper>(
     listing: &Listing,
 ) -> Result<Option<Vec<Item>>, Fault>
     ensures found { K.is_honest service.new
-        → ReadsBy items_if result (listed (K.state service.old).world listing.now)
+        → ReadsSo (λ items. AreListed (K.state service.old).world listing.now (items_if items)) result
         (K.state service.old) (K.state service.new) }
     ensures spends { Spends result (K.state service.old) (K.state service.new) }
     ensures honest { K.is_honest service.new → K.is_honest service.old }
@@ -35,6 +37,7 @@ fn items<K: Keeper>(
             }
             Ok(Some(held(alloc, service, name, *what)?))
         }
+        Listing::Grants { name, token, shown } => grants(alloc, service, name, token, *shown),
     }
 }
 

@@ -3,11 +3,12 @@ ghost use Rattle.std.specs.Prelude.{◌≡◌, map, string_bytes, IfOk};
 ghost use Rattle.serde_json.specs.Data.{array};
 ghost use Rattle.serde_json.specs.View.{view, items_view};
 ghost use Rattle.oci_manifest.specs.Member.{text_items};
-ghost use Rattle.registry_lists.specs.Lists.{item_shown, blob_item};
+ghost use Rattle.registry_lists.specs.Lists.{item_shown, blob_item, grant_item};
 ghost use Rattle.registry_lists.specs.Texts.{data_of, list_data, json_of};
 
-use crate::items::Item;
-use oci_names::Digest;
+use crate::items::{Item, number_of};
+use oci_names::{Digest, RepoName};
+use registry_model::Level;
 use serde_json::{Value, json};
 use std::alloc::{AllocError, Global};
 
@@ -33,6 +34,18 @@ fn blob_value(
     json!(in alloc; {"digest": digest.as_str(), "manifests": manifests, "size": size})
 }
 
+fn grant_value(
+    alloc: Global,
+    name: &RepoName,
+    token: &str,
+    level: Level,
+) -> Result<Value, AllocError>
+    ensures { IfOk result (λ v. view v ≡ data_of (grant_item name.now token.now level)) }
+{
+    let level = number_of(level);
+    json!(in alloc; {"level": level, "name": name.as_str(), "token": token})
+}
+
 fn item_value(alloc: Global, item: &Item) -> Result<Value, AllocError>
     ensures { IfOk result (λ v. view v ≡ data_of (item_shown item.now)) }
 {
@@ -47,6 +60,7 @@ fn item_value(alloc: Global, item: &Item) -> Result<Value, AllocError>
             manifests,
         } => blob_value(alloc, digest, *size, manifests),
         Item::Unnamed { digest } => json!(in alloc; {"digest": digest.as_str()}),
+        Item::Grant { name, token, level } => grant_value(alloc, name, token.as_str(), *level),
     }
 }
 

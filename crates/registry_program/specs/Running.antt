@@ -9,13 +9,12 @@ use Rattle.registry_orders.specs.declared.limits.Limits.{Limits}
 use Rattle.registry_orders.specs.declared.tasks.Task.{Task}
 use Rattle.registry_orders.specs.declared.tasks.Task.TheVariants as task
 use Rattle.registry_orders.specs.declared.orders.Order.{Order}
-use Rattle.registry_orders.specs.declared.orders.Order.TheVariants.{Change}
-use Rattle.registry_orders.specs.declared.orders.TokenChange.{TokenChange}
+use Rattle.registry_orders.specs.declared.orders.TokenOrder.{TokenOrder}
 use Rattle.registry_orders.specs.declared.place.Place.{Place}
 use Rattle.registry_orders.specs.declared.place.Place.TheVariants.{Database, Server}
 use Rattle.registry_orders.specs.declared.tokens.TokenSource.{TokenSource}
 use Rattle.registry_orders.specs.declared.tokens.TokenSource.TheVariants.{Input, File}
-use Rattle.registry_orders.specs.Orders.{change_with}
+use Rattle.registry_orders.specs.Orders.{order_with}
 use Rattle.registry_orders.specs.Tokens.{IsFirstLine}
 use Rattle.registry_orders.specs.Failures.{status_of, status_if, IsOfWords, IsOfOpening}
 use Rattle.registry_orders.specs.Tasks.{IsTask}
@@ -52,20 +51,19 @@ abbrev pub RunsAt : (Text → Opened) → Place → Order → ℕ → Output →
 RunsAt at (Database path) order status o = RunsOrder (at path.now) order status o
 RunsAt at (Server path) order status o = IsSent status o
 
--- the order that a change is with some token
-abbrev pub RunsByFile : (Text → Opened) → Place → TokenChange → ℕ → Output → Type 0
-RunsByFile at place change status o =
-    (token : Text) × RunsAt at place (Change (change_with change token)) status o
+-- the order with some token
+abbrev pub RunsByFile : (Text → Opened) → Place → TokenOrder → ℕ → Output → Type 0
+RunsByFile at place order status o = (token : Text) × RunsAt at place (order_with order token) status o
 
 -- the same with the token that is the first line of standard input, of which no more is read
-abbrev pub RunsByInput : (Text → Opened) → Place → TokenChange → ℕ → Streams → Type 0
-RunsByInput at place change status e = (token : Text) × IsFirstLine e.left e.left' token
-    × RunsAt at place (Change (change_with change token)) status (output_of e)
+abbrev pub RunsByInput : (Text → Opened) → Place → TokenOrder → ℕ → Streams → Type 0
+RunsByInput at place order status e = (token : Text) × IsFirstLine e.left e.left' token
+    × RunsAt at place (order_with order token) status (output_of e)
 
-abbrev pub RunsTokenOrder : (Text → Opened) → Place → TokenSource → TokenChange → ℕ → Streams → Type 0
-RunsTokenOrder at place Input change status e = RunsByInput at place change status e
-RunsTokenOrder at place (File path) change status e =
-    (e.left' ≡ e.left) × RunsByFile at place change status (output_of e)
+abbrev pub RunsTokenOrder : (Text → Opened) → Place → TokenSource → TokenOrder → ℕ → Streams → Type 0
+RunsTokenOrder at place Input order status e = RunsByInput at place order status e
+RunsTokenOrder at place (File path) order status e =
+    (e.left' ≡ e.left) × RunsByFile at place order status (output_of e)
 
 -- what was read is no token, or nothing could be read; no registry is opened, and nothing is sent
 abbrev pub IsWithoutToken : ℕ → Output → Type 0
@@ -100,8 +98,8 @@ RunsTask at (task.Server path address connections limits beside) status e =
     (e.left' ≡ e.left) × RunsServer limits (at path.now) status (output_of e)
 RunsTask at (task.Order place order) status e =
     (e.left' ≡ e.left) × RunsAt at place order status (output_of e)
-RunsTask at (task.TokenOrder place source change) status e =
-    RunsTokenOrder at place source change status e
+RunsTask at (task.TokenOrder place source order) status e =
+    RunsTokenOrder at place source order status e
 RunsTask at (task.Check path) status e =
     (e.left' ≡ e.left) × RunsCheck (at path.now) status (output_of e)
 RunsTask at (task.Migration path) status e = IsUntouched e × EndsMigration status
@@ -115,7 +113,7 @@ IsNotRead words status e = ((f : Failure) × IsOfWords f × GivesUp f status e)
 
 -- the task wants a token, and there is none
 abbrev pub LacksToken : Task → ℕ → Streams → Type 0
-LacksToken (task.TokenOrder place source change) status e = LacksTokenOf source status e
+LacksToken (task.TokenOrder place source order) status e = LacksTokenOf source status e
 LacksToken _ status e = ⊥
 
 -- what words come to: the task that they spell is done, and then the status is not 2; or it wants a token,
@@ -127,7 +125,7 @@ RunsWords at words status e =
 
 -- the words take a line of standard input for a token
 abbrev pub IsByInput : Task → Type 0
-IsByInput (task.TokenOrder place Input change) = ⊤
+IsByInput (task.TokenOrder place Input order) = ⊤
 IsByInput _ = ⊥
 
 abbrev pub TakesLine : List Text → Type 0

@@ -327,9 +327,9 @@ pub fn run_words<
             Task::TokenOrder {
                 place,
                 source,
-                change,
+                order,
             },
-        ) => run_token_order(rt, alloc, opener, place, source, change, reader, out, err),
+        ) => run_token_order(rt, alloc, opener, place, source, order, reader, out, err),
         Ok(Task::Check { path }) => run_check(alloc, opener, path, out, err),
         Ok(Task::Migration { path }) => run_migration::<K, O, E>(opener, path, err),
         Ok(Task::Stop { path }) => send_stop(rt, alloc, path, out, err),

@@ -12,7 +12,7 @@ use oci_names::Token;
 use registry_model::Keeper;
 use registry_opening::Opener;
 use registry_orders::cause::say_at;
-use registry_orders::{Cause, Failure, Order, Place, TokenChange, TokenSource, read_token};
+use registry_orders::{Cause, Failure, Place, TokenOrder, TokenSource, read_token};
 use std::alloc::Global;
 use std::fs;
 use std::io::{ErrorKind, Read, Write};
@@ -71,13 +71,13 @@ fn run_by_input<T: Net, K: Keeper + Drop, O: Opener<K>, R: Read, W: Write, E: Wr
     alloc: Global,
     opener: &O,
     place: Place,
-    change: TokenChange,
+    order: TokenOrder,
     reader: &mut R,
     out: &mut W,
     err: &mut E,
 ) -> u8
     ensures runs { ((result ≢ 2)
-        × RunsByInput (OverAt K.is_honest K.state (O.opens opener.now)) place.entry change result
+        × RunsByInput (OverAt K.is_honest K.state (O.opens opener.now)) place.entry order result
         (streams (R.remaining reader.old) (R.remaining reader.new)
         (W.contents out.old) (W.contents out.new)))
         ⊎ IsWithoutToken result (output (W.contents out.old) (W.contents out.new)) }
@@ -87,7 +87,7 @@ fn run_by_input<T: Net, K: Keeper + Drop, O: Opener<K>, R: Read, W: Write, E: Wr
 {
     match read_token(alloc, reader) {
         Ok(token) => {
-            let order = Order::Change(change.with(token));
+            let order = order.with(token);
             run_order_at(rt, alloc, opener, place, &order, out, err)
         }
         Err(failure) => say_at(err, failure, "standard input", no_token(failure).cause),
@@ -101,12 +101,12 @@ fn run_by_file<T: Files + Net, K: Keeper + Drop, O: Opener<K>, W: Write, E: Writ
     opener: &O,
     place: Place,
     file: &str,
-    change: TokenChange,
+    order: TokenOrder,
     out: &mut W,
     err: &mut E,
 ) -> u8
     ensures runs { ((result ≢ 2)
-        × RunsByFile (OverAt K.is_honest K.state (O.opens opener.now)) place.entry change result
+        × RunsByFile (OverAt K.is_honest K.state (O.opens opener.now)) place.entry order result
         (output (W.contents out.old) (W.contents out.new)))
         ⊎ IsWithoutToken result (output (W.contents out.old) (W.contents out.new)) }
     ensures silent { 0 < result → result < 4
@@ -115,7 +115,7 @@ fn run_by_file<T: Files + Net, K: Keeper + Drop, O: Opener<K>, W: Write, E: Writ
 {
     match token_in_file(rt, alloc, file) {
         Ok(token) => {
-            let order = Order::Change(change.with(token));
+            let order = order.with(token);
             run_order_at(rt, alloc, opener, place, &order, out, err)
         }
         Err(none) => say_at(err, none.failure, file, none.cause),
@@ -130,14 +130,14 @@ pub fn run_token_order<T: Files + Net, K: Keeper + Drop, O: Opener<K>, R: Read, 
     opener: &O,
     place: Place,
     source: TokenSource,
-    change: TokenChange,
+    order: TokenOrder,
     reader: &mut R,
     out: &mut W,
     err: &mut E,
 ) -> u8
     ensures runs { ((result ≢ 2)
         × RunsTokenOrder (OverAt K.is_honest K.state (O.opens opener.now)) place.entry source.entry
-        change result (streams (R.remaining reader.old) (R.remaining reader.new)
+        order result (streams (R.remaining reader.old) (R.remaining reader.new)
         (W.contents out.old) (W.contents out.new)))
         ⊎ LacksTokenOf source.entry result
         (streams (R.remaining reader.old) (R.remaining reader.new)
@@ -147,7 +147,7 @@ pub fn run_token_order<T: Files + Net, K: Keeper + Drop, O: Opener<K>, R: Read, 
     ensures status { result ≤ 4 }
 {
     match source {
-        TokenSource::Input => run_by_input(rt, alloc, opener, place, change, reader, out, err),
-        TokenSource::File(file) => run_by_file(rt, alloc, opener, place, file, change, out, err),
+        TokenSource::Input => run_by_input(rt, alloc, opener, place, order, reader, out, err),
+        TokenSource::File(file) => run_by_file(rt, alloc, opener, place, file, order, out, err),
     }
 }

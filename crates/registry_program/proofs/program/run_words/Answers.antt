@@ -18,14 +18,14 @@ returns-in-Ok-TokenOrder-clause-runs g c =
     let read = rw c.in-Ok-TokenOrder.field-0-is at c.in-Ok-TokenOrder.ensures.read in
     let found = c.in-Ok-TokenOrder in
     order_runs (OverAt g.K.Keeper.is_honest g.K.Keeper.state (g.O.Opener.opens c.args.opener.now)) (map g.S.AsStr.text c.args.words.now)
-    found.place found.source found.change _ _ read c.run_token_order.ensures.runs
+    found.place found.source found.order _ _ read c.run_token_order.ensures.runs
 
 pub returns-in-Ok-TokenOrder-clause-refused : goal.returns-in-Ok-TokenOrder-clause-refused
 returns-in-Ok-TokenOrder-clause-refused g c more less =
     let read = rw c.in-Ok-TokenOrder.field-0-is at c.in-Ok-TokenOrder.ensures.read in
     let found = c.in-Ok-TokenOrder in
     order_spares (OverAt g.K.Keeper.is_honest g.K.Keeper.state (g.O.Opener.opens c.args.opener.now)) (map g.S.AsStr.text c.args.words.now)
-    found.place found.source found.change _ _ read c.run_token_order.ensures.runs (c.run_token_order.ensures.silent more (omega arith))
+    found.place found.source found.order _ _ read c.run_token_order.ensures.runs (c.run_token_order.ensures.silent more (omega arith))
 
 pub returns-in-Err-Options-clause-runs : goal.returns-in-Err-Options-clause-runs
 returns-in-Err-Options-clause-runs g c = inr (inr (inl (InvalidOptions, tt, (c.say_at.ensures, record { left = refl; held = refl }))))

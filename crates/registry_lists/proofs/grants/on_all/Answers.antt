@@ -1,0 +1,28 @@
+use Rattle.std.proofs.Common.{◌∙◌, rules}
+use Rattle.std.proofs.lemmas.Iterator.Adapters.{YieldsList-from_vec}
+use Rattle.std.proofs.lemmas.Iterator.Consumers.{YieldsList-end}
+use Rattle.registry_lists.proofs.GrantLemmas.{over_found, over_all}
+use Rattle.registry_lists.proofs.grants.on_all.Goals as goal
+
+pub loop-name-preserved : goal.loop-name-preserved
+loop-name-preserved g c =
+    let so_far = c.loop-name.invariant in
+    record {
+      unspent = c.in_ok-others.ensures.spends.1;
+      honest = λ honest. so_far.honest (c.in_ok-others.ensures.honest honest);
+      same = λ honest. (c.in_ok-others.ensures.found honest).1 ∙ so_far.same (c.in_ok-others.ensures.honest honest);
+      found = λ honest.
+          let early = c.in_ok-others.ensures.honest honest in
+          over_found c.args.asked.now c.args.shown _ _ c.loop-name.yielded _ _ _ _
+          (so_far.found early) (c.in_ok-others.ensures.found honest).0 (so_far.same early) c.in_ok-push_all.ensures.added;
+    }
+
+pub returns-clause-found : goal.returns-clause-found
+returns-clause-found g c honest =
+    let told = c.in_ok-usages.ensures.found (c.loop-name.invariant.honest honest) in
+    let given = c.into_iter-name-iterator.ensures.into_iter_gives in
+    let road = YieldsList-from_vec c.in_ok-usages.usages.items given.0 (search (rules, given)) in
+    let all = YieldsList-end road c.loop-name.yielded c.loop-name.name-iterator c.loop-name.yielded_by c.next.result c.next.new.self c.in-None.is c.next.ensures.steps in (
+      over_all c.args.asked.now c.args.shown (g.K.Keeper.state c.args.service.now) _ c.loop-name.yielded _ _ (c.loop-name.invariant.found honest) all.0 told.0 told.1,
+      c.loop-name.invariant.same honest ∙ told.1,
+    )

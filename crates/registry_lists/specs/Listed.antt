@@ -1,0 +1,13 @@
+-- What the items of each list are (profile).
+use Rattle.std.specs.Prelude.{◌≡◌, List, Option, Some, option_map}
+use Rattle.registry_model.specs.World.{World, repo_at}
+use Rattle.registry_orders.specs.declared.listing.Listing.{Listing}
+use Rattle.registry_orders.specs.declared.listing.Listing.TheVariants.{Repos, InRepo, Grants}
+use Rattle.registry_lists.specs.Lists.{ItemShown, repos_of, held_of}
+use Rattle.registry_lists.specs.Grants.{AreGrantsOf}
+
+-- the items; none of a repository that is not there
+abbrev pub AreListed : World → Listing → Option (List ItemShown) → Type 0
+AreListed w Repos items = items ≡ Some (repos_of w)
+AreListed w (InRepo name what) items = items ≡ option_map (held_of what) (repo_at w name)
+AreListed w (Grants name token shown) items = AreGrantsOf w name token shown items

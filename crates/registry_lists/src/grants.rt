@@ -1,0 +1,165 @@
+//! The levels of tokens on repositories, read of a service.
+ghost use Rattle.std.specs.Prelude.{◌≡◌, ◌++◌, take, string_bytes, IfOk, IfErr, OnOk};
+ghost use Rattle.std.specs.FinMap.{keys};
+ghost use Rattle.registry_model.specs.Keeping.{ReadsSo, Spends};
+ghost use Rattle.registry_lists.specs.Lists.{item_shown, items_shown, grant_item};
+ghost use Rattle.registry_lists.specs.Grants.{written, is_asked, grants_of, AreGrantsOn, AreGrantsOver, AreGrantsOf};
+ghost use Rattle.registry_lists.specs.Reading.{items_if};
+
+use crate::items::Item;
+use oci_names::{Fault, RepoName, Token};
+use registry_model::{Keeper, Level};
+use registry_orders::Shown;
+use registry_service::Service;
+use std::alloc::{AllocError, Global};
+
+/// How many characters the beginning of a token has.
+const SHOWN: usize = 4;
+
+/// The first characters of a token; all of them where it has no more.
+fn beginning(token: &Token) -> &str
+    ensures { result.now ≡ take 4 token.now }
+{
+    let text = token.as_str();
+    &text[..SHOWN.min(text.len())]
+}
+
+/// A token as a list shows it.
+fn written(alloc: Global, token: &Token, shown: Shown) -> Result<String, AllocError>
+    ensures { IfOk result (λ text. string_bytes text ≡ written shown token.now) }
+{
+    match shown {
+        Shown::Beginning => {
+            let beginning = beginning(token);
+            format!(in alloc; "{beginning}...")
+        }
+        Shown::Whole => String::from_str(alloc, token.as_str()),
+    }
+}
+
+/// Whether a token is the one that is asked for; any is where none is.
+fn is_asked(asked: &Option<Token>, token: &Token) -> bool
+    ensures { result ≡ is_asked asked.now token.now }
+{
+    match asked {
+        Some(asked) => token.as_str() == asked.as_str(),
+        None => true,
+    }
+}
+
+/// The item of a level.
+fn grant(
+    alloc: Global,
+    name: &RepoName,
+    token: &Token,
+    level: Level,
+    shown: Shown,
+) -> Result<Item, AllocError>
+    ensures { IfOk result (λ item.
+        item_shown item ≡ grant_item name.now (written shown token.now) level) }
+{
+    Ok(Item::Grant {
+        name: name.clone()?,
+        token: written(alloc, token, shown)?,
+        level,
+    })
+}
+
+/// The items of a repository's levels.
+fn grants_of(
+    alloc: Global,
+    name: &RepoName,
+    levels: &[(Token, Level)],
+    asked: &Option<Token>,
+    shown: Shown,
+) -> Result<Vec<Item>, AllocError>
+    ensures { IfOk result (λ items.
+        items_shown items ≡ grants_of name.now asked.now shown levels.now) }
+{
+    let mut items = Vec::new(alloc);
+    for (token, level) in levels {
+        if is_asked(asked, token) {
+            items.push(grant(alloc, name, token, *level, shown)?)?;
+        }
+    }
+    Ok(items)
+}
+
+/// The levels on one repository, in byte order of their tokens; none where it is not there.
+fn on_one<K: Keeper>(
+    alloc: Global,
+    service: &mut Service<K>,
+    name: &RepoName,
+    asked: &Option<Token>,
+    shown: Shown,
+) -> Result<Vec<Item>, Fault>
+    ensures found { K.is_honest service.new → ReadsSo
+        (λ items. AreGrantsOn (K.state service.old).world name.now asked.now shown (items_shown items))
+        result (K.state service.old) (K.state service.new) }
+    ensures spends { Spends result (K.state service.old) (K.state service.new) }
+    ensures honest { K.is_honest service.new → K.is_honest service.old }
+{
+    let levels = service.levels(alloc, name)?;
+    match grants_of(alloc, name, &levels, asked, shown) {
+        Ok(items) => Ok(items),
+        Err(_) => Err(Fault::Memory),
+    }
+}
+
+fn push_all(items: &mut Vec<Item>, mut others: Vec<Item>) -> Result<(), Fault>
+    ensures added { OnOk result (items_shown items.new ≡ items_shown items.old ++ items_shown others) }
+    ensures memory { IfErr result (λ fault. fault ≡ Fault.Memory) }
+{
+    match items.append(&mut others) {
+        Ok(()) => Ok(()),
+        Err(_) => Err(Fault::Memory),
+    }
+}
+
+/// The levels on each repository, in byte order of the names.
+fn on_all<K: Keeper>(
+    alloc: Global,
+    service: &mut Service<K>,
+    asked: &Option<Token>,
+    shown: Shown,
+) -> Result<Vec<Item>, Fault>
+    ensures found { K.is_honest service.new → ReadsSo
+        (λ items. let w = (K.state service.old).world in
+        AreGrantsOver w (keys w.repos) asked.now shown (items_shown items))
+        result (K.state service.old) (K.state service.new) }
+    ensures spends { Spends result (K.state service.old) (K.state service.new) }
+    ensures honest { K.is_honest service.new → K.is_honest service.old }
+{
+    let usages = service.usages(alloc)?;
+    let mut items = Vec::new(alloc);
+    for (name, _) in usages {
+        let others = on_one(alloc, service, &name, asked, shown)?;
+        push_all(&mut items, others)?;
+    }
+    Ok(items)
+}
+
+/// The levels on the repository of a name, or on all; none where the one of the name is not there.
+pub fn grants<K: Keeper>(
+    alloc: Global,
+    service: &mut Service<K>,
+    name: &Option<RepoName>,
+    asked: &Option<Token>,
+    shown: Shown,
+) -> Result<Option<Vec<Item>>, Fault>
+    ensures found { K.is_honest service.new → ReadsSo
+        (λ items. AreGrantsOf (K.state service.old).world name.now asked.now shown (items_if items))
+        result (K.state service.old) (K.state service.new) }
+    ensures spends { Spends result (K.state service.old) (K.state service.new) }
+    ensures honest { K.is_honest service.new → K.is_honest service.old }
+{
+    match name {
+        Some(name) => {
+            if !service.has_repo(name)? {
+                return Ok(None);
+            }
+            Ok(Some(on_one(alloc, service, name, asked, shown)?))
+        }
+        None => Ok(Some(on_all(alloc, service, asked, shown)?)),
+    }
+}
