@@ -119,7 +119,7 @@ def look_at_the_completion(room, told):
     for name in filter(None, told):
         wanted = set(re.findall(r"^ +(?:-[a-zA-Z], )?(--[a-z-]+)", told[name], re.MULTILINE))
         say(offered("registry", name, "--") == wanted, f"and the options of {name}", str(offered("registry", name, "--")))
-    say(offered("registry", "gr") == {"grant"}, "a word that is begun is ended")
+    say(offered("registry", "rev") == {"revoke"}, "a word that is begun is ended")
 
 
 def look_at_the_unit(room):

@@ -152,7 +152,7 @@ def commanded(db, command):
         "drop": lambda: repo(rest[0]),
         "sessions": lambda: repo(rest[0]),
         "grant": lambda: ["--token", rest[0], *repo(rest[1]), "--level", LEVELS[rest[2]]],
-        "revoke": lambda: ["--token", rest[0], *repo(rest[1])],
+        "revoke": lambda: ["--token", rest[0], *(repo(rest[1]) if rest[1:] else [])],
         "prune": lambda: repo(rest[0]),
         "clear": lambda: [],
     }[name]()
@@ -192,11 +192,13 @@ PUSH = b"POST /v2/a/blobs/uploads/?digest=%b HTTP/1.1\r\nHost: r\r\nAuthorizatio
 
 
 def lists_that_differ(db):
-    """Where a list is another than it should be: of two repositories, of which one holds the blob `abc`."""
+    """Where a list is another than it should be: of two repositories, of which one holds the blob `abc`, and of the
+    levels of two tokens."""
     digest = f"sha256:{hashlib.sha256(b'abc').hexdigest()}"
     for name in ("b", "a"):
         run("repo", "--db", db, "--name", name, "--quota", "100")
     run("grant", "--db", db, "--name", "a", "--token", "t1", "--level", "2")
+    run("grant", "--db", db, "--name", "b", "--token", "secret", "--level", "1")
     run("stdio", "--db", db, given=PUSH % digest.encode())
     wanted = [
         (("repos",), "a\nb\n"),
@@ -209,14 +211,23 @@ def lists_that_differ(db):
         (("prune", "--name", "a", "--dry-run"), f"{digest}\n"),
         (("prune", "--name", "a"), ""),
         (("prune", "--name", "a", "--dry-run"), ""),
+        (("grants",), "a t1... 2\nb secr... 1\n"),
+        (("grants", "--show-tokens"), "a t1 2\nb secret 1\n"),
+        (("grants", "--json"), '[{"level":2,"name":"a","token":"t1..."},{"level":1,"name":"b","token":"secr..."}]\n'),
+        (("grants", "--name", "b"), "b secr... 1\n"),
+        (("grants", "--token", "t1", "--show-tokens"), "a t1 2\n"),
+        (("grants", "--name", "b", "--token", "t1", "--json"), "[]\n"),
+        (("revoke", "--token", "secret"), ""),
+        (("grants", "--name", "b"), ""),
     ]
     for words, text in wanted:
         found = run(words[0], "--db", db, *words[1:])
         if (found.returncode, found.stdout, found.stderr) != (0, text.encode(), b""):
             yield found
-    found = run("blobs", "--db", db, "--name", "c")
-    if (found.returncode, found.stdout, found.stderr) != (1, b"", FAULTS["NoRepo"]):
-        yield found
+    for word in ("blobs", "grants"):
+        found = run(word, "--db", db, "--name", "c")
+        if (found.returncode, found.stdout, found.stderr) != (1, b"", FAULTS["NoRepo"]):
+            yield found
 
 
 def main():

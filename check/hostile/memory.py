@@ -19,6 +19,7 @@ ROWS = [
     ("quota", "quota_of_pushes"),
     ("administrator", "clear_keeps_what_is_named"),
     ("administrator", "administrator_drops"),
+    ("administrator", "revoke_takes_every_level"),
     ("administrator", "refused_commands"),
     ("manifests", "manifest_kept_to_the_byte"),
     ("referrers", "referrers_and_their_filter"),

@@ -50,6 +50,13 @@ MALFORMED = [
     b"grant team/app 3 t2 t3\n",
     b"grant team/app 3 t\xff\n",
     b"revoke team/app t1 \n",
+    b"revoke\n",
+    b"revoke *\n",
+    b"list lines grants\n",
+    b"list lines grants whole *\n",
+    b"list lines grants all * *\n",
+    b"list text grants whole * *\n",
+    b"list lines grants whole * t1 t2\n",
     b"\xff\xfe\x00\x01 \x80\n",
     b"x" * 599 + b"\n",
 ]
@@ -105,17 +112,18 @@ def status_of(server, token, name):
 
 
 def forty_orders():
-    """Six kinds in turn; those of the first round that take something away are refused, since nothing is there."""
+    """Six in turn; those of the first round that take something away are refused, since nothing is there. Every other
+    one takes all levels of a token, and lists those that there are."""
     for number in range(7):
         this, last = f"team/n{number}", f"team/n{number - 1}"
         token = ("--token", f"token-{number}")
         yield "repo", "--name", this, "--quota", str(1000 + number)
         yield "grant", *token, "--name", this, "--level", str(1 + number % 3)
         yield "quota", "--name", this, "--quota", str(2000 + number)
-        yield "revoke", "--token", f"token-{number - 1}", "--name", last
+        yield "revoke", "--token", f"token-{number - 1}", *(("--name", last) if number % 2 else ())
         if number < 6:
             yield "drop", "--name", last
-            yield ("usage",)
+            yield ("usage",) if number % 2 else ("grants", "--show-tokens")
 
 
 class Pushes:
@@ -149,7 +157,7 @@ def in_force(server, words):
     """What is wrong with what a request is told after an order has ended."""
     if words[0] == "grant" and status_of(server, words[2], words[4]) != 200:
         return [f"{words}: the token is not known yet"]
-    if words[0] == "revoke" and status_of(server, words[2], words[4]) != 401:
+    if words[0] == "revoke" and status_of(server, words[2], "team/app") != 401:
         return [f"{words}: the token is known still"]
     if words[0] == "drop" and status_of(server, "t1", words[2]) != 403:
         return [f"{words}: the name is answered otherwise than one that was never there"]

@@ -19,16 +19,21 @@ def order(*words):
     return functools.partial(order_of, words)
 
 
+GRANT = order("grant", "--token", "t1", "--name", "team/app", "--level", "3")
+
 # Orders one after the other, each on what those before it left.
 ORDERS = [
     order("repo", "--name", "team/app", "--quota", "1000"),
     order("quota", "--name", "team/app", "--quota", "1000000"),
-    order("grant", "--token", "t1", "--name", "team/app", "--level", "3"),
+    GRANT,
     order("usage"),
     order("sessions", "--name", "team/app"),
     order("prune", "--name", "team/app"),
     order("clear"),
     order("revoke", "--token", "t1", "--name", "team/app"),
+    GRANT,
+    order("grants"),
+    order("revoke", "--token", "t1"),
     order("drop", "--name", "team/app"),
 ]
 
@@ -61,7 +66,7 @@ WRITES = [
     ("add a repository", ORDERS[0]),
     ("set its quota", ORDERS[1]),
     ("add another", order("repo", "--name", "team/lib", "--quota", "1000")),
-    ("grant a level", ORDERS[2]),
+    ("grant a level", GRANT),
     ("grant another", order("grant", "--token", "t1", "--name", "team/lib", "--level", "3")),
     ("push a blob", (push(ABC), 201)),
     ("push a config", (push(CONFIG), 201)),
@@ -81,5 +86,7 @@ WRITES = [
     ("prune the blobs that no manifest names", ORDERS[5]),
     ("clear", ORDERS[6]),
     ("revoke a level", ORDERS[7]),
-    ("drop a repository", ORDERS[8]),
+    ("grant it again", GRANT),
+    ("revoke every level", ORDERS[10]),
+    ("drop a repository", ORDERS[11]),
 ]

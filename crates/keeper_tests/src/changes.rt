@@ -31,13 +31,14 @@ const CONFIG: &str = "sha256:44136fa355b3678a1146ad16f7e8649e94fb4fc21fe77e8310c
 /// By `printf hel | sha256sum`.
 const HEL: &str = "sha256:d6a81f224bbf2f7c22baddbd5d40730eb20cfb0b3d74e10cab61788214caceb1";
 
-/// The changes of a keeper, one for each of its seventeen writes.
+/// The changes of a keeper, one for each of its eighteen writes.
 #[derive(Clone, Copy, Debug)]
 pub enum Change {
     SetRepo,
     DropRepo,
     Grant,
     Revoke,
+    RevokeAll,
     DropSessions,
     Prune,
     Clear,
@@ -53,11 +54,12 @@ pub enum Change {
     DeleteBlob,
 }
 
-pub const CHANGES: [Change; 17] = [
+pub const CHANGES: [Change; 18] = [
     Change::SetRepo,
     Change::DropRepo,
     Change::Grant,
     Change::Revoke,
+    Change::RevokeAll,
     Change::DropSessions,
     Change::Prune,
     Change::Clear,
@@ -137,6 +139,7 @@ impl Change {
             | Change::DropRepo
             | Change::Grant
             | Change::Revoke
+            | Change::RevokeAll
             | Change::DropSessions
             | Change::Prune
             | Change::Clear => self.order(alloc, registry),
@@ -168,6 +171,7 @@ impl Change {
                 token: &first,
                 name: &lib,
             },
+            Change::RevokeAll => AdminCommand::RevokeAll { token: &first },
             Change::DropSessions => AdminCommand::DropSessions { name: &app },
             Change::Prune => AdminCommand::Prune { name: &app },
             _ => AdminCommand::Clear,

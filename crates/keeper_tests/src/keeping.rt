@@ -36,6 +36,7 @@ fn knows_nothing<K: Keeper>(
     same(rt, keeper.known(&token), Ok(false));
     same(rt, keeper.has_repo(name), Ok(false));
     same(rt, keeper.level(&token, name), Ok(None));
+    assert!(rt; keeper.levels(alloc, name)?.is_empty());
     assert!(rt; keeper.blob(alloc, name, &digest)?.is_none());
     same(rt, keeper.blob_size(name, &digest), Ok(None));
     assert!(rt; keeper.manifest(alloc, name, &digest)?.is_none());

@@ -1,7 +1,7 @@
 //! Tests of a keeper's calls, over ordered maps and over tables: what each keeps, what `clear` leaves, that
 //! equal bytes are kept once, what repositories are told to hold after each change, sessions that end
-//! without their bytes, and blobs that go at once; single calls against values of other tools; and each
-//! change, by the request or command that makes it, over files that stop.
+//! without their bytes, blobs that go at once, and levels, in their order; single calls against values of
+//! other tools; and each change, by the request or command that makes it, over files that stop.
 #![tactic(auto)]
 
 #[cfg(test)]
@@ -18,6 +18,8 @@ mod contents;
 mod disks;
 #[cfg(test)]
 mod keeping;
+#[cfg(test)]
+mod levels;
 #[cfg(test)]
 mod model;
 #[cfg(test)]

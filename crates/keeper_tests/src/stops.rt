@@ -84,6 +84,7 @@ fn reads_fail<K: Keeper>(rt: &impl Abort, alloc: Global, keeper: &mut K) -> Resu
     assert!(rt; keeper.last_number(&name).is_err());
     assert!(rt; keeper.usage(&name).is_err());
     assert!(rt; keeper.usages(alloc).is_err());
+    assert!(rt; keeper.levels(alloc, &name).is_err());
     assert!(rt; keeper.blob_digests(alloc, &name).is_err());
     assert!(rt; keeper.manifest_digests(alloc, &name).is_err());
     Ok(())

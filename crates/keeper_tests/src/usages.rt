@@ -34,7 +34,7 @@ const ENDING: [Change; 17] = [
 ];
 
 /// The open session is appended to. The blobs that nothing names go.
-const APPENDING: [Change; 10] = [
+const APPENDING: [Change; 11] = [
     Change::PutBlob,
     Change::Append,
     Change::Append,
@@ -44,6 +44,7 @@ const APPENDING: [Change; 10] = [
     Change::PutManifest,
     Change::DropSessions,
     Change::Revoke,
+    Change::RevokeAll,
     Change::DropRepo,
 ];
 

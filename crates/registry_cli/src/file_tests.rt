@@ -8,7 +8,7 @@ use std::process::Abort;
 use std::test::Fail;
 
 /// Runs the program over database files.
-fn run_on<F: Supposed>(rt: &HostRuntime, words: &[&str], input: &[u8]) -> Outcome {
+pub(crate) fn run_on<F: Supposed>(rt: &HostRuntime, words: &[&str], input: &[u8]) -> Outcome {
     let mut reader = input;
     let mut out = Vec::new(rt.alloc());
     let mut err = Vec::new(rt.alloc());
@@ -101,7 +101,11 @@ fn administrator_statuses(rt: HostRuntime) -> Result<(), Fail> {
 }
 
 /// Makes a registry in the file, and serves a push and then a fetch, each as one connection.
-fn serves_a_push<F: Supposed>(test: &impl Abort, rt: &HostRuntime, path: &str) -> Result<(), Fail> {
+pub(crate) fn serves_a_push<F: Supposed>(
+    test: &impl Abort,
+    rt: &HostRuntime,
+    path: &str,
+) -> Result<(), Fail> {
     let (post, get) = PUSH.split_at(181);
     let (created, found) = REPLIES.split_at(241);
     set_up::<F>(test, rt, path)?;
@@ -136,7 +140,7 @@ fn ask<S: Alter>(conn: &mut Connection<S>, query: &str) -> Result<i64, Fail> {
 }
 
 /// Runs statements over a database file, which is made where there is none.
-fn write_by<F: Supposed>(rt: &HostRuntime, path: &str, batch: &str) -> Result<(), Fail> {
+pub(crate) fn write_by<F: Supposed>(rt: &HostRuntime, path: &str, batch: &str) -> Result<(), Fail> {
     let Ok(mut conn) = Connection::open_from(rt, path, false, F::new()) else {
         return Err(Fail::from("no database"));
     };
@@ -321,84 +325,4 @@ fn leaves_others_alone<F: Supposed>(test: &impl Abort, rt: &HostRuntime) -> Resu
 #[test]
 fn tables_of_other_names_are_left_alone(rt: HostRuntime) -> Result<(), Fail> {
     leaves_others_alone::<Unknown>(&rt, &rt)
-}
-
-/// What is done to a registry behind its back, and what a check tells of it.
-struct Damage {
-    batch: &'static str,
-    lines: &'static str,
-    said: &'static str,
-    /// What undoes it.
-    mending: &'static str,
-}
-
-/// A blob `abc` is there, under its digest. The last damage ends the look at the registry.
-const DAMAGES: [Damage; 4] = [
-    Damage {
-        batch: "UPDATE registry_contents SET bytes = x'616264'",
-        lines: "team/app sha256:ba7816bf8f01cfea414140de5dae2223b00361a396177a9cb410ff61f20015ad: \
-            not the bytes of this digest\n",
-        said: "registry: damaged\n",
-        mending: "UPDATE registry_contents SET bytes = x'616263'",
-    },
-    Damage {
-        batch: "UPDATE registry_blob_links SET size = 4",
-        lines: "team/app sha256:ba7816bf8f01cfea414140de5dae2223b00361a396177a9cb410ff61f20015ad: \
-            not as many bytes as it is told to have\n",
-        said: "registry: damaged\n",
-        mending: "UPDATE registry_blob_links SET size = 3",
-    },
-    Damage {
-        batch: "INSERT INTO registry_manifest_links (repo, digest, size, kind, subject, content) \
-            VALUES ('team/app', \
-            'sha256:ba7816bf8f01cfea414140de5dae2223b00361a396177a9cb410ff61f20015ad', 3, 1, NULL, 1); \
-            INSERT INTO registry_tags (repo, tag, digest) VALUES ('team/app', 'v1', \
-            'sha256:ba7816bf8f01cfea414140de5dae2223b00361a396177a9cb410ff61f20015ad'); \
-            INSERT INTO registry_tags (repo, tag, digest) VALUES ('team/app', 'v2', \
-            'sha256:e3b0c44298fc1c149afbf4c8996fb92427ae41e4649b934ca495991b7852b855')",
-        lines: "team/app sha256:ba7816bf8f01cfea414140de5dae2223b00361a396177a9cb410ff61f20015ad: \
-            no manifest\n\
-            team/app v2: a tag of no manifest\n",
-        said: "registry: damaged\n",
-        mending: "DELETE FROM registry_tags; DELETE FROM registry_manifest_links",
-    },
-    Damage {
-        batch: "DELETE FROM registry_contents",
-        lines: "team/app sha256:ba7816bf8f01cfea414140de5dae2223b00361a396177a9cb410ff61f20015ad: \
-            cannot be read\n",
-        said: "registry: storage failure\n",
-        mending: "",
-    },
-];
-
-/// Checks the file, which tells these lines, and says this.
-fn checks<F: Supposed>(
-    test: &impl Abort,
-    rt: &HostRuntime,
-    damage: &str,
-    status: u8,
-    lines: &str,
-    said: &str,
-) {
-    let ran = run_on::<F>(rt, &["check", "--db", "damaged.db"], b"");
-    same_after(test, &[damage], ran.status, status);
-    same_after(test, &[damage], ran.out.as_slice(), lines.as_bytes());
-    same_after(test, &[damage], ran.err.as_slice(), said.as_bytes());
-}
-
-fn tells_damage<F: Supposed>(test: &impl Abort, rt: &HostRuntime) -> Result<(), Fail> {
-    serves_a_push::<F>(test, rt, "damaged.db")?;
-    for damage in &DAMAGES {
-        checks::<F>(test, rt, "", 0, "", "");
-        write_by::<F>(rt, "damaged.db", damage.batch)?;
-        checks::<F>(test, rt, damage.batch, 3, damage.lines, damage.said);
-        write_by::<F>(rt, "damaged.db", damage.mending)?;
-    }
-    Ok(())
-}
-
-/// A check tells nothing of a registry as it was made, and each thing that is done to its tables.
-#[test]
-fn damage_is_told(rt: HostRuntime) -> Result<(), Fail> {
-    tells_damage::<Unknown>(&rt, &rt)
 }

@@ -2,6 +2,8 @@
 #![tactic(auto)]
 
 #[cfg(test)]
+mod damage_tests;
+#[cfg(test)]
 mod file_tests;
 mod files;
 #[cfg(test)]
@@ -12,6 +14,8 @@ mod order_tests;
 mod path_tests;
 #[cfg(test)]
 mod tests;
+#[cfg(test)]
+mod token_tests;
 #[cfg(test)]
 mod word_tests;
 

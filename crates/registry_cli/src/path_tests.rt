@@ -1,7 +1,7 @@
 //! What the program says of paths, and the modes of the files that it makes, each test with files of its
 //! own in the folder that it is run in.
 use crate::file_tests::{order, set_up};
-use crate::tests::{same_after, words_in};
+use crate::tests::same_after;
 use registry_databases::Supposed;
 use sqlite::{Connection, Unknown};
 use std::fs;
@@ -54,55 +54,6 @@ fn tells_what_is_wrong<F: Supposed>(test: &impl Abort, rt: &HostRuntime) -> Resu
 #[test]
 fn a_path_that_is_wrong_is_told(rt: HostRuntime) -> Result<(), Fail> {
     tells_what_is_wrong::<Unknown>(&rt, &rt)
-}
-
-/// Files of no token, and what is said of them.
-const TOKENLESS: [(&str, &[u8]); 3] = [
-    (
-        "nowhere",
-        b"registry: invalid options\nregistry: nowhere: no such file\n",
-    ),
-    (
-        ".",
-        b"registry: invalid options\nregistry: .: cannot be read\n",
-    ),
-    (
-        "comma",
-        b"registry: invalid token\nregistry: comma: the first line is no token\n",
-    ),
-];
-
-fn reads_tokens<F: Supposed>(test: &impl Abort, rt: &HostRuntime) -> Result<(), Fail> {
-    set_up::<F>(test, rt, "tokens.db")?;
-    fs::write(rt, "token", "t7\nt8\n")?;
-    fs::write(rt, "comma", "t,\n")?;
-    let words = "grant --db tokens.db --token-file token --name team/app --level 1";
-    let words = words_in(rt.alloc(), words)?;
-    order::<F>(test, rt, words.as_slice(), 0, b"")?;
-    let words = words_in(
-        rt.alloc(),
-        "revoke --db tokens.db --token t7 --name team/app",
-    )?;
-    order::<F>(test, rt, words.as_slice(), 0, b"")?;
-    for (file, lines) in TOKENLESS {
-        let words = [
-            "revoke",
-            "--db",
-            "tokens.db",
-            "--token-file",
-            file,
-            "--name",
-            "team/app",
-        ];
-        order::<F>(test, rt, words.as_slice(), 2, lines)?;
-    }
-    Ok(())
-}
-
-/// A token may be the first line of a file.
-#[test]
-fn tokens_are_read_from_files(rt: HostRuntime) -> Result<(), Fail> {
-    reads_tokens::<Unknown>(&rt, &rt)
 }
 
 fn keeps_to_itself<F: Supposed>(test: &impl Abort, rt: &HostRuntime) -> Result<(), Fail> {

@@ -1,11 +1,10 @@
 //! What the words of a command line come to, over registries in memory.
 use crate::tests::{OVER_MEMORY, PUSH, REPLIES, USAGE, run, same, same_after};
-use registry_orders::read_token;
 use std::net::TcpListener;
 use std::test::Fail;
 
 /// Words that are served or answered: the words, what is read and what is written.
-const SERVED: [(&str, &[u8], &[u8]); 5] = [
+const SERVED: [(&str, &[u8], &[u8]); 14] = [
     (OVER_MEMORY, PUSH, REPLIES),
     (OVER_MEMORY, b"", b""),
     (
@@ -15,11 +14,32 @@ const SERVED: [(&str, &[u8], &[u8]); 5] = [
     ),
     ("stdio --db f", PUSH, REPLIES),
     ("usage --db f", b"", USAGE),
+    ("grants --db f", b"", b"team/app t1... 3\n"),
+    ("grants --db f --show-tokens", b"", b"team/app t1 3\n"),
+    (
+        "grants --db f --json",
+        b"",
+        b"[{\"level\":3,\"name\":\"team/app\",\"token\":\"t1...\"}]\n",
+    ),
+    (
+        "grants --db f --name team/app --token t1 --show-tokens --json",
+        b"",
+        b"[{\"level\":3,\"name\":\"team/app\",\"token\":\"t1\"}]\n",
+    ),
+    ("grants --db f --name team/app", b"", b"team/app t1... 3\n"),
+    (
+        "grants --db f --token - --show-tokens",
+        b"t1\nt9\n",
+        b"team/app t1 3\n",
+    ),
+    ("grants --db f --token -", b"t9\nt1\n", b""),
+    ("grants --db f --token t9", b"", b""),
+    ("grants --db f --token t9 --json", b"", b"[]\n"),
 ];
 
 /// An exit status, the lines on standard error, and command lines that come to them, with nothing on
 /// standard output. Names are told before tokens, and both before a database is opened.
-const TOLD: [(u8, &[u8], &str); 20] = [
+const TOLD: [(u8, &[u8], &str); 22] = [
     (
         0,
         b"",
@@ -30,6 +50,7 @@ const TOLD: [(u8, &[u8], &str); 20] = [
         prune --db f --name team/app
         grant --db f --token=-x --name team/app --level 3
         revoke --db f --token t1 --name team/app
+        revoke --db f --token t1
         clear --db f
         check --db f
         migrate --db f
@@ -49,12 +70,15 @@ const TOLD: [(u8, &[u8], &str); 20] = [
         drop --db f --name nowhere
         sessions --db f --name nowhere
         prune --db f --name nowhere
-        grant --db f --token t1 --name nowhere --level 1",
+        grant --db f --token t1 --name nowhere --level 1
+        grants --db f --name nowhere
+        grants --db f --name nowhere --token t9 --json",
     ),
     (
         1,
         b"registry: no such grant\n",
-        "revoke --db f --token t9 --name team/app",
+        "revoke --db f --token t9 --name team/app
+        revoke --db f --token t9",
     ),
     (
         2,
@@ -85,7 +109,16 @@ const TOLD: [(u8, &[u8], &str); 20] = [
         b"registry: invalid options\n\
             registry: revoke: wants one of --token TOKEN and --token-file PATH\n",
         "revoke --db broken --name A
+        revoke --db broken
+        revoke --db broken --token - --token-file t
         revoke --db broken --token - --token-file t --name A",
+    ),
+    (
+        2,
+        b"registry: invalid options\n\
+            registry: grants: wants one of --token TOKEN and --token-file PATH\n",
+        "grants --db broken --token - --token-file t
+        grants --db broken --token t1 --token-file t --name A",
     ),
     (
         2,
@@ -112,6 +145,15 @@ const TOLD: [(u8, &[u8], &str); 20] = [
     (
         2,
         b"registry: invalid options\n\
+            registry: grants: wants one of --db PATH and --orders PATH\n",
+        "grants
+        grants --name A
+        grants --db broken --orders nowhere
+        grants --db broken --orders nowhere --token - --token-file t",
+    ),
+    (
+        2,
+        b"registry: invalid options\n\
             registry: serve: --orders, --log and --stop-at-eof want --at-once of 2 or more\n",
         "serve --db broken --listen nowhere --at-once 1 --orders f
         serve --db broken --listen nowhere --at-once 1 --log
@@ -123,6 +165,8 @@ const TOLD: [(u8, &[u8], &str); 20] = [
         "stdio --memory --repo a=1 --grant t,=A=3
         drop --orders nowhere --name A
         grant --db broken --token t, --name A --level 1
+        grants --db broken --name A
+        grants --orders nowhere --token t, --name A
         drop --db broken --name A",
     ),
     (
@@ -131,7 +175,11 @@ const TOLD: [(u8, &[u8], &str); 20] = [
         "stdio --memory --repo a=1 --grant t,=a=3
         grant --orders nowhere --token t, --name a --level 1
         grant --db broken --token t, --name a --level 1
-        revoke --db broken --token t, --name a",
+        revoke --db broken --token t, --name a
+        revoke --db broken --token t,
+        revoke --orders nowhere --token t,
+        grants --db broken --token t,
+        grants --orders nowhere --token t, --name a",
     ),
     (
         3,
@@ -148,6 +196,8 @@ const TOLD: [(u8, &[u8], &str); 20] = [
             registry: broken: in use by another process; \
             a server that holds it takes orders by --orders\n",
         "usage --db broken
+        grants --db broken
+        revoke --db broken --token t1
         check --db broken
         migrate --db broken",
     ),
@@ -177,6 +227,9 @@ const TOLD: [(u8, &[u8], &str); 20] = [
         drop --orders nowhere --name team/app
         grant --orders nowhere --token t1 --name team/app --level 3
         revoke --orders nowhere --token t1 --name team/app
+        revoke --orders nowhere --token t1
+        grants --orders nowhere
+        grants --orders nowhere --name team/app --token t1 --json
         usage --orders nowhere
         stop --orders nowhere",
     ),
@@ -190,13 +243,18 @@ const TOLD: [(u8, &[u8], &str); 20] = [
 
 /// Numbers out of their range and options that are missing, which are told before a name that is none;
 /// and an unknown word.
-const UNREADABLE: [&str; 20] = [
+const UNREADABLE: [&str; 25] = [
     "grant --db f --token t1 --name A --level 4",
     "grant --db f --token t1 --name A --level 0",
     "repo --db f --name A --quota 9223372036854775808",
     "repo --db f --name A --quota many",
     "repo --db f --name A",
     "repo --orders f --name A",
+    "revoke --db f --token t1 --name",
+    "revoke --db f --token t1 --show-tokens",
+    "grants --db f --name A --level 1",
+    "grants --db f --name A --json=1",
+    "grants --db f A",
     "check",
     "check --orders f",
     "check --db f --name A",
@@ -255,99 +313,6 @@ fn the_command_line_refuses_first(rt: HostRuntime) -> Result<(), Fail> {
     Ok(())
 }
 
-const NO_TOKEN: &[u8] =
-    b"registry: invalid token\nregistry: standard input: the first line is no token\n";
-
-/// Orders with a token on standard input: the words, what is read, the status and standard error.
-const BY_LINE: [(&str, &[u8], u8, &[u8]); 11] = [
-    (
-        "grant --db f --token - --name team/app --level 1",
-        b"t5\n",
-        0,
-        b"",
-    ),
-    ("revoke --db f --token - --name team/app", b"t1", 0, b""),
-    (
-        "revoke --db f --token=- --name team/app",
-        b"t1\nt9\n",
-        0,
-        b"",
-    ),
-    (
-        "revoke --db f --token - --name team/app",
-        b"t9\nt1\n",
-        1,
-        b"registry: no such grant\n",
-    ),
-    (
-        "revoke --db broken --token - --name a",
-        b"t,\n",
-        2,
-        NO_TOKEN,
-    ),
-    (
-        "revoke --db broken --token - --name a",
-        b"t1\r\n",
-        2,
-        NO_TOKEN,
-    ),
-    (
-        "revoke --db broken --token - --name a",
-        b"\nt1\n",
-        2,
-        NO_TOKEN,
-    ),
-    ("revoke --db broken --token - --name a", b"", 2, NO_TOKEN),
-    (
-        "grant --db broken --token - --name A --level 1",
-        b"t,\n",
-        2,
-        b"registry: invalid name\n",
-    ),
-    (
-        "revoke --orders nowhere --token - --name a",
-        b"t,\n",
-        2,
-        NO_TOKEN,
-    ),
-    (
-        "revoke --orders nowhere --token - --name a",
-        b"t1\n",
-        4,
-        b"registry: connection failure\n\
-            registry: nowhere: no server takes orders here\n",
-    ),
-];
-
-/// A token may be a line of standard input.
-#[test]
-fn tokens_are_read_from_standard_input(rt: HostRuntime) -> Result<(), Fail> {
-    for (words, input, status, lines) in BY_LINE {
-        let ran = run(&rt, words, input)?;
-        same_after(&rt, &[words], ran.status, status);
-        same_after(&rt, &[words], ran.err.as_slice(), lines);
-        same_after(&rt, &[words], ran.out.len(), 0);
-    }
-    Ok(())
-}
-
-/// Of what is read for a token, the line alone is taken.
-#[test]
-fn a_token_is_one_line(rt: HostRuntime) -> Result<(), Fail> {
-    let mut reader = b"t1\nrest\n".as_slice();
-    let token = read_token(rt.alloc(), &mut reader)?;
-    same(&rt, token.as_str(), "t1");
-    same(&rt, reader, b"rest\n".as_slice());
-    let mut long = vec![in rt.alloc(); b'a'; 201]?;
-    let mut reader = long.as_slice();
-    same(&rt, read_token(rt.alloc(), &mut reader).is_err(), true);
-    long[200] = b'\n';
-    let mut reader = long.as_slice();
-    let token = read_token(rt.alloc(), &mut reader)?;
-    same(&rt, token.as_str().len(), 200);
-    Ok(())
-}
-
 /// What is served, and on which port, is told on standard error.
 #[test]
 fn a_server_says_what_it_serves(rt: HostRuntime) -> Result<(), Fail> {
@@ -393,6 +358,12 @@ fn usage_lines_name_the_program(rt: HostRuntime) -> Result<(), Fail> {
     let help = run(&rt, "usage --help", b"")?;
     let shown = str::from_utf8(help.out.as_slice())?;
     assert!(rt; shown.contains("Usage: registry usage [OPTIONS]\n"));
+    let help = run(&rt, "revoke --help", b"")?;
+    let shown = str::from_utf8(help.out.as_slice())?;
+    assert!(rt; shown.contains("Usage: registry revoke [OPTIONS]\n"));
+    let help = run(&rt, "grants --help", b"")?;
+    let shown = str::from_utf8(help.out.as_slice())?;
+    assert!(rt; shown.contains("Usage: registry grants [OPTIONS]\n"));
     let lacking = run(&rt, "serve --db f", b"")?;
     let shown = str::from_utf8(lacking.err.as_slice())?;
     assert!(rt; shown.contains("Usage: registry serve "));

@@ -5,7 +5,8 @@ use registry_service::Service;
 use std::alloc::Global;
 
 /// Carries out `repo NAME QUOTA`, `quota NAME QUOTA`, `drop NAME`, `sessions NAME`, `prune NAME`,
-/// `grant TOKEN NAME LEVEL`, `revoke TOKEN NAME` or `clear`. The inner result is the registry's.
+/// `grant TOKEN NAME LEVEL`, `revoke TOKEN NAME`, `revoke TOKEN` or `clear`. The inner result is the
+/// registry's.
 pub fn carry_out<K: Keeper>(
     alloc: Global,
     registry: &mut Service<K>,
@@ -32,6 +33,10 @@ pub fn carry_out<K: Keeper>(
             let token = &token_of(alloc, token)?;
             let name = &name_of(alloc, name)?;
             registry.admin(alloc, &AdminCommand::Revoke { token, name })
+        }
+        ["revoke", token] => {
+            let token = &token_of(alloc, token)?;
+            registry.admin(alloc, &AdminCommand::RevokeAll { token })
         }
         ["clear"] => registry.admin(alloc, &AdminCommand::Clear),
         [word, name] => {

@@ -5,7 +5,7 @@ use oci_names::{RepoName, Token};
 use registry_lists::list_text;
 use registry_maps::MapKeeper;
 use registry_model::{AdminCommand, Level, Query, Quota, Request, Route, Verb};
-use registry_orders::{Form, Held, Listing};
+use registry_orders::{Form, Held, Listing, Shown};
 use registry_service::Service;
 use std::alloc::Global;
 use std::process::Abort;
@@ -180,5 +180,124 @@ fn a_repository_that_is_not_there_has_no_list(rt: HostRuntime) -> Result<(), Fai
     let listing = Listing::InRepo { name, what };
     let found = list_text(alloc, &mut registry, &listing, Form::Lines)?;
     assert!(rt; found.is_none());
+    Ok(())
+}
+
+/// Gives a token a level on a repository.
+fn grant(
+    alloc: Global,
+    registry: &mut Service<MapKeeper>,
+    name: &str,
+    token: &str,
+    level: Level,
+) -> Result<(), Fail> {
+    let name = RepoName::parse(alloc, name)?;
+    let token = Token::parse(alloc, token)?;
+    let grant = AdminCommand::Grant {
+        token: &token,
+        name: &name,
+        level,
+    };
+    registry.admin(alloc, &grant)?;
+    Ok(())
+}
+
+/// The registry with further levels, on both of its repositories, of tokens that are longer than what is
+/// shown of them, as long, and shorter.
+fn granted(rt: &impl Abort, alloc: Global) -> Result<Service<MapKeeper>, Fail> {
+    let mut registry = registry(rt, alloc)?;
+    for (name, token, level) in [
+        ("team/base", "secret", Level::Pull),
+        ("team/base", "abc", Level::Push),
+        ("team/app", "secret", Level::Delete),
+        ("team/app", "abcd", Level::Pull),
+    ] {
+        grant(alloc, &mut registry, name, token, level)?;
+    }
+    Ok(registry)
+}
+
+/// The list of the levels on a repository, or on all, of a token, or of all.
+fn grants(
+    alloc: Global,
+    name: Option<&str>,
+    token: Option<&str>,
+    shown: Shown,
+) -> Result<Listing, Fail> {
+    let name = match name {
+        Some(name) => Some(RepoName::parse(alloc, name)?),
+        None => None,
+    };
+    let token = match token {
+        Some(token) => Some(Token::parse(alloc, token)?),
+        None => None,
+    };
+    Ok(Listing::Grants { name, token, shown })
+}
+
+/// A repository or all, a token or all, how much of a token is shown, and the lines of the list.
+const LEVELS: [(Option<&str>, Option<&str>, Shown, &str); 7] = [
+    (
+        None,
+        None,
+        Shown::Beginning,
+        "team/app abcd... 1\nteam/app secr... 3\nteam/app t1... 2\n\
+         team/base abc... 2\nteam/base secr... 1\n",
+    ),
+    (
+        None,
+        None,
+        Shown::Whole,
+        "team/app abcd 1\nteam/app secret 3\nteam/app t1 2\nteam/base abc 2\nteam/base secret 1\n",
+    ),
+    (
+        Some("team/base"),
+        None,
+        Shown::Whole,
+        "team/base abc 2\nteam/base secret 1\n",
+    ),
+    (
+        None,
+        Some("secret"),
+        Shown::Beginning,
+        "team/app secr... 3\nteam/base secr... 1\n",
+    ),
+    (
+        Some("team/app"),
+        Some("secret"),
+        Shown::Whole,
+        "team/app secret 3\n",
+    ),
+    (Some("team/base"), Some("abcd"), Shown::Whole, ""),
+    (None, Some("abcde"), Shown::Beginning, ""),
+];
+
+const LEVELS_JSON: &str = "[{\"level\":3,\"name\":\"team/app\",\"token\":\"secr...\"},\
+     {\"level\":1,\"name\":\"team/base\",\"token\":\"secr...\"}]\n";
+
+#[test]
+fn levels_are_listed(rt: HostRuntime) -> Result<(), Fail> {
+    let alloc = rt.alloc();
+    let mut registry = granted(&rt, alloc)?;
+    for (name, token, shown, lines) in LEVELS {
+        let listing = grants(alloc, name, token, shown)?;
+        is_told(&rt, alloc, &mut registry, &listing, Form::Lines, lines)?;
+    }
+    let listing = grants(alloc, None, Some("secret"), Shown::Beginning)?;
+    is_told(&rt, alloc, &mut registry, &listing, Form::Json, LEVELS_JSON)?;
+    let listing = grants(alloc, None, Some("abcde"), Shown::Whole)?;
+    is_told(&rt, alloc, &mut registry, &listing, Form::Json, "[]\n")
+}
+
+/// Nor is a list of the levels on it, of whatever token.
+#[test]
+fn no_levels_are_listed_of_what_is_not_there(rt: HostRuntime) -> Result<(), Fail> {
+    let alloc = rt.alloc();
+    let mut registry = granted(&rt, alloc)?;
+    for (token, form) in [(None, Form::Lines), (Some("secret"), Form::Json)] {
+        let listing = grants(alloc, Some("team/other"), token, Shown::Whole)?;
+        let found = list_text(alloc, &mut registry, &listing, form)?;
+        assert!(rt; found.is_none());
+    }
     Ok(())
 }

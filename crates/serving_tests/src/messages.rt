@@ -7,7 +7,7 @@ use order_messages::{
 };
 use registry_maps::MapKeeper;
 use registry_model::Level;
-use registry_orders::{Change, Order};
+use registry_orders::{Change, Form, Listing, Order, Shown};
 use registry_service::Service;
 use std::alloc::Global;
 use std::test::Fail;
@@ -29,8 +29,16 @@ const ONE_ROW: &str =
     "0\n                used               quota     blobs manifests      tags  sessions name\n\
      \x20                  0                2000         0         0         0         0 team/app\n";
 
+const NO_LEVELS: &str = "0\n[]\n";
+
+const LEVEL: &str = "0\nteam/app t1... 3\n";
+
+const LEVEL_WHOLE: &str = "0\nteam/app t1 3\n";
+
+const LEVEL_JSON: &str = "0\n[{\"level\":3,\"name\":\"team/app\",\"token\":\"t1...\"}]\n";
+
 /// Lines, one after the other, and the answer to each.
-const TALK: [(&str, &str); 18] = [
+const TALK: [(&str, &str); 33] = [
     ("usage", NO_ROWS),
     ("drop team/app", NO_REPO),
     ("repo team/app 1000", DONE),
@@ -40,9 +48,24 @@ const TALK: [(&str, &str); 18] = [
     ("usage", ONE_ROW),
     ("grant team/app 3 t1", DONE),
     ("grant team/other 3 t1", NO_REPO),
+    ("list lines grants beginning * *", LEVEL),
+    ("list lines grants whole * *", LEVEL_WHOLE),
+    ("list lines grants whole team/app *", LEVEL_WHOLE),
+    ("list lines grants beginning * t1", LEVEL),
+    ("list json grants beginning team/app t1", LEVEL_JSON),
+    ("list lines grants whole * t2", DONE),
+    ("list json grants whole * t2", NO_LEVELS),
+    ("list lines grants whole team/other *", NO_REPO),
+    ("list json grants beginning team/other t1", NO_REPO),
+    ("revoke t2", NO_GRANT),
     ("revoke team/app t2", NO_GRANT),
     ("revoke team/app t1", DONE),
     ("revoke team/app t1", NO_GRANT),
+    ("revoke t1", NO_GRANT),
+    ("grant team/app 3 t1", DONE),
+    ("revoke t1", DONE),
+    ("revoke t1", NO_GRANT),
+    ("list lines grants whole * *", DONE),
     ("sessions team/app", DONE),
     ("prune team/app", DONE),
     ("prune team/other", NO_REPO),
@@ -52,7 +75,7 @@ const TALK: [(&str, &str); 18] = [
 ];
 
 /// Lines that spell no order.
-const MALFORMED_LINES: [&[u8]; 26] = [
+const MALFORMED_LINES: [&[u8]; 41] = [
     b"",
     b" ",
     b"usage ",
@@ -79,6 +102,21 @@ const MALFORMED_LINES: [&[u8]; 26] = [
     b"grant team/app 03 t1",
     b"grant team/app 3 t 1",
     b"revoke team/app =",
+    b"revoke team/app *",
+    b"revoke",
+    b"revoke ",
+    b"revoke =",
+    b"revoke *",
+    b"list lines grants",
+    b"list lines grants whole",
+    b"list lines grants whole *",
+    b"list lines grants * *",
+    b"list lines grants whole * * *",
+    b"list lines grants all * *",
+    b"list text grants whole * *",
+    b"list lines grants whole team/App *",
+    b"list lines grants whole * =",
+    b"list lines grants whole * ",
 ];
 
 /// What a line is answered.
@@ -132,6 +170,37 @@ fn a_grant_is_written(rt: HostRuntime) -> Result<(), Fail> {
     });
     let line = write_order(alloc, &order)?;
     same(&rt, 0, line.as_str(), "grant team/app 2 t1");
+    let token = Token::parse(alloc, "t1")?;
+    let order = Order::Change(Change::RevokeAll { token });
+    let line = write_order(alloc, &order)?;
+    same(&rt, 1, line.as_str(), "revoke t1");
+    Ok(())
+}
+
+/// An asterisk stands where no repository, or no token, is named.
+#[test]
+fn lists_of_levels_are_written(rt: HostRuntime) -> Result<(), Fail> {
+    let alloc = rt.alloc();
+    let order = Order::List {
+        listing: Listing::Grants {
+            name: None,
+            token: Some(Token::parse(alloc, "t1")?),
+            shown: Shown::Beginning,
+        },
+        form: Form::Lines,
+    };
+    let line = write_order(alloc, &order)?;
+    same(&rt, 0, line.as_str(), "list lines grants beginning * t1");
+    let order = Order::List {
+        listing: Listing::Grants {
+            name: Some(RepoName::parse(alloc, "team/app")?),
+            token: None,
+            shown: Shown::Whole,
+        },
+        form: Form::Json,
+    };
+    let line = write_order(alloc, &order)?;
+    same(&rt, 1, line.as_str(), "list json grants whole team/app *");
     Ok(())
 }
 
