@@ -3,12 +3,14 @@
 
 The examples of crates/registry_examples/data are asked of `registry`: requests by `registry stdio --db`, the
 administrator's commands by its orders, each a process of its own, so that everything stands in the file in
-between. Every byte that must come back is compared; docs/EXAMPLES.md has the lines. What a text or a document is
-read as (`parse`, `judge`, `read`) is asked of the libraries alone, and is left out here.
+between. Every byte that must come back is compared, and what the file's tables hold is asked by sqlite3;
+docs/EXAMPLES.md has the lines. What a text or a document is read as (`parse`, `judge`, `read`) is asked of the
+libraries alone, and is left out here.
 """
 import hashlib
 import os
 import re
+import sqlite3
 import subprocess
 import sys
 import tempfile
@@ -17,6 +19,7 @@ from executables import REGISTRY, TOP
 
 DATA = f"{TOP}/crates/registry_examples"
 LEVELS = {"pull": "1", "push": "2", "delete": "3"}
+LEVEL_NAMES = {"1": "Pull", "2": "Push", "3": "Delete"}
 FAULTS = {"NoRepo": b"registry: no such repository\n", "NoGrant": b"registry: no such grant\n", "RepoThere": b"registry: repository already there\n"}
 
 
@@ -44,10 +47,16 @@ def unescaped(text):
 
 class Step:
     def __init__(self, line, asked):
-        self.line, self.asked, self.answer, self.end = line, asked, b"", None
+        self.line, self.asked, self.answer, self.end, self.status = line, asked, b"", None, None
 
     def is_answered(self):
-        return self.end is not None or self.answer != b""
+        return self.end is not None or self.status is not None or self.answer != b""
+
+    def differs(self, found):
+        """Where what was found is not what is wanted; nothing where it is."""
+        wanted = self.answer if self.status is None else f"HTTP/1.1 {self.status} ".encode()
+        is_wanted = found == wanted if self.status is None else found.startswith(wanted)
+        return "" if is_wanted else f"wanted {wanted[:200]}, found {found[:300]}"
 
 
 class Request:
@@ -67,9 +76,18 @@ class Request:
         return self.head + (b"" if self.is_whole else b"Content-Length: %d\r\n\r\n" % len(self.rest)) + self.rest
 
 
+class Example:
+    """Its steps, what is asked of the tables behind them, and what comes before: the steps of settings, and those of
+    others before each step. With each of its beginnings it is answered the same."""
+
+    def __init__(self, file, name, setting, steps):
+        self.file, self.name, self.steps, self.rows = file, name, steps, []
+        self.beginnings = [(setting, [])]
+
+
 class Book:
     def __init__(self):
-        self.words, self.replies, self.settings, self.examples = Words(), {}, {}, []
+        self.words, self.replies, self.settings, self.noises, self.examples = Words(), {}, {}, {}, []
         self.steps = None
 
     def in_hand(self):
@@ -90,8 +108,10 @@ class Book:
             self.replies[name] = self.steps[0]
         elif kind == "setting":
             self.settings[name] = [*self.settings.get(after, []), self.steps]
+        elif kind == "noise":
+            self.noises[name] = self.steps
         else:
-            self.examples.append((file, name, [*self.settings.get(after, []), self.steps]))
+            self.examples.append(Example(file, name, self.settings.get(after, []), self.steps))
 
     def take(self, file, number, text):
         word, _, rest = text.partition(" ")
@@ -101,7 +121,7 @@ class Book:
             name, _, meaning = rest.partition(" = ")
             self.words.meanings[name] = self.words.written_out(meaning)
             return
-        if word in ("setting", "example", "reply"):
+        if word in ("setting", "example", "reply", "noise"):
             self.heading(word, rest, file)
             return
         rest = self.words.written_out(rest) if word != "<<" else rest
@@ -124,6 +144,13 @@ class Book:
                 last.asked[-1].rest += data
         elif word == "end":
             self.steps[-1].end = rest
+        elif word == "status":
+            self.steps[-1].status = rest
+        elif word == "alike":
+            setting, noise = rest.split(" ")
+            self.examples[-1].beginnings.append((self.settings[setting], self.noises[noise]))
+        elif word == "rows":
+            self.examples[-1].rows.append((number, rest))
         elif word == "admin":
             self.steps.append(Step(number, rest))
         elif word in ("parse", "judge", "read"):
@@ -142,10 +169,15 @@ def commanded(db, command):
     """What an order answers, in the words of the examples."""
     name, *rest = command.split(" ")
     repo = lambda it: ["--name", it]
-    if name == "usage":
-        ran = run("usage", "--db", db)
-        rows = [line.split() for line in ran.stdout.decode().splitlines()[1:]]
-        return next((f"{row[0]} bytes\r\n".encode() for row in rows if row[-1] == rest[0]), b"")
+    if name in ("usage", "holds"):
+        rows = [line.split() for line in run("usage", "--db", db).stdout.decode().splitlines()[1:]]
+        row = next((row for row in rows if row[-1] == rest[0]), ["-"] * 7)
+        used, quota, blobs, manifests, tags, sessions, _ = row
+        whole = f"{used} of {quota} bytes, {blobs} blobs, {manifests} manifests, {tags} tags, {sessions} sessions"
+        return f"{used} bytes\r\n".encode() if name == "usage" else f"{whole}\r\n".encode()
+    if name == "levels":
+        rows = [line.split() for line in run("grants", "--db", db, "--name", rest[0], "--show-tokens").stdout.decode().splitlines()]
+        return "".join(f"{token} {LEVEL_NAMES[level]}\r\n" for _, token, level in rows).encode()
     words = {
         "repo": lambda: [*repo(rest[0]), "--quota", rest[1]],
         "quota": lambda: [*repo(rest[0]), "--quota", rest[1]],
@@ -164,14 +196,50 @@ def commanded(db, command):
 
 
 def play(db, step):
-    """Where an answer differs from the one that is wanted; nothing where it does not."""
+    """The answer to a step, and where it differs from the one that is wanted; nothing where it does not."""
     if isinstance(step.asked, str):
         found = commanded(db, step.asked)
-        return "" if found == step.answer else f"wanted {step.answer[:200]}, found {found[:300]}"
+        return found, step.differs(found)
     ran = run("stdio", "--db", db, given=b"".join(it.text() for it in step.asked))
-    if (ran.returncode, ran.stderr) != (0, b"") or ran.stdout != step.answer:
-        return f"wanted {step.answer[:200]}, found {ran.stdout[:300]}, status {ran.returncode} {ran.stderr}"
-    return ""
+    if (ran.returncode, ran.stderr) != (0, b""):
+        return ran.stdout, f"found {ran.stdout[:300]}, status {ran.returncode} {ran.stderr}"
+    return ran.stdout, step.differs(ran.stdout)
+
+
+def rows_that_differ(db, rows):
+    """Where the tables of a file answer another number than the example says."""
+    if not rows:
+        return
+    tables = sqlite3.connect(db)
+    for line, text in rows:
+        number, query = text.split(" ", 1)
+        found = tables.execute(query).fetchone()
+        if found != (int(number),):
+            yield line, f"wanted {number}, found {found}"
+    tables.close()
+
+
+def differences(room, example):
+    """The first line at which an example is answered otherwise, and why; and how many steps were played."""
+    told, count = {}, 0
+    for at, (settings, noise) in enumerate(example.beginnings):
+        db = f"{room}/{example.file}.{example.name}.{at}.db"
+        before = [(step, False) for setting in settings for step in setting]
+        own = [it for step in example.steps for it in (*((other, False) for other in noise), (step, True))]
+        for step, is_own in [*before, *own]:
+            if step.asked is None:
+                continue
+            count += 1
+            found, why = play(db, step)
+            # a step whose status alone is written is answered as it was with the first beginning
+            if not why and is_own and told.setdefault(step, found) != found:
+                why = f"first told {told[step][:300]}, then {found[:300]}"
+            if why:
+                return count, (step.line, why)
+        wrong = next(rows_that_differ(db, example.rows), None) if at == 0 else None
+        if wrong:
+            return count, wrong
+    return count, None
 
 
 HEADING = b"                used               quota     blobs manifests      tags  sessions name\n"
@@ -230,6 +298,25 @@ def lists_that_differ(db):
             yield found
 
 
+def repositories_told_apart(db):
+    """Of a hundred repositories, more than a store knows the usage of, each takes what its quota of 5 bytes allows
+    and no more, on one connection: `abc`, then not `hello`, then `de`."""
+    names = [f"a{number}" for number in range(100)]
+    for name in names:
+        run("repo", "--db", db, "--name", name, "--quota", "5")
+        run("grant", "--db", db, "--name", name, "--token", "t1", "--level", "2")
+    head = "POST /v2/{}/blobs/uploads/?digest=sha256:{} HTTP/1.1\r\nHost: r\r\nAuthorization: Bearer t1\r\nContent-Length: {}\r\n\r\n"
+    asked = [(name, body) for body in (b"abc", b"hello", b"de") for name in names]
+    given = b"".join(head.format(name, hashlib.sha256(body).hexdigest(), len(body)).encode() + body for name, body in asked)
+    found = run("stdio", "--db", db, given=given).stdout
+    statuses = [int(it) for it in re.findall(rb"HTTP/1\.1 (\d+) ", found)]
+    if statuses != [201] * 100 + [403] * 100 + [201] * 100:
+        yield f"a hundred repositories of 5 bytes: {statuses}"
+    rows = [line.split() for line in run("usage", "--db", db).stdout.decode().splitlines()[1:]]
+    if rows != [["5", "5", "2", "0", "0", "0", name] for name in sorted(names)]:
+        yield f"a hundred repositories of 5 bytes hold {rows}"
+
+
 def main():
     book, wrong, played, steps = Book(), 0, 0, 0
     with open(f"{DATA}/args", encoding="utf-8") as it:
@@ -239,24 +326,16 @@ def main():
             for number, line in enumerate(it.read().split("\n"), 1):
                 book.take(file, number, line)
     with tempfile.TemporaryDirectory(dir="/dev/shm" if os.access("/dev/shm", os.W_OK) else None) as room:
-        for at, (file, name, parts) in enumerate(book.examples):
-            asked = [step for part in parts for step in part if step.asked is not None]
-            if not asked:
-                continue
-            played += 1
-            for step in asked:
-                steps += 1
-                why = play(f"{room}/{at}.db", step)
-                if why:
-                    print(f"WRONG {file}:{step.line} ({name}): {why}")
-                    wrong += 1
-                    break
-        for it in tables_that_differ(f"{room}/usage.db"):
-            print(f"WRONG usage: {it}")
-            wrong += 1
-        for it in lists_that_differ(f"{room}/lists.db"):
-            print(f"WRONG lists: {it}")
-            wrong += 1
+        for example in book.examples:
+            count, why = differences(room, example)
+            played, steps = played + (count > 0), steps + count
+            if why:
+                print(f"WRONG {example.file}:{why[0]} ({example.name}): {why[1]}")
+                wrong += 1
+        for what, differ in (("usage", tables_that_differ), ("lists", lists_that_differ), ("quotas", repositories_told_apart)):
+            for it in differ(f"{room}/{what}.db"):
+                print(f"WRONG {what}: {it}")
+                wrong += 1
     print(f"{played} worked examples of {steps} steps by the program, over a file: {f'{wrong} wrong' if wrong else 'each as it is written'}")
     return 1 if wrong else 0
 

@@ -1,4 +1,4 @@
-//! What the files say: replies with names, settings, and examples, each with its steps.
+//! What the files say: replies with names, settings, noise, and examples, each with its steps.
 
 use crate::requests::Request;
 use anyhow::{Result, bail};
@@ -26,6 +26,8 @@ pub struct Step {
     pub line: usize,
     pub asked: Asked,
     pub answer: Vec<u8>,
+    /// The status of the reply, where that alone is written of the answer.
+    pub status: Option<String>,
     /// How the connection must end; none where no line says so, which is `Closed`.
     pub end: Option<String>,
 }
@@ -33,7 +35,7 @@ pub struct Step {
 impl Step {
     /// Whether its answer has begun.
     pub fn is_answered(&self) -> bool {
-        self.end.is_some() || !self.answer.is_empty()
+        self.end.is_some() || self.status.is_some() || !self.answer.is_empty()
     }
 
     /// Adds a line to its last request.
@@ -74,6 +76,25 @@ pub enum Kind {
     Example,
     /// An answer that examples share.
     Reply,
+    /// What others do before each step of an example.
+    Noise,
+}
+
+/// What comes before the steps of an example: the settings, and the noise that comes before each of them,
+/// by their places in the book.
+#[derive(Drop)]
+pub struct Beginning {
+    pub settings: Vec<usize>,
+    pub noise: Option<usize>,
+}
+
+/// A question to the tables, in SQL, and the whole number that they answer behind the steps of an example.
+#[derive(Drop)]
+pub struct Rows {
+    /// The line on which it stands.
+    pub line: usize,
+    pub number: i64,
+    pub query: String,
 }
 
 /// A heading, and the steps below it.
@@ -83,9 +104,10 @@ pub struct Section {
     pub name: String,
     /// The file in which it stands.
     pub file: String,
-    /// The settings whose steps come before its own, by their places in the book.
-    pub settings: Vec<usize>,
+    /// Its own beginning, and behind it those with which the answers are the same.
+    pub beginnings: Vec<Beginning>,
     pub steps: Vec<Step>,
+    pub rows: Vec<Rows>,
 }
 
 impl Section {
@@ -95,6 +117,7 @@ impl Section {
             line,
             asked,
             answer: Vec::new(alloc),
+            status: None,
             end: None,
         })?;
         Ok(())
@@ -142,6 +165,15 @@ impl Section {
     pub fn answer(&mut self, bytes: &[u8]) -> Result<()> {
         match self.steps.last_mut() {
             Some(step) => step.answer.extend_from_slice(bytes)?,
+            None => bail!("nothing is asked yet"),
+        }
+        Ok(())
+    }
+
+    /// Says the status of the answer, of which nothing else is written.
+    pub fn status(&mut self, status: String) -> Result<()> {
+        match self.steps.last_mut() {
+            Some(step) => step.status = Some(status),
             None => bail!("nothing is asked yet"),
         }
         Ok(())

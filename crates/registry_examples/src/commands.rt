@@ -1,13 +1,13 @@
 use anyhow::{Result, bail};
 use oci_names::{Fault, RepoName, Token};
-use registry_model::{AdminCommand, AdminFault, Keeper, Level, Quota};
+use registry_model::{AdminCommand, AdminFault, Keeper, Level, Quota, Usage};
 use registry_service::Service;
 use std::alloc::Global;
 
 /// Carries out `repo NAME QUOTA`, `quota NAME QUOTA`, `drop NAME`, `sessions NAME`, `prune NAME`,
 /// `grant TOKEN NAME LEVEL`, `revoke TOKEN NAME`, `revoke TOKEN` or `clear`. The inner result is the
 /// registry's.
-pub fn carry_out<K: Keeper>(
+fn carry_out<K: Keeper>(
     alloc: Global,
     registry: &mut Service<K>,
     words: &[&str],
@@ -58,13 +58,80 @@ fn command_on<'a>(word: &str, name: &'a RepoName) -> Result<AdminCommand<'a>> {
     })
 }
 
-/// How many bytes a repository uses.
-pub fn used<K: Keeper>(alloc: Global, keeper: &mut K, name: &str) -> Result<Result<u64, Fault>> {
+/// Asks what a repository holds, or carries out a command of `carry_out`; and what is answered: nothing where
+/// a command is done, else why it is refused.
+///
+/// `usage NAME` is the number of bytes that are used, `holds NAME` all numbers of its row of `usage`, and
+/// `levels NAME` each token and its level.
+pub fn commanded<K: Keeper>(
+    alloc: Global,
+    registry: &mut Service<K>,
+    command: &str,
+) -> Result<String> {
+    let words: Vec<&str> = command.split(' ').collect(alloc)?;
+    match words.as_slice() {
+        ["usage", name] => match usage_of(alloc, registry, name)? {
+            Ok(Usage { used, .. }) => Ok(format!(in alloc; "{used} bytes\r\n")?),
+            Err(fault) => Ok(format!(in alloc; "{fault:?}\r\n")?),
+        },
+        ["holds", name] => match usage_of(alloc, registry, name)? {
+            Ok(usage) => held(alloc, usage),
+            Err(fault) => Ok(format!(in alloc; "{fault:?}\r\n")?),
+        },
+        ["levels", name] => levels_on(alloc, registry, name),
+        words => match carry_out(alloc, registry, words)? {
+            Ok(()) => Ok(String::new(alloc)),
+            Err(fault) => Ok(format!(in alloc; "{fault:?}\r\n")?),
+        },
+    }
+}
+
+/// What is told of a repository.
+fn usage_of<K: Keeper>(
+    alloc: Global,
+    registry: &mut Service<K>,
+    name: &str,
+) -> Result<Result<Usage, Fault>> {
+    let usages = match registry.usages(alloc) {
+        Ok(usages) => usages,
+        Err(fault) => return Ok(Err(fault)),
+    };
+    for (repository, usage) in usages.iter() {
+        if repository.as_str() == name {
+            return Ok(Ok(*usage));
+        }
+    }
+    bail!("`{name}` is no repository")
+}
+
+fn held(alloc: Global, usage: Usage) -> Result<String> {
+    let Usage {
+        used,
+        quota,
+        blobs,
+        manifests,
+        tags,
+        sessions,
+    } = usage;
+    Ok(format!(in alloc;
+        "{used} of {quota} bytes, {blobs} blobs, {manifests} manifests, {tags} tags, {sessions} sessions\r\n"
+    )?)
+}
+
+/// A line for each token with a level on a repository.
+fn levels_on<K: Keeper>(alloc: Global, registry: &mut Service<K>, name: &str) -> Result<String> {
     let name = name_of(alloc, name)?;
-    Ok(match keeper.usage(&name) {
-        Ok(usage) => Ok(usage.used),
-        Err(fault) => Err(fault),
-    })
+    let mut text = String::new(alloc);
+    match registry.levels(alloc, &name) {
+        Ok(levels) => {
+            for (token, level) in levels.iter() {
+                let token = token.as_str();
+                text.push_str(format!(in alloc; "{token} {level:?}\r\n")?.as_str())?;
+            }
+        }
+        Err(fault) => text.push_str(format!(in alloc; "{fault:?}\r\n")?.as_str())?,
+    }
+    Ok(text)
 }
 
 fn name_of(alloc: Global, text: &str) -> Result<RepoName> {

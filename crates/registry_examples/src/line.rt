@@ -11,7 +11,7 @@ pub enum Line<'a> {
         name: &'a str,
         text: &'a str,
     },
-    /// `setting NAME`, `example NAME` or `reply NAME`, which may begin `after` a setting.
+    /// `setting NAME`, `example NAME`, `noise NAME` or `reply NAME`, which may begin `after` a setting.
     Heading {
         kind: Kind,
         name: &'a str,
@@ -41,8 +41,14 @@ pub enum Part<'a> {
     Text,
     /// `bytes TEXT`, the same with `\r`, `\n`, `\t` and `\x1f` in it.
     Bytes,
+    /// `status NUMBER`, the status of a reply of which nothing else is written.
+    Status,
     /// `end HOW`, how the connection ends.
     End,
+    /// `alike SETTING NOISE`: behind that setting, and with that noise, the answers are the same.
+    Alike,
+    /// `rows NUMBER QUERY`, what the tables answer behind the steps.
+    Rows,
     /// `admin COMMAND`, a command of the administrator's.
     Admin,
     /// `parse GRAMMAR TEXT`, which asks for what the text is read as; with escapes as in `bytes`.
@@ -76,6 +82,7 @@ impl<'a> Line<'a> {
             "" => Ok(Line::Blank),
             "setting" => Ok(heading(Kind::Setting, rest)),
             "example" => Ok(heading(Kind::Example, rest)),
+            "noise" => Ok(heading(Kind::Noise, rest)),
             "reply" => Ok(heading(Kind::Reply, rest)),
             "let" => match rest.split_once(" = ") {
                 Some((name, text)) => Ok(Line::Let { name, text }),
@@ -99,7 +106,10 @@ impl<'a> Part<'a> {
             "<<" => Part::Named,
             "|" => Part::Text,
             "bytes" => Part::Bytes,
+            "status" => Part::Status,
             "end" => Part::End,
+            "alike" => Part::Alike,
+            "rows" => Part::Rows,
             "admin" => Part::Admin,
             "parse" => Part::Parse,
             "judge" => Part::Judge,

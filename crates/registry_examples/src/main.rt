@@ -13,14 +13,17 @@ mod patience;
 mod playing;
 mod reader;
 mod requests;
+mod rows;
+mod serving;
 mod texts;
 mod words;
 
 use anyhow::Result;
 use book::{Book, Kind};
 use patience::Patience;
-use playing::{differs_over_maps, differs_over_tables};
+use playing::{Play, Told, differs_over_maps, differs_over_tables};
 use reader::Reader;
+use serving::Way;
 use std::process::ExitCode;
 use std::rt::{Env, Files};
 use std::{env, fs};
@@ -44,6 +47,12 @@ fn read_all<R: Env + Files + AllocGlobal>(rt: &R) -> Result<Book> {
 /// differs; whether none did.
 fn play_all<R: Print + AllocGlobal>(rt: &R, book: &Book, patience: Patience) -> Result<bool> {
     let mut are_ok = true;
+    let play = Play {
+        alloc: rt.alloc(),
+        book,
+        patience,
+        way: Way::Whole,
+    };
     for example in book
         .sections
         .iter()
@@ -51,8 +60,9 @@ fn play_all<R: Print + AllocGlobal>(rt: &R, book: &Book, patience: Patience) -> 
     {
         let name = example.name.as_str();
         let file = example.file.as_str();
-        let over_maps = differs_over_maps(rt.alloc(), book, example, patience)?;
-        let over_tables = differs_over_tables(rt.alloc(), book, example, patience)?;
+        let mut told = Told::new(rt.alloc());
+        let over_maps = differs_over_maps(play, example, &mut told)?;
+        let over_tables = differs_over_tables(play, example, &mut told)?;
         for (keeper, difference) in [("maps", &over_maps), ("tables", &over_tables)] {
             if let Some(difference) = difference {
                 println!(rt; "{file}: {name} differs over {keeper}: {difference}")?;

@@ -1,7 +1,7 @@
 //! What is done where the registry answers that memory was wanting.
 
 use crate::book::Asked;
-use crate::playing::Answer;
+use crate::serving::{Answer, Way};
 
 /// How often what wants memory is asked again.
 #[derive(Clone, Copy, Debug, PartialEq, Eq)]
@@ -18,6 +18,15 @@ const NO_BUFFER: &[u8] =
     b"HTTP/1.1 503 Service Unavailable\r\nContent-Length: 0\r\nConnection: close\r\n\r\n";
 
 impl Patience {
+    /// The ways in which connections are served over ordered maps: with patience the first alone, since each
+    /// is as much memory that can be refused.
+    pub fn ways(self) -> &'static [Way] {
+        match self {
+            Patience::None => &[Way::Whole, Way::InPieces, Way::InTurns],
+            Patience::Once => &[Way::Whole],
+        }
+    }
+
     /// Whether an answer says that memory was wanting, and is to be asked for again.
     pub fn asks_again(self, asked: &Asked, answer: &Answer) -> bool {
         self == Patience::Once

@@ -1,12 +1,12 @@
-use crate::book::{Asked, Book, Section, Step};
-use crate::commands::{carry_out, used};
+use crate::book::{Asked, Beginning, Book, Section, Step};
+use crate::commands::commanded;
 use crate::difference::first_difference;
 use crate::documents::{fault_in, reading_of};
 use crate::patience::Patience;
-use crate::requests::Request;
+use crate::rows::differs_in_rows;
+use crate::serving::{Answer, Way, served};
 use crate::texts::reading_by;
 use anyhow::{Context, Result};
-use registry_connection::serve_connection;
 use registry_maps::MapKeeper;
 use registry_model::Keeper;
 use registry_service::Service;
@@ -14,108 +14,174 @@ use registry_store::{OpenFault, Store};
 use std::alloc::Global;
 use std::str;
 
-/// Where the answers over ordered maps differ from those that the example wants.
-pub fn differs_over_maps(
-    alloc: Global,
-    book: &Book,
-    example: &Section,
-    patience: Patience,
-) -> Result<Option<String>> {
-    differs(alloc, MapKeeper::new(alloc), book, example, patience)
+/// How examples of a book are played.
+#[derive(Clone, Copy)]
+pub struct Play<'a> {
+    pub alloc: Global,
+    pub book: &'a Book,
+    pub patience: Patience,
+    pub way: Way,
 }
 
-/// Where the answers over the tables of a database in memory differ from them.
-pub fn differs_over_tables(
-    alloc: Global,
-    book: &Book,
-    example: &Section,
-    patience: Patience,
-) -> Result<Option<String>> {
-    let made = match Store::memory(alloc) {
-        Err(OpenFault::Memory) => Store::memory(alloc),
-        made => made,
-    };
-    match made {
-        Ok(keeper) => differs(alloc, keeper, book, example, patience),
-        Err(_) => Ok(Some(String::from_str(alloc, "no store is made")?)),
-    }
-}
-
-/// Plays the settings and the example over a keeper, up to the first answer that differs.
-fn differs<K: Keeper + Drop>(
-    alloc: Global,
-    keeper: K,
-    book: &Book,
-    example: &Section,
-    patience: Patience,
-) -> Result<Option<String>> {
-    let mut registry = Service::new(keeper);
-    for place in example.settings.iter() {
-        if let Some(setting) = book.sections.get(*place) {
-            let (played, difference) = play(alloc, registry, setting, patience)?;
-            if difference.is_some() {
-                return Ok(difference);
-            }
-            registry = played;
-        }
-    }
-    let (_, difference) = play(alloc, registry, example, patience)?;
-    Ok(difference)
-}
-
-/// Plays the steps of a section, up to the first answer that differs.
-fn play<K: Keeper + Drop>(
-    alloc: Global,
-    mut registry: Service<K>,
-    section: &Section,
-    patience: Patience,
-) -> Result<(Service<K>, Option<String>)> {
-    let file = section.file.as_str();
-    for step in section.steps.iter() {
-        let line = step.line;
-        let (played, mut answer) = answered(alloc, registry, &step.asked).context(format_args!(
-            "{file}:{line}"
-        ))?;
-        registry = played;
-        if patience.asks_again(&step.asked, &answer) {
-            let (played, again) = answered(alloc, registry, &step.asked)?;
-            registry = played;
-            answer = again;
-        }
-        if let Some(difference) = compared(alloc, step, &answer)? {
-            let text = format!(in alloc; "{file}:{line}, {difference}")?;
-            return Ok((registry, Some(text)));
-        }
-    }
-    Ok((registry, None))
-}
-
-/// What is answered: the bytes, and how the connection ends.
+/// What the steps of an example were answered when it was played first. However, and over whichever keeper,
+/// it is played again, they are answered the same.
 #[derive(Drop)]
-pub struct Answer {
-    pub bytes: Vec<u8>,
-    pub end: String,
+pub struct Told {
+    answers: Vec<Vec<u8>>,
 }
 
-/// Room for the answers of most connections, so that writing them takes no memory.
-const ROOM: usize = 65_536;
+impl Told {
+    pub fn new(alloc: Global) -> Told {
+        Told {
+            answers: Vec::new(alloc),
+        }
+    }
 
-/// Asks, and gives the registry back with the answer.
-fn answered<K: Keeper + Drop>(
-    alloc: Global,
-    mut registry: Service<K>,
-    asked: &Asked,
-) -> Result<(Service<K>, Answer)> {
+    /// Where the answer of the step at a place of the example is not what was told first. Of a step that is
+    /// none of the example's nothing is told.
+    fn differs(
+        &mut self,
+        alloc: Global,
+        place: Option<usize>,
+        answer: &[u8],
+    ) -> Result<Option<String>> {
+        let Some(place) = place else {
+            return Ok(None);
+        };
+        if let Some(first) = self.answers.get(place) {
+            return Ok(first_difference(alloc, first.as_slice(), answer)?);
+        }
+        let mut bytes = Vec::new(alloc);
+        bytes.extend_from_slice(answer)?;
+        self.answers.push(bytes)?;
+        Ok(None)
+    }
+}
+
+/// Where the answers over ordered maps differ from those that the example wants, in any of the ways in
+/// which connections are served.
+pub fn differs_over_maps(play: Play, example: &Section, told: &mut Told) -> Result<Option<String>> {
+    for way in play.patience.ways() {
+        let play = Play { way: *way, ..play };
+        for beginning in example.beginnings.iter() {
+            let mut registry = Service::new(MapKeeper::new(play.alloc));
+            let difference = differs(play, &mut registry, beginning, example, told)?;
+            if let Some(text) = difference {
+                let alloc = play.alloc;
+                return Ok(Some(format!(in alloc; "{text} ({way:?})")?));
+            }
+        }
+    }
+    Ok(None)
+}
+
+/// Where the answers over the tables of a database in memory differ from them, or where the tables hold
+/// something else.
+pub fn differs_over_tables(
+    play: Play,
+    example: &Section,
+    told: &mut Told,
+) -> Result<Option<String>> {
+    for beginning in example.beginnings.iter() {
+        let made = match Store::memory(play.alloc) {
+            Err(OpenFault::Memory) => Store::memory(play.alloc),
+            made => made,
+        };
+        let Ok(keeper) = made else {
+            return Ok(Some(String::from_str(play.alloc, "no store is made")?));
+        };
+        let mut registry = Service::new(keeper);
+        let mut difference = differs(play, &mut registry, beginning, example, told)?;
+        if difference.is_none() && beginning.noise.is_none() {
+            let tables = registry.into_keeper().into_connection();
+            difference = differs_in_rows(play.alloc, tables, example)?;
+        }
+        if difference.is_some() {
+            return Ok(difference);
+        }
+    }
+    Ok(None)
+}
+
+/// Plays what comes before the example and then its steps, up to the first answer that differs.
+fn differs<K: Keeper>(
+    play: Play,
+    registry: &mut Service<K>,
+    beginning: &Beginning,
+    example: &Section,
+    told: &mut Told,
+) -> Result<Option<String>> {
+    for place in beginning.settings.iter() {
+        let difference = plays(play, registry, Some(*place), told)?;
+        if difference.is_some() {
+            return Ok(difference);
+        }
+    }
+    for (place, step) in example.steps.iter().enumerate() {
+        let mut difference = plays(play, registry, beginning.noise, told)?;
+        if difference.is_none() {
+            difference = step_differs(play, registry, example, step, told, Some(place))?;
+        }
+        if difference.is_some() {
+            return Ok(difference);
+        }
+    }
+    Ok(None)
+}
+
+/// Plays the steps of the section at a place of the book, up to the first answer that differs.
+fn plays<K: Keeper>(
+    play: Play,
+    registry: &mut Service<K>,
+    place: Option<usize>,
+    told: &mut Told,
+) -> Result<Option<String>> {
+    let Some(section) = place.and_then(|place| play.book.sections.get(place)) else {
+        return Ok(None);
+    };
+    for step in section.steps.iter() {
+        let difference = step_differs(play, registry, section, step, told, None)?;
+        if difference.is_some() {
+            return Ok(difference);
+        }
+    }
+    Ok(None)
+}
+
+/// Where the answer of a step differs from what is wanted, or from what was told first at its place of the
+/// example, where it has one.
+fn step_differs<K: Keeper>(
+    play: Play,
+    registry: &mut Service<K>,
+    section: &Section,
+    step: &Step,
+    told: &mut Told,
+    place: Option<usize>,
+) -> Result<Option<String>> {
+    let (file, line) = (section.file.as_str(), step.line);
+    let mut answer = answered(play, registry, &step.asked).context(format_args!("{file}:{line}"))?;
+    if play.patience.asks_again(&step.asked, &answer) {
+        answer = answered(play, registry, &step.asked)?;
+    }
+    let alloc = play.alloc;
+    let mut difference = compared(alloc, step, &answer)?;
+    if difference.is_none() {
+        difference = told.differs(alloc, place, answer.bytes.as_slice())?;
+    }
+    match difference {
+        Some(text) => Ok(Some(format!(in alloc; "{file}:{line}, {text}")?)),
+        None => Ok(None),
+    }
+}
+
+/// What is asked, and its answer.
+fn answered<K: Keeper>(play: Play, registry: &mut Service<K>, asked: &Asked) -> Result<Answer> {
+    let alloc = play.alloc;
     let text = match asked {
         Asked::Requests(requests) => {
-            let answer = served(alloc, &mut registry, requests.as_slice())?;
-            return Ok((registry, answer));
+            return served(alloc, registry, requests.as_slice(), play.way);
         }
-        Asked::Command(command) => {
-            let (played, text) = commanded(alloc, registry, command.as_str())?;
-            registry = played;
-            text
-        }
+        Asked::Command(command) => commanded(alloc, registry, command.as_str())?,
         Asked::Parsing(bytes) => {
             let text = str::from_utf8(bytes.as_slice())?;
             let (grammar, text) = text.split_once(' ').unwrap_or((text, ""));
@@ -126,51 +192,15 @@ fn answered<K: Keeper + Drop>(
     };
     let end = String::from_str(alloc, "Closed")?;
     let bytes = text.into_bytes();
-    Ok((registry, Answer { bytes, end }))
-}
-
-/// Serves the requests as one connection.
-fn served<K: Keeper>(
-    alloc: Global,
-    registry: &mut Service<K>,
-    requests: &[Request],
-) -> Result<Answer> {
-    let mut input = Vec::new(alloc);
-    for request in requests {
-        request.write_to(alloc, &mut input)?;
-    }
-    let mut bytes = Vec::with_capacity(alloc, ROOM)?;
-    let end = serve_connection(alloc, registry, &mut input.as_slice(), &mut bytes);
-    let end = format!(in alloc; "{end:?}")?;
     Ok(Answer { bytes, end })
-}
-
-/// Carries out a command: nothing where it is done, or why it is refused; and to `usage NAME` the
-/// number of bytes that the repository uses.
-fn commanded<K: Keeper + Drop>(
-    alloc: Global,
-    mut registry: Service<K>,
-    command: &str,
-) -> Result<(Service<K>, String)> {
-    let words: Vec<&str> = command.split(' ').collect(alloc)?;
-    if let ["usage", name] = words.as_slice() {
-        let mut keeper = registry.into_keeper();
-        let text = match used(alloc, &mut keeper, name)? {
-            Ok(number) => format!(in alloc; "{number} bytes\r\n")?,
-            Err(fault) => format!(in alloc; "{fault:?}\r\n")?,
-        };
-        return Ok((Service::new(keeper), text));
-    }
-    let text = match carry_out(alloc, &mut registry, words.as_slice())? {
-        Ok(()) => String::new(alloc),
-        Err(fault) => format!(in alloc; "{fault:?}\r\n")?,
-    };
-    Ok((registry, text))
 }
 
 /// Where an answer differs from the one that the step wants.
 fn compared(alloc: Global, step: &Step, answer: &Answer) -> Result<Option<String>> {
-    let difference = first_difference(alloc, step.answer.as_slice(), answer.bytes.as_slice())?;
+    let difference = match &step.status {
+        Some(status) => status_differs(alloc, status.as_str(), answer.bytes.as_slice())?,
+        None => first_difference(alloc, step.answer.as_slice(), answer.bytes.as_slice())?,
+    };
     if difference.is_some() {
         return Ok(difference);
     }
@@ -183,4 +213,13 @@ fn compared(alloc: Global, step: &Step, answer: &Answer) -> Result<Option<String
         return Ok(None);
     }
     Ok(Some(format!(in alloc; "which should end {wanted}, and ends {found}")?))
+}
+
+/// Where a reply has another status.
+fn status_differs(alloc: Global, status: &str, reply: &[u8]) -> Result<Option<String>> {
+    let beginning = format!(in alloc; "HTTP/1.1 {status} ")?;
+    if reply.starts_with(beginning.as_bytes()) {
+        return Ok(None);
+    }
+    Ok(first_difference(alloc, beginning.as_bytes(), reply)?)
 }

@@ -1,4 +1,4 @@
-use crate::book::{Asked, Book, Kind, Section, Step};
+use crate::book::{Asked, Beginning, Book, Kind, Rows, Section, Step};
 use crate::line::{Line, Part};
 use crate::requests::Request;
 use crate::words::{Words, unescaped};
@@ -51,6 +51,10 @@ impl Reader {
                 part: Part::Named,
                 text,
             } => self.take_named(text),
+            Line::Part {
+                part: Part::Alike,
+                text,
+            } => self.take_alike(text),
             Line::Part { part, text } => self.take_part(number, part, text),
         }
     }
@@ -65,22 +69,51 @@ impl Reader {
             kind,
             name: String::from_str(alloc, name)?,
             file: String::from_str(alloc, file)?,
-            settings: Vec::new(alloc),
+            beginnings: Vec::new(alloc),
             steps: Vec::new(alloc),
+            rows: Vec::new(alloc),
         };
-        if let Some(before) = after {
-            let Some((place, setting)) = self.book.find(Kind::Setting, before) else {
-                bail!("no setting is `{before}`");
-            };
-            section
-                .settings
-                .extend_from_slice(setting.settings.as_slice())?;
-            section.settings.push(place)?;
-        }
+        section.beginnings.push(self.beginning(after, None)?)?;
         if kind == Kind::Reply {
             section.ask(alloc, 0, Asked::Requests(Vec::new(alloc)))?;
         }
         Ok(section)
+    }
+
+    /// What comes before the steps of what begins after a setting, with noise or without.
+    fn beginning(&self, after: Option<&str>, noise: Option<&str>) -> Result<Beginning> {
+        let mut settings = Vec::new(self.alloc);
+        if let Some(before) = after {
+            let Some((place, setting)) = self.book.find(Kind::Setting, before) else {
+                bail!("no setting is `{before}`");
+            };
+            if let Some(first) = setting.beginnings.first() {
+                settings.extend_from_slice(first.settings.as_slice())?;
+            }
+            settings.push(place)?;
+        }
+        let Some(name) = noise else {
+            let noise = None;
+            return Ok(Beginning { settings, noise });
+        };
+        let Some((place, _)) = self.book.find(Kind::Noise, name) else {
+            bail!("no noise is `{name}`");
+        };
+        let noise = Some(place);
+        Ok(Beginning { settings, noise })
+    }
+
+    /// Takes `alike SETTING NOISE`.
+    fn take_alike(&mut self, text: &str) -> Result<()> {
+        let Some((setting, noise)) = text.split_once(' ') else {
+            bail!("`alike` wants a setting and a noise");
+        };
+        let beginning = self.beginning(Some(setting), Some(noise))?;
+        match self.book.sections.last_mut() {
+            Some(section) => section.beginnings.push(beginning)?,
+            None => bail!("no example has begun"),
+        }
+        Ok(())
     }
 
     /// Takes `<< NAME`.
@@ -115,13 +148,10 @@ impl Reader {
                 section.ask(alloc, number, Asked::Requests(requests))
             }
             Part::Sent => section.send_line(alloc, number, text.as_str()),
-            Part::Received => {
-                section.answer(text.as_bytes())?;
-                section.answer(b"\r\n")
+            Part::Rows => {
+                section.rows.push(rows(alloc, number, text.as_str())?)?;
+                Ok(())
             }
-            Part::Text => section.add(text.as_bytes()),
-            Part::Bytes => section.add(unescaped(alloc, text.as_str())?.as_slice()),
-            Part::End => section.end(text),
             Part::Admin => section.ask(alloc, number, Asked::Command(text)),
             Part::Parse => {
                 let bytes = unescaped(alloc, text.as_str())?;
@@ -129,7 +159,34 @@ impl Reader {
             }
             Part::Judge => section.ask(alloc, number, Asked::Fault(text.into_bytes())),
             Part::Read => section.ask(alloc, number, Asked::Reading(text.into_bytes())),
-            Part::Named => section.answer(text.as_bytes()),
+            _ => take_answer(alloc, section, part, text),
         }
     }
+}
+
+/// Takes a line of an answer, or of a body.
+fn take_answer(alloc: Global, section: &mut Section, part: Part, text: String) -> Result<()> {
+    match part {
+        Part::Received => {
+            section.answer(text.as_bytes())?;
+            section.answer(b"\r\n")
+        }
+        Part::Text => section.add(text.as_bytes()),
+        Part::Bytes => section.add(unescaped(alloc, text.as_str())?.as_slice()),
+        Part::Status => section.status(text),
+        Part::End => section.end(text),
+        _ => bail!("this is no line of an answer"),
+    }
+}
+
+/// `NUMBER QUERY`.
+fn rows(alloc: Global, line: usize, text: &str) -> Result<Rows> {
+    let Some((number, query)) = text.split_once(' ') else {
+        bail!("`rows` wants a number and a query");
+    };
+    Ok(Rows {
+        line,
+        number: number.parse()?,
+        query: String::from_str(alloc, query)?,
+    })
 }
