@@ -10,7 +10,7 @@ PROCESSORS := $(shell nproc)
 # The first run: a registry in memory, with one repository and one token.
 DEMO := stdio --memory --repo team/app=1000 --grant t1=team/app=3
 
-.PHONY: help demo build try test check edits check-file check-rows check-hostile check-clients check-install
+.PHONY: help demo build try test check edits check-file check-rows check-words check-hostile check-clients check-install
 .PHONY: check-docs bench bench-quick bench-http install deb fmt clean
 
 # docs/PERFORMANCE.md has what was measured.
@@ -20,12 +20,13 @@ help:
 	@echo 'make build           proves the program and all below it; leaves build/registry (one to two hours of a'
 	@echo '                     processor, on all there are; up to 12 GB)'
 	@echo 'make test            the merge gate: proofs, edits, tests, all of them from nothing the first time'
-	@echo '                     (five to seven hours of a processor, on four at most; up to 16 GB)'
+	@echo '                     (four hours of a processor, on four at most; up to 16 GB)'
 	@echo 'make try ARGS=".."   runs the program unproved, for a first look: make try ARGS="--help" (3 min, 2 GB)'
 	@echo 'make check CRATE=x   proves one crate over what earlier checks kept (seconds after an edit)'
 	@echo 'make edits CRATE=x   tries the must-fail edits of one crate (20 to 60 s each)'
 	@echo 'make check-file      a server'"'"'s file after pushes by curl, looked at by sqlite3'
 	@echo 'make check-rows      the worked examples by the program itself, over a file (after make test; 10 s)'
+	@echo 'make check-words     command lines, and what they say, end with and leave in files (after make test; 1 min)'
 	@echo 'make check-hostile   refuses each growth of memory, stops the disk at each write, kills servers, gives orders'
 	@echo '                     beside requests (after make test; 10 min)'
 	@echo 'make check-clients   curl, skopeo and ctr straight, and with buildah, podman and oras-go through nginx, those'
@@ -58,13 +59,15 @@ build:
 	cp crates/registry_cli/out/registry_cli build/registry
 
 # Each library after those that it stands on, so that independent ones are proved side by side. The two long rows of
-# libraries, at whose end all others wait, go a little before what stands beside them, and on two processors each;
-# not on more, and what is beside them on one, since each further process reads the libraries below once more.
+# libraries, at whose end all others wait, go a little before what stands beside them. Where a row begins and ends there
+# is little beside it, and a crate gets two processors; elsewhere one, since a second process reads the libraries below
+# once more, and looks at the crate's own lemmas once more: it takes up to three quarters more of a processor.
 ROWS := oci_names oci_manifest oci_documents registry_model registry_operations registry_service \
   registry_lists order_carrying order_messages registry_connection registry_conversation registry_server \
   registry_loop registry_program \
   store_schema store_contents store_world store_statements store_writes registry_store registry_databases
-jobs_of = $(if $(filter $(1),$(ROWS)),2,1)
+ENDS := oci_names oci_manifest oci_documents registry_model registry_loop registry_program
+jobs_of = $(if $(filter $(1),$(ENDS)),2,1)
 niceness_of = $(if $(filter $(1),$(ROWS)),0,2)
 define prove
 .PHONY: prove-$(1)
@@ -96,6 +99,10 @@ check-file: build/registry
 # The worked examples by the program itself, commands by its orders (python3).
 check-rows:
 	python3 check/rows.py
+
+# The program on command lines, over files and sockets (python3 with its sqlite3).
+check-words:
+	python3 check/words.py
 
 # Hostile memory, a hostile disk, kills, and orders beside requests, over the executables that `make test` leaves: python3 and rustc.
 KILLS = 100

@@ -81,6 +81,10 @@ WRITES = [
     ("close it", (request("PUT", f"{AT}/blobs/uploads/1?digest={digest(HELLO)}"), 201)),
     ("open one more", (request("POST", f"{AT}/blobs/uploads/"), 202)),
     ("end the sessions", ORDERS[4]),
+    # of one chunk, and closed without bytes: nothing of it is read
+    ("open a session for one chunk", (request("POST", f"{AT}/blobs/uploads/"), 202)),
+    ("append that chunk", (request("PATCH", f"{AT}/blobs/uploads/3", b"hel"), 202)),
+    ("close it unread", (request("PUT", f"{AT}/blobs/uploads/3?digest={digest(b'hel')}"), 201)),
     ("delete a blob", (request("DELETE", f"{AT}/blobs/{digest(ABC)}"), 202)),
     ("delete a manifest", (request("DELETE", f"{AT}/manifests/{digest(MANIFEST)}"), 202)),
     ("prune the blobs that no manifest names", ORDERS[5]),

@@ -34,7 +34,7 @@ fn run_in_files<
 }
 
 /// `run_words` over files of which `F` says what is supposed.
-pub(crate) fn run<F: Supposed, T: AsStr, R: Read, W: Write, E: Write>(
+pub fn run<F: Supposed, T: AsStr, R: Read, W: Write, E: Write>(
     rt: &HostRuntime,
     words: &[T],
     reader: &mut R,

@@ -1,23 +1,7 @@
 //! The program `registry`: the ends of the process, over databases in files.
 #![tactic(auto)]
 
-#[cfg(test)]
-mod damage_tests;
-#[cfg(test)]
-mod file_tests;
 mod files;
-#[cfg(test)]
-mod loopback_tests;
-#[cfg(test)]
-mod order_tests;
-#[cfg(test)]
-mod path_tests;
-#[cfg(test)]
-mod tests;
-#[cfg(test)]
-mod token_tests;
-#[cfg(test)]
-mod word_tests;
 
 use registry_orders::Failure;
 use registry_orders::failure::say;

@@ -4,12 +4,6 @@
 mod file;
 mod migration;
 mod rewrite;
-#[cfg(test)]
-mod stops;
-#[cfg(test)]
-mod tests;
-#[cfg(test)]
-mod worked;
 
 pub use file::migrate;
 pub use migration::migrate_open;
