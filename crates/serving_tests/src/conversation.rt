@@ -1,263 +1,243 @@
 //! Conversations by hand: requests that are cut, that stand one behind the other, that wait and that end
-//! early. The texts are those of RFC 9112 and of the worked examples.
+//! early.
 
-use crate::setting::{FIELDS, HELLO, add, grant, same};
+use crate::setting::{Registry, same, setting};
+use crate::texts::{
+    BAD_REQUEST, CONTINUE, HELLO, IN_CHUNKS, created, joined, push, three_replies, three_requests,
+};
 use registry_conversation::{Conversation, Step, Wants};
 use registry_http::{End, FramingRefusal};
-use registry_maps::MapKeeper;
-use registry_service::Service;
 use std::alloc::Global;
 use std::process::Abort;
-use std::test::Fail;
 
-const CONTINUE: &str = "HTTP/1.1 100 Continue\r\n\r\n";
-
-const BAD_REQUEST: &str =
-    "HTTP/1.1 400 Bad Request\r\nContent-Length: 0\r\nConnection: close\r\n\r\n";
-
-/// A registry of the repository `team/app`, on which `t1` has level 3.
-fn setting(alloc: Global) -> Result<Service<MapKeeper>, Fail> {
-    let mut registry = Service::new(MapKeeper::new(alloc));
-    add(alloc, &mut registry)?;
-    grant(alloc, &mut registry)?;
-    Ok(registry)
-}
+/// The body `hello` by its length.
+const BY_LENGTH: &str = "Content-Length: 5\r\n\r\nhello";
 
 /// A conversation, the registry that it is had with, and what went out of it.
 #[derive(Drop)]
 struct Talk {
     conversation: Conversation,
-    registry: Service<MapKeeper>,
+    registry: Registry,
     output: Vec<u8>,
 }
 
-fn new_talk(alloc: Global) -> Result<Talk, Fail> {
-    Ok(Talk {
-        conversation: Conversation::new(alloc)?,
-        registry: setting(alloc)?,
+fn new_talk(rt: &impl Abort, alloc: Global) -> Talk {
+    Talk {
+        conversation: Conversation::new(alloc).expect(rt, "memory"),
+        registry: setting(rt, alloc),
         output: Vec::new(alloc),
-    })
-}
-
-/// What is to go out goes, in two parts.
-fn send(conversation: &mut Conversation, output: &mut Vec<u8>) -> Result<(), Fail> {
-    for _ in 0..2 {
-        let going = conversation.outgoing();
-        let count = going.len() - going.len() / 2;
-        output.extend_from_slice(&going[..count])?;
-        conversation.sent(count);
     }
-    let count = conversation.outgoing().len();
-    output.extend_from_slice(conversation.outgoing())?;
-    conversation.sent(count);
-    Ok(())
 }
 
-/// One turn, after which all bytes go out.
-fn turn(alloc: Global, talk: &mut Talk) -> Result<Step, Fail> {
-    let step = talk.conversation.answer_next(alloc, &mut talk.registry);
-    send(&mut talk.conversation, &mut talk.output)?;
-    Ok(step)
+/// Some bytes come.
+fn hear(talk: &mut Talk, bytes: &[u8]) {
+    talk.conversation.receive(bytes);
+}
+
+/// The input ends.
+fn finish(talk: &mut Talk) {
+    talk.conversation.finish();
+}
+
+/// Room that holds nothing is given back.
+fn give_back(alloc: Global, talk: &mut Talk) {
+    talk.conversation.give_back(alloc);
+}
+
+/// A turn, after which nothing goes out.
+fn step(alloc: Global, talk: &mut Talk) -> Step {
+    talk.conversation.answer_next(alloc, &mut talk.registry)
+}
+
+/// Some bytes go out, if there are so many.
+fn go(rt: &impl Abort, talk: &mut Talk, count: usize) {
+    let going = talk.conversation.outgoing();
+    let count = count.min(going.len());
+    talk.output
+        .extend_from_slice(&going[..count])
+        .expect(rt, "memory");
+    talk.conversation.sent(count);
+}
+
+/// A turn, after which all bytes go out, in two parts.
+fn turn(rt: &impl Abort, alloc: Global, talk: &mut Talk) -> Step {
+    let step = step(alloc, talk);
+    go(rt, talk, 100);
+    go(rt, talk, usize::MAX);
+    step
 }
 
 /// Turns until nothing more comes of them.
-fn turns(alloc: Global, talk: &mut Talk) -> Result<Step, Fail> {
+fn turns(rt: &impl Abort, alloc: Global, talk: &mut Talk) -> Step {
     for _ in 0..10 {
-        let step = turn(alloc, talk)?;
+        let step = turn(rt, alloc, talk);
         if step != Step::Answered {
-            return Ok(step);
+            return step;
         }
     }
-    Err(Fail::from("an end of the turns"))
+    Step::Answered
 }
 
-/// The reply to the push of `hello`, the fetch of it, and its HEAD on a connection that closes.
-fn replies(alloc: Global) -> Result<String, Fail> {
-    Ok(format!(in alloc;
-        "HTTP/1.1 201 Created\r\nContent-Length: 0\r\nDocker-Content-Digest: {HELLO}\r\n\
-          Location: /v2/team/app/blobs/{HELLO}\r\n\r\n\
-          HTTP/1.1 200 OK\r\nContent-Length: 5\r\nContent-Type: application/octet-stream\r\n\
-          Docker-Content-Digest: {HELLO}\r\n\r\nhello\
-          HTTP/1.1 200 OK\r\nContent-Length: 5\r\nContent-Type: application/octet-stream\r\n\
-          Docker-Content-Digest: {HELLO}\r\nConnection: close\r\n\r\n"
-    )?)
+/// These bytes come, and the next turn comes to this; this has gone out then.
+fn goes_on(
+    rt: &impl Abort,
+    alloc: Global,
+    talk: &mut Talk,
+    place: usize,
+    bytes: &[u8],
+    step: Step,
+    output: &[u8],
+) {
+    hear(talk, bytes);
+    same(rt, place, turn(rt, alloc, talk), step);
+    same(rt, place, talk.output.as_slice(), output);
 }
 
-/// A push, an empty line, a fetch, and a HEAD that closes the connection, with bytes behind it.
-fn requests(alloc: Global, body: &str) -> Result<String, Fail> {
-    Ok(format!(in alloc;
-        "POST /v2/team/app/blobs/uploads/?digest={HELLO} HTTP/1.1\r\n{FIELDS}{body}\r\n\
-          GET /v2/team/app/blobs/{HELLO} HTTP/1.1\r\n{FIELDS}\r\n\
-          HEAD /v2/team/app/blobs/{HELLO} HTTP/1.1\r\n{FIELDS}Connection: close\r\n\r\nGET /"
-    )?)
+/// It holds so many bytes, and waits for this.
+fn is_at(rt: &impl Abort, talk: &Talk, held: usize, wants: Wants) {
+    same(rt, held, talk.conversation.held(), held);
+    same(rt, held, talk.conversation.wants(), wants);
 }
 
 /// Whatever is in hand where the input is cut, the same goes out.
-fn is_cut_anywhere(
+fn is_cut_at(rt: &impl Abort, alloc: Global, input: &[u8], output: &[u8], at: usize) {
+    let (front, rest) = input.split_at(at.min(input.len()));
+    let mut talk = new_talk(rt, alloc);
+    hear(&mut talk, front);
+    let _ = turns(rt, alloc, &mut talk);
+    assert!(rt; output.starts_with(talk.output.as_slice()));
+    give_back(alloc, &mut talk);
+    hear(&mut talk, rest);
+    finish(&mut talk);
+    same(
+        rt,
+        at,
+        turns(rt, alloc, &mut talk),
+        Step::Ended(End::Closed),
+    );
+    same(rt, at, talk.output.as_slice(), output);
+}
+
+/// Three requests, cut at every byte; before the replies to them goes this.
+fn are_cut(rt: &impl Abort, alloc: Global, body: &str, before: &str) {
+    let input = three_requests(rt, alloc, "team/app", HELLO, body);
+    let replies = three_replies(rt, alloc, "team/app", HELLO, "hello");
+    let output = joined(rt, alloc, &[before, replies.as_str()]);
+    for at in 0..input.len() + 1 {
+        is_cut_at(rt, alloc, input.as_bytes(), output.as_bytes(), at);
+    }
+}
+
+/// By their length and in chunks.
+#[test]
+fn requests_cut_at_every_byte(rt: HostRuntime) {
+    are_cut(&rt, rt.alloc(), BY_LENGTH, "");
+    are_cut(&rt, rt.alloc(), IN_CHUNKS, CONTINUE);
+}
+
+/// The next turn answers this request, with a body of so many bytes; a log is told it, and no query.
+fn answers_one(
     rt: &impl Abort,
     alloc: Global,
-    input: &[u8],
-    output: &[u8],
-) -> Result<(), Fail> {
-    for at in 0..input.len() + 1 {
-        let (front, rest) = input.split_at(at);
-        let mut talk = new_talk(alloc)?;
-        talk.conversation.receive(front);
-        let _ = turns(alloc, &mut talk)?;
-        assert!(rt; output.starts_with(talk.output.as_slice()));
-        talk.conversation.give_back(alloc);
-        talk.conversation.receive(rest);
-        talk.conversation.finish();
-        let end = turns(alloc, &mut talk)?;
-        same(rt, at, end, Step::Ended(End::Closed));
-        same(rt, at, talk.output.as_slice(), output);
-    }
-    Ok(())
+    talk: &mut Talk,
+    method: &str,
+    path: &str,
+    came: usize,
+) {
+    let before = talk.output.len();
+    same(rt, came, turn(rt, alloc, talk), Step::Answered);
+    assert!(rt; before < talk.output.len());
+    let line = joined(rt, alloc, &[method, " /v2/team/app/blobs/", path]);
+    same(
+        rt,
+        came,
+        talk.conversation.exchange().line(),
+        line.as_bytes(),
+    );
+    same(rt, came, talk.conversation.exchange().came(), came);
 }
 
+/// Three requests that came at once take three turns, and a log is told each in its turn.
 #[test]
-fn requests_cut_at_every_byte(rt: HostRuntime) -> Result<(), Fail> {
+fn one_request_a_turn(rt: HostRuntime) {
     let alloc = rt.alloc();
-    let input = requests(alloc, "Content-Length: 5\r\n\r\nhello")?;
-    is_cut_anywhere(&rt, alloc, input.as_bytes(), replies(alloc)?.as_bytes())
-}
-
-#[test]
-fn chunks_cut_at_every_byte(rt: HostRuntime) -> Result<(), Fail> {
-    let alloc = rt.alloc();
-    let input = requests(
+    let input = three_requests(&rt, alloc, "team/app", HELLO, BY_LENGTH);
+    let output = three_replies(&rt, alloc, "team/app", HELLO, "hello");
+    let mut talk = new_talk(&rt, alloc);
+    hear(&mut talk, input.as_bytes());
+    answers_one(&rt, alloc, &mut talk, "POST", "uploads/", 5);
+    answers_one(&rt, alloc, &mut talk, "GET", HELLO, 0);
+    answers_one(&rt, alloc, &mut talk, "HEAD", HELLO, 0);
+    same(&rt, 3, talk.output.as_slice(), output.as_bytes());
+    goes_on(
+        &rt,
         alloc,
-        "Expect: 100-continue\r\nTransfer-Encoding: chunked\r\n\r\n\
-          2;a=b\r\nhe\r\n03\r\nllo\r\n0\r\nX: y\r\n\r\n",
-    )?;
-    let mut output = CONTINUE.to_string(alloc)?;
-    output.push_str(replies(alloc)?.as_str())?;
-    is_cut_anywhere(&rt, alloc, input.as_bytes(), output.as_bytes())
-}
-
-/// One byte after the other, with a turn after each.
-#[test]
-fn bytes_one_by_one(rt: HostRuntime) -> Result<(), Fail> {
-    let alloc = rt.alloc();
-    let input = requests(
-        alloc,
-        "Expect: 100-Continue\r\nTransfer-Encoding: chunked\r\n\r\n5\r\nhello\r\n0\r\n\r\n",
-    )?;
-    let mut output = CONTINUE.to_string(alloc)?;
-    output.push_str(replies(alloc)?.as_str())?;
-    let mut talk = new_talk(alloc)?;
-    for byte in input.as_bytes() {
-        talk.conversation.receive(&[*byte]);
-        let _ = turns(alloc, &mut talk)?;
-    }
-    same(&rt, 0, talk.output.as_slice(), output.as_bytes());
-    same(&rt, 0, turn(alloc, &mut talk)?, Step::Ended(End::Closed));
-    Ok(())
-}
-
-/// Three requests that came at once take three turns.
-#[test]
-fn one_request_a_turn(rt: HostRuntime) -> Result<(), Fail> {
-    let alloc = rt.alloc();
-    let input = requests(alloc, "Content-Length: 5\r\n\r\nhello")?;
-    let mut talk = new_talk(alloc)?;
-    talk.conversation.receive(input.as_bytes());
-    let mut before = 0;
-    for place in 0..3 {
-        same(&rt, place, turn(alloc, &mut talk)?, Step::Answered);
-        assert!(rt; before < talk.output.len());
-        before = talk.output.len();
-    }
-    same(&rt, 3, talk.output.as_slice(), replies(alloc)?.as_bytes());
-    same(&rt, 3, turn(alloc, &mut talk)?, Step::Ended(End::Closed));
-    same(&rt, 3, talk.output.len(), before);
-    Ok(())
-}
-
-/// Of three requests that came at once a log is told each in its turn, and no query.
-#[test]
-fn a_log_is_told_each_request(rt: HostRuntime) -> Result<(), Fail> {
-    let alloc = rt.alloc();
-    let input = requests(alloc, "Content-Length: 5\r\n\r\nhello")?;
-    let mut talk = new_talk(alloc)?;
-    talk.conversation.receive(input.as_bytes());
-    for (method, path, came) in [
-        ("POST", "uploads/", 5),
-        ("GET", HELLO, 0),
-        ("HEAD", HELLO, 0),
-    ] {
-        let line = format!(in alloc; "{method} /v2/team/app/blobs/{path}")?;
-        same(&rt, came, turn(alloc, &mut talk)?, Step::Answered);
-        let exchange = talk.conversation.exchange();
-        same(&rt, came, exchange.line(), line.as_bytes());
-        same(&rt, came, exchange.came(), came);
-    }
-    Ok(())
+        &mut talk,
+        4,
+        b"",
+        Step::Ended(End::Closed),
+        output.as_bytes(),
+    );
 }
 
 /// A client that waits is told so once, before its body came.
 #[test]
-fn continue_before_the_body(rt: HostRuntime) -> Result<(), Fail> {
+fn continue_before_the_body(rt: HostRuntime) {
     let alloc = rt.alloc();
-    let mut talk = new_talk(alloc)?;
-    let head = format!(in alloc;
-        "POST /v2/team/app/blobs/uploads/?digest={HELLO} HTTP/1.1\r\n{FIELDS}\
-          Expect: 100-continue\r\nContent-Length: 5\r\n\r\n"
-    )?;
-    talk.conversation.receive(head.as_bytes());
-    same(&rt, 0, turn(alloc, &mut talk)?, Step::Waits);
-    same(&rt, 0, talk.output.as_slice(), CONTINUE.as_bytes());
-    same(&rt, 1, turn(alloc, &mut talk)?, Step::Waits);
-    talk.conversation.receive(b"hel");
-    same(&rt, 2, turn(alloc, &mut talk)?, Step::Waits);
-    same(&rt, 2, talk.output.len(), CONTINUE.len());
-    talk.conversation.receive(b"lo");
-    same(&rt, 3, turn(alloc, &mut talk)?, Step::Answered);
-    assert!(rt;
-        talk.output
-            .starts_with(b"HTTP/1.1 100 Continue\r\n\r\nHTTP/1.1 201 Created\r\n")
+    let fields = "Expect: 100-continue\r\nContent-Length: 5\r\n\r\n";
+    let head = push(&rt, alloc, "team/app", HELLO, fields);
+    let reply = created(&rt, alloc, "team/app", HELLO);
+    let output = joined(&rt, alloc, &[CONTINUE, reply.as_str()]);
+    let before = CONTINUE.as_bytes();
+    let mut talk = new_talk(&rt, alloc);
+    goes_on(
+        &rt,
+        alloc,
+        &mut talk,
+        0,
+        head.as_bytes(),
+        Step::Waits,
+        before,
     );
-    Ok(())
+    goes_on(&rt, alloc, &mut talk, 1, b"", Step::Waits, before);
+    goes_on(&rt, alloc, &mut talk, 2, b"hel", Step::Waits, before);
+    goes_on(
+        &rt,
+        alloc,
+        &mut talk,
+        3,
+        b"lo",
+        Step::Answered,
+        output.as_bytes(),
+    );
 }
 
 /// A refusal is the end, and bytes behind it come to nothing.
 #[test]
-fn refusal_ends_it(rt: HostRuntime) -> Result<(), Fail> {
+fn refusal_ends_it(rt: HostRuntime) {
     let alloc = rt.alloc();
-    let mut talk = new_talk(alloc)?;
-    talk.conversation.receive(
-        b"POST / HTTP/1.1\r\nHost: r\r\nTransfer-Encoding: chunked\r\n\r\n3\r\nabcX",
-    );
+    let unreadable = b"POST / HTTP/1.1\r\nHost: r\r\nTransfer-Encoding: chunked\r\n\r\n3\r\nabcX";
     let end = Step::Ended(End::Refused(FramingRefusal::UnreadableChunk));
-    same(
-        &rt,
-        0,
-        talk.conversation.answer_next(alloc, &mut talk.registry),
-        end,
-    );
-    same(&rt, 0, talk.conversation.wants(), Wants::Room);
-    same(&rt, 0, turn(alloc, &mut talk)?, end);
-    same(&rt, 0, talk.conversation.wants(), Wants::Nothing);
-    talk.conversation
-        .receive(b"GET /v2/ HTTP/1.1\r\nHost: r\r\n\r\n");
-    same(&rt, 1, turn(alloc, &mut talk)?, end);
-    same(&rt, 1, talk.output.as_slice(), BAD_REQUEST.as_bytes());
-    Ok(())
+    let mut talk = new_talk(&rt, alloc);
+    hear(&mut talk, unreadable);
+    same(&rt, 0, step(alloc, &mut talk), end);
+    is_at(&rt, &talk, BAD_REQUEST.len(), Wants::Room);
+    goes_on(&rt, alloc, &mut talk, 1, b"", end, BAD_REQUEST);
+    is_at(&rt, &talk, 0, Wants::Nothing);
+    let behind = b"GET /v2/ HTTP/1.1\r\nHost: r\r\n\r\n";
+    goes_on(&rt, alloc, &mut talk, 2, behind, end, BAD_REQUEST);
 }
 
 #[test]
-fn input_ends_in_a_head(rt: HostRuntime) -> Result<(), Fail> {
+fn input_ends_in_a_head(rt: HostRuntime) {
     let alloc = rt.alloc();
-    let mut talk = new_talk(alloc)?;
-    same(&rt, 0, talk.conversation.wants(), Wants::Bytes);
-    talk.conversation.receive(b"GET /v2/ HT");
-    same(&rt, 0, turn(alloc, &mut talk)?, Step::Waits);
-    same(&rt, 0, talk.conversation.held(), 11);
-    talk.conversation.give_back(alloc);
-    same(&rt, 0, talk.conversation.held(), 11);
-    talk.conversation.finish();
-    talk.conversation.receive(b"TP/1.1\r\nHost: r\r\n\r\n");
-    same(&rt, 1, turn(alloc, &mut talk)?, Step::Ended(End::Cut));
-    same(&rt, 1, talk.output.len(), 0);
-    Ok(())
+    let mut talk = new_talk(&rt, alloc);
+    is_at(&rt, &talk, 0, Wants::Bytes);
+    goes_on(&rt, alloc, &mut talk, 0, b"GET /v2/ HT", Step::Waits, b"");
+    is_at(&rt, &talk, 11, Wants::Bytes);
+    give_back(alloc, &mut talk);
+    is_at(&rt, &talk, 11, Wants::Bytes);
+    finish(&mut talk);
+    let behind = b"TP/1.1\r\nHost: r\r\n\r\n";
+    goes_on(&rt, alloc, &mut talk, 1, behind, Step::Ended(End::Cut), b"");
 }

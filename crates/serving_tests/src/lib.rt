@@ -1,5 +1,6 @@
-//! Tests of what is served and ordered: connections without a socket, one and many at once, and who of them
-//! was silent; sockets on loopback; orders as lines, and the socket at which they are sent and taken; lists.
+//! Tests of libraries over ordered maps, without a socket or a database: what connections are answered, one
+//! and many at once, however their bytes are cut and wherever reads and writes fail, and who of them was
+//! silent; runs; orders as lines; numbers and texts of the model.
 #![tactic(auto)]
 
 #[cfg(test)]
@@ -7,14 +8,26 @@ mod connections;
 #[cfg(test)]
 mod conversation;
 #[cfg(test)]
-mod lists;
+mod cuts;
 #[cfg(test)]
-mod loopback;
+mod ends;
+#[cfg(test)]
+mod interleaved;
 #[cfg(test)]
 mod messages;
 #[cfg(test)]
-mod order_sockets;
+mod model;
+#[cfg(test)]
+mod play;
+#[cfg(test)]
+mod runs;
+#[cfg(test)]
+mod sessions;
 #[cfg(test)]
 mod setting;
 #[cfg(test)]
 mod silence;
+#[cfg(test)]
+mod streams;
+#[cfg(test)]
+mod texts;

@@ -1,16 +1,15 @@
 //! Lines by hand, over a registry in memory. The answers are what the commands print by the definitions.
 
-use crate::setting::same;
+use crate::setting::{Registry, empty, same};
 use oci_names::{RepoName, Token};
 use order_messages::{
     STOP, Unread, answer_line, is_stop, read_answer, read_order, write_order, write_stopping,
 };
-use registry_maps::MapKeeper;
 use registry_model::Level;
 use registry_orders::{Change, Form, Listing, Order, Shown};
-use registry_service::Service;
 use std::alloc::Global;
-use std::test::Fail;
+use std::process::Abort;
+use std::str;
 
 const DONE: &str = "0\n";
 
@@ -119,127 +118,132 @@ const MALFORMED_LINES: [&[u8]; 41] = [
     b"list lines grants whole * ",
 ];
 
-/// What a line is answered.
-fn answer(alloc: Global, registry: &mut Service<MapKeeper>, line: &[u8]) -> Result<String, Fail> {
-    let bytes = answer_line(alloc, registry, line)?;
-    Ok(String::from_utf8(bytes).map_err(|_| "a text")?)
+/// A line is answered by this.
+fn is_answered(
+    rt: &impl Abort,
+    alloc: Global,
+    registry: &mut Registry,
+    place: usize,
+    line: &[u8],
+    wanted: &str,
+) {
+    let answer = answer_line(alloc, registry, line).expect(rt, "memory");
+    same(rt, place, str::from_utf8(&answer), Ok(wanted));
+}
+
+/// A line spells an order, whose line it is.
+fn is_written_again(rt: &impl Abort, alloc: Global, place: usize, line: &str) {
+    let order = read_order(alloc, line.as_bytes()).expect(rt, "an order");
+    is_written(rt, alloc, place, order, line);
+}
+
+/// An order has this line.
+fn is_written(rt: &impl Abort, alloc: Global, place: usize, order: Order, line: &str) {
+    let written = write_order(alloc, &order).expect(rt, "memory");
+    same(rt, place, written.as_str(), line);
+}
+
+/// A line spells no order.
+fn is_malformed(rt: &impl Abort, alloc: Global, place: usize, line: &[u8]) {
+    let unread = read_order(alloc, line).map(|_| ()).err();
+    same(rt, place, unread, Some(Unread::Malformed));
 }
 
 #[test]
-fn each_line_is_answered(rt: HostRuntime) -> Result<(), Fail> {
+fn each_line_is_answered_and_written_again(rt: HostRuntime) {
     let alloc = rt.alloc();
-    let mut registry = Service::new(MapKeeper::new(alloc));
+    let mut registry = empty(alloc);
     for (place, (line, wanted)) in TALK.iter().enumerate() {
-        let found = answer(alloc, &mut registry, line.as_bytes())?;
-        same(&rt, place, found.as_str(), wanted);
+        is_answered(&rt, alloc, &mut registry, place, line.as_bytes(), wanted);
+        is_written_again(&rt, alloc, place, line);
     }
-    Ok(())
 }
 
 #[test]
-fn malformed_lines_change_nothing(rt: HostRuntime) -> Result<(), Fail> {
+fn malformed_lines_change_nothing(rt: HostRuntime) {
     let alloc = rt.alloc();
-    let mut registry = Service::new(MapKeeper::new(alloc));
-    answer(alloc, &mut registry, b"repo team/app 2000")?;
+    let mut registry = empty(alloc);
+    is_answered(&rt, alloc, &mut registry, 0, b"repo team/app 2000", DONE);
     for (place, line) in MALFORMED_LINES.iter().enumerate() {
-        let found = answer(alloc, &mut registry, line)?;
-        same(&rt, place, found.as_str(), MALFORMED);
-        let found = answer(alloc, &mut registry, b"usage")?;
-        same(&rt, place, found.as_str(), ONE_ROW);
+        is_malformed(&rt, alloc, place, line);
+        is_answered(&rt, alloc, &mut registry, place, line, MALFORMED);
+        is_answered(&rt, alloc, &mut registry, place, b"usage", ONE_ROW);
     }
-    Ok(())
+}
+
+fn app(rt: &impl Abort, alloc: Global) -> RepoName {
+    RepoName::parse(alloc, "team/app").expect(rt, "a name")
+}
+
+fn t1(rt: &impl Abort, alloc: Global) -> Token {
+    Token::parse(alloc, "t1").expect(rt, "a token")
+}
+
+/// A list of levels.
+fn levels(name: Option<RepoName>, token: Option<Token>, shown: Shown, form: Form) -> Order {
+    let listing = Listing::Grants { name, token, shown };
+    Order::List { listing, form }
 }
 
 #[test]
-fn each_line_is_written_again(rt: HostRuntime) -> Result<(), Fail> {
+fn changes_are_written(rt: HostRuntime) {
     let alloc = rt.alloc();
-    for (place, (line, _)) in TALK.iter().enumerate() {
-        let order = read_order(alloc, line.as_bytes()).map_err(|_| "an order")?;
-        same(&rt, place, write_order(alloc, &order)?.as_str(), line);
-    }
-    Ok(())
-}
-
-#[test]
-fn a_grant_is_written(rt: HostRuntime) -> Result<(), Fail> {
-    let alloc = rt.alloc();
-    let order = Order::Change(Change::Grant {
-        token: Token::parse(alloc, "t1")?,
-        name: RepoName::parse(alloc, "team/app")?,
-        level: Level::Push,
-    });
-    let line = write_order(alloc, &order)?;
-    same(&rt, 0, line.as_str(), "grant team/app 2 t1");
-    let token = Token::parse(alloc, "t1")?;
-    let order = Order::Change(Change::RevokeAll { token });
-    let line = write_order(alloc, &order)?;
-    same(&rt, 1, line.as_str(), "revoke t1");
-    Ok(())
+    let (token, name, level) = (t1(&rt, alloc), app(&rt, alloc), Level::Push);
+    let grant = Order::Change(Change::Grant { token, name, level });
+    is_written(&rt, alloc, 0, grant, "grant team/app 2 t1");
+    let token = t1(&rt, alloc);
+    let revoke = Order::Change(Change::RevokeAll { token });
+    is_written(&rt, alloc, 1, revoke, "revoke t1");
 }
 
 /// An asterisk stands where no repository, or no token, is named.
 #[test]
-fn lists_of_levels_are_written(rt: HostRuntime) -> Result<(), Fail> {
+fn lists_of_levels_are_written(rt: HostRuntime) {
     let alloc = rt.alloc();
-    let order = Order::List {
-        listing: Listing::Grants {
-            name: None,
-            token: Some(Token::parse(alloc, "t1")?),
-            shown: Shown::Beginning,
-        },
-        form: Form::Lines,
-    };
-    let line = write_order(alloc, &order)?;
-    same(&rt, 0, line.as_str(), "list lines grants beginning * t1");
-    let order = Order::List {
-        listing: Listing::Grants {
-            name: Some(RepoName::parse(alloc, "team/app")?),
-            token: None,
-            shown: Shown::Whole,
-        },
-        form: Form::Json,
-    };
-    let line = write_order(alloc, &order)?;
-    same(&rt, 1, line.as_str(), "list json grants whole team/app *");
-    Ok(())
+    let of_token = levels(None, Some(t1(&rt, alloc)), Shown::Beginning, Form::Lines);
+    is_written(&rt, alloc, 0, of_token, "list lines grants beginning * t1");
+    let on_name = levels(Some(app(&rt, alloc)), None, Shown::Whole, Form::Json);
+    is_written(&rt, alloc, 1, on_name, "list json grants whole team/app *");
 }
 
+/// An answer of this status and text.
+fn is_read(rt: &impl Abort, bytes: &[u8], status: u8, text: &[u8]) {
+    let answer = read_answer(bytes).expect(rt, "an answer");
+    same(rt, 0, answer.status, status);
+    same(rt, 1, answer.text, text);
+}
+
+/// Bytes that are no answer.
+const NO_ANSWERS: [&[u8]; 6] = [b"", b"0", b"\n", b"5\n", b"00\n", b" 0\n"];
+
 #[test]
-fn answers_are_read(rt: HostRuntime) -> Result<(), Fail> {
-    let refused = read_answer(NO_REPO.as_bytes()).ok_or("an answer")?;
-    same(&rt, 0, refused.status, 1);
-    same(&rt, 0, refused.text, b"registry: no such repository\n");
-    let done = read_answer(b"0\n").ok_or("an answer")?;
-    same(&rt, 1, done.status, 0);
-    same(&rt, 1, done.text, b"");
-    let none: [&[u8]; 6] = [b"", b"0", b"\n", b"5\n", b"00\n", b" 0\n"];
-    for (place, bytes) in none.iter().enumerate() {
+fn answers_are_read(rt: HostRuntime) {
+    is_read(
+        &rt,
+        NO_REPO.as_bytes(),
+        1,
+        b"registry: no such repository\n",
+    );
+    is_read(&rt, DONE.as_bytes(), 0, b"");
+    for (place, bytes) in NO_ANSWERS.iter().enumerate() {
         same(&rt, place, read_answer(bytes).is_none(), true);
     }
-    Ok(())
 }
 
-#[test]
-fn a_line_that_is_none(rt: HostRuntime) -> Result<(), Fail> {
-    let unread = read_order(rt.alloc(), b"usage ").map(|_| ()).err();
-    same(&rt, 0, unread, Some(Unread::Malformed));
-    Ok(())
-}
+/// Lines that do not ask a server to stop.
+const NO_STOPS: [&[u8]; 7] = [
+    b"", b"sto", b"stops", b"stop ", b" stop", b"STOP", b"stop\n",
+];
 
 /// The line that asks a server to stop, and none beside it; it is no order, and is answered that it is done.
 #[test]
-fn one_line_asks_to_stop(rt: HostRuntime) -> Result<(), Fail> {
+fn one_line_asks_to_stop(rt: HostRuntime) {
     let alloc = rt.alloc();
     same(&rt, 0, is_stop(STOP.as_bytes()), true);
-    let others: [&[u8]; 7] = [
-        b"", b"sto", b"stops", b"stop ", b" stop", b"STOP", b"stop\n",
-    ];
-    for (place, line) in others.iter().enumerate() {
+    for (place, line) in NO_STOPS.iter().enumerate() {
         same(&rt, place, is_stop(line), false);
     }
-    let unread = read_order(alloc, STOP.as_bytes()).map(|_| ()).err();
-    same(&rt, 1, unread, Some(Unread::Malformed));
-    let answer = write_stopping(alloc)?;
-    same(&rt, 2, answer.as_slice(), DONE.as_bytes());
-    Ok(())
+    is_malformed(&rt, alloc, 0, STOP.as_bytes());
+    let answer = write_stopping(alloc).expect(&rt, "memory");
+    same(&rt, 1, answer.as_slice(), DONE.as_bytes());
 }

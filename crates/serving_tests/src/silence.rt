@@ -1,94 +1,94 @@
 //! What is a sign of life on a connection, and who has given none for how long.
 
-use crate::setting::{LARGE_HEAD, SMALL};
-use registry_maps::MapKeeper;
+use crate::play::{Act, Play, Sight, all_happens, go_on, happens, new_play};
+use crate::setting::empty;
+use crate::texts::{LARGE_HEAD, SMALL};
+use registry_conversation::Step;
+use registry_server::Receipt;
 use registry_server::life::SIGN_OF_LIFE;
-use registry_server::{Bounds, Connections, Receipt};
-use registry_service::Service;
 use std::alloc::Global;
-use std::test::Fail;
+use std::process::Abort;
 
 /// When the connections come, in milliseconds.
 const BEGIN: u64 = 5_000;
 
-/// Two connections that came at `BEGIN`.
-fn two(alloc: Global) -> Connections {
-    let bounds = Bounds {
-        at_once: 2,
-        coming: 0,
-        going: 1_000_000,
-    };
-    let mut connections = Connections::new(alloc, bounds);
-    connections.tick(BEGIN);
-    let _ = connections.open(alloc);
-    let _ = connections.open(alloc);
-    connections
-}
+/// Two connections come then.
+const BOTH_COME: [Act; 3] = [Act::Tick(BEGIN), Act::Open(Ok(0)), Act::Open(Ok(1))];
 
-/// All turns that there are.
-fn take_turns(alloc: Global, connections: &mut Connections) {
-    let mut registry = Service::new(MapKeeper::new(alloc));
-    for _ in 0..100 {
-        if connections.turn(alloc, &mut registry).is_none() {
-            return;
-        }
-    }
-}
+/// For how long one was silent whose head came a byte a second.
+const OF_HEAD: u64 = 1_000 * (LARGE_HEAD.len() as u64 - 1);
 
-/// A head that comes a byte a second, each of which is looked at, is no sign of life; 65,536 bytes are one,
-/// whether they were taken or let fall.
-#[test]
-fn a_byte_a_second_is_silence(rt: HostRuntime) -> Result<(), Fail> {
-    let alloc = rt.alloc();
-    let mut connections = two(alloc);
-    for (at, byte) in LARGE_HEAD.iter().enumerate() {
-        connections.tick(BEGIN + 1_000 * at as u64);
-        assert!(rt; connections.receive(0, &[*byte]) == Receipt::Taken);
-        take_turns(alloc, &mut connections);
-    }
-    let silence = 1_000 * (LARGE_HEAD.len() as u64 - 1);
-    assert!(rt; connections.silence(0) == silence);
-    let body = vec![in alloc; b'x'; SIGN_OF_LIFE - LARGE_HEAD.len() - 1]?;
-    assert!(rt; connections.receive(0, &body) == Receipt::Taken);
-    assert!(rt; connections.silence(0) == silence);
-    connections.note_moved(0, 1);
-    assert!(rt; connections.silence(0) == 0);
-    Ok(())
-}
+/// 65,536 bytes are a sign of life, whether they were taken or let fall; the head was taken before these.
+const BEHIND_HEAD: [Act; 5] = [
+    Act::See(Sight::Silence(0, OF_HEAD)),
+    Act::HearBody(0, SIGN_OF_LIFE - LARGE_HEAD.len() - 1, Receipt::Taken),
+    Act::See(Sight::Silence(0, OF_HEAD)),
+    Act::Move(0, 1),
+    Act::See(Sight::Silence(0, 0)),
+];
 
 /// The last byte of a reply is a sign of life, and none before it.
-#[test]
-fn a_reply_that_went_whole_is_life(rt: HostRuntime) -> Result<(), Fail> {
-    let alloc = rt.alloc();
-    let mut connections = two(alloc);
-    assert!(rt; connections.receive(1, SMALL) == Receipt::Taken);
-    take_turns(alloc, &mut connections);
-    connections.tick(BEGIN + 10_000);
-    let count = connections.outgoing(1).len();
-    assert!(rt; count > 1);
-    assert!(rt; connections.sent(1, 1));
-    assert!(rt; connections.silence(1) == 10_000);
-    let left = connections.outgoing(1).len();
-    assert!(rt; connections.sent(1, left));
-    assert!(rt; connections.silence(1) == 0);
-    take_turns(alloc, &mut connections);
-    assert!(rt; connections.silence(1) == 0);
-    Ok(())
-}
+const REPLY: [Act; 14] = [
+    Act::Tick(BEGIN),
+    Act::Open(Ok(0)),
+    Act::Open(Ok(1)),
+    Act::Hear(1, SMALL, Receipt::Taken),
+    Act::Turn(1, Step::Answered),
+    Act::NoTurn,
+    Act::Tick(BEGIN + 10_000),
+    Act::Send(1, 1),
+    Act::See(Sight::Silence(1, 10_000)),
+    Act::Send(1, usize::MAX),
+    Act::See(Sight::Silence(1, 0)),
+    Act::Turn(1, Step::Waits),
+    Act::NoTurn,
+    Act::See(Sight::Silence(1, 0)),
+];
 
 /// One that has been silent for just so long is named, and none that is gone.
+const NAMED: [Act; 12] = [
+    Act::Tick(BEGIN),
+    Act::Open(Ok(0)),
+    Act::Open(Ok(1)),
+    Act::Tick(BEGIN + 1_000),
+    Act::Move(1, SIGN_OF_LIFE),
+    Act::Tick(BEGIN + 3_000),
+    Act::See(Sight::Silent(3_000, Some(0))),
+    Act::See(Sight::Silent(3_001, None)),
+    Act::Close(0, true),
+    Act::See(Sight::Silence(0, 0)),
+    Act::See(Sight::Silent(3_000, None)),
+    Act::See(Sight::Silent(2_000, Some(1))),
+];
+
+/// A byte of the head comes, and is looked at.
+fn hears_byte(rt: &impl Abort, alloc: Global, play: &mut Play, time: u64, byte: &[u8]) {
+    happens(rt, alloc, 0, play, Act::Tick(time));
+    happens(rt, alloc, 1, play, Act::Hear(0, byte, Receipt::Taken));
+    happens(rt, alloc, 2, play, Act::Turn(0, Step::Waits));
+    happens(rt, alloc, 3, play, Act::NoTurn);
+}
+
+/// A head that comes a byte a second, each of which is looked at, is no sign of life.
 #[test]
-fn who_was_silent_is_named(rt: HostRuntime) -> Result<(), Fail> {
+fn a_byte_a_second_is_silence(rt: HostRuntime) {
     let alloc = rt.alloc();
-    let mut connections = two(alloc);
-    connections.tick(BEGIN + 1_000);
-    connections.note_moved(1, SIGN_OF_LIFE);
-    connections.tick(BEGIN + 3_000);
-    assert!(rt; connections.silent(3_000) == Some(0));
-    assert!(rt; connections.silent(3_001).is_none());
-    assert!(rt; connections.close(0));
-    assert!(rt; connections.silence(0) == 0);
-    assert!(rt; connections.silent(3_000).is_none());
-    assert!(rt; connections.silent(2_000) == Some(1));
-    Ok(())
+    let mut play = new_play(alloc, empty(alloc), 2, 1_000_000);
+    go_on(&rt, alloc, &mut play, BOTH_COME.as_slice());
+    let mut time = BEGIN;
+    for byte in LARGE_HEAD.chunks(1) {
+        hears_byte(&rt, alloc, &mut play, time, byte);
+        time = time.saturating_add(1_000);
+    }
+    go_on(&rt, alloc, &mut play, BEHIND_HEAD.as_slice());
+}
+
+#[test]
+fn a_reply_that_went_whole_is_life(rt: HostRuntime) {
+    all_happens(&rt, rt.alloc(), 2, 1_000_000, REPLY.as_slice());
+}
+
+#[test]
+fn who_was_silent_is_named(rt: HostRuntime) {
+    all_happens(&rt, rt.alloc(), 2, 1_000_000, NAMED.as_slice());
 }

@@ -1,5 +1,6 @@
 //! Readers and writers that cut, wait and fail.
 
+use std::alloc::Global;
 use std::io;
 use std::io::{Read, Write};
 
@@ -65,6 +66,28 @@ pub struct Writes {
     pub size: usize,
     pub fails: bool,
     pub taken: Vec<u8>,
+}
+
+impl Writes {
+    /// Takes so many bytes, one a call, and then fails.
+    pub fn failing(alloc: Global, room: usize) -> Writes {
+        Writes {
+            room,
+            size: 1,
+            fails: true,
+            taken: Vec::new(alloc),
+        }
+    }
+
+    /// Takes so many bytes, and then no more.
+    pub fn full(alloc: Global, room: usize) -> Writes {
+        Writes {
+            room,
+            size: usize::MAX,
+            fails: false,
+            taken: Vec::new(alloc),
+        }
+    }
 }
 
 impl Write for Writes {
