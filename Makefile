@@ -52,29 +52,8 @@ demo:
 
 # Proves the program and everything below it, and leaves the executable as build/registry.
 build:
-	@echo 'Proves some 1,400 functions: one to two hours of a processor, on all there are, and up to 12 GB of memory.' >&2
-	$(MAKE) --no-print-directory --jobs=$$(( $(PROCESSORS) + 2 )) $(addprefix prove-,$(all_below_registry_cli))
-	cd crates/registry_cli && rt run --jobs 2 -- --version
-	mkdir -p build
-	cp crates/registry_cli/out/registry_cli build/registry
-
-# Each library after those that it stands on, so that independent ones are proved side by side. The two long rows of
-# libraries, at whose end all others wait, go a little before what stands beside them. Where a row begins and ends there
-# is little beside it, and a crate gets two processors; elsewhere one, since a second process reads the libraries below
-# once more, and looks at the crate's own lemmas once more: it takes up to three quarters more of a processor.
-ROWS := oci_names oci_manifest oci_documents registry_model registry_operations registry_service \
-  registry_lists order_carrying order_messages registry_connection registry_conversation registry_server \
-  registry_loop registry_program \
-  store_schema store_contents store_world store_statements store_writes registry_store registry_databases
-ENDS := oci_names oci_manifest oci_documents registry_model registry_loop registry_program
-jobs_of = $(if $(filter $(1),$(ENDS)),2,1)
-niceness_of = $(if $(filter $(1),$(ROWS)),0,2)
-define prove
-.PHONY: prove-$(1)
-prove-$(1): $(addprefix prove-,$(below_$(1)))
-	JOBS=$(call jobs_of,$(1)) nice -n $(call niceness_of,$(1)) check/prove.sh $(1) $(all_below_$(1))
-endef
-$(foreach crate,$(CRATES),$(eval $(call prove,$(crate))))
+	@echo 'Proves some 1,400 functions: an hour and a half of a processor, on all there are side by side, and up to 14 GB of memory.' >&2
+	check/build.sh $(all_below_registry_cli)
 
 # The program unproved: a command, or for SECONDS_OF_TRY a server. Name files by whole paths.
 SECONDS_OF_TRY = 600
