@@ -15,12 +15,13 @@ use oci_manifest::{Kind, Manifest};
 use oci_names::{Digest, Fault, RepoName, Tag, Token};
 use std::alloc::Global;
 
-/// What keeps a registry's world.
-///
-/// Every call answers inside a `Result`: after `Fault::Memory` nothing has changed; after
-/// `Fault::Storage` the keeper is spent, and answers `Storage` alone. A read leaves the world as it
-/// is, and finds nothing in a repository that is not there. A write makes its one change and leaves
-/// every other repository, session, grant and number; what it asks for, a read tells.
+/// What a read finds, or that it is not there.
+pub type Found<T> = Result<Option<T>, Fault>;
+
+/// What keeps a registry's world. After `Fault::Memory` nothing has changed; after `Fault::Storage` the keeper
+/// is spent, and answers `Storage` alone. A read leaves the world as it is, and finds nothing in a repository
+/// that is not there. A write makes its one change and leaves every other repository, session, grant and
+/// number; what it asks for, a read tells.
 pub trait Keeper {
     // The world that it keeps, and whether it is spent.
     ghost state: { Self → State };
@@ -47,19 +48,14 @@ pub trait Keeper {
         ensures honest { is_honest self.new → is_honest self.old };
 
     /// The level of a token on a repository, where it has one.
-    fn level(&mut self, token: &Token, repo: &RepoName) -> Result<Option<Level>, Fault>
+    fn level(&mut self, token: &Token, repo: &RepoName) -> Found<Level>
         ensures found { is_honest self.new → Reads result (level_at (state self.old).world token.now repo.now)
             (state self.old) (state self.new) }
         ensures spends { Spends result (state self.old) (state self.new) }
         ensures honest { is_honest self.new → is_honest self.old };
 
     /// The bytes of a blob.
-    fn blob(
-        &mut self,
-        alloc: Global,
-        repo: &RepoName,
-        digest: &Digest,
-    ) -> Result<Option<Vec<u8>>, Fault>
+    fn blob(&mut self, alloc: Global, repo: &RepoName, digest: &Digest) -> Found<Vec<u8>>
         ensures found { is_honest self.new
             → ReadsBy bytes_in result (blob_at (state self.old).world repo.now digest.now)
             (state self.old) (state self.new) }
@@ -67,7 +63,7 @@ pub trait Keeper {
         ensures honest { is_honest self.new → is_honest self.old };
 
     /// The length of a blob in bytes. Reads no blob.
-    fn blob_size(&mut self, repo: &RepoName, digest: &Digest) -> Result<Option<u64>, Fault>
+    fn blob_size(&mut self, repo: &RepoName, digest: &Digest) -> Found<u64>
         ensures found { is_honest self.new
             → Reads result (blob_size_at (state self.old).world repo.now digest.now)
             (state self.old) (state self.new) }
@@ -80,7 +76,7 @@ pub trait Keeper {
         alloc: Global,
         repo: &RepoName,
         digest: &Digest,
-    ) -> Result<Option<(Kind, Vec<u8>)>, Fault>
+    ) -> Found<(Kind, Vec<u8>)>
         ensures found { is_honest self.new
             → ReadsBy manifest_shown result (manifest_at (state self.old).world repo.now digest.now)
             (state self.old) (state self.new) }
@@ -88,11 +84,7 @@ pub trait Keeper {
         ensures honest { is_honest self.new → is_honest self.old };
 
     /// The kind of a manifest, and its length in bytes. Reads no manifest.
-    fn manifest_size(
-        &mut self,
-        repo: &RepoName,
-        digest: &Digest,
-    ) -> Result<Option<(Kind, u64)>, Fault>
+    fn manifest_size(&mut self, repo: &RepoName, digest: &Digest) -> Found<(Kind, u64)>
         ensures found { is_honest self.new
             → Reads result (manifest_size_at (state self.old).world repo.now digest.now)
             (state self.old) (state self.new) }
@@ -100,14 +92,13 @@ pub trait Keeper {
         ensures honest { is_honest self.new → is_honest self.old };
 
     /// The digest that a tag names.
-    fn tag(&mut self, alloc: Global, repo: &RepoName, tag: &Tag) -> Result<Option<Digest>, Fault>
+    fn tag(&mut self, alloc: Global, repo: &RepoName, tag: &Tag) -> Found<Digest>
         ensures found { is_honest self.new → Reads result (tag_at (state self.old).world repo.now tag.now)
             (state self.old) (state self.new) }
         ensures spends { Spends result (state self.old) (state self.new) }
         ensures honest { is_honest self.new → is_honest self.old };
 
-    /// The first `n` tags, or all, behind `last` in byte order, and whether more follow a page that is
-    /// not empty by its size.
+    /// The first `n` tags, or all, behind `last` in byte order, and whether more follow a page of one or more.
     fn tags_after(
         &mut self,
         alloc: Global,
@@ -121,8 +112,7 @@ pub trait Keeper {
         ensures spends { Spends result (state self.old) (state self.new) }
         ensures honest { is_honest self.new → is_honest self.old };
 
-    /// The digests and the bytes of the manifests whose subject is the digest, in byte order of their
-    /// own digests.
+    /// The digests and bytes of the manifests whose subject is the digest, in byte order of their own digests.
     fn manifests_of_subject(
         &mut self,
         alloc: Global,
@@ -136,7 +126,7 @@ pub trait Keeper {
         ensures honest { is_honest self.new → is_honest self.old };
 
     /// The length in bytes of an open upload session. Reads no byte of it.
-    fn session_size(&mut self, repo: &RepoName, number: u64) -> Result<Option<u64>, Fault>
+    fn session_size(&mut self, repo: &RepoName, number: u64) -> Found<u64>
         ensures found { is_honest self.new
             → Reads result (session_size_at (state self.old).world repo.now number)
             (state self.old) (state self.new) }
@@ -144,12 +134,7 @@ pub trait Keeper {
         ensures honest { is_honest self.new → is_honest self.old };
 
     /// The bytes of an open upload session.
-    fn session(
-        &mut self,
-        alloc: Global,
-        repo: &RepoName,
-        number: u64,
-    ) -> Result<Option<Vec<u8>>, Fault>
+    fn session(&mut self, alloc: Global, repo: &RepoName, number: u64) -> Found<Vec<u8>>
         ensures found { is_honest self.new
             → ReadsBy bytes_in result (session_at (state self.old).world repo.now number)
             (state self.old) (state self.new) }
@@ -221,9 +206,8 @@ pub trait Keeper {
         ensures spends { Spends result (state self.old) (state self.new) }
         ensures honest { is_honest self.new → is_honest self.old };
 
-    /// Opens an empty upload session under the number behind the last one, and answers it. Fewer than
-    /// 1,000 are open (`sessions_open` tells), and the last number is below 9,223,372,036,854,775,807
-    /// (`last_number` tells).
+    /// Opens an empty upload session under the number behind the last one, and answers it. Fewer than 1,000
+    /// are open (`sessions_open` tells), and the last is below 9,223,372,036,854,775,807 (`last_number`).
     fn open_session(&mut self, repo: &RepoName) -> Result<u64, Fault>
         requires there { is_honest self.old → (state self.old).spent ≡ false
             → has_repo (state self.old).world repo.now ≡ true }
@@ -293,9 +277,8 @@ pub trait Keeper {
         ensures spends { Spends result (state self.old) (state self.new) }
         ensures honest { is_honest self.new → is_honest self.old };
 
-    /// Adds a manifest under a digest that its bytes match, and sets the tag to it, if one is given.
-    /// `manifest` is what the bytes read as; they are at most 4,194,304. A digest that is there keeps
-    /// its bytes.
+    /// Adds a manifest under a digest that its bytes match, and sets the tag to it, if one is given. `manifest`
+    /// is what the bytes read as; they are at most 4,194,304. A digest that is there keeps its bytes.
     fn put_manifest(
         &mut self,
         repo: &RepoName,
