@@ -2,4 +2,5 @@ pub mod Underway
 pub mod BlobSteps
 pub mod ManifestSteps
 pub mod SessionSteps
+pub mod VersionRows
 pub mod Listed

@@ -3,7 +3,6 @@ pub mod KeyRows
 pub mod BlobRows
 pub mod ManifestRows
 pub mod SessionRows
-pub mod VersionRows
 pub mod Both
 pub mod BothTexts
 pub mod BothKnown

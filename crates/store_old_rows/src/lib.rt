@@ -6,4 +6,3 @@ pub mod blobs;
 pub mod keys;
 pub mod manifests;
 pub mod sessions;
-pub mod version;

@@ -14,8 +14,7 @@ ghost use Rattle.store_upgrade.specs.Rewriting.{Rewrites, StandsFor, counts};
 use oci_names::Fault;
 use sqlite::{Alter, Transaction};
 use std::alloc::Global;
-use store_moves::{Watch, move_blobs, move_manifests, move_sessions};
-use store_old_rows::version::raise_version;
+use store_moves::{Watch, move_blobs, move_manifests, move_sessions, raise_version};
 use store_opening::{OpenFault, fault_in_making};
 use store_schema::make_tables_of_two;
 

@@ -1,8 +1,8 @@
 use Rattle.std.proofs.Common.{Ok}
 use Rattle.sqlite.specs.Held.{state}
-use Rattle.store_old_rows.proofs.VersionRows.{raised_by}
+use Rattle.store_moves.proofs.VersionRows.{raised_by}
 use Rattle.store_statements.proofs.CommitsKept.{kept_by_execute}
-use Rattle.store_old_rows.proofs.version.raise_version.Goals as goal
+use Rattle.store_moves.proofs.version.raise_version.Goals as goal
 
 pub returns-in-Ok-clause-raised : goal.returns-in-Ok-clause-raised
 returns-in-Ok-clause-raised g c clean is olds one =
