@@ -15,7 +15,7 @@ use Rattle.registry_model.specs.Closing.{WritesWhereSo, session_matches}
 use Rattle.registry_model.specs.Lookups.{session_at}
 use Rattle.store_statements.specs.Held.{IsSettled, StaysSettled, SettlesOn, is_storage, world_in}
 use Rattle.store_statements.proofs.SettledAfter.{stays_then}
-use Rattle.store_writes.specs.Whole.{DoneWhereSo}
+use Rattle.store_session_writes.specs.Whole.{DoneWhereSo}
 use Rattle.registry_store.specs.Kept.{Kept}
 use Rattle.registry_store.proofs.Foretold.{earlier}
 use Rattle.registry_store.proofs.KeeperStates.{found, wrote, stood}

@@ -11,7 +11,7 @@ ghost use Rattle.registry_model.specs.Command.{drop_sessions};
 ghost use Rattle.store_statements.specs.Held.{IsSettled, SettlesOn, world_in};
 ghost use Rattle.store_statements.specs.Between.{MakesWorld, StaysOnMemory};
 ghost use Rattle.store_statements.specs.Clauses.{Lasts, WorldHas};
-ghost use Rattle.store_writes.specs.Whole.{DoneWhereSo};
+ghost use Rattle.store_session_writes.specs.Whole.{DoneWhereSo};
 ghost use Rattle.registry_store.specs.Usages.{IsKnown, StaysKnown};
 
 use crate::change_lookups::{finish_change, known_finish_change, or_untold};
@@ -37,7 +37,7 @@ pub(crate) fn open_session<S: Alter>(
         → WorldHas S.Store conn.old (λ w. has_repo w repo.now ≡ true)
         → StaysKnown S.Store conn.old conn.new known.new result }
 {
-    match store_writes::open_session(conn, repo) {
+    match store_session_writes::open_session(conn, repo) {
         Ok(number) => {
             let opened = Change {
                 opened: 1,
@@ -67,7 +67,7 @@ pub(crate) fn append<S: Alter>(
         → WorldHas S.Store conn.old (λ w. is_some (session_at w repo.now number) ≡ true)
         → StaysKnown S.Store conn.old conn.new known.new result }
 {
-    match store_writes::append(alloc, conn, repo, number, bytes) {
+    match store_session_writes::append(alloc, conn, repo, number, bytes) {
         Ok(()) => {
             let longer = Change {
                 added: bytes.len() as u64,
@@ -104,7 +104,7 @@ pub(crate) fn finish<S: Alter>(
     let Ok(change) = or_untold(finish_change(conn, repo, number, digest, bytes)) else {
         return Err(Fault::Storage);
     };
-    match store_writes::finish(alloc, conn, repo, number, digest, bytes) {
+    match store_session_writes::finish(alloc, conn, repo, number, digest, bytes) {
         Ok(()) => {
             known.follow(repo, change);
             Ok(())
@@ -136,7 +136,7 @@ pub(crate) fn finish_known<S: Alter>(
     let Ok(change) = or_untold(known_finish_change(conn, repo, number, digest)) else {
         return Err(Fault::Storage);
     };
-    match store_writes::finish_known(alloc, conn, repo, number, digest) {
+    match store_session_writes::finish_known(alloc, conn, repo, number, digest) {
         Ok(true) => {
             known.follow(repo, change);
             Ok(true)
@@ -159,5 +159,5 @@ pub(crate) fn drop_sessions<S: Alter>(
         → StaysKnown S.Store conn.old conn.new known.new result }
 {
     known.forget(repo);
-    store_writes::drop_sessions(conn, repo)
+    store_session_writes::drop_sessions(conn, repo)
 }

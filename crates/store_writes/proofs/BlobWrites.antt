@@ -1,5 +1,5 @@
 -- What the writes of blobs make of the world.
-use Rattle.std.proofs.Common.{◌≡◌, ◌∙◌, true, None, Some, sym, ap, subst}
+use Rattle.std.proofs.Common.{◌≡◌, ◌∙◌, true, None, Some, sym, subst}
 use Rattle.std.specs.Prelude.{find, option_map}
 use Rattle.sqlite.specs.State.{State}
 use Rattle.oci_names.specs.Text.{Text}
@@ -15,7 +15,8 @@ use Rattle.store_statements.specs.declared.blobs.BlobLink.{BlobLink}
 use Rattle.store_statements.specs.Shown.{blob_link}
 use Rattle.store_statements.specs.Steps.{BlobStored}
 use Rattle.store_statements.proofs.Transactions.{registry, makes}
-use Rattle.store_writes.proofs.WritesAfterReads.{none_found, some_found, same_held, makes_same, commits_as}
+use Rattle.store_transactions.proofs.WritesAfterReads.{some_found, same_held, makes_same}
+use Rattle.store_transactions.proofs.Alone.{commits_as}
 
 pub puts_new : (old mid end : State) (name digest bytes : Text) → IsSettled old → has_repo (world_in old) name ≡ true → StaysSettled old mid → find (has_key name digest) (held old).blobs ≡ None
     → Commits end (held end) × BlobStored (held mid) (held end) name digest bytes → SettlesOn end (put_blob (world_in old) name digest bytes)
@@ -28,8 +29,3 @@ pub puts_there : (old mid : State) (name digest bytes : Text) (link : BlobLink) 
 puts_there old mid name digest bytes link stays e =
     let found = some_found blob_link (find (has_key name digest) (held old).blobs) link e in
     makes_same old mid _ stays (sym (blob_there (held old) name digest bytes found.0 found.1))
-
--- before it is put
-pub still_none : (old mid : State) (name digest : Text) → StaysSettled old mid → None ≡ option_map blob_link (find (has_key name digest) (held old).blobs) → find (has_key name digest) (held mid).blobs ≡ None
-still_none old mid name digest stays e =
-    ap (λ (t : Tables). find (has_key name digest) t.blobs) (same_held old mid stays) ∙ none_found blob_link (find (has_key name digest) (held old).blobs) e

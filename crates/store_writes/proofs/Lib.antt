@@ -1,17 +1,10 @@
-pub mod NothingDone
-pub mod CleanBefore
-pub mod FaultsTold
 pub mod PutLemmas
 pub mod MountLemmas
 pub mod StatementSequences
-pub mod BytesStored
-pub mod WritesAfterReads
 pub mod BlobWrites
 pub mod RowCounts
 pub mod ContentSteps
 pub mod ManifestPuts
-pub mod SessionWrites
-pub mod KnownEnds
 pub mod ContentNaming
 pub mod ContentsFreed
 pub mod SeveralBlobs

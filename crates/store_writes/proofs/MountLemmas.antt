@@ -2,7 +2,6 @@
 use Rattle.std.proofs.Common.{◌≡◌, ◌∙◌, ℕ, List, true, false, None, Some, Err, Result, OnOk, sym, ap, subst, refl}
 use Rattle.std.specs.Prelude.{find, option_map, Option}
 use Rattle.sqlite.specs.Order.{Row}
-use Rattle.sqlite.specs.Effect.{Database}
 use Rattle.sqlite.specs.State.{State}
 use Rattle.oci_names.specs.declared.fault.Fault.{Fault}
 use Rattle.oci_names.specs.declared.fault.Fault.TheVariants.{Memory}
@@ -10,23 +9,20 @@ use Rattle.registry_model.specs.World.{World, has_repo}
 use Rattle.registry_model.specs.Lookups.{mount}
 use Rattle.store_world.specs.Keys.{has_key}
 use Rattle.store_world.specs.Tables.{Tables}
-use Rattle.store_world.specs.World.{world_of}
 use Rattle.store_world.proofs.Blobs.{mount_there}
 use Rattle.store_world.proofs.Repos.{has_repo_found}
 use Rattle.store_statements.specs.Held.{IsSettled, StaysSettled, Commits, SettlesOn, held, world_in, tables_in, is_storage}
 use Rattle.store_statements.specs.Shown.{blob_link}
-use Rattle.store_writes.specs.Puts.{LinkIsPut}
+use Rattle.store_transactions.specs.Steps.{LinkIsPut}
 use Rattle.store_statements.specs.declared.blobs.BlobLink.{BlobLink}
 use Rattle.store_statements.proofs.Transactions.{registry, makes}
+use Rattle.store_transactions.proofs.WritesAfterReads.{same_world}
 use Rattle.store_writes.proofs.PutLemmas.{link_mounted}
 
 -- ---- what was read is still so
 
 pub same_tables : (a b : State) → StaysSettled a b → held b ≡ held a
 same_tables a b s = ap tables_in s.1
-
-pub same_world : (a b : State) → StaysSettled a b → world_in b ≡ world_in a
-same_world a b s = ap (λ (db : Database). world_of (tables_in db)) s.1
 
 pub no_storage : (X Y : Type 0) (f : Fault) → ◌≡◌ {A = Result X Fault} (Err f) (Err Memory) → is_storage {A = Y} (Err f) ≡ false
 no_storage X Y f e = let same : f ≡ Memory = cc in ap (λ (x : Fault). is_storage {A = Y} (Err x)) same

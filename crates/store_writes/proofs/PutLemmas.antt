@@ -1,8 +1,8 @@
 -- What is set where it is there, and comes where it is not.
-use Rattle.std.proofs.Common.{◌≡◌, ◌≢◌, ◌∙◌, inl, inr, ℕ, ℤ, List, [], ◌∷◌, Bool, true, false, cond, None, Some, Ok, Err, Result, OnOk, length, refl, sym, ap, subst}
+use Rattle.std.proofs.Common.{◌≡◌, ◌≢◌, ◌∙◌, inl, inr, ℕ, List, [], ◌∷◌, Bool, true, false, cond, None, Some, Ok, Err, Result, OnOk, length, refl, sym, ap, subst}
 use Rattle.std.specs.Prelude.{find, filter, is_some}
 use Rattle.sqlite.specs.Order.{Row}
-use Rattle.sqlite.specs.State.{State, Shows}
+use Rattle.sqlite.specs.State.{State}
 use Rattle.registry_model.specs.declared.level.Level.{Level}
 use Rattle.registry_model.specs.Command.{grant, set_repo}
 use Rattle.registry_model.specs.Lookups.{mount}
@@ -11,15 +11,15 @@ use Rattle.store_world.specs.Keys.{has_key, of_first}
 use Rattle.store_world.specs.Tables.{Tables}
 use Rattle.store_world.specs.World.{world_of}
 use Rattle.store_world.specs.Registry.{is_repo, IsRegistry}
-use Rattle.store_world.specs.Changes.{changed, with_level, grant_columns, with_quota, repo_columns, blob_columns, Comes}
+use Rattle.store_world.specs.Changes.{changed, with_level, grant_columns, with_quota, repo_columns, Comes}
 use Rattle.store_world.proofs.Children.{some_is}
 use Rattle.store_world.proofs.Blobs.{blob_mounted}
 use Rattle.store_world.proofs.Grants.{level_set, grant_added}
 use Rattle.store_world.proofs.Repos.{quota_set, repo_added}
-use Rattle.store_statements.specs.Held.{IsReady, Becomes, Commits, held}
-use Rattle.store_statements.specs.Steps.{grants_changed, GrantComes, repos_changed, RepoComes, BlobComes}
-use Rattle.store_writes.specs.Puts.{SetOrCome, LevelIsPut, QuotaIsPut, LinkIsPut}
-use Rattle.store_statements.proofs.Transactions.{commits}
+use Rattle.store_statements.specs.Held.{Becomes, held}
+use Rattle.store_statements.specs.Steps.{grants_changed, GrantComes, repos_changed, RepoComes}
+use Rattle.store_writes.specs.Puts.{SetOrCome, LevelIsPut, QuotaIsPut}
+use Rattle.store_transactions.specs.Steps.{LinkIsPut}
 
 -- ---- how many rows were set
 
@@ -86,17 +86,6 @@ repo_came a b c name quota none became came =
 
 pub quota_was_set : (a b : State) (name : List ℕ) (quota : ℕ) → is_some (find (of_first name) (held a).repos) ≡ true → Becomes b (repos_changed (of_first name) (with_quota quota) (held a)) → QuotaIsPut (held a) (held b) name quota
 quota_was_set a b name quota there became = subst (λ (t : Tables). QuotaIsPut (held a) t name quota) (sym became.1) (record { put = inl (there, refl); others = refl })
-
-pub link_came : (a b : State) (repo digest : List ℕ) (size : ℕ) (content : ℤ) → BlobComes a b (blob_columns repo digest size content) → LinkIsPut (held a) (held b) repo digest size content
-link_came a b repo digest size content it = record { comes = it.comes; others = it.others }
-
--- ---- the whole of a transaction
-
--- it was committed, and the tables are those from before the commit
-pub commits_there : (mid end : State) (P : Tables → Type 0) → IsReady mid → P (held mid) → Shows mid end mid.now mid.now false → Commits end (held end) × P (held end)
-commits_there mid end P is p shows =
-    let it = commits mid end (held mid) (is, refl) shows in
-    (record { is_open = it.is_open; autocommit = it.autocommit; committed = it.committed; holds = it.holds; tables = refl }, subst P (sym it.tables) p)
 
 -- ---- the worlds
 

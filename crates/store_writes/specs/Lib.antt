@@ -1,5 +1,4 @@
 pub mod Puts
 pub mod Worlds
 pub mod Naming
-pub mod Whole
 pub mod Deleting

@@ -1,10 +1,10 @@
 -- What is set where it is there, and comes where it is not.
-use Rattle.std.specs.Prelude.{◌≡◌, ◌⊎◌, ℕ, ℤ, Bool, true, List, find, is_some, None}
+use Rattle.std.specs.Prelude.{◌≡◌, ◌⊎◌, ℕ, Bool, true, List, find, is_some, None}
 use Rattle.sqlite.specs.Order.{Row}
 use Rattle.registry_model.specs.declared.level.Level.{Level}
 use Rattle.store_world.specs.Keys.{of_first, has_key}
 use Rattle.store_world.specs.Tables.{Tables}
-use Rattle.store_world.specs.Changes.{changed, with_quota, repo_columns, with_level, grant_columns, blob_columns, Comes}
+use Rattle.store_world.specs.Changes.{changed, with_quota, repo_columns, with_level, grant_columns, Comes}
 
 -- rows that pass changed, or, where there were none, one row came
 abbrev pub SetOrCome : (Row → Bool) → (Row → Row) → Row → List Row → List Row → Type 0
@@ -22,8 +22,3 @@ pub record LevelIsPut (old new : Tables) (token repo : List ℕ) (level : Level)
 pub record QuotaIsPut (old new : Tables) (name : List ℕ) (quota : ℕ) : Type 0 where
   pub put : SetOrCome (of_first name) (with_quota quota) (repo_columns name quota) old.repos new.repos
   pub others : new ≡ record old { repos = new.repos }
-
--- the repository has this link, which it did not have; the other tables stay
-pub record LinkIsPut (old new : Tables) (repo digest : List ℕ) (size : ℕ) (content : ℤ) : Type 0 where
-  pub comes : Comes old.blobs new.blobs (blob_columns repo digest size content)
-  pub others : new ≡ record old { blobs = new.blobs }

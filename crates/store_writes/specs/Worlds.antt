@@ -7,7 +7,6 @@ use Rattle.oci_names.specs.Text.{Text}
 use Rattle.registry_model.specs.World.{World, repo_at, update_repo}
 use Rattle.registry_model.specs.Manifests.{with_tag}
 use Rattle.store_world.specs.Keys.{has_key}
-use Rattle.store_world.specs.Tables.{Tables}
 use Rattle.store_world.specs.Registry.{Agree, is_repo}
 use Rattle.store_world.specs.World.{world_of}
 use Rattle.store_statements.specs.Held.{IsReady, held}
@@ -45,10 +44,3 @@ module _ {S : Type 0} (g : Ghosts S) (old new : Held S) where
       HasCleanDisk (state g new) → IsWhole (state g old) → is_repo (held (state g old)).repos name ≡ true
       → find (has_key name digest) (held (state g old)).manifests ≡ None
       → OnOk r (Turns (state g old) (state g new) (f (world_of (held (state g old)))))
-
-  -- from such tables, the transaction goes on, and this is so of the tables before and after
-  abbrev pub StepsFrom : {A E : Type 0} → Result A E
-      → (Tables → Type 0) → (Tables → Tables → Type 0) → Type 0
-  StepsFrom r P R =
-      HasCleanDisk (state g new) → IsReady (state g old) → P (held (state g old))
-      → OnOk r (IsReady (state g new) × R (held (state g old)) (held (state g new)))

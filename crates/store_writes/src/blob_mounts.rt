@@ -5,13 +5,13 @@ ghost use Rattle.registry_model.specs.Lookups.{mount};
 ghost use Rattle.store_world.specs.Keys.{has_key};
 ghost use Rattle.store_statements.specs.Between.{GoesBack, IsCommitted, MakesWorld, Relates, StaysOnMemory};
 ghost use Rattle.store_statements.specs.Clauses.{Lasts, TablesHave, WorldHas};
-ghost use Rattle.store_writes.specs.Puts.{LinkIsPut};
+ghost use Rattle.store_transactions.specs.Steps.{LinkIsPut};
 
-use crate::transaction::{alone, checked};
 use oci_names::{Digest, Fault, RepoName};
 use sqlite::{Alter, Connection};
 use store_contents::ContentId;
 use store_statements::blobs::{BlobLink, add_blob_link, find_blob_link};
+use store_transactions::{alone, checked};
 
 /// Adds a link to a content that is there, in a transaction of its own.
 fn add_blob_link_alone<S: Alter>(
@@ -55,10 +55,8 @@ fn mount_link<S: Alter>(
     match find_blob_link(conn, from, digest) {
         // each size that a row has fits
         Ok(Some(link)) if link.size <= i64::MAX as u64 => {
-            checked!(
-                conn,
-                add_blob_link_alone(conn, to, digest, link.size, link.content)
-            )
+            let done = add_blob_link_alone(conn, to, digest, link.size, link.content);
+            checked(conn, done)
         }
         Ok(_) => Err(Fault::Storage),
         Err(fault) => Err(fault),

@@ -5,40 +5,15 @@ ghost use Rattle.registry_model.specs.Limits.{largest_blob};
 ghost use Rattle.registry_model.specs.World.{has_repo};
 ghost use Rattle.registry_model.specs.Lookups.{put_blob};
 ghost use Rattle.store_world.specs.Keys.{has_key};
-ghost use Rattle.store_writes.specs.Worlds.{StepsFrom};
 ghost use Rattle.store_statements.specs.Between.{CommitsStep, GoesBack, MakesWorld, StaysOnMemory};
-ghost use Rattle.store_statements.specs.Clauses.{KeepsInside, Lasts, LastsUncommitted, TablesHave, WorldHas};
+ghost use Rattle.store_statements.specs.Clauses.{Lasts, TablesHave, WorldHas};
 ghost use Rattle.store_statements.specs.Steps.{BlobStored};
 
-use crate::transaction::{alone, checked};
 use oci_names::{Digest, Fault, RepoName};
-use sqlite::{Alter, Connection, Transaction};
+use sqlite::{Alter, Connection};
 use std::alloc::Global;
-use store_statements::blobs::{add_blob_link, find_blob_link};
-use store_statements::contents::keep_matching;
-
-/// Puts a blob in that the repository has not.
-pub(crate) fn store_blob<S: Alter>(
-    alloc: Global,
-    tx: &mut Transaction<'_, S>,
-    repo: &str,
-    digest: &str,
-    bytes: &[u8],
-) -> Result<(), Fault>
-    requires matching { matches digest.now bytes.now ≡ true }
-    requires fits { length bytes.now < 2 ^ 63 }
-    ensures stored { StepsFrom S.Store tx.old.conn.now tx.new.conn.now result
-        (λ t. find (has_key repo.now digest.now) t.blobs ≡ None)
-        (λ t u. BlobStored t u repo.now digest.now bytes.now) }
-    ensures kept { KeepsInside S.Store tx.old.conn.now tx.new.conn.now }
-    ensures same_reference { tx.new.conn.ghost_name ≡ tx.old.conn.ghost_name }
-    ensures survives { LastsUncommitted S.Store tx.old.conn.now tx.new.conn.now }
-{
-    match keep_matching(alloc, tx, digest, bytes) {
-        Ok(content) => add_blob_link(tx, repo, digest, bytes.len() as u64, content),
-        Err(fault) => Err(fault),
-    }
-}
+use store_statements::blobs::find_blob_link;
+use store_transactions::{alone, checked, store_blob};
 
 /// Puts a blob in that the repository has not, in a transaction of its own.
 fn store_blob_alone<S: Alter>(
@@ -80,7 +55,10 @@ pub fn put_blob<S: Alter>(
     let digest = digest.as_str();
     match find_blob_link(conn, repo, digest) {
         Ok(Some(_)) => Ok(()),
-        Ok(None) => checked!(conn, store_blob_alone(alloc, conn, repo, digest, bytes)),
+        Ok(None) => {
+            let done = store_blob_alone(alloc, conn, repo, digest, bytes);
+            checked(conn, done)
+        }
         Err(fault) => Err(fault),
     }
 }

@@ -6,7 +6,6 @@ ghost use Rattle.store_statements.specs.Between.{CommitsStep, GoesBack, MakesWor
 ghost use Rattle.store_statements.specs.Clauses.{ChangesNothingInside, FindsInside, KeepsInside, Lasts, LastsUncommitted, RelatesInside, StepsInside};
 ghost use Rattle.store_writes.specs.Naming.{is_among, is_in_column, is_named, ContentsGone, Cleared};
 
-use crate::transaction::{alone, checked};
 use oci_names::Fault;
 use sqlite::{Alter, Connection, Transaction};
 use std::alloc::Global;
@@ -15,6 +14,7 @@ use store_contents::{ContentId, remove, unlinked};
 use store_statements::blobs::blob_contents;
 use store_statements::manifests::manifest_contents;
 use store_statements::pieces::piece_contents;
+use store_transactions::{alone, checked};
 
 fn insert(set: &mut BTreeSet<ContentId>, id: ContentId) -> Result<(), Fault>
     ensures { OnOk result
@@ -161,5 +161,6 @@ pub fn clear<S: Alter>(alloc: Global, conn: &mut Connection<S>) -> Result<(), Fa
     ensures memory { StaysOnMemory S.Store conn.old conn.new result }
     ensures survives { Lasts S.Store conn.old conn.new }
 {
-    checked!(conn, clear_contents_alone(alloc, conn))
+    let done = clear_contents_alone(alloc, conn);
+    checked(conn, done)
 }

@@ -8,12 +8,12 @@ ghost use Rattle.store_statements.specs.Clauses.{Changes, KeepsInside, Lasts, La
 ghost use Rattle.store_statements.specs.Steps.{blobs_without, tags_without, without_manifest};
 ghost use Rattle.store_writes.specs.Deleting.{without_blob_links};
 
-use crate::transaction::{alone, checked};
 use oci_names::{Digest, Fault, RepoName, Tag};
 use sqlite::{Alter, Connection, Transaction};
 use store_statements::blobs::take_blob_link;
 use store_statements::manifests::take_manifest_link;
 use store_statements::tags::{take_tag, take_tags_named};
+use store_transactions::{alone, checked};
 
 /// Takes a tag out, in a transaction of its own.
 fn take_tag_alone<S: Alter>(conn: &mut Connection<S>, repo: &str, tag: &str) -> Result<(), Fault>
@@ -34,7 +34,8 @@ pub fn delete_tag<S: Alter>(
     ensures memory { StaysOnMemory S.Store conn.old conn.new result }
     ensures survives { Lasts S.Store conn.old conn.new }
 {
-    checked!(conn, take_tag_alone(conn, repo.as_str(), tag.as_str()))
+    let done = take_tag_alone(conn, repo.as_str(), tag.as_str());
+    checked(conn, done)
 }
 
 /// Takes a link to a blob out, in a transaction of its own.
@@ -61,10 +62,8 @@ pub fn delete_blob<S: Alter>(
     ensures memory { StaysOnMemory S.Store conn.old conn.new result }
     ensures survives { Lasts S.Store conn.old conn.new }
 {
-    checked!(
-        conn,
-        take_blob_link_alone(conn, repo.as_str(), digest.as_str())
-    )
+    let done = take_blob_link_alone(conn, repo.as_str(), digest.as_str());
+    checked(conn, done)
 }
 
 /// Takes the links to the blobs out, where they are there.
@@ -108,7 +107,8 @@ pub fn delete_blobs<S: Alter>(
     ensures memory { StaysOnMemory S.Store conn.old conn.new result }
     ensures survives { Lasts S.Store conn.old conn.new }
 {
-    checked!(conn, take_links_to_alone(conn, repo.as_str(), digests))
+    let done = take_links_to_alone(conn, repo.as_str(), digests);
+    checked(conn, done)
 }
 
 /// Takes the link to a manifest out, and the tags that name it.
@@ -150,8 +150,6 @@ pub fn delete_manifest<S: Alter>(
     ensures memory { StaysOnMemory S.Store conn.old conn.new result }
     ensures survives { Lasts S.Store conn.old conn.new }
 {
-    checked!(
-        conn,
-        take_manifest_alone(conn, repo.as_str(), digest.as_str())
-    )
+    let done = take_manifest_alone(conn, repo.as_str(), digest.as_str());
+    checked(conn, done)
 }

@@ -8,11 +8,11 @@ ghost use Rattle.store_statements.specs.Clauses.{GoesOn, KeepsInside, Lasts, Las
 ghost use Rattle.store_writes.specs.Puts.{LevelIsPut};
 ghost use Rattle.store_statements.specs.Steps.{grants_without};
 
-use crate::transaction::{alone, checked};
 use oci_names::{Fault, RepoName, Token};
 use registry_model::Level;
 use sqlite::{Alter, Connection, Transaction};
 use store_statements::grants::{add_grant, set_level, take_grant, take_token_grants};
+use store_transactions::{alone, checked};
 
 /// Takes a grant out, in a transaction of its own.
 fn take_grant_alone<S: Alter>(
@@ -38,7 +38,8 @@ pub fn revoke<S: Alter>(
     ensures memory { StaysOnMemory S.Store conn.old conn.new result }
     ensures survives { Lasts S.Store conn.old conn.new }
 {
-    checked!(conn, take_grant_alone(conn, token.as_str(), name.as_str()))
+    let done = take_grant_alone(conn, token.as_str(), name.as_str());
+    checked(conn, done)
 }
 
 /// Takes each grant to a token out, in a transaction of its own.
@@ -57,7 +58,8 @@ pub fn revoke_all<S: Alter>(conn: &mut Connection<S>, token: &Token) -> Result<(
     ensures memory { StaysOnMemory S.Store conn.old conn.new result }
     ensures survives { Lasts S.Store conn.old conn.new }
 {
-    checked!(conn, take_token_alone(conn, token.as_str()))
+    let done = take_token_alone(conn, token.as_str());
+    checked(conn, done)
 }
 
 /// Sets the level, where there is a grant, and else adds one.
@@ -109,8 +111,6 @@ pub fn grant<S: Alter>(
     ensures memory { StaysOnMemory S.Store conn.old conn.new result }
     ensures survives { Lasts S.Store conn.old conn.new }
 {
-    checked!(
-        conn,
-        put_level_alone(conn, token.as_str(), name.as_str(), level)
-    )
+    let done = put_level_alone(conn, token.as_str(), name.as_str(), level);
+    checked(conn, done)
 }

@@ -15,7 +15,6 @@ ghost use Rattle.store_statements.specs.Between.{GoesBack, MakesWorld, StaysOnMe
 ghost use Rattle.store_statements.specs.Clauses.{Lasts, LastsUncommitted, TablesHave, WorldHas};
 ghost use Rattle.store_statements.specs.Held.{held};
 
-use crate::transaction::{alone, checked};
 use oci_manifest::Manifest;
 use oci_names::{Digest, Fault, RepoName, Tag};
 use sqlite::{Alter, Connection, Transaction};
@@ -23,6 +22,7 @@ use std::alloc::Global;
 use store_statements::contents::keep_matching;
 use store_statements::manifests::{add_manifest_link, find_manifest_link};
 use store_statements::tags::{add_tag, set_tag};
+use store_transactions::{alone, checked};
 
 /// Sets the tag to the digest, where it is there, and else adds it.
 fn put_tag<S: Alter>(
@@ -191,7 +191,8 @@ fn tag_there<S: Alter>(
         → StaysOnMemory S.Store conn.old conn.new result }
     ensures survives { Lasts S.Store conn.old conn.new }
 {
-    checked!(conn, put_tag_alone(conn, repo, tag, digest))
+    let done = put_tag_alone(conn, repo, tag, digest);
+    checked(conn, done)
 }
 
 /// As `add_tagged_alone`, and a failure is told as the store's caller sees it.
@@ -216,10 +217,8 @@ fn put_new<S: Alter>(
         → StaysOnMemory S.Store conn.old conn.new result }
     ensures survives { Lasts S.Store conn.old conn.new }
 {
-    checked!(
-        conn,
-        add_tagged_alone(alloc, conn, repo, digest, bytes, manifest, tag)
-    )
+    let done = add_tagged_alone(alloc, conn, repo, digest, bytes, manifest, tag);
+    checked(conn, done)
 }
 
 /// Adds a manifest, where the repository has not its digest, and sets the tag to it, if one is given.

@@ -5,11 +5,11 @@ ghost use Rattle.store_statements.specs.Between.{GoesBack, IsCommitted, MakesWor
 ghost use Rattle.store_statements.specs.Clauses.{GoesOn, KeepsInside, Lasts, LastsUncommitted, RelatesInside};
 ghost use Rattle.store_writes.specs.Puts.{QuotaIsPut};
 
-use crate::transaction::{alone, checked};
 use oci_names::{Fault, RepoName};
 use registry_model::Quota;
 use sqlite::{Alter, Connection, Transaction};
 use store_statements::repos::{add_repo, set_quota};
+use store_transactions::{alone, checked};
 
 /// Sets the quota, where the repository is there, and else adds it.
 fn put_quota<S: Alter>(tx: &mut Transaction<'_, S>, name: &str, quota: u64) -> Result<(), Fault>
@@ -51,5 +51,6 @@ pub fn set_repo<S: Alter>(
     ensures memory { StaysOnMemory S.Store conn.old conn.new result }
     ensures survives { Lasts S.Store conn.old conn.new }
 {
-    checked!(conn, put_quota_alone(conn, name.as_str(), quota.bytes))
+    let done = put_quota_alone(conn, name.as_str(), quota.bytes);
+    checked(conn, done)
 }

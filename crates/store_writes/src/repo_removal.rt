@@ -9,7 +9,6 @@ ghost use Rattle.store_world.specs.Tables.{IsEmptyBeside};
 ghost use Rattle.store_statements.specs.Held.{IsReady, Becomes, held};
 ghost use Rattle.store_statements.specs.Drops.{dropped, without_links, without_sessions, without_children};
 
-use crate::transaction::{alone, checked};
 use oci_names::{Fault, RepoName};
 use sqlite::{Alter, Connection, Transaction};
 use store_statements::blobs::take_blob_links;
@@ -19,6 +18,7 @@ use store_statements::pieces::take_pieces;
 use store_statements::repos::take_repo;
 use store_statements::tags::take_tags;
 use store_statements::uploads::take_uploads;
+use store_transactions::{alone, checked};
 
 /// Takes the tags of the repository out, and its links to manifests and blobs.
 fn drop_links<S: Alter>(tx: &mut Transaction<'_, S>, name: &str) -> Result<(), Fault>
@@ -85,5 +85,6 @@ pub fn drop_repo<S: Alter>(conn: &mut Connection<S>, name: &RepoName) -> Result<
     ensures memory { StaysOnMemory S.Store conn.old conn.new result }
     ensures survives { Lasts S.Store conn.old conn.new }
 {
-    checked!(conn, drop_rows_alone(conn, name.as_str()))
+    let done = drop_rows_alone(conn, name.as_str());
+    checked(conn, done)
 }

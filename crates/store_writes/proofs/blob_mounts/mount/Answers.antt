@@ -11,8 +11,9 @@ use Rattle.store_statements.specs.Shown.{blob_link}
 use Rattle.store_statements.specs.declared.blobs.BlobLink.{BlobLink}
 use Rattle.store_statements.proofs.SettledAfter.{stays_then}
 use Rattle.store_statements.proofs.Transactions.{survives_all}
-use Rattle.store_writes.proofs.MountLemmas.{same_tables, same_world, no_storage, found_none, mounts_nothing, makes_from}
-use Rattle.store_writes.proofs.CleanBefore.{was_clean}
+use Rattle.store_transactions.proofs.WritesAfterReads.{same_world}
+use Rattle.store_writes.proofs.MountLemmas.{same_tables, no_storage, found_none, mounts_nothing, makes_from}
+use Rattle.store_transactions.proofs.CleanBefore.{was_clean}
 use Rattle.store_writes.proofs.blob_mounts.mount.Goals as goal
 
 pub returns-in-Ok-Some-clause-made : goal.returns-in-Ok-Some-clause-made

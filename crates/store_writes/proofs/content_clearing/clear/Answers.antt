@@ -1,32 +1,22 @@
-use Rattle.sqlite.specs.State.{HasCleanDisk}
+use Rattle.std.proofs.Common.{◌≡◌, ℤ, None}
+use Rattle.std.specs.Prelude.{if◌then◌else◌}
+use Rattle.sqlite.specs.State.{State}
 use Rattle.sqlite.specs.Held.{state}
-use Rattle.store_statements.proofs.Transactions.{stays_back, survives_all}
+use Rattle.store_statements.specs.Held.{SettlesOn, held, world_in}
+use Rattle.store_transactions.proofs.Alone.{less}
+use Rattle.store_transactions.proofs.Told.{told_so, told_memory, told_lasts}
+use Rattle.store_writes.specs.Naming.{is_named}
 use Rattle.store_writes.proofs.ContentsFreed.{makes_cleared}
-use Rattle.store_writes.proofs.CleanBefore.{was_clean}
-use Rattle.store_writes.proofs.FaultsTold.{never_done, fault_is}
 use Rattle.store_writes.proofs.content_clearing.clear.Goals as goal
 
-pub returns-in-Ok-clause-made : goal.returns-in-Ok-clause-made
-returns-in-Ok-clause-made g c clean is =
-    makes_cleared (state g.S.Store c.args.conn.now) (state g.S.Store c.clear_contents_alone.new.conn) is (c.in-Ok.ensures.made clean is)
-
-pub returns-in-Ok-clause-freed : goal.returns-in-Ok-clause-freed
-returns-in-Ok-clause-freed g c clean is = (c.in-Ok.ensures.made clean is).1.contents
-
-pub returns-in-Err-clause-memory : goal.returns-in-Err-clause-memory
-returns-in-Err-clause-memory g c clean is memory =
-    let late : HasCleanDisk (state g.S.Store c.clear_contents_alone.new.conn) = was_clean c.checked_fault.ensures.survives clean in
-    stays_back (state g.S.Store c.args.conn.now) (state g.S.Store c.clear_contents_alone.new.conn) (state g.S.Store c.checked_fault.new.conn) is
-    (c.in-Err.ensures.back late is) (c.checked_fault.ensures.memory clean (fault_is memory))
-
-pub returns-in-Ok-clause-memory : goal.returns-in-Ok-clause-memory
-returns-in-Ok-clause-memory g c clean is memory = absurd (never_done memory)
-
-pub returns-in-Ok-clause-survives : goal.returns-in-Ok-clause-survives
-returns-in-Ok-clause-survives g c = c.clear_contents_alone.ensures.survives
-
-pub returns-in-Err-clause-made : goal.returns-in-Err-clause-made
-returns-in-Err-clause-made g c clean is = tt
-
-pub returns-in-Err-clause-survives : goal.returns-in-Err-clause-survives
-returns-in-Err-clause-survives g c = survives_all (state g.S.Store c.args.conn.now) (state g.S.Store c.clear_contents_alone.new.conn) (state g.S.Store c.checked_fault.new.conn) _ _ c.clear_contents_alone.ensures.survives c.checked_fault.ensures.survives
+pub returns : goal.returns
+returns g c =
+    let told = c.checked.ensures.checked in
+    let did = c.clear_contents_alone-done.ensures in
+    let old = state g.S.Store c.args.conn.now in
+    record {
+      made = λ clean is. told_so c.args.conn.now told (λ (s : State). SettlesOn s (world_in old)) clean (λ late. less c.clear_contents_alone-done.result (λ it. makes_cleared old (state g.S.Store c.clear_contents_alone-done.new.conn) is it) (did.made late is));
+      freed = λ clean is. told_so c.args.conn.now told (λ (s : State). (id : ℤ) → (held s).contents id ≡ (if is_named (held old) id then (held old).contents id else None)) clean (λ late. less c.clear_contents_alone-done.result (λ it. it.1.contents) (did.made late is));
+      memory = told_memory c.args.conn.now told did.back;
+      survives = told_lasts c.args.conn.now told did.survives;
+    }

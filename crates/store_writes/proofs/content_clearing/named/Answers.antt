@@ -4,7 +4,7 @@ use Rattle.sqlite.specs.Held.{state}
 use Rattle.sqlite.proofs.Callers.{unchanged_then}
 use Rattle.store_schema.proofs.Selects.{commit_then, survives_both}
 use Rattle.store_writes.proofs.ContentsFreed.{still_ready, named_read}
-use Rattle.store_writes.proofs.CleanBefore.{was_clean}
+use Rattle.store_transactions.proofs.CleanBefore.{was_clean}
 use Rattle.store_writes.proofs.content_clearing.named.Goals as goal
 
 pub returns-in_err-insert_pieces-clause-kept : goal.returns-in_err-insert_pieces-clause-kept

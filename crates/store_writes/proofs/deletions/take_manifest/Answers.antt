@@ -3,7 +3,7 @@ use Rattle.sqlite.specs.Held.{state}
 use Rattle.store_schema.proofs.Selects.{commit_then, survives_both}
 use Rattle.store_statements.specs.Steps.{tags_without, names_digest}
 use Rattle.store_writes.proofs.StatementSequences.{then_becomes}
-use Rattle.store_writes.proofs.CleanBefore.{was_clean}
+use Rattle.store_transactions.proofs.CleanBefore.{was_clean}
 use Rattle.store_writes.proofs.deletions.take_manifest.Goals as goal
 
 pub returns-clause-taken : goal.returns-clause-taken

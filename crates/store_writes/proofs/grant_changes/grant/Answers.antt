@@ -1,34 +1,21 @@
 use Rattle.std.proofs.Common.{◌∙◌, sym}
-use Rattle.sqlite.specs.State.{HasCleanDisk}
 use Rattle.sqlite.specs.Held.{state}
+use Rattle.registry_model.specs.Command.{grant}
 use Rattle.store_world.proofs.Repos.{has_repo_found}
 use Rattle.store_statements.specs.Held.{held}
-use Rattle.store_statements.proofs.Transactions.{registry, makes, stays_back, survives_all}
+use Rattle.store_transactions.proofs.Told.{told_apart, told_memory, told_lasts}
+use Rattle.store_writes.specs.Puts.{LevelIsPut}
 use Rattle.store_writes.proofs.PutLemmas.{level_put}
-use Rattle.store_writes.proofs.CleanBefore.{was_clean}
-use Rattle.store_writes.proofs.FaultsTold.{never_done, fault_is}
 use Rattle.store_writes.proofs.grant_changes.grant.Goals as goal
 
-pub returns-in-Ok-clause-made : goal.returns-in-Ok-clause-made
-returns-in-Ok-clause-made g c there clean is =
-    let early : HasCleanDisk (state g.S.Store c.args.conn.now) = was_clean c.put_level_alone.ensures.survives clean in
-    makes (state g.S.Store c.put_level_alone.new.conn) _ _ (c.in-Ok.ensures.committed clean is) (level_put (held (state g.S.Store c.args.conn.now)) (held (state g.S.Store c.put_level_alone.new.conn)) c.args.token.now c.args.name.now c.args.level (registry (state g.S.Store c.args.conn.now) is)
-    (sym (has_repo_found (held (state g.S.Store c.args.conn.now)) c.args.name.now) ∙ there early) (rw c.as_str.ensures.text at rw c.as_str-2.ensures.text at c.in-Ok.ensures.put clean is))
-
-pub returns-in-Err-clause-memory : goal.returns-in-Err-clause-memory
-returns-in-Err-clause-memory g c clean is memory =
-    let late : HasCleanDisk (state g.S.Store c.put_level_alone.new.conn) = was_clean c.checked_fault.ensures.survives clean in
-    stays_back (state g.S.Store c.args.conn.now) (state g.S.Store c.put_level_alone.new.conn) (state g.S.Store c.checked_fault.new.conn) is
-    (c.in-Err.ensures.back late is) (c.checked_fault.ensures.memory clean (fault_is memory))
-
-pub returns-in-Ok-clause-memory : goal.returns-in-Ok-clause-memory
-returns-in-Ok-clause-memory g c clean is memory = absurd (never_done memory)
-
-pub returns-in-Ok-clause-survives : goal.returns-in-Ok-clause-survives
-returns-in-Ok-clause-survives g c = c.put_level_alone.ensures.survives
-
-pub returns-in-Err-clause-made : goal.returns-in-Err-clause-made
-returns-in-Err-clause-made g c there clean is = tt
-
-pub returns-in-Err-clause-survives : goal.returns-in-Err-clause-survives
-returns-in-Err-clause-survives g c = survives_all (state g.S.Store c.args.conn.now) (state g.S.Store c.put_level_alone.new.conn) (state g.S.Store c.checked_fault.new.conn) _ _ c.put_level_alone.ensures.survives c.checked_fault.ensures.survives
+pub returns : goal.returns
+returns g c =
+    let told = c.checked.ensures.checked in
+    let did = c.put_level_alone-done.ensures in
+    record {
+      made = λ there. told_apart c.args.conn.now told (λ t u. LevelIsPut t u c.args.token.now c.args.name.now c.args.level) (λ w. grant w c.args.token.now c.args.name.now c.args.level) did.committed
+          (rw (c.as_str.ensures.text, c.as_str-2.ensures.text) at did.put) did.survives
+          (λ early is it. level_put (held (state g.S.Store c.args.conn.now)) (held (state g.S.Store c.put_level_alone-done.new.conn)) c.args.token.now c.args.name.now c.args.level is (sym (has_repo_found (held (state g.S.Store c.args.conn.now)) c.args.name.now) ∙ there early) it);
+      memory = told_memory c.args.conn.now told did.back;
+      survives = told_lasts c.args.conn.now told did.survives;
+    }

@@ -4,7 +4,7 @@ use Rattle.oci_manifest.specs.Manifest.{shown}
 use Rattle.registry_model.specs.Ask.{text_in}
 use Rattle.store_schema.proofs.Selects.{commit_then, survives_both}
 use Rattle.store_writes.proofs.ManifestPuts.{then_ok, fresh_manifest, manifest_came}
-use Rattle.store_writes.proofs.CleanBefore.{was_clean}
+use Rattle.store_transactions.proofs.CleanBefore.{was_clean}
 use Rattle.store_writes.proofs.manifest_puts.add_manifest.Goals as goal
 
 pub returns-clause-made : goal.returns-clause-made

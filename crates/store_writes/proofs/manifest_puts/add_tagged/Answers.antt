@@ -6,7 +6,7 @@ use Rattle.store_schema.proofs.Selects.{commit_then, survives_both}
 use Rattle.store_world.specs.Registry.{is_repo}
 use Rattle.store_statements.specs.Held.{held}
 use Rattle.store_writes.proofs.ManifestPuts.{then_ok, tagged_put}
-use Rattle.store_writes.proofs.CleanBefore.{was_clean}
+use Rattle.store_transactions.proofs.CleanBefore.{was_clean}
 use Rattle.store_writes.proofs.manifest_puts.add_tagged.Goals as goal
 
 pub returns-clause-made : goal.returns-clause-made

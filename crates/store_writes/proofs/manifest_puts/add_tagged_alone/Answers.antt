@@ -1,90 +1,15 @@
-use Rattle.std.proofs.Common.{◌≡◌, ◌∙◌, sym, true, None, refl}
+use Rattle.std.proofs.Common.{◌≡◌, ◌∙◌, true, None, sym}
 use Rattle.std.specs.Prelude.{find}
-use Rattle.sqlite.specs.State.{HasCleanDisk}
-use Rattle.sqlite.specs.Held.{state}
-use Rattle.sqlite.proofs.Callers.{survives_begin}
+use Rattle.registry_model.specs.Ask.{text_in}
+use Rattle.registry_model.specs.Lookups.{put_manifest}
 use Rattle.store_world.specs.Keys.{has_key}
 use Rattle.store_world.specs.Registry.{is_repo}
-use Rattle.store_statements.specs.Held.{held}
-use Rattle.store_writes.specs.Worlds.{IsWhole}
-use Rattle.store_statements.proofs.Transactions.{back_dropped, back_failed, survives_all, told_err}
-use Rattle.store_writes.proofs.ManifestPuts.{whole, makes_turned}
-use Rattle.std.proofs.lemmas.Result.{IfOk-from_err}
-use Rattle.store_writes.proofs.NothingDone.{survives_here}
-use Rattle.store_writes.proofs.CleanBefore.{was_clean}
+use Rattle.store_writes.proofs.ManifestPuts.{alone_turned}
 use Rattle.store_writes.proofs.manifest_puts.add_tagged_alone.Goals as goal
 
-pub returns-in-Ok-clause-made : goal.returns-in-Ok-clause-made
-returns-in-Ok-clause-made g c had free clean is =
-    let begun = c.transaction-tx.ensures.begun in
-    let same = c.conn-2-1.given.1 (sym (c.add_tagged.ensures.same_reference ∙ c.transaction-tx.ensures.same_reference)) in
-    let late : HasCleanDisk (state g.S.Store c.commit.new.self.0) = rw same at clean in
-    let mid : HasCleanDisk (state g.S.Store c.add_tagged.new.tx.conn.now) = was_clean c.commit.ensures.survives late in
-    let first : HasCleanDisk (state g.S.Store c.transaction-tx.result.conn.now) = was_clean c.add_tagged.ensures.survives mid in
-    let settled = is in
-    let set : IsWhole (state g.S.Store c.transaction-tx.result.conn.now) = rw begun (whole (state g.S.Store c.args.conn.now) settled) in
-    let there : is_repo (held (state g.S.Store c.transaction-tx.result.conn.now)).repos c.args.repo.now ≡ true = rw begun (had (rw begun at first)) in
-    let fresh : find (has_key c.args.repo.now c.args.digest.now) (held (state g.S.Store c.transaction-tx.result.conn.now)).manifests ≡ None = rw begun (free (rw begun at first)) in
-    let it = c.in_ok-add_tagged.ensures.made mid set there fresh in
-    rw same (makes_turned _ (state g.S.Store c.add_tagged.new.tx.conn.now) (state g.S.Store c.commit.new.self.0) _ (rw begun at it) (c.in-Ok.ensures.ok late).1)
-
-pub returns-in-Ok-clause-survives : goal.returns-in-Ok-clause-survives
-returns-in-Ok-clause-survives g c =
-    let same = c.conn-2-1.given.1 (sym (c.add_tagged.ensures.same_reference ∙ c.transaction-tx.ensures.same_reference)) in
-    rw same (survives_all (state g.S.Store c.args.conn.now) (state g.S.Store c.add_tagged.new.tx.conn.now) (state g.S.Store c.commit.new.self.0) _ _ (survives_begin g.S.Store c.args.conn.now (state g.S.Store c.add_tagged.new.tx.conn.now) _ (rw (c.transaction-tx.ensures.begun) at c.add_tagged.ensures.survives)) c.commit.ensures.survives)
-
-pub returns-in-Err-clause-survives : goal.returns-in-Err-clause-survives
-returns-in-Err-clause-survives g c =
-    let same = c.conn-2-1.given.1 (sym (c.add_tagged.ensures.same_reference ∙ c.transaction-tx.ensures.same_reference)) in
-    rw same (survives_all (state g.S.Store c.args.conn.now) (state g.S.Store c.add_tagged.new.tx.conn.now) (state g.S.Store c.commit.new.self.0) _ _ (survives_begin g.S.Store c.args.conn.now (state g.S.Store c.add_tagged.new.tx.conn.now) _ (rw (c.transaction-tx.ensures.begun) at c.add_tagged.ensures.survives)) c.commit.ensures.survives)
-
-pub returns-in-Err-clause-back : goal.returns-in-Err-clause-back
-returns-in-Err-clause-back g c had free clean is =
-    let begun = c.transaction-tx.ensures.begun in
-    let same = c.conn-2-1.given.1 (sym (c.add_tagged.ensures.same_reference ∙ c.transaction-tx.ensures.same_reference)) in
-    let late : HasCleanDisk (state g.S.Store c.commit.new.self.0) = rw same at clean in
-    let mid : HasCleanDisk (state g.S.Store c.add_tagged.new.tx.conn.now) = was_clean c.commit.ensures.survives late in
-    let first : HasCleanDisk (state g.S.Store c.transaction-tx.result.conn.now) = was_clean c.add_tagged.ensures.survives mid in
-    let settled = is in
-    let set : IsWhole (state g.S.Store c.transaction-tx.result.conn.now) = rw begun (whole (state g.S.Store c.args.conn.now) settled) in
-    let there : is_repo (held (state g.S.Store c.transaction-tx.result.conn.now)).repos c.args.repo.now ≡ true = rw begun (had (rw begun at first)) in
-    let fresh : find (has_key c.args.repo.now c.args.digest.now) (held (state g.S.Store c.transaction-tx.result.conn.now)).manifests ≡ None = rw begun (free (rw begun at first)) in
-    rw same (back_failed (state g.S.Store c.args.conn.now) (state g.S.Store c.transaction-tx.result.conn.now) (state g.S.Store c.add_tagged.new.tx.conn.now) (state g.S.Store c.commit.new.self.0) _ settled (rw begun)
-    (c.add_tagged.ensures.kept mid set there fresh) (c.in_ok-add_tagged.ensures.made mid set there fresh).whole.ready.inside (c.in-Err.ensures.err late))
-
-pub returns-in_err-add_tagged-clause-back : goal.returns-in_err-add_tagged-clause-back
-returns-in_err-add_tagged-clause-back g c had free clean is =
-    let begun = c.transaction-tx.ensures.begun in
-    let same = c.conn-1.given.1 (sym (c.add_tagged.ensures.same_reference ∙ c.transaction-tx.ensures.same_reference)) in
-    let late : HasCleanDisk (state g.S.Store c.drop-tx.new.self.0) = rw same at clean in
-    let mid : HasCleanDisk (state g.S.Store c.add_tagged.new.tx.conn.now) = was_clean c.drop-tx.ensures.survives late in
-    let first : HasCleanDisk (state g.S.Store c.transaction-tx.result.conn.now) = was_clean c.add_tagged.ensures.survives mid in
-    let settled = is in
-    let set : IsWhole (state g.S.Store c.transaction-tx.result.conn.now) = rw begun (whole (state g.S.Store c.args.conn.now) settled) in
-    let there : is_repo (held (state g.S.Store c.transaction-tx.result.conn.now)).repos c.args.repo.now ≡ true = rw begun (had (rw begun at first)) in
-    let fresh : find (has_key c.args.repo.now c.args.digest.now) (held (state g.S.Store c.transaction-tx.result.conn.now)).manifests ≡ None = rw begun (free (rw begun at first)) in
-    told_err c.from_residual.result (rw same (back_dropped (state g.S.Store c.args.conn.now) (state g.S.Store c.transaction-tx.result.conn.now) (state g.S.Store c.add_tagged.new.tx.conn.now) (state g.S.Store c.drop-tx.new.self.0) settled (rw begun)
-    (c.add_tagged.ensures.kept mid set there fresh) (c.drop-tx.ensures.undone late)))
-
-pub returns-in_err-add_tagged-clause-survives : goal.returns-in_err-add_tagged-clause-survives
-returns-in_err-add_tagged-clause-survives g c =
-    let same = c.conn-1.given.1 (sym (c.add_tagged.ensures.same_reference ∙ c.transaction-tx.ensures.same_reference)) in
-    rw same (survives_all (state g.S.Store c.args.conn.now) (state g.S.Store c.add_tagged.new.tx.conn.now) (state g.S.Store c.drop-tx.new.self.0) _ _ (survives_begin g.S.Store c.args.conn.now (state g.S.Store c.add_tagged.new.tx.conn.now) _ (rw (c.transaction-tx.ensures.begun) at c.add_tagged.ensures.survives)) c.drop-tx.ensures.survives)
-
-pub returns-then-not-is_autocommit-clause-made : goal.returns-then-not-is_autocommit-clause-made
-returns-then-not-is_autocommit-clause-made g c had free clean is = tt
-
-pub returns-in_err-add_tagged-clause-made : goal.returns-in_err-add_tagged-clause-made
-returns-in_err-add_tagged-clause-made g c had free clean is = IfOk-from_err c.from_residual.result _ c.from_residual.ensures.0
-
-pub returns-in-Err-clause-made : goal.returns-in-Err-clause-made
-returns-in-Err-clause-made g c had free clean is = tt
-
-pub returns-then-not-is_autocommit-clause-back : goal.returns-then-not-is_autocommit-clause-back
-returns-then-not-is_autocommit-clause-back g c had free clean is is_open = (refl, refl)
-
-pub returns-in-Ok-clause-back : goal.returns-in-Ok-clause-back
-returns-in-Ok-clause-back g c had free clean is = tt
-
-pub returns-then-not-is_autocommit-clause-survives : goal.returns-then-not-is_autocommit-clause-survives
-returns-then-not-is_autocommit-clause-survives g c = survives_here (state g.S.Store c.args.conn.now)
+pub returns-2 : goal.returns-2
+returns-2 g c =
+    let same = c.conn-1.given.1 (sym (c.add_tagged.ensures.same_reference ∙ c.alone-transaction.ensures.same_reference)) in
+    let it = alone_turned c.args.conn.now c.alone-transaction.ensures.begun c.alone.ensures.ended (λ t. (is_repo t.repos c.args.repo.now ≡ true) × (find (has_key c.args.repo.now c.args.digest.now) t.manifests ≡ None)) (λ w. put_manifest w c.args.repo.now c.args.digest.now c.args.bytes.now (text_in c.args.tag))
+    (λ clean is had. c.add_tagged.ensures.made clean is had.0 had.1) (λ clean is had. c.add_tagged.ensures.kept clean is had.0 had.1) c.add_tagged.ensures.survives in
+    rw same (record { made = λ there free. it.0 (λ clean. (there clean, free clean)); back = λ there free. it.1 (λ clean. (there clean, free clean)); survives = it.2 })

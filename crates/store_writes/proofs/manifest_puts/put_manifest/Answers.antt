@@ -10,7 +10,7 @@ use Rattle.store_statements.specs.ManifestShown.{manifest_link}
 use Rattle.store_statements.proofs.SettledAfter.{stays_then}
 use Rattle.store_statements.proofs.Transactions.{survives_all}
 use Rattle.store_writes.proofs.ManifestPuts.{then_ok, found_none, found_some, repo_there, fresh_still, made_there, made_new, memory_unspent}
-use Rattle.store_writes.proofs.CleanBefore.{was_clean}
+use Rattle.store_transactions.proofs.CleanBefore.{was_clean}
 use Rattle.store_writes.proofs.manifest_puts.put_manifest.Goals as goal
 
 pub returns-in-Ok-Some-clause-made : goal.returns-in-Ok-Some-clause-made

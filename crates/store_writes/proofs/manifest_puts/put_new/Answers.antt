@@ -1,27 +1,17 @@
-use Rattle.sqlite.specs.State.{HasCleanDisk}
+use Rattle.sqlite.specs.State.{State}
 use Rattle.sqlite.specs.Held.{state}
-use Rattle.store_statements.proofs.Transactions.{stays_back, survives_all}
-use Rattle.store_writes.proofs.CleanBefore.{was_clean}
-use Rattle.store_writes.proofs.FaultsTold.{never_done, fault_is}
+use Rattle.registry_model.specs.Ask.{text_in}
+use Rattle.registry_model.specs.Lookups.{put_manifest}
+use Rattle.store_statements.specs.Held.{SettlesOn, world_in}
+use Rattle.store_transactions.proofs.Told.{told_so, told_memory, told_lasts}
 use Rattle.store_writes.proofs.manifest_puts.put_new.Goals as goal
 
-pub returns-in-Err-clause-memory : goal.returns-in-Err-clause-memory
-returns-in-Err-clause-memory g c there fresh clean is memory =
-    let late : HasCleanDisk (state g.S.Store c.add_tagged_alone.new.conn) = was_clean c.checked_fault.ensures.survives clean in
-    stays_back (state g.S.Store c.args.conn.now) (state g.S.Store c.add_tagged_alone.new.conn) (state g.S.Store c.checked_fault.new.conn) is
-    (c.in-Err.ensures.back there fresh late is) (c.checked_fault.ensures.memory clean (fault_is memory))
-
-pub returns-in-Ok-clause-made : goal.returns-in-Ok-clause-made
-returns-in-Ok-clause-made g c there fresh clean is = c.in-Ok.ensures.made there fresh clean is
-
-pub returns-in-Ok-clause-memory : goal.returns-in-Ok-clause-memory
-returns-in-Ok-clause-memory g c there fresh clean is memory = absurd (never_done memory)
-
-pub returns-in-Ok-clause-survives : goal.returns-in-Ok-clause-survives
-returns-in-Ok-clause-survives g c = c.add_tagged_alone.ensures.survives
-
-pub returns-in-Err-clause-made : goal.returns-in-Err-clause-made
-returns-in-Err-clause-made g c there fresh clean is = tt
-
-pub returns-in-Err-clause-survives : goal.returns-in-Err-clause-survives
-returns-in-Err-clause-survives g c = survives_all (state g.S.Store c.args.conn.now) (state g.S.Store c.add_tagged_alone.new.conn) (state g.S.Store c.checked_fault.new.conn) _ _ c.add_tagged_alone.ensures.survives c.checked_fault.ensures.survives
+pub returns : goal.returns
+returns g c =
+    let told = c.checked.ensures.checked in
+    let did = c.add_tagged_alone-done.ensures in
+    record {
+      made = λ there free clean is. told_so c.args.conn.now told (λ (s : State). SettlesOn s (put_manifest (world_in (state g.S.Store c.args.conn.now)) c.args.repo.now c.args.digest.now c.args.bytes.now (text_in c.args.tag))) clean (λ late. did.made there free late is);
+      memory = λ there free. told_memory c.args.conn.now told (did.back there free);
+      survives = told_lasts c.args.conn.now told did.survives;
+    }

@@ -1,83 +1,13 @@
-use Rattle.std.proofs.Common.{◌≡◌, ◌∙◌, sym, true, refl}
-use Rattle.sqlite.specs.State.{HasCleanDisk}
-use Rattle.sqlite.specs.Held.{state}
-use Rattle.sqlite.proofs.Callers.{survives_begin}
+use Rattle.std.proofs.Common.{◌≡◌, ◌∙◌, true, sym}
+use Rattle.registry_model.specs.Ask.{text_in}
 use Rattle.store_world.specs.Registry.{is_repo}
-use Rattle.store_statements.specs.Held.{held}
-use Rattle.store_writes.specs.Worlds.{IsWhole}
-use Rattle.store_statements.proofs.Transactions.{back_dropped, back_failed, survives_all, told_err}
-use Rattle.store_writes.proofs.ManifestPuts.{whole, makes_turned}
-use Rattle.std.proofs.lemmas.Result.{IfOk-from_err}
-use Rattle.store_writes.proofs.NothingDone.{survives_here}
-use Rattle.store_writes.proofs.CleanBefore.{was_clean}
+use Rattle.store_writes.specs.Worlds.{tagged}
+use Rattle.store_writes.proofs.ManifestPuts.{alone_turned}
 use Rattle.store_writes.proofs.manifest_puts.put_tag_alone.Goals as goal
 
-pub returns-in-Ok-clause-made : goal.returns-in-Ok-clause-made
-returns-in-Ok-clause-made g c had clean is =
-    let begun = c.transaction-tx.ensures.begun in
-    let same = c.conn-2-1.given.1 (sym (c.put_tag_if.ensures.same_reference ∙ c.transaction-tx.ensures.same_reference)) in
-    let late : HasCleanDisk (state g.S.Store c.commit.new.self.0) = rw same at clean in
-    let mid : HasCleanDisk (state g.S.Store c.put_tag_if.new.tx.conn.now) = was_clean c.commit.ensures.survives late in
-    let first : HasCleanDisk (state g.S.Store c.transaction-tx.result.conn.now) = was_clean c.put_tag_if.ensures.survives mid in
-    let settled = is in
-    let set : IsWhole (state g.S.Store c.transaction-tx.result.conn.now) = rw begun (whole (state g.S.Store c.args.conn.now) settled) in
-    let there : is_repo (held (state g.S.Store c.transaction-tx.result.conn.now)).repos c.args.repo.now ≡ true = rw begun (had (rw begun at first)) in
-    let it = c.in_ok-put_tag_if.ensures.made mid set there in
-    rw same (makes_turned _ (state g.S.Store c.put_tag_if.new.tx.conn.now) (state g.S.Store c.commit.new.self.0) _ (rw begun at it) (c.in-Ok.ensures.ok late).1)
-
-pub returns-in-Ok-clause-survives : goal.returns-in-Ok-clause-survives
-returns-in-Ok-clause-survives g c =
-    let same = c.conn-2-1.given.1 (sym (c.put_tag_if.ensures.same_reference ∙ c.transaction-tx.ensures.same_reference)) in
-    rw same (survives_all (state g.S.Store c.args.conn.now) (state g.S.Store c.put_tag_if.new.tx.conn.now) (state g.S.Store c.commit.new.self.0) _ _ (survives_begin g.S.Store c.args.conn.now (state g.S.Store c.put_tag_if.new.tx.conn.now) _ (rw (c.transaction-tx.ensures.begun) at c.put_tag_if.ensures.survives)) c.commit.ensures.survives)
-
-pub returns-in-Err-clause-survives : goal.returns-in-Err-clause-survives
-returns-in-Err-clause-survives g c =
-    let same = c.conn-2-1.given.1 (sym (c.put_tag_if.ensures.same_reference ∙ c.transaction-tx.ensures.same_reference)) in
-    rw same (survives_all (state g.S.Store c.args.conn.now) (state g.S.Store c.put_tag_if.new.tx.conn.now) (state g.S.Store c.commit.new.self.0) _ _ (survives_begin g.S.Store c.args.conn.now (state g.S.Store c.put_tag_if.new.tx.conn.now) _ (rw (c.transaction-tx.ensures.begun) at c.put_tag_if.ensures.survives)) c.commit.ensures.survives)
-
-pub returns-in-Err-clause-back : goal.returns-in-Err-clause-back
-returns-in-Err-clause-back g c had clean is =
-    let begun = c.transaction-tx.ensures.begun in
-    let same = c.conn-2-1.given.1 (sym (c.put_tag_if.ensures.same_reference ∙ c.transaction-tx.ensures.same_reference)) in
-    let late : HasCleanDisk (state g.S.Store c.commit.new.self.0) = rw same at clean in
-    let mid : HasCleanDisk (state g.S.Store c.put_tag_if.new.tx.conn.now) = was_clean c.commit.ensures.survives late in
-    let first : HasCleanDisk (state g.S.Store c.transaction-tx.result.conn.now) = was_clean c.put_tag_if.ensures.survives mid in
-    let settled = is in
-    let set : IsWhole (state g.S.Store c.transaction-tx.result.conn.now) = rw begun (whole (state g.S.Store c.args.conn.now) settled) in
-    let there : is_repo (held (state g.S.Store c.transaction-tx.result.conn.now)).repos c.args.repo.now ≡ true = rw begun (had (rw begun at first)) in
-    rw same (back_failed (state g.S.Store c.args.conn.now) (state g.S.Store c.transaction-tx.result.conn.now) (state g.S.Store c.put_tag_if.new.tx.conn.now) (state g.S.Store c.commit.new.self.0) _ settled (rw begun)
-    (c.put_tag_if.ensures.kept mid set) (c.in_ok-put_tag_if.ensures.made mid set there).whole.ready.inside (c.in-Err.ensures.err late))
-
-pub returns-in_err-put_tag_if-clause-back : goal.returns-in_err-put_tag_if-clause-back
-returns-in_err-put_tag_if-clause-back g c had clean is =
-    let begun = c.transaction-tx.ensures.begun in
-    let same = c.conn-1.given.1 (sym (c.put_tag_if.ensures.same_reference ∙ c.transaction-tx.ensures.same_reference)) in
-    let late : HasCleanDisk (state g.S.Store c.drop-tx.new.self.0) = rw same at clean in
-    let mid : HasCleanDisk (state g.S.Store c.put_tag_if.new.tx.conn.now) = was_clean c.drop-tx.ensures.survives late in
-    let settled = is in
-    let set : IsWhole (state g.S.Store c.transaction-tx.result.conn.now) = rw begun (whole (state g.S.Store c.args.conn.now) settled) in
-    told_err c.from_residual.result (rw same (back_dropped (state g.S.Store c.args.conn.now) (state g.S.Store c.transaction-tx.result.conn.now) (state g.S.Store c.put_tag_if.new.tx.conn.now) (state g.S.Store c.drop-tx.new.self.0) settled (rw begun)
-    (c.put_tag_if.ensures.kept mid set) (c.drop-tx.ensures.undone late)))
-
-pub returns-in_err-put_tag_if-clause-survives : goal.returns-in_err-put_tag_if-clause-survives
-returns-in_err-put_tag_if-clause-survives g c =
-    let same = c.conn-1.given.1 (sym (c.put_tag_if.ensures.same_reference ∙ c.transaction-tx.ensures.same_reference)) in
-    rw same (survives_all (state g.S.Store c.args.conn.now) (state g.S.Store c.put_tag_if.new.tx.conn.now) (state g.S.Store c.drop-tx.new.self.0) _ _ (survives_begin g.S.Store c.args.conn.now (state g.S.Store c.put_tag_if.new.tx.conn.now) _ (rw (c.transaction-tx.ensures.begun) at c.put_tag_if.ensures.survives)) c.drop-tx.ensures.survives)
-
-pub returns-then-not-is_autocommit-clause-made : goal.returns-then-not-is_autocommit-clause-made
-returns-then-not-is_autocommit-clause-made g c had clean is = tt
-
-pub returns-in_err-put_tag_if-clause-made : goal.returns-in_err-put_tag_if-clause-made
-returns-in_err-put_tag_if-clause-made g c had clean is = IfOk-from_err c.from_residual.result _ c.from_residual.ensures.0
-
-pub returns-in-Err-clause-made : goal.returns-in-Err-clause-made
-returns-in-Err-clause-made g c had clean is = tt
-
-pub returns-then-not-is_autocommit-clause-back : goal.returns-then-not-is_autocommit-clause-back
-returns-then-not-is_autocommit-clause-back g c had clean is is_open = (refl, refl)
-
-pub returns-in-Ok-clause-back : goal.returns-in-Ok-clause-back
-returns-in-Ok-clause-back g c had clean is = tt
-
-pub returns-then-not-is_autocommit-clause-survives : goal.returns-then-not-is_autocommit-clause-survives
-returns-then-not-is_autocommit-clause-survives g c = survives_here (state g.S.Store c.args.conn.now)
+pub returns-2 : goal.returns-2
+returns-2 g c =
+    let same = c.conn-1.given.1 (sym (c.put_tag_if.ensures.same_reference ∙ c.alone-transaction.ensures.same_reference)) in
+    let it = alone_turned c.args.conn.now c.alone-transaction.ensures.begun c.alone.ensures.ended (λ t. is_repo t.repos c.args.repo.now ≡ true) (λ w. tagged w c.args.repo.now (text_in c.args.tag) c.args.digest.now)
+    c.put_tag_if.ensures.made (λ clean is there. c.put_tag_if.ensures.kept clean is) c.put_tag_if.ensures.survives in
+    rw same (record { made = it.0; back = it.1; survives = it.2 })

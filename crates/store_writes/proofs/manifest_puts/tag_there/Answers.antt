@@ -1,27 +1,17 @@
-use Rattle.sqlite.specs.State.{HasCleanDisk}
+use Rattle.sqlite.specs.State.{State}
 use Rattle.sqlite.specs.Held.{state}
-use Rattle.store_statements.proofs.Transactions.{stays_back, survives_all}
-use Rattle.store_writes.proofs.CleanBefore.{was_clean}
-use Rattle.store_writes.proofs.FaultsTold.{never_done, fault_is}
+use Rattle.registry_model.specs.Ask.{text_in}
+use Rattle.store_statements.specs.Held.{SettlesOn, world_in}
+use Rattle.store_transactions.proofs.Told.{told_so, told_memory, told_lasts}
+use Rattle.store_writes.specs.Worlds.{tagged}
 use Rattle.store_writes.proofs.manifest_puts.tag_there.Goals as goal
 
-pub returns-in-Err-clause-memory : goal.returns-in-Err-clause-memory
-returns-in-Err-clause-memory g c there clean is memory =
-    let late : HasCleanDisk (state g.S.Store c.put_tag_alone.new.conn) = was_clean c.checked_fault.ensures.survives clean in
-    stays_back (state g.S.Store c.args.conn.now) (state g.S.Store c.put_tag_alone.new.conn) (state g.S.Store c.checked_fault.new.conn) is
-    (c.in-Err.ensures.back there late is) (c.checked_fault.ensures.memory clean (fault_is memory))
-
-pub returns-in-Ok-clause-made : goal.returns-in-Ok-clause-made
-returns-in-Ok-clause-made g c there clean is = c.in-Ok.ensures.made there clean is
-
-pub returns-in-Ok-clause-memory : goal.returns-in-Ok-clause-memory
-returns-in-Ok-clause-memory g c there clean is memory = absurd (never_done memory)
-
-pub returns-in-Ok-clause-survives : goal.returns-in-Ok-clause-survives
-returns-in-Ok-clause-survives g c = c.put_tag_alone.ensures.survives
-
-pub returns-in-Err-clause-made : goal.returns-in-Err-clause-made
-returns-in-Err-clause-made g c there clean is = tt
-
-pub returns-in-Err-clause-survives : goal.returns-in-Err-clause-survives
-returns-in-Err-clause-survives g c = survives_all (state g.S.Store c.args.conn.now) (state g.S.Store c.put_tag_alone.new.conn) (state g.S.Store c.checked_fault.new.conn) _ _ c.put_tag_alone.ensures.survives c.checked_fault.ensures.survives
+pub returns : goal.returns
+returns g c =
+    let told = c.checked.ensures.checked in
+    let did = c.put_tag_alone-done.ensures in
+    record {
+      made = λ there clean is. told_so c.args.conn.now told (λ (s : State). SettlesOn s (tagged (world_in (state g.S.Store c.args.conn.now)) c.args.repo.now (text_in c.args.tag) c.args.digest.now)) clean (λ late. did.made there late is);
+      memory = λ there. told_memory c.args.conn.now told (did.back there);
+      survives = told_lasts c.args.conn.now told did.survives;
+    }

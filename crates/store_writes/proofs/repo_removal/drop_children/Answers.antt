@@ -6,7 +6,7 @@ use Rattle.store_statements.specs.Held.{Becomes, held}
 use Rattle.store_world.specs.Keys.{of_second}
 use Rattle.store_statements.specs.Steps.{grants_without}
 use Rattle.store_statements.specs.Drops.{without_links, without_sessions}
-use Rattle.store_writes.proofs.CleanBefore.{was_clean}
+use Rattle.store_transactions.proofs.CleanBefore.{was_clean}
 use Rattle.store_writes.proofs.repo_removal.drop_children.Goals as goal
 
 pub returns-in_err-drop_sessions-clause-kept : goal.returns-in_err-drop_sessions-clause-kept

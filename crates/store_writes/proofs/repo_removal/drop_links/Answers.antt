@@ -5,7 +5,7 @@ use Rattle.store_schema.proofs.Selects.{commit_then, survives_both}
 use Rattle.store_statements.specs.Held.{Becomes, held}
 use Rattle.store_world.specs.Keys.{of_first}
 use Rattle.store_statements.specs.Steps.{tags_without, manifests_without, blobs_without}
-use Rattle.store_writes.proofs.CleanBefore.{was_clean}
+use Rattle.store_transactions.proofs.CleanBefore.{was_clean}
 use Rattle.store_writes.proofs.repo_removal.drop_links.Goals as goal
 
 pub returns-in_err-take_manifest_links-clause-kept : goal.returns-in_err-take_manifest_links-clause-kept

@@ -1,29 +1,11 @@
-use Rattle.sqlite.specs.State.{HasCleanDisk}
-use Rattle.sqlite.specs.Held.{state}
+use Rattle.registry_model.specs.Command.{drop_repo}
+use Rattle.store_statements.specs.Drops.{dropped}
 use Rattle.store_world.proofs.Dropped.{repo_dropped}
-use Rattle.store_statements.proofs.Transactions.{registry, makes, stays_back, survives_all}
-use Rattle.store_writes.proofs.CleanBefore.{was_clean}
-use Rattle.store_writes.proofs.FaultsTold.{never_done, fault_is}
+use Rattle.store_transactions.proofs.Told.{told_tables}
 use Rattle.store_writes.proofs.repo_removal.drop_repo.Goals as goal
 
-pub returns-in-Ok-clause-made : goal.returns-in-Ok-clause-made
-returns-in-Ok-clause-made g c clean is =
-    makes (state g.S.Store c.drop_rows_alone.new.conn) _ _ (rw c.as_str.ensures.text at (c.in-Ok.ensures.made clean is)) (repo_dropped _ c.args.name.now (registry (state g.S.Store c.args.conn.now) is))
-
-pub returns-in-Err-clause-memory : goal.returns-in-Err-clause-memory
-returns-in-Err-clause-memory g c clean is memory =
-    let late : HasCleanDisk (state g.S.Store c.drop_rows_alone.new.conn) = was_clean c.checked_fault.ensures.survives clean in
-    stays_back (state g.S.Store c.args.conn.now) (state g.S.Store c.drop_rows_alone.new.conn) (state g.S.Store c.checked_fault.new.conn) is
-    (c.in-Err.ensures.back late is) (c.checked_fault.ensures.memory clean (fault_is memory))
-
-pub returns-in-Ok-clause-memory : goal.returns-in-Ok-clause-memory
-returns-in-Ok-clause-memory g c clean is memory = absurd (never_done memory)
-
-pub returns-in-Ok-clause-survives : goal.returns-in-Ok-clause-survives
-returns-in-Ok-clause-survives g c = c.drop_rows_alone.ensures.survives
-
-pub returns-in-Err-clause-made : goal.returns-in-Err-clause-made
-returns-in-Err-clause-made g c clean is = tt
-
-pub returns-in-Err-clause-survives : goal.returns-in-Err-clause-survives
-returns-in-Err-clause-survives g c = survives_all (state g.S.Store c.args.conn.now) (state g.S.Store c.drop_rows_alone.new.conn) (state g.S.Store c.checked_fault.new.conn) _ _ c.drop_rows_alone.ensures.survives c.checked_fault.ensures.survives
+pub returns : goal.returns
+returns g c =
+    let it = told_tables c.args.conn.now c.checked.ensures.checked (dropped c.args.name.now) (λ w. drop_repo w c.args.name.now) (rw c.as_str.ensures.text at c.drop_rows_alone-done.ensures.made) c.drop_rows_alone-done.ensures.back c.drop_rows_alone-done.ensures.survives
+    (λ t is. repo_dropped t c.args.name.now is) in
+    record { made = it.0; memory = it.1; survives = it.2 }

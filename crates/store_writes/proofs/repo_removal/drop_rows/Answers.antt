@@ -7,7 +7,7 @@ use Rattle.store_world.specs.Keys.{of_first}
 use Rattle.store_statements.specs.Steps.{repos_without}
 use Rattle.store_statements.specs.Drops.{without_children}
 use Rattle.store_statements.proofs.ChildLemmas.{childless_now}
-use Rattle.store_writes.proofs.CleanBefore.{was_clean}
+use Rattle.store_transactions.proofs.CleanBefore.{was_clean}
 use Rattle.store_writes.proofs.repo_removal.drop_rows.Goals as goal
 
 pub returns-clause-dropped : goal.returns-clause-dropped

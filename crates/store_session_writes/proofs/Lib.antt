@@ -1,0 +1,4 @@
+pub mod StatementSequences
+pub mod BytesStored
+pub mod SessionWrites
+pub mod KnownEnds

@@ -1,0 +1,106 @@
+-- What the writes of upload sessions make of the world.
+use Rattle.std.proofs.Common.{◌≡◌, ◌==◌, ◌∙◌, ◌<◌, ◌+◌, ℕ, zero, suc, List, [], ◌∷◌, length, true, false, true≢false, Option, Some, None, refl, sym, ap, subst, arith}
+use Rattle.std.specs.Prelude.{find, is_some, option_map}
+use Rattle.std.specs.Option.{option_map_or}
+use Rattle.sqlite.specs.Order.{Row}
+use Rattle.sqlite.specs.State.{State}
+use Rattle.oci_names.specs.Text.{Text}
+use Rattle.registry_model.specs.Lookups.{append, finish, session_at, open_session, last_number_at}
+use Rattle.store_schema.specs.Rows.{natural_at}
+use Rattle.store_world.specs.Keys.{of_first, of_session, has_key, has_start}
+use Rattle.store_world.specs.Tables.{Tables}
+use Rattle.store_world.specs.World.{pieces_of}
+use Rattle.store_world.specs.Registry.{is_repo, last_in, Reach}
+use Rattle.store_world.proofs.Repos.{last_number_found}
+use Rattle.store_world.proofs.Pieces as rows
+use Rattle.store_world.proofs.SessionRows.{number_free}
+use Rattle.store_world.proofs.SessionReads.{upload_reach, session_there, session_repo}
+use Rattle.store_world.proofs.Sessions.{opened, appended, append_nothing, finished_new, finished_there}
+use Rattle.store_statements.specs.declared.blobs.BlobLink.{BlobLink}
+use Rattle.store_statements.specs.declared.repos.RepoRow.{RepoRow}
+use Rattle.store_statements.specs.Shown.{blob_link, repo_row}
+use Rattle.store_statements.specs.Held.{IsSettled, StaysSettled, Commits, SettlesOn, held, world_in}
+use Rattle.store_statements.specs.Steps.{SessionOpened, Appended, Finished, sessions_without}
+use Rattle.store_statements.proofs.Transactions.{registry, makes}
+use Rattle.store_transactions.proofs.WritesAfterReads.{some_found, same_held}
+use Rattle.store_transactions.proofs.Alone.{commits_as}
+
+-- a session that the world has is in the tables
+has_upload : (s : State) (name : Text) (number : ℕ) → IsSettled s → is_some (session_at (world_in s) name number) ≡ true → is_some (find (of_session name number) (held s).uploads) ≡ true
+has_upload s name number settled there = sym (session_there (held s) name number (registry s settled)) ∙ there
+
+-- and so is its repository
+has_repo : (s : State) (name : Text) (number : ℕ) → IsSettled s → is_some (session_at (world_in s) name number) ≡ true → is_repo (held s).repos name ≡ true
+has_repo s name number settled there = go (find (of_session name number) (held s).uploads) refl
+  where
+    go : (o : Option Row) → find (of_session name number) (held s).uploads ≡ o → is_repo (held s).repos name ≡ true
+    go None e = absurd (true≢false (sym (has_upload s name number settled there) ∙ ap is_some e))
+    go (Some r) e = session_repo (held s) name number r (registry s settled) e
+
+-- ---- bytes come
+
+no_bytes : (bytes : Text) → length bytes ≡ 0 → bytes ≡ []
+no_bytes [] e = refl
+no_bytes (b ∷ bs) e = absurd (omega (arith, e))
+
+pub appends_nothing : (s : State) (name : Text) (number : ℕ) (bytes : Text) → IsSettled s → is_some (session_at (world_in s) name number) ≡ true → length bytes ≡ 0 → SettlesOn s (append (world_in s) name number bytes)
+appends_nothing s name number bytes settled there none =
+    (settled, subst (λ more. world_in s ≡ append (world_in s) name number more) (sym (no_bytes bytes none)) (sym (append_nothing (held s) name number (has_upload s name number settled there))))
+
+pub more_than_none : (n : ℕ) → (n == 0) ≡ false → 0 < n
+more_than_none zero e = absurd cc
+more_than_none (suc n) e = omega arith
+
+-- no piece begins where a session ends
+pub piece_free : (old mid : State) (name : Text) (number size : ℕ) → IsSettled old → StaysSettled old mid → Some size ≡ option_map (λ r. natural_at r 3) (find (of_session name number) (held old).uploads) → find (has_start name number size) (held mid).pieces ≡ None
+piece_free old mid name number size settled stays sized =
+    let found = some_found (λ r. natural_at r 3) (find (of_session name number) (held old).uploads) size sized in
+    let reach : Reach 0 (pieces_of (held old).pieces name number) size = subst (Reach 0 (pieces_of (held old).pieces name number)) (sym found.2) (upload_reach (held old) name number found.0 (registry old settled) found.1) in
+    ap (λ (t : Tables). find (has_start name number size) t.pieces) (same_held old mid stays) ∙ rows.piece_fresh (held old).contents (held old).pieces name number size settled.agree.pieces reach
+
+pub appends : (old mid end : State) (name : Text) (number size : ℕ) (bytes : Text) → IsSettled old → StaysSettled old mid → Some size ≡ option_map (λ r. natural_at r 3) (find (of_session name number) (held old).uploads) → 0 < length bytes
+    → Commits end (held end) × Appended (held mid) (held end) name number size bytes → SettlesOn end (append (world_in old) name number bytes)
+appends old mid end name number size bytes settled stays sized more it =
+    let added = subst (λ (t : Tables). Appended t (held end) name number size bytes) (same_held old mid stays) it.1 in
+    makes end _ _ (commits_as end _ it.0 added.others)
+    (appended (held old) (held end).contents name number size bytes added.id (held end).pieces (registry old settled) (sym sized) more added.grow added.there added.comes)
+
+-- ---- a session ends
+
+pub finishes_there : (old mid end : State) (name : Text) (number : ℕ) (digest bytes : Text) (link : BlobLink) → IsSettled old → StaysSettled old mid → Some link ≡ option_map blob_link (find (has_key name digest) (held old).blobs)
+    → Commits end (sessions_without (of_session name number) (held mid)) → SettlesOn end (finish (world_in old) name number digest bytes)
+finishes_there old mid end name number digest bytes link settled stays e c =
+    let found = some_found blob_link (find (has_key name digest) (held old).blobs) link e in
+    makes end _ _ (subst (λ (t : Tables). Commits end (sessions_without (of_session name number) t)) (same_held old mid stays) c)
+    (finished_there (held old) name number digest bytes found.0 (registry old settled) found.1)
+
+pub finishes_new : (old mid end : State) (name : Text) (number : ℕ) (digest bytes : Text) → IsSettled old → is_some (session_at (world_in old) name number) ≡ true → StaysSettled old mid → find (has_key name digest) (held old).blobs ≡ None
+    → Commits end (held end) × Finished (held mid) (held end) name number digest bytes → SettlesOn end (finish (world_in old) name number digest bytes)
+finishes_new old mid end name number digest bytes settled there stays fresh it =
+    let stored = subst (λ (t : Tables). Finished t (held end) name number digest bytes) (same_held old mid stays) it.1 in
+    makes end _ _ (commits_as end _ it.0 stored.others)
+    (finished_new (held old) (held end).contents name number digest bytes stored.id (held end).blobs (registry old settled) (has_repo old name number settled there) stored.grow stored.there fresh stored.comes)
+
+-- ---- a session is opened
+
+last_is : (rows : List Row) (name : Text) (o : Option Row) (last : ℕ) → find (of_first name) rows ≡ o → Some last ≡ option_map (λ r. natural_at r 3) o → (last_in rows name ≡ last) × (is_repo rows name ≡ true)
+last_is rows name None last e found = absurd cc
+last_is rows name (Some r) last e found = (ap (λ o. option_map_or (λ r. natural_at r 3) o 0) e ∙ cc, ap is_some e)
+
+pub last_found : (o : Option Row) (row : RepoRow) → Some row ≡ option_map repo_row o → Some row.last ≡ option_map (λ r. natural_at r 3) o
+last_found None row e = absurd cc
+last_found (Some r) row e = let same : row ≡ repo_row r = cc in ap (λ (x : RepoRow). Some x.last) same
+
+-- no session has a number behind the last
+pub number_behind : (old mid : State) (name : Text) (last : ℕ) → IsSettled old → StaysSettled old mid → Some last ≡ option_map (λ r. natural_at r 3) (find (of_first name) (held old).repos) → find (of_session name (last + 1)) (held mid).uploads ≡ None
+number_behind old mid name last settled stays found =
+    let is = last_is (held old).repos name (find (of_first name) (held old).repos) last refl found in
+    ap (λ (t : Tables). find (of_session name (last + 1)) t.uploads) (same_held old mid stays) ∙ number_free (held old) name (last + 1) (registry old settled) (omega (arith, is.0))
+
+pub opens : (old mid end : State) (name : Text) (last : ℕ) → IsSettled old → StaysSettled old mid → Some last ≡ option_map (λ r. natural_at r 3) (find (of_first name) (held old).repos)
+    → Commits end (held end) × SessionOpened (held mid) (held end) name (last + 1) → (last + 1 ≡ last_number_at (world_in old) name + 1) × SettlesOn end (open_session (world_in old) name)
+opens old mid end name last settled stays found it =
+    let is = last_is (held old).repos name (find (of_first name) (held old).repos) last refl found in
+    let come = subst (λ (t : Tables). SessionOpened t (held end) name (last + 1)) (same_held old mid stays) it.1 in
+    let come = subst (λ n. SessionOpened (held old) (held end) name (n + 1)) (sym is.0) come in
+    (ap (λ n. n + 1) (sym (last_number_found (held old) name ∙ is.0)), makes end _ _ (commits_as end _ it.0 come.others) (opened (held old) name (held end).uploads (registry old settled) is.1 come.comes))

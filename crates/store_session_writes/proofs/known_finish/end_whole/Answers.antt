@@ -1,0 +1,41 @@
+use Rattle.std.proofs.Common.{◌∙◌, ap}
+use Rattle.std.specs.Prelude.{find}
+use Rattle.sqlite.specs.State.{HasCleanDisk}
+use Rattle.sqlite.specs.Held.{state}
+use Rattle.store_schema.proofs.Selects.{commit_then, survives_both}
+use Rattle.store_world.specs.Keys.{has_key}
+use Rattle.store_world.specs.Tables.{Tables}
+use Rattle.store_statements.specs.Held.{held}
+use Rattle.store_session_writes.proofs.KnownEnds.{ended_if}
+use Rattle.store_transactions.proofs.CleanBefore.{was_clean}
+use Rattle.store_session_writes.proofs.known_finish.end_whole.Goals as goal
+
+pub returns-in-Ok-clause-ended : goal.returns-in-Ok-clause-ended
+returns-in-Ok-clause-ended g c clean is fresh =
+    let mid = state g.S.Store c.take_session.new.tx.conn.now in
+    let new = state g.S.Store c.add_blob_link.new.tx.conn.now in
+    let early : HasCleanDisk mid = was_clean c.add_blob_link.ensures.survives clean in
+    let first = c.in-Ok.ensures.taken early is in
+    ended_if (held (state g.S.Store c.args.tx.now.conn.now)) mid new c.args.repo.now c.args.number c.args.digest.now c.args.link c.add_blob_link.result first.1
+    (c.add_blob_link.ensures.added clean first.0 (ap (λ (t : Tables). find (has_key c.args.repo.now c.args.digest.now) t.blobs) first.1 ∙ fresh))
+
+pub returns-in-Ok-clause-kept : goal.returns-in-Ok-clause-kept
+returns-in-Ok-clause-kept g c clean is =
+    let mid = state g.S.Store c.take_session.new.tx.conn.now in
+    let early : HasCleanDisk mid = was_clean c.add_blob_link.ensures.survives clean in
+    commit_then (state g.S.Store c.args.tx.now.conn.now) mid (state g.S.Store c.add_blob_link.new.tx.conn.now) (c.take_session.ensures.kept early is) (c.add_blob_link.ensures.kept clean (c.in-Ok.ensures.taken early is).0)
+
+pub returns-in-Ok-clause-survives : goal.returns-in-Ok-clause-survives
+returns-in-Ok-clause-survives g c = survives_both (state g.S.Store c.args.tx.now.conn.now) (state g.S.Store c.take_session.new.tx.conn.now) (state g.S.Store c.add_blob_link.new.tx.conn.now) c.take_session.ensures.survives c.add_blob_link.ensures.survives
+
+pub returns-in-Ok-clause-same_reference : goal.returns-in-Ok-clause-same_reference
+returns-in-Ok-clause-same_reference g c = c.add_blob_link.ensures.same_reference ∙ c.take_session.ensures.same_reference
+
+pub returns-in-Err-clause-kept : goal.returns-in-Err-clause-kept
+returns-in-Err-clause-kept g c = c.take_session.ensures.kept
+
+pub returns-in-Err-clause-same_reference : goal.returns-in-Err-clause-same_reference
+returns-in-Err-clause-same_reference g c = c.take_session.ensures.same_reference
+
+pub returns-in-Err-clause-survives : goal.returns-in-Err-clause-survives
+returns-in-Err-clause-survives g c = c.take_session.ensures.survives

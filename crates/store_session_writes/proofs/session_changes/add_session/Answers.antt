@@ -1,0 +1,28 @@
+use Rattle.std.proofs.Common.{◌∙◌, ap}
+use Rattle.std.specs.Prelude.{find}
+use Rattle.sqlite.specs.State.{HasCleanDisk}
+use Rattle.sqlite.specs.Held.{state}
+use Rattle.store_schema.proofs.Selects.{commit_then, survives_both}
+use Rattle.store_world.specs.Keys.{of_session}
+use Rattle.store_session_writes.proofs.BytesStored.{opened_if}
+use Rattle.store_world.specs.Tables.{Tables}
+use Rattle.store_transactions.proofs.CleanBefore.{was_clean}
+use Rattle.store_session_writes.proofs.session_changes.add_session.Goals as goal
+
+pub returns-in-Ok-clause-opened : goal.returns-in-Ok-clause-opened
+returns-in-Ok-clause-opened g c clean is fresh =
+    let mid = state g.S.Store c.set_last.new.tx.conn.now in
+    let new = state g.S.Store c.add_upload.new.tx.conn.now in
+    let early : HasCleanDisk mid = was_clean c.add_upload.ensures.survives clean in
+    let first = c.in-Ok.ensures.set early is in
+    opened_if _ mid new c.args.repo.now c.args.number c.add_upload.result first.1
+    (c.add_upload.ensures.added clean first.0 (ap (λ (t : Tables). find (of_session c.args.repo.now c.args.number) t.uploads) first.1 ∙ fresh))
+
+pub returns-in-Ok-clause-kept : goal.returns-in-Ok-clause-kept
+returns-in-Ok-clause-kept g c clean is =
+    let mid = state g.S.Store c.set_last.new.tx.conn.now in
+    let early : HasCleanDisk mid = was_clean c.add_upload.ensures.survives clean in
+    commit_then (state g.S.Store c.args.tx.now.conn.now) mid (state g.S.Store c.add_upload.new.tx.conn.now) (c.set_last.ensures.kept early is) (c.add_upload.ensures.kept clean (c.in-Ok.ensures.set early is).0)
+
+pub returns-in-Ok-clause-survives : goal.returns-in-Ok-clause-survives
+returns-in-Ok-clause-survives g c = survives_both (state g.S.Store c.args.tx.now.conn.now) (state g.S.Store c.set_last.new.tx.conn.now) (state g.S.Store c.add_upload.new.tx.conn.now) c.set_last.ensures.survives c.add_upload.ensures.survives

@@ -1,0 +1,30 @@
+use Rattle.sqlite.specs.State.{HasCleanDisk}
+use Rattle.sqlite.specs.Held.{state}
+use Rattle.store_schema.proofs.Selects.{commit_then, survives_both}
+use Rattle.store_world.specs.Keys.{of_session}
+use Rattle.store_statements.specs.Steps.{pieces_without, uploads_without}
+use Rattle.store_session_writes.proofs.StatementSequences.{becomes_then}
+use Rattle.store_transactions.proofs.CleanBefore.{was_clean}
+use Rattle.store_session_writes.proofs.session_changes.take_session.Goals as goal
+
+pub returns-in-Ok-clause-taken : goal.returns-in-Ok-clause-taken
+returns-in-Ok-clause-taken g c clean is =
+    let mid : HasCleanDisk (state g.S.Store c.take_pieces_of.new.tx.conn.now) = was_clean c.take_upload.ensures.survives clean in
+    let first = c.in-Ok.ensures.taken mid is in
+    becomes_then (pieces_without (of_session c.args.repo.now c.args.number)) (uploads_without (of_session c.args.repo.now c.args.number)) (state g.S.Store c.args.tx.now.conn.now) (state g.S.Store c.take_pieces_of.new.tx.conn.now) (state g.S.Store c.take_upload.new.tx.conn.now)
+    c.take_upload.result first (c.take_upload.ensures.taken clean first.0)
+
+pub returns-in-Ok-clause-kept : goal.returns-in-Ok-clause-kept
+returns-in-Ok-clause-kept g c clean is =
+    let mid : HasCleanDisk (state g.S.Store c.take_pieces_of.new.tx.conn.now) = was_clean c.take_upload.ensures.survives clean in
+    commit_then (state g.S.Store c.args.tx.now.conn.now) (state g.S.Store c.take_pieces_of.new.tx.conn.now) (state g.S.Store c.take_upload.new.tx.conn.now)
+    (c.take_pieces_of.ensures.kept mid is) (c.take_upload.ensures.kept clean (c.in-Ok.ensures.taken mid is).0)
+
+pub returns-in-Ok-clause-survives : goal.returns-in-Ok-clause-survives
+returns-in-Ok-clause-survives g c = survives_both (state g.S.Store c.args.tx.now.conn.now) (state g.S.Store c.take_pieces_of.new.tx.conn.now) (state g.S.Store c.take_upload.new.tx.conn.now) c.take_pieces_of.ensures.survives c.take_upload.ensures.survives
+
+pub returns-in-Err-clause-kept : goal.returns-in-Err-clause-kept
+returns-in-Err-clause-kept g c = c.take_pieces_of.ensures.kept
+
+pub returns-in-Err-clause-survives : goal.returns-in-Err-clause-survives
+returns-in-Err-clause-survives g c = c.take_pieces_of.ensures.survives

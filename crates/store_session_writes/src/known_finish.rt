@@ -1,0 +1,128 @@
+//! An upload session ends whose bytes are known unread: its content becomes a blob's.
+ghost use Rattle.std.specs.Prelude.{◌≡◌, ◌<◌, ◌^◌, find, is_some, None, Some, IfOk};
+ghost use Rattle.sqlite.specs.State.{HasCleanDisk};
+ghost use Rattle.sqlite.specs.Held.{state};
+ghost use Rattle.registry_model.specs.Closing.{session_matches, finish_as_is};
+ghost use Rattle.store_world.specs.Keys.{has_key};
+ghost use Rattle.store_statements.specs.Between.{CommitsStep, Finds, GoesBack, MakesWorld, StaysOnMemory};
+ghost use Rattle.store_statements.specs.Clauses.{KeepsInside, Lasts, LastsUncommitted, TablesHave};
+ghost use Rattle.store_statements.specs.Held.{IsSettled};
+ghost use Rattle.store_session_writes.specs.Whole.{known_link, WholeEnds, DoneWhereSo};
+ghost use Rattle.store_transactions.specs.Steps.{StepsFrom};
+
+use crate::session_changes::{take_session, take_session_alone};
+use crate::whole_sessions::find_known;
+use oci_names::{Digest, Fault, RepoName};
+use sqlite::{Alter, Connection, Transaction};
+use std::alloc::Global;
+use store_statements::blobs::{BlobLink, add_blob_link, find_blob_link};
+use store_statements::numbers::LARGEST;
+use store_transactions::{alone, checked};
+
+/// Takes a session out, and puts a link to its content in that the repository has not.
+fn end_whole<S: Alter>(
+    tx: &mut Transaction<'_, S>,
+    repo: &str,
+    number: u64,
+    digest: &str,
+    link: BlobLink,
+) -> Result<(), Fault>
+    requires number_fits { number < 2 ^ 63 }
+    requires fits { link.size < 2 ^ 63 }
+    ensures ended { StepsFrom S.Store tx.old.conn.now tx.new.conn.now result
+        (λ t. find (has_key repo.now digest.now) t.blobs ≡ None)
+        (λ t u. WholeEnds t u repo.now number digest.now link) }
+    ensures kept { KeepsInside S.Store tx.old.conn.now tx.new.conn.now }
+    ensures same_reference { tx.new.conn.ghost_name ≡ tx.old.conn.ghost_name }
+    ensures survives { LastsUncommitted S.Store tx.old.conn.now tx.new.conn.now }
+{
+    match take_session(tx, repo, number) {
+        Ok(()) => add_blob_link(tx, repo, digest, link.size, link.content),
+        Err(fault) => Err(fault),
+    }
+}
+
+/// Takes a session out and links its content, in a transaction of their own.
+fn end_whole_alone<S: Alter>(
+    conn: &mut Connection<S>,
+    repo: &str,
+    number: u64,
+    digest: &str,
+    link: BlobLink,
+) -> Result<(), Fault>
+    requires number_fits { number < 2 ^ 63 }
+    requires fits { link.size < 2 ^ 63 }
+    ensures made { TablesHave S.Store conn.old (λ t. find (has_key repo.now digest.now) t.blobs ≡ None)
+        → CommitsStep S.Store conn.old conn.new result
+        (λ t u. WholeEnds t u repo.now number digest.now link) }
+    ensures back { TablesHave S.Store conn.old (λ t. find (has_key repo.now digest.now) t.blobs ≡ None)
+        → GoesBack S.Store conn.old conn.new result }
+    ensures survives { Lasts S.Store conn.old conn.new }
+{
+    alone!(conn, tx, end_whole(&mut tx, repo, number, digest, link))
+}
+
+/// Ends a session whose link is known; a digest that is there keeps its bytes.
+fn finish_whole<S: Alter>(
+    conn: &mut Connection<S>,
+    repo: &str,
+    number: u64,
+    digest: &str,
+    link: BlobLink,
+) -> Result<(), Fault>
+    requires number_fits { number < 2 ^ 63 }
+    ensures made { TablesHave S.Store conn.old (λ t. Some link ≡ known_link t repo.now number digest.now)
+        → MakesWorld S.Store conn.old conn.new result
+        (λ w. finish_as_is w repo.now number digest.now) }
+    ensures memory { StaysOnMemory S.Store conn.old conn.new result }
+    ensures survives { Lasts S.Store conn.old conn.new }
+{
+    match find_blob_link(conn, repo, digest) {
+        Ok(Some(_)) => {
+            let done = take_session_alone(conn, repo, number);
+            checked(conn, done)
+        }
+        // each size that a row has fits
+        Ok(None) if link.size <= LARGEST => {
+            let done = end_whole_alone(conn, repo, number, digest, link);
+            checked(conn, done)
+        }
+        Ok(None) => Err(Fault::Storage),
+        Err(fault) => Err(fault),
+    }
+}
+
+/// Ends an open session of one piece whose content has the digest, one of sha256: the blob gets that content,
+/// and no byte is read or written. Answers whether it did so; where it did not, nothing has changed. A
+/// digest that is there keeps its bytes.
+pub fn finish_known<S: Alter>(
+    alloc: Global,
+    conn: &mut Connection<S>,
+    repo: &RepoName,
+    number: u64,
+    digest: &Digest,
+) -> Result<bool, Fault>
+    ensures made { HasCleanDisk (state S.Store conn.new) → IsSettled (state S.Store conn.old)
+        → IfOk result
+        (λ done. DoneWhereSo done (state S.Store conn.old) (state S.Store conn.new)
+        (λ w. session_matches w repo.now number digest.now)
+        (λ w. finish_as_is w repo.now number digest.now)) }
+    ensures known { number < 2 ^ 63 → Finds S.Store conn.old conn.new result
+        (λ t done. done ≡ is_some (known_link t repo.now number digest.now)) }
+    ensures memory { StaysOnMemory S.Store conn.old conn.new result }
+    ensures survives { Lasts S.Store conn.old conn.new }
+{
+    if number > LARGEST {
+        return Ok(false);
+    }
+    let repo = repo.as_str();
+    let digest = digest.as_str();
+    match find_known(alloc, conn, repo, number, digest) {
+        Ok(Some(link)) => match finish_whole(conn, repo, number, digest, link) {
+            Ok(()) => Ok(true),
+            Err(fault) => Err(fault),
+        },
+        Ok(None) => Ok(false),
+        Err(fault) => Err(fault),
+    }
+}

@@ -1,0 +1,120 @@
+//! Bytes come behind those of an open upload session.
+ghost use Rattle.std.specs.Prelude.{◌≡◌, ◌<◌, ◌+◌, ◌^◌, true, length, find, is_some, None};
+ghost use Rattle.registry_model.specs.Lookups.{append, session_at};
+ghost use Rattle.store_world.specs.Keys.{has_start};
+ghost use Rattle.store_transactions.specs.Steps.{StepsFrom};
+ghost use Rattle.store_statements.specs.Between.{CommitsStep, GoesBack, MakesWorld, StaysOnMemory};
+ghost use Rattle.store_statements.specs.Clauses.{KeepsInside, Lasts, LastsUncommitted, TablesHave, WorldHas};
+ghost use Rattle.store_statements.specs.Steps.{PieceStored, Appended};
+
+use oci_names::{Fault, RepoName};
+use sqlite::{Alter, Connection, Transaction};
+use std::alloc::Global;
+use store_statements::contents::keep;
+use store_statements::numbers::{LARGEST, has_room};
+use store_statements::pieces::add_piece;
+use store_statements::uploads::{find_upload, set_size};
+use store_transactions::{alone, checked};
+
+/// Puts a piece in where none of the session begins. `start` is in bytes.
+fn store_piece<S: Alter>(
+    alloc: Global,
+    tx: &mut Transaction<'_, S>,
+    repo: &str,
+    number: u64,
+    start: u64,
+    bytes: &[u8],
+) -> Result<(), Fault>
+    requires number_fits { number < 2 ^ 63 }
+    requires fits { start + length bytes.now < 2 ^ 63 }
+    ensures stored { StepsFrom S.Store tx.old.conn.now tx.new.conn.now result
+        (λ t. find (has_start repo.now number start) t.pieces ≡ None)
+        (λ t u. PieceStored t u repo.now number start bytes.now) }
+    ensures kept { KeepsInside S.Store tx.old.conn.now tx.new.conn.now }
+    ensures same_reference { tx.new.conn.ghost_name ≡ tx.old.conn.ghost_name }
+    ensures survives { LastsUncommitted S.Store tx.old.conn.now tx.new.conn.now }
+{
+    match keep(alloc, tx, bytes) {
+        Ok(content) => add_piece(tx, repo, number, start, bytes.len() as u64, content),
+        Err(fault) => Err(fault),
+    }
+}
+
+/// Puts bytes behind those of a session that has `size` bytes.
+fn add_bytes<S: Alter>(
+    alloc: Global,
+    tx: &mut Transaction<'_, S>,
+    repo: &str,
+    number: u64,
+    size: u64,
+    bytes: &[u8],
+) -> Result<(), Fault>
+    requires number_fits { number < 2 ^ 63 }
+    requires fits { size + length bytes.now < 2 ^ 63 }
+    ensures appended { StepsFrom S.Store tx.old.conn.now tx.new.conn.now result
+        (λ t. find (has_start repo.now number size) t.pieces ≡ None)
+        (λ t u. Appended t u repo.now number size bytes.now) }
+    ensures kept { KeepsInside S.Store tx.old.conn.now tx.new.conn.now }
+    ensures same_reference { tx.new.conn.ghost_name ≡ tx.old.conn.ghost_name }
+    ensures survives { LastsUncommitted S.Store tx.old.conn.now tx.new.conn.now }
+{
+    match set_size(tx, repo, number, size + bytes.len() as u64) {
+        Ok(_) => store_piece(alloc, tx, repo, number, size, bytes),
+        Err(fault) => Err(fault),
+    }
+}
+
+/// Puts bytes behind those of a session that has `size` bytes, in a transaction of its own.
+fn add_bytes_alone<S: Alter>(
+    alloc: Global,
+    conn: &mut Connection<S>,
+    repo: &str,
+    number: u64,
+    size: u64,
+    bytes: &[u8],
+) -> Result<(), Fault>
+    requires number_fits { number < 2 ^ 63 }
+    requires fits { size + length bytes.now < 2 ^ 63 }
+    ensures made { TablesHave S.Store conn.old (λ t. find (has_start repo.now number size) t.pieces ≡ None)
+        → CommitsStep S.Store conn.old conn.new result
+        (λ t u. Appended t u repo.now number size bytes.now) }
+    ensures back { TablesHave S.Store conn.old (λ t. find (has_start repo.now number size) t.pieces ≡ None)
+        → GoesBack S.Store conn.old conn.new result }
+    ensures survives { Lasts S.Store conn.old conn.new }
+{
+    alone!(
+        conn,
+        tx,
+        add_bytes(alloc, &mut tx, repo, number, size, bytes)
+    )
+}
+
+/// Puts bytes behind those of an open session; none that it has are touched.
+pub fn append<S: Alter>(
+    alloc: Global,
+    conn: &mut Connection<S>,
+    repo: &RepoName,
+    number: u64,
+    bytes: &[u8],
+) -> Result<(), Fault>
+    ensures made { WorldHas S.Store conn.old (λ w. is_some (session_at w repo.now number) ≡ true)
+        → MakesWorld S.Store conn.old conn.new result (λ w. append w repo.now number bytes.now) }
+    ensures memory { StaysOnMemory S.Store conn.old conn.new result }
+    ensures survives { Lasts S.Store conn.old conn.new }
+{
+    if bytes.is_empty() {
+        return Ok(());
+    }
+    if number > LARGEST {
+        return Err(Fault::Storage);
+    }
+    let repo = repo.as_str();
+    match find_upload(conn, repo, number) {
+        Ok(Some(size)) if has_room(size, bytes.len() as u64) => {
+            let done = add_bytes_alone(alloc, conn, repo, number, size, bytes);
+            checked(conn, done)
+        }
+        Ok(_) => Err(Fault::Storage),
+        Err(fault) => Err(fault),
+    }
+}

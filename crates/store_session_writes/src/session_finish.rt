@@ -1,0 +1,104 @@
+//! An upload session ends, and its bytes become a blob.
+ghost use Rattle.std.specs.Prelude.{◌≡◌, ◌≤◌, ◌<◌, ◌^◌, true, length, find, is_some, None};
+ghost use Rattle.oci_names.specs.Digest.{matches};
+ghost use Rattle.registry_model.specs.Limits.{largest_blob};
+ghost use Rattle.registry_model.specs.Lookups.{finish, session_at};
+ghost use Rattle.store_world.specs.Keys.{has_key};
+ghost use Rattle.store_transactions.specs.Steps.{StepsFrom};
+ghost use Rattle.store_statements.specs.Between.{CommitsStep, GoesBack, MakesWorld, StaysOnMemory};
+ghost use Rattle.store_statements.specs.Clauses.{KeepsInside, Lasts, LastsUncommitted, TablesHave, WorldHas};
+ghost use Rattle.store_statements.specs.Steps.{Finished};
+
+use crate::session_changes::{take_session, take_session_alone};
+use oci_names::{Digest, Fault, RepoName};
+use sqlite::{Alter, Connection, Transaction};
+use std::alloc::Global;
+use store_statements::blobs::find_blob_link;
+use store_statements::numbers::LARGEST;
+use store_transactions::{alone, checked, store_blob};
+
+/// Takes a session out, and puts a blob in that the repository has not.
+fn end_session<S: Alter>(
+    alloc: Global,
+    tx: &mut Transaction<'_, S>,
+    repo: &str,
+    number: u64,
+    digest: &str,
+    bytes: &[u8],
+) -> Result<(), Fault>
+    requires number_fits { number < 2 ^ 63 }
+    requires matching { matches digest.now bytes.now ≡ true }
+    requires fits { length bytes.now < 2 ^ 63 }
+    ensures finished { StepsFrom S.Store tx.old.conn.now tx.new.conn.now result
+        (λ t. find (has_key repo.now digest.now) t.blobs ≡ None)
+        (λ t u. Finished t u repo.now number digest.now bytes.now) }
+    ensures kept { KeepsInside S.Store tx.old.conn.now tx.new.conn.now }
+    ensures same_reference { tx.new.conn.ghost_name ≡ tx.old.conn.ghost_name }
+    ensures survives { LastsUncommitted S.Store tx.old.conn.now tx.new.conn.now }
+{
+    match take_session(tx, repo, number) {
+        Ok(()) => store_blob(alloc, tx, repo, digest, bytes),
+        Err(fault) => Err(fault),
+    }
+}
+
+/// Takes a session out and puts a blob in, in a transaction of their own.
+fn end_session_alone<S: Alter>(
+    alloc: Global,
+    conn: &mut Connection<S>,
+    repo: &str,
+    number: u64,
+    digest: &str,
+    bytes: &[u8],
+) -> Result<(), Fault>
+    requires number_fits { number < 2 ^ 63 }
+    requires matching { matches digest.now bytes.now ≡ true }
+    requires fits { length bytes.now < 2 ^ 63 }
+    ensures made { TablesHave S.Store conn.old (λ t. find (has_key repo.now digest.now) t.blobs ≡ None)
+        → CommitsStep S.Store conn.old conn.new result
+        (λ t u. Finished t u repo.now number digest.now bytes.now) }
+    ensures back { TablesHave S.Store conn.old (λ t. find (has_key repo.now digest.now) t.blobs ≡ None)
+        → GoesBack S.Store conn.old conn.new result }
+    ensures survives { Lasts S.Store conn.old conn.new }
+{
+    alone!(
+        conn,
+        tx,
+        end_session(alloc, &mut tx, repo, number, digest, bytes)
+    )
+}
+
+/// Ends an open session and puts its whole bytes in as a blob; a digest that is there keeps its bytes.
+pub fn finish<S: Alter>(
+    alloc: Global,
+    conn: &mut Connection<S>,
+    repo: &RepoName,
+    number: u64,
+    digest: &Digest,
+    bytes: &[u8],
+) -> Result<(), Fault>
+    requires matching { matches digest.now bytes.now ≡ true }
+    requires fits { length bytes.now ≤ largest_blob }
+    ensures made { WorldHas S.Store conn.old (λ w. is_some (session_at w repo.now number) ≡ true)
+        → MakesWorld S.Store conn.old conn.new result
+        (λ w. finish w repo.now number digest.now bytes.now) }
+    ensures memory { StaysOnMemory S.Store conn.old conn.new result }
+    ensures survives { Lasts S.Store conn.old conn.new }
+{
+    if number > LARGEST {
+        return Err(Fault::Storage);
+    }
+    let repo = repo.as_str();
+    let digest = digest.as_str();
+    match find_blob_link(conn, repo, digest) {
+        Ok(Some(_)) => {
+            let done = take_session_alone(conn, repo, number);
+            checked(conn, done)
+        }
+        Ok(None) => {
+            let done = end_session_alone(alloc, conn, repo, number, digest, bytes);
+            checked(conn, done)
+        }
+        Err(fault) => Err(fault),
+    }
+}

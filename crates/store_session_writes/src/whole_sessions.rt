@@ -1,0 +1,107 @@
+//! Upload sessions of one piece: their bytes are those of one content, whose digest is known unread.
+ghost use Rattle.std.specs.Prelude.{◌≡◌, ◌<◌, ◌^◌, map};
+ghost use Rattle.store_world.specs.World.{pieces_of};
+ghost use Rattle.store_statements.specs.Between.{Finds, Stays};
+ghost use Rattle.store_statements.specs.Clauses.{Lasts};
+ghost use Rattle.store_statements.specs.Shown.{content_named};
+ghost use Rattle.store_session_writes.specs.Whole.{only_link, whole_link, if_digest, known_link};
+
+use oci_names::Fault;
+use sqlite::{Alter, Connection};
+use std::alloc::Global;
+use store_contents::ContentId;
+use store_statements::blobs::BlobLink;
+use store_statements::contents::has_digest;
+use store_statements::pieces::pieces_in_order;
+use store_statements::uploads::find_upload;
+
+/// The link to the one content, of `size` bytes; none where there are several, or no content.
+fn only(ids: &[ContentId], size: u64) -> Option<BlobLink>
+    ensures { result ≡ only_link size ids.now }
+{
+    match ids {
+        [content] => Some(BlobLink {
+            size,
+            content: *content,
+        }),
+        _ => None,
+    }
+}
+
+/// The link to the content of a session that has `size` bytes, where it has one piece.
+fn piece_link<S: Alter>(
+    alloc: Global,
+    conn: &mut Connection<S>,
+    repo: &str,
+    number: u64,
+    size: u64,
+) -> Result<Option<BlobLink>, Fault>
+    requires fits { number < 2 ^ 63 }
+    ensures found { Finds S.Store conn.old conn.new result
+        (λ t o. o ≡ only_link size (map (content_named 5) (pieces_of t.pieces repo.now number))) }
+    ensures settled { Stays S.Store conn.old conn.new result }
+    ensures survives { Lasts S.Store conn.old conn.new }
+{
+    match pieces_in_order(alloc, conn, repo, number) {
+        Ok(ids) => Ok(only(&ids, size)),
+        Err(fault) => Err(fault),
+    }
+}
+
+/// The link to the content of an open session that has one piece.
+fn find_whole<S: Alter>(
+    alloc: Global,
+    conn: &mut Connection<S>,
+    repo: &str,
+    number: u64,
+) -> Result<Option<BlobLink>, Fault>
+    requires fits { number < 2 ^ 63 }
+    ensures found { Finds S.Store conn.old conn.new result (λ t o. o ≡ whole_link t repo.now number) }
+    ensures settled { Stays S.Store conn.old conn.new result }
+    ensures survives { Lasts S.Store conn.old conn.new }
+{
+    match find_upload(conn, repo, number) {
+        Ok(Some(size)) => piece_link(alloc, conn, repo, number, size),
+        Ok(None) => Ok(None),
+        Err(fault) => Err(fault),
+    }
+}
+
+/// The link, where its content has the digest.
+fn with_digest<S: Alter>(
+    conn: &mut Connection<S>,
+    digest: &str,
+    link: BlobLink,
+) -> Result<Option<BlobLink>, Fault>
+    ensures found { Finds S.Store conn.old conn.new result (λ t o. o ≡ if_digest t digest.now link) }
+    ensures settled { Stays S.Store conn.old conn.new result }
+    ensures survives { Lasts S.Store conn.old conn.new }
+{
+    match has_digest(conn, link.content, digest) {
+        Ok(true) => Ok(Some(link)),
+        Ok(false) => Ok(None),
+        Err(fault) => Err(fault),
+    }
+}
+
+/// The link to the content of an open session that has one piece and this digest of sha256. No bytes are
+/// read.
+pub(crate) fn find_known<S: Alter>(
+    alloc: Global,
+    conn: &mut Connection<S>,
+    repo: &str,
+    number: u64,
+    digest: &str,
+) -> Result<Option<BlobLink>, Fault>
+    requires fits { number < 2 ^ 63 }
+    ensures found { Finds S.Store conn.old conn.new result
+        (λ t o. o ≡ known_link t repo.now number digest.now) }
+    ensures settled { Stays S.Store conn.old conn.new result }
+    ensures survives { Lasts S.Store conn.old conn.new }
+{
+    match find_whole(alloc, conn, repo, number) {
+        Ok(Some(link)) => with_digest(conn, digest, link),
+        Ok(None) => Ok(None),
+        Err(fault) => Err(fault),
+    }
+}

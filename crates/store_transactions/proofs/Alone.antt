@@ -1,0 +1,122 @@
+-- What a change leaves that is one transaction: its work begins where the store was settled, and then it ends.
+use Rattle.std.proofs.Common.{◌≡◌, true, Ok, Err, Result, OnOk, OnErr, sym, subst, refl}
+use Rattle.std.specs.Prelude.{IsOk, ⊤}
+use Rattle.sqlite_trees.specs.declared.store.Store.{Ghosts}
+use Rattle.sqlite.specs.State.{State, HasCleanDisk, KeepsCommit, Survives}
+use Rattle.sqlite.specs.Held.{Held, state}
+use Rattle.sqlite.proofs.Callers.{survives_begin}
+use Rattle.oci_names.specs.declared.fault.Fault.{Fault}
+use Rattle.oci_names.specs.declared.fault.Fault.TheVariants.{Storage}
+use Rattle.store_world.specs.Tables.{Tables}
+use Rattle.store_statements.specs.Between.{CommitsStep, CommitsTables, GoesBack, IsCommitted, Relates}
+use Rattle.store_statements.specs.Clauses.{Changes, GoesOn, KeepsInside, Lasts, LastsUncommitted, RelatesInside, StepsInside, TablesHave}
+use Rattle.store_statements.specs.Held.{IsReady, IsSettled, Commits, IsBack, held}
+use Rattle.store_statements.proofs.Transactions.{ready, back_dropped, survives_all}
+use Rattle.store_transactions.specs.Ends.{Ends}
+use Rattle.store_transactions.specs.Steps.{StepsFrom}
+use Rattle.store_transactions.proofs.CleanBefore.{was_clean}
+use Rattle.store_transactions.proofs.NothingDone.{survives_here}
+
+-- ---- of results
+
+both : {A B E P Q R : Type 0} (d : Result A E) (r : Result B E) → OnOk r (IsOk d) → OnOk d P → OnOk r Q → (P → Q → R) → OnOk r R
+both d (Err e) told p q f = tt
+both (Ok x) (Ok y) told p q f = f p q
+both (Err e) (Ok y) told p q f = absurd cc
+
+pub less : {A E P Q : Type 0} (r : Result A E) → (P → Q) → OnOk r P → OnOk r Q
+less (Ok x) f p = f p
+less (Err e) f p = tt
+
+less_err : {A E P Q : Type 0} (r : Result A E) → (P → Q) → OnErr r P → OnErr r Q
+less_err (Ok x) f p = tt
+less_err (Err e) f p = f p
+
+pub pair : {A E : Type 0} (P Q : Type 0) (r : Result A E) → OnOk r P → OnOk r Q → OnOk r (P × Q)
+pair P Q (Ok x) p q = (p, q)
+pair P Q (Err e) p q = tt
+
+-- ---- a change
+
+commits_same : {s : State} {t : Tables} → Commits s t → Commits s (held s)
+commits_same it = record { is_open = it.is_open; autocommit = it.autocommit; committed = it.committed; holds = it.holds; tables = refl }
+
+-- the tables that were committed are these
+pub commits_as : (s : State) (t : Tables) → Commits s (held s) → held s ≡ t → Commits s t
+commits_as s t c e = record { is_open = c.is_open; autocommit = c.autocommit; committed = c.committed; holds = c.holds; tables = e }
+
+module _ {S : Type 0} {g : Ghosts S} (old : Held S) {first mid new : Held S} {A B : Type 0} {done : Result A Fault} {r : Result B Fault}
+    (begun : first ≡ record old { in_transaction = true }) (ends : Ends g mid new done r) where
+  -- what is said of the connection before it was begun is said of it then
+  pub at_begin : (P : State → Type 0) → P (record (state g old) { in_transaction = true }) → P (state g first)
+  at_begin P p = subst (λ (h : Held S). P (state g h)) (sym begun) p
+
+  pub before_begin : (P : State → Type 0) → P (state g first) → P (record (state g old) { in_transaction = true })
+  before_begin P p = subst (λ (h : Held S). P (state g h)) begun p
+
+  pub lasts : LastsUncommitted g first mid → Lasts g old new
+  lasts worked = survives_all (state g old) (state g mid) (state g new) _ _ (survives_begin g old (state g mid) _ (subst (λ (h : Held S). LastsUncommitted g h mid) begun worked)) ends.survives
+
+  set : IsSettled (state g old) → IsReady (state g first)
+  set is = at_begin IsReady (ready (state g old) is)
+
+  -- what was so of the work that was done is so of what was committed
+  pub committed_so : (P : Tables → Type 0) → HasCleanDisk (state g new) → OnOk done (IsReady (state g mid) × P (held (state g mid))) → OnOk r (Commits (state g new) (held (state g new)) × P (held (state g new)))
+  committed_so P clean it = both done r ends.told it (ends.committed clean (less done (λ h. h.0) it)) (λ h c. (commits_same c, subst P (sym c.tables) h.1))
+
+  pub went_back : KeepsCommit (state g first) (state g mid) → HasCleanDisk (state g new) → IsSettled (state g old) → OnOk done (IsReady (state g mid)) → OnErr r (IsBack (state g old) (state g new))
+  went_back kept clean is it = less_err r (back_dropped (state g old) (state g first) (state g mid) (state g new) is (at_begin (λ (s : State). s.committed ≡ (state g old).committed) refl) kept) (ends.undone clean it)
+
+  -- ---- from tables of which this is so, a step that leaves that
+  module _ (Q : Tables → Type 0) (P : Tables → Tables → Type 0) (work : StepsFrom g first mid done Q P) (kept : KeepsInside g first mid)
+      (worked : LastsUncommitted g first mid) where
+    done_so : TablesHave g old Q → HasCleanDisk (state g new) → IsSettled (state g old) → OnOk done (IsReady (state g mid) × P (held (state g old)) (held (state g mid)))
+    done_so free clean is =
+        let late = was_clean ends.survives clean in
+        before_begin (λ (s : State). OnOk done (IsReady (state g mid) × P (held s) (held (state g mid))))
+        (work late (set is) (at_begin (λ (s : State). Q (held s)) (free (before_begin HasCleanDisk (was_clean worked late)))))
+
+    pub alone_from : (TablesHave g old Q → CommitsStep g old new r P) × (TablesHave g old Q → GoesBack g old new r) × Lasts g old new
+    alone_from = (
+      λ free clean is. committed_so (P (held (state g old))) clean (done_so free clean is),
+      λ free clean is. went_back (kept (was_clean ends.survives clean) (set is)) clean is (less done (λ h. h.0) (done_so free clean is)),
+      lasts worked,
+    )
+
+    -- the same, told in two
+    pub alone_from_apart : (TablesHave g old Q → IsCommitted g old new r) × (TablesHave g old Q → Relates g old new r P) × (TablesHave g old Q → GoesBack g old new r) × Lasts g old new
+    alone_from_apart = (
+      λ free clean is. less r (λ h. h.0) (alone_from.0 free clean is),
+      λ free clean is. less r (λ h. h.1) (alone_from.0 free clean is),
+      alone_from.1,
+      alone_from.2,
+    )
+
+  -- ---- a step
+  pub alone_step : (P : Tables → Tables → Type 0) → StepsInside g first mid done P → KeepsInside g first mid → LastsUncommitted g first mid → CommitsStep g old new r P × GoesBack g old new r × Lasts g old new
+  alone_step P work kept worked =
+      let it = alone_from (λ _. ⊤) P (λ clean is free. work clean is) kept worked in
+      (it.0 (λ clean. tt), it.1 (λ clean. tt), it.2)
+
+  -- the same, told in two
+  pub alone_apart : (P : Tables → Tables → Type 0) → GoesOn g first mid done → RelatesInside g first mid done P → KeepsInside g first mid → LastsUncommitted g first mid
+      → IsCommitted g old new r × Relates g old new r P × GoesBack g old new r × Lasts g old new
+  alone_apart P goes work kept worked =
+      let it = alone_step P (λ clean is. pair _ _ done (goes clean is) (work clean is)) kept worked in
+      (λ clean is. less r (λ h. h.0) (it.0 clean is), λ clean is. less r (λ h. h.1) (it.0 clean is), it.1, it.2)
+
+  -- ---- the tables are this of those before
+  pub alone_tables_from : (Q : Tables → Type 0) (f : Tables → Tables) → StepsFrom g first mid done Q (λ t u. u ≡ f t) → KeepsInside g first mid → LastsUncommitted g first mid
+      → (TablesHave g old Q → CommitsTables g old new r f) × (TablesHave g old Q → GoesBack g old new r) × Lasts g old new
+  alone_tables_from Q f work kept worked =
+      let it = alone_from Q (λ t u. u ≡ f t) work kept worked in
+      (λ free clean is. less r (λ h. commits_as (state g new) _ h.0 h.1) (it.0 free clean is), it.1, it.2)
+
+  pub alone_tables : (f : Tables → Tables) → Changes g first mid done f → KeepsInside g first mid → LastsUncommitted g first mid → CommitsTables g old new r f × GoesBack g old new r × Lasts g old new
+  alone_tables f work kept worked =
+      let it = alone_tables_from (λ _. ⊤) f (λ clean is free. work clean is) kept worked in
+      (it.0 (λ clean. tt), it.1 (λ clean. tt), it.2)
+
+-- ---- a transaction is open, and none was begun
+pub none_begun : (s : State) → OnErr {T = Unit {0}} {E = Fault} (Err Storage) (IsBack s s) × Survives s s (λ _. ⊤)
+none_begun s = (λ is_open. (refl, refl), survives_here s)

@@ -1,0 +1,36 @@
+//! A blob's bytes and the link to them.
+ghost use Rattle.std.specs.Prelude.{◌≡◌, ◌<◌, ◌^◌, true, length, find, None};
+ghost use Rattle.oci_names.specs.Digest.{matches};
+ghost use Rattle.store_world.specs.Keys.{has_key};
+ghost use Rattle.store_statements.specs.Clauses.{KeepsInside, LastsUncommitted};
+ghost use Rattle.store_statements.specs.Steps.{BlobStored};
+ghost use Rattle.store_transactions.specs.Steps.{StepsFrom};
+
+use oci_names::Fault;
+use sqlite::{Alter, Transaction};
+use std::alloc::Global;
+use store_statements::blobs::add_blob_link;
+use store_statements::contents::keep_matching;
+
+/// Puts a blob in that the repository has not.
+pub fn store_blob<S: Alter>(
+    alloc: Global,
+    tx: &mut Transaction<'_, S>,
+    repo: &str,
+    digest: &str,
+    bytes: &[u8],
+) -> Result<(), Fault>
+    requires matching { matches digest.now bytes.now ≡ true }
+    requires fits { length bytes.now < 2 ^ 63 }
+    ensures stored { StepsFrom S.Store tx.old.conn.now tx.new.conn.now result
+        (λ t. find (has_key repo.now digest.now) t.blobs ≡ None)
+        (λ t u. BlobStored t u repo.now digest.now bytes.now) }
+    ensures kept { KeepsInside S.Store tx.old.conn.now tx.new.conn.now }
+    ensures same_reference { tx.new.conn.ghost_name ≡ tx.old.conn.ghost_name }
+    ensures survives { LastsUncommitted S.Store tx.old.conn.now tx.new.conn.now }
+{
+    match keep_matching(alloc, tx, digest, bytes) {
+        Ok(content) => add_blob_link(tx, repo, digest, bytes.len() as u64, content),
+        Err(fault) => Err(fault),
+    }
+}
