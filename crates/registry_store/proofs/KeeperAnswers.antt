@@ -3,14 +3,21 @@ use Rattle.std.proofs.Common.{◌≡◌, ◌∙◌, Bool, true, false, true≢fa
 use Rattle.std.specs.Prelude.{◌||◌}
 use Rattle.sqlite_trees.specs.declared.store.Store.{Ghosts}
 use Rattle.sqlite.specs.State as sqlite
+use Rattle.sqlite.specs.State.{HasCleanDisk}
 use Rattle.sqlite.specs.Held.{Held, state}
 use Rattle.oci_names.specs.declared.fault.Fault.{Fault}
 use Rattle.oci_names.specs.declared.fault.Fault.TheVariants.{Memory, Storage}
 use Rattle.registry_model.specs.World.{World}
-use Rattle.registry_model.specs.Keeping.{State, ReadsBy, ReadsSo, Writes, WritesBy}
-use Rattle.registry_store.specs.Kept.{Kept}
+use Rattle.registry_model.specs.Keeping.{State, ReadsBy, ReadsSo, Writes, WritesBy, Spends}
+use Rattle.registry_store.specs.Kept.{Kept, IsHonest}
 use Rattle.store_world.specs.Tables.{Tables}
 use Rattle.store_statements.specs.Held.{IsSettled, StaysSettled, SettlesOn, is_storage, world_in, held}
+use Rattle.store_statements.specs.Between.{Tells, Stays, StaysOnMemory, MakesWorld}
+use Rattle.store_statements.specs.Clauses.{Lasts}
+use Rattle.store_usages.specs.declared.known_usages.KnownUsages.{KnownUsages}
+use Rattle.store_usages.specs.Usages.{Knows, IsKnown, StaysKnown}
+use Rattle.store_usages.proofs.CleanBefore.{was_clean}
+use Rattle.store_usages.proofs.KnownWorlds.{still_knows, untouched}
 use Rattle.registry_store.proofs.KeeperStates.{found, found_so, wrote, stood}
 
 abbrev tables : {S : Type 0} → Ghosts S → Held S → Tables
@@ -106,3 +113,108 @@ module _ {S : Type 0} (g : Ghosts S) (conn : Held S) (old : Kept S) (spent : Boo
 pub made : {A : Type 0} (P : A → Type 0) (Q : Type 0) (answer : Result A Fault) → IfOk answer (λ v. P v × Q) → OnOk answer Q
 made P Q (Ok v) it = it.1
 made P Q (Err e) it = tt
+
+-- ---- a call of a keeper
+
+module _ {S : Type 0} (g : Ghosts S) (ours : Bool) (conn : Held S) (old : Kept S) (spent : Bool) (is : ◌≡◌ {A = Kept S} (record { conn = conn; spent = spent }) old) where
+  -- what was honest is so still where nothing was asked
+  pub same_honest : IsHonest g ours (record { conn = conn; spent = spent }) → IsHonest g ours old
+  same_honest h = subst (λ (k : Kept S). IsHonest g ours k) is h
+
+  module _ (known : KnownUsages) (holds : spent ≡ false → ours ≡ true → HasCleanDisk (state g conn) → IsSettled (state g conn) × Knows known (world_in (state g conn)))
+      (unspent : spent ≡ false) (new : Held S) (lasts : Lasts g conn new) where
+    -- what is honest behind the call was so before
+    pub was_honest : (later : Bool) → IsHonest g ours (record { conn = new; spent = later }) → IsHonest g ours old
+    was_honest later h = same_honest (was_clean (state g conn) (state g new) lasts h.0, h.1)
+
+    was_sound : ours ≡ true → HasCleanDisk (state g new) → IsSettled (state g conn) × Knows known (world_in (state g conn))
+    was_sound is_ours clean = holds unspent is_ours (was_clean (state g conn) (state g new) lasts clean)
+
+    module _ {A : Type 0} (r answer : Result A Fault) (later : Bool) (same : r ≡ answer) (notes : later ≡ (is_storage answer || spent)) where
+      spends : (x : Result A Fault) → later ≡ (is_storage x || spent) → old.spent ≡ false → Spends x (before g conn old spent is new) (after g conn old spent is new later)
+      spends (Ok v) e was = (was, e ∙ unspent)
+      spends (Err Memory) e was = (was, e ∙ unspent)
+      spends (Err Storage) e was = e
+
+      pub spends_told : Spends r (before g conn old spent is new) (after g conn old spent is new later)
+      spends_told =
+          subst (λ x. Spends x (before g conn old spent is new) (after g conn old spent is new later)) (sym same)
+          (spends answer notes (subst (λ (k : Kept S). k.spent ≡ false) is unspent))
+
+      sound : later ≡ false → is_storage answer ≡ false
+      sound e = unfailed (is_storage answer) spent later notes e
+
+      -- after a call the store is as sound as before
+      pub call_holds : (next : KnownUsages) → (ours ≡ true → HasCleanDisk (state g new) → IsSettled (state g conn) → is_storage answer ≡ false → IsSettled (state g new))
+          → (ours ≡ true → IsKnown g conn known → StaysKnown g conn new next answer)
+          → later ≡ false → ours ≡ true → HasCleanDisk (state g new) → IsSettled (state g new) × Knows next (world_in (state g new))
+      call_holds next settled kept e is_ours clean = by (was_sound is_ours clean).0 (sound e)
+        where
+          by : IsSettled (state g conn) → is_storage answer ≡ false → IsSettled (state g new) × Knows next (world_in (state g new))
+          by it s = (settled is_ours clean it s, kept is_ours (λ early. (holds unspent is_ours early).1) clean it s)
+
+      pub read_holds : Stays g conn new answer → later ≡ false → ours ≡ true → HasCleanDisk (state g new) → IsSettled (state g new) × Knows known (world_in (state g new))
+      read_holds stays e is_ours clean = by (was_sound is_ours clean)
+        where
+          by : IsSettled (state g conn) × Knows known (world_in (state g conn)) → IsSettled (state g new) × Knows known (world_in (state g new))
+          by it = still_knows known (state g conn) (state g new) (stays clean it.0 (sound e)) it.1
+
+      pub write_holds : (next : KnownUsages) (change : World → World) → (ours ≡ true → MakesWorld g conn new answer change) → (ours ≡ true → StaysOnMemory g conn new answer)
+          → (ours ≡ true → IsKnown g conn known → StaysKnown g conn new next answer)
+          → later ≡ false → ours ≡ true → HasCleanDisk (state g new) → IsSettled (state g new) × Knows next (world_in (state g new))
+      write_holds next change makes wanting =
+          call_holds next (λ is_ours clean it s. written answer (state g conn) (state g new) (change (world_in (state g conn))) s (makes is_ours clean it) (wanting is_ours clean it))
+
+      -- after a write to no repository
+      pub untouched_holds : (change : World → World) → (ours ≡ true → MakesWorld g conn new answer change) → (ours ≡ true → StaysOnMemory g conn new answer)
+          → (Knows known (world_in (state g conn)) → Knows known (change (world_in (state g conn))))
+          → later ≡ false → ours ≡ true → HasCleanDisk (state g new) → IsSettled (state g new) × Knows known (world_in (state g new))
+      untouched_holds change makes wanting same_usages =
+          write_holds known change makes wanting (λ is_ours knows clean it s. by is_ours (knows (was_clean (state g conn) (state g new) lasts clean)) clean it s)
+        where
+          by : ours ≡ true → Knows known (world_in (state g conn)) → HasCleanDisk (state g new) → IsSettled (state g conn) → is_storage answer ≡ false → Knows known (world_in (state g new))
+          by is_ours k clean it s = untouched known (state g conn) (state g new) change answer k (same_usages k) s (makes is_ours clean it) (wanting is_ours clean it)
+
+      -- after a write that tells a value
+      pub numbered_holds : (next : KnownUsages) (look : World → A) (change : World → World)
+          → (HasCleanDisk (state g new) → IsSettled (state g conn) → IfOk answer (λ v. (v ≡ look (world_in (state g conn))) × SettlesOn (state g new) (change (world_in (state g conn)))))
+          → StaysOnMemory g conn new answer → (ours ≡ true → IsKnown g conn known → StaysKnown g conn new next answer)
+          → later ≡ false → ours ≡ true → HasCleanDisk (state g new) → IsSettled (state g new) × Knows next (world_in (state g new))
+      numbered_holds next look change makes wanting =
+          write_holds next change
+          (λ _ clean it. made (λ v. v ≡ look (world_in (state g conn))) (SettlesOn (state g new) (change (world_in (state g conn)))) answer (makes clean it)) (λ _. wanting)
+
+      -- ---- and what it says
+
+      pub was_settled : IsHonest g ours (record { conn = new; spent = later }) → IsSettled (state g conn)
+      was_settled h = (was_sound h.1 h.0).0
+
+      pub read_says : {B : Type 0} (show : A → B) (look : World → B) → (ours ≡ true → Tells g conn new answer (λ w v. show v ≡ look w)) → Stays g conn new answer → IsHonest g ours (record { conn = new; spent = later })
+          → ReadsBy show r (look (world_in (state g old.conn))) (before g conn old spent is new) (after g conn old spent is new later)
+      read_says show look finds stays h = by (was_settled h)
+        where
+          by : IsSettled (state g conn) → ReadsBy show r (look (world_in (state g old.conn))) (before g conn old spent is new) (after g conn old spent is new later)
+          by it = read_told g conn old spent is new show look r answer later same notes (finds h.1 h.0 it) (stays h.0 it)
+
+      pub write_says : (change : World → World) → (ours ≡ true → MakesWorld g conn new answer change) → (ours ≡ true → StaysOnMemory g conn new answer) → IsHonest g ours (record { conn = new; spent = later })
+          → Writes r (change (world_in (state g old.conn))) (before g conn old spent is new) (after g conn old spent is new later)
+      write_says change makes wanting h = by (was_settled h)
+        where
+          by : IsSettled (state g conn) → Writes r (change (world_in (state g old.conn))) (before g conn old spent is new) (after g conn old spent is new later)
+          by it = write_told g conn old spent is new change r answer later unspent same notes (makes h.1 h.0 it) (wanting h.1 h.0 it)
+
+      pub read_so_says : (P : World → A → Type 0) → Tells g conn new answer P → Stays g conn new answer → IsHonest g ours (record { conn = new; spent = later })
+          → ReadsSo (P (world_in (state g old.conn))) r (before g conn old spent is new) (after g conn old spent is new later)
+      read_so_says P finds stays h = by (was_settled h)
+        where
+          by : IsSettled (state g conn) → ReadsSo (P (world_in (state g old.conn))) r (before g conn old spent is new) (after g conn old spent is new later)
+          by it = read_so_told g conn old spent is new P r answer later same notes (finds h.0 it) (stays h.0 it)
+
+      pub numbered_says : (look : World → A) (change : World → World)
+          → (HasCleanDisk (state g new) → IsSettled (state g conn) → IfOk answer (λ v. (v ≡ look (world_in (state g conn))) × SettlesOn (state g new) (change (world_in (state g conn)))))
+          → StaysOnMemory g conn new answer → IsHonest g ours (record { conn = new; spent = later })
+          → WritesBy (λ v. v) r (look (world_in (state g old.conn))) (change (world_in (state g old.conn))) (before g conn old spent is new) (after g conn old spent is new later)
+      numbered_says look change makes wanting h = by (was_settled h)
+        where
+          by : IsSettled (state g conn) → WritesBy (λ v. v) r (look (world_in (state g old.conn))) (change (world_in (state g old.conn))) (before g conn old spent is new) (after g conn old spent is new later)
+          by it = numbered_told g conn old spent is new look change r answer later unspent same notes (makes h.0 it) (wanting h.0 it)

@@ -4,6 +4,7 @@ use Rattle.std.specs.Prelude.{◌||◌, Option, is_some}
 use Rattle.std.specs.Option.{option_map_or}
 use Rattle.sqlite_trees.specs.declared.store.Store.{Ghosts}
 use Rattle.sqlite.specs.State as sqlite
+use Rattle.sqlite.specs.State.{HasCleanDisk}
 use Rattle.sqlite.specs.Held.{Held, state}
 use Rattle.oci_names.specs.Text.{Text}
 use Rattle.oci_names.specs.Digest.{matches}
@@ -14,10 +15,11 @@ use Rattle.registry_model.specs.Keeping.{State}
 use Rattle.registry_model.specs.Closing.{WritesWhereSo, session_matches}
 use Rattle.registry_model.specs.Lookups.{session_at}
 use Rattle.store_statements.specs.Held.{IsSettled, StaysSettled, SettlesOn, is_storage, world_in}
+use Rattle.store_statements.specs.Between.{StaysOnMemory}
 use Rattle.store_statements.proofs.SettledAfter.{stays_then}
 use Rattle.store_session_writes.specs.Whole.{DoneWhereSo}
 use Rattle.registry_store.specs.Kept.{Kept}
-use Rattle.registry_store.proofs.Foretold.{earlier}
+use Rattle.store_usages.proofs.Foretold.{earlier}
 use Rattle.registry_store.proofs.KeeperStates.{found, wrote, stood}
 
 -- the store is settled, whether it was made or not
@@ -64,3 +66,9 @@ module _ {S : Type 0} (g : Ghosts S) (conn : Held S) (old : Kept S) (spent : Boo
       → WritesWhereSo r (so (world_in (state g old.conn))) (change (world_in (state g old.conn))) before (after later)
   whether_told so change r answer later unspent same notes made stays =
       subst (λ x. WritesWhereSo x (so (world_in (state g old.conn))) (change (world_in (state g old.conn))) before (after later)) (sym same) (whether so change answer later unspent notes made stays)
+
+  -- the same, by what the call says
+  pub whether_says : (so : World → Bool) (change : World → World) (r answer : Result Bool Fault) (later : Bool) → spent ≡ false → r ≡ answer → later ≡ (is_storage answer || spent)
+      → (HasCleanDisk (state g new) → IsSettled (state g conn) → IfOk answer (λ done. DoneWhereSo done (state g conn) (state g new) so change)) → StaysOnMemory g conn new answer
+      → HasCleanDisk (state g new) → IsSettled (state g conn) → WritesWhereSo r (so (world_in (state g old.conn))) (change (world_in (state g old.conn))) before (after later)
+  whether_says so change r answer later unspent same notes makes wanting clean it = whether_told so change r answer later unspent same notes (makes clean it) (wanting clean it)

@@ -1,4 +1,3 @@
 pub mod Kept
 pub mod Opening
 pub mod Unwritten
-pub mod Usages

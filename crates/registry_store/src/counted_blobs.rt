@@ -7,13 +7,12 @@ ghost use Rattle.registry_model.specs.Lookups.{put_blob, mount, delete_blob};
 ghost use Rattle.registry_model.specs.Pruning.{delete_blobs};
 ghost use Rattle.store_statements.specs.Between.{MakesWorld, StaysOnMemory};
 ghost use Rattle.store_statements.specs.Clauses.{Lasts, WorldHas};
-ghost use Rattle.registry_store.specs.Usages.{IsKnown, StaysKnown};
+ghost use Rattle.store_usages.specs.Usages.{IsKnown, StaysKnown};
 
-use crate::change_lookups::{mount_change, or_untold, put_change};
-use crate::known_usages::KnownUsages;
 use oci_names::{Digest, Fault, RepoName};
 use sqlite::{Alter, Connection};
 use std::alloc::Global;
+use store_usages::{KnownUsages, mount_change, or_untold, put_change};
 
 /// Puts a blob in; a digest that is there keeps its bytes.
 pub(crate) fn put_blob<S: Alter>(

@@ -8,14 +8,13 @@ ghost use Rattle.registry_model.specs.World.{has_repo};
 ghost use Rattle.registry_model.specs.Lookups.{put_manifest, delete_manifest, delete_tag};
 ghost use Rattle.store_statements.specs.Between.{MakesWorld, StaysOnMemory};
 ghost use Rattle.store_statements.specs.Clauses.{Lasts, WorldHas};
-ghost use Rattle.registry_store.specs.Usages.{IsKnown, StaysKnown};
+ghost use Rattle.store_usages.specs.Usages.{IsKnown, StaysKnown};
 
-use crate::change_lookups::{manifest_change, or_untold};
-use crate::known_usages::KnownUsages;
 use oci_manifest::Manifest;
 use oci_names::{Digest, Fault, RepoName, Tag};
 use sqlite::{Alter, Connection};
 use std::alloc::Global;
+use store_usages::{KnownUsages, manifest_change, or_untold};
 
 /// Adds a manifest, where the repository has not its digest, and sets the tag to it, if one is given.
 pub(crate) fn put_manifest<S: Alter>(

@@ -12,14 +12,12 @@ ghost use Rattle.store_statements.specs.Held.{IsSettled, SettlesOn, world_in};
 ghost use Rattle.store_statements.specs.Between.{MakesWorld, StaysOnMemory};
 ghost use Rattle.store_statements.specs.Clauses.{Lasts, WorldHas};
 ghost use Rattle.store_session_writes.specs.Whole.{DoneWhereSo};
-ghost use Rattle.registry_store.specs.Usages.{IsKnown, StaysKnown};
+ghost use Rattle.store_usages.specs.Usages.{IsKnown, StaysKnown};
 
-use crate::change_lookups::{finish_change, known_finish_change, or_untold};
-use crate::known_usages::KnownUsages;
-use crate::usage_change::{Change, NO_CHANGE};
 use oci_names::{Digest, Fault, RepoName};
 use sqlite::{Alter, Connection};
 use std::alloc::Global;
+use store_usages::{Change, KnownUsages, NO_CHANGE, finish_change, known_finish_change, or_untold};
 
 /// Opens an empty session under the number behind the repository's last, and answers it.
 pub(crate) fn open_session<S: Alter>(

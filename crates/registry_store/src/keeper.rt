@@ -143,7 +143,7 @@ impl<S: Alter, O: Origin> Keeper for Store<S, O> {
     fn usage(&mut self, repo: &RepoName) -> Result<Usage, Fault> {
         unless_spent!(
             self,
-            counted_repos::usage(self.alloc, &mut self.conn, &mut self.known, repo)
+            store_usages::usage(self.alloc, &mut self.conn, &mut self.known, repo)
         )
     }
 

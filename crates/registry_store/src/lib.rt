@@ -1,17 +1,14 @@
 //! A registry's world in the tables of a SQLite database.
 #![tactic(auto)]
 
-mod change_lookups;
 mod counted_blobs;
 mod counted_manifests;
 mod counted_repos;
 mod counted_sessions;
 mod fault_noting;
 mod keeper;
-mod known_usages;
 mod origin;
 mod store;
-mod usage_change;
 mod written;
 
 pub use origin::{Foreign, Origin, Ours};

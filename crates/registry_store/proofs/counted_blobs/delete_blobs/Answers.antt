@@ -3,7 +3,7 @@ use Rattle.sqlite.specs.State.{HasCleanDisk}
 use Rattle.sqlite.specs.Held.{state}
 use Rattle.registry_model.specs.Pruning.{without_blobs, delete_blobs}
 use Rattle.store_statements.specs.Held.{world_in}
-use Rattle.registry_store.proofs.KnownWorlds.{forgets, beside}
+use Rattle.store_usages.proofs.KnownWorlds.{forgets, beside}
 use Rattle.registry_store.proofs.counted_blobs.delete_blobs.Goals as goal
 
 pub returns-clause-known : goal.returns-clause-known

@@ -4,7 +4,7 @@ use Rattle.sqlite.specs.Held.{state}
 use Rattle.registry_model.specs.Manifests.{without_manifest}
 use Rattle.registry_model.specs.Lookups.{delete_manifest}
 use Rattle.store_statements.specs.Held.{world_in}
-use Rattle.registry_store.proofs.KnownWorlds.{forgets, beside}
+use Rattle.store_usages.proofs.KnownWorlds.{forgets, beside}
 use Rattle.registry_store.proofs.counted_manifests.delete_manifest.Goals as goal
 
 pub returns-clause-known : goal.returns-clause-known

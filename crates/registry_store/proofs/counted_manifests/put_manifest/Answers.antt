@@ -8,9 +8,9 @@ use Rattle.registry_model.specs.Lookups.{put_manifest}
 use Rattle.store_statements.specs.Held.{SettlesOn, world_in}
 use Rattle.store_statements.proofs.SettledAfter.{stays_then}
 use Rattle.store_statements.proofs.Transactions.{survives_all}
-use Rattle.registry_store.specs.Usages.{Foretells}
-use Rattle.registry_store.proofs.Foretold.{earlier, later, if_told, untold_settled}
-use Rattle.registry_store.proofs.KnownWorlds.{follows, unfollowed}
+use Rattle.store_usages.specs.Usages.{Foretells}
+use Rattle.store_usages.proofs.Foretold.{earlier, later, if_told, untold_settled}
+use Rattle.store_usages.proofs.KnownWorlds.{follows, unfollowed}
 use Rattle.registry_store.proofs.counted_manifests.put_manifest.Goals as goal
 
 pub returns-in-Ok-put_manifest-clause-made : goal.returns-in-Ok-put_manifest-clause-made

@@ -3,7 +3,7 @@ use Rattle.sqlite.specs.State.{HasCleanDisk}
 use Rattle.sqlite.specs.Held.{state}
 use Rattle.registry_model.specs.Command.{drop_repo}
 use Rattle.store_statements.specs.Held.{world_in}
-use Rattle.registry_store.proofs.KnownWorlds.{forgets, beside_gone}
+use Rattle.store_usages.proofs.KnownWorlds.{forgets, beside_gone}
 use Rattle.registry_store.proofs.counted_repos.drop_repo.Goals as goal
 
 pub returns-clause-known : goal.returns-clause-known

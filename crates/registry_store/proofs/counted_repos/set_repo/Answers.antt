@@ -4,7 +4,7 @@ use Rattle.sqlite.specs.Held.{state}
 use Rattle.registry_model.specs.World.{repo_at}
 use Rattle.registry_model.specs.Command.{set_repo, with_quota}
 use Rattle.store_statements.specs.Held.{world_in}
-use Rattle.registry_store.proofs.KnownWorlds.{forgets, beside_put}
+use Rattle.store_usages.proofs.KnownWorlds.{forgets, beside_put}
 use Rattle.registry_store.proofs.counted_repos.set_repo.Goals as goal
 
 pub returns-clause-known : goal.returns-clause-known

@@ -6,8 +6,8 @@ use Rattle.registry_model.specs.World.{Repo}
 use Rattle.registry_model.specs.Sessions.{appended}
 use Rattle.registry_model.specs.Lookups.{bytes_or_none}
 use Rattle.store_statements.specs.Held.{world_in}
-use Rattle.registry_store.proofs.Foretold.{append_foretold, session_has_repo}
-use Rattle.registry_store.proofs.KnownWorlds.{follows, unfollowed}
+use Rattle.store_usages.proofs.Foretold.{append_foretold, session_has_repo}
+use Rattle.store_usages.proofs.KnownWorlds.{follows, unfollowed}
 use Rattle.registry_store.proofs.counted_sessions.append.Goals as goal
 
 pub returns-in-Ok-clause-known : goal.returns-in-Ok-clause-known

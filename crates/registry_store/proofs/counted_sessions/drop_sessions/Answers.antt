@@ -3,7 +3,7 @@ use Rattle.sqlite.specs.State.{HasCleanDisk}
 use Rattle.sqlite.specs.Held.{state}
 use Rattle.registry_model.specs.Command.{drop_sessions, without_sessions}
 use Rattle.store_statements.specs.Held.{world_in}
-use Rattle.registry_store.proofs.KnownWorlds.{forgets, beside}
+use Rattle.store_usages.proofs.KnownWorlds.{forgets, beside}
 use Rattle.registry_store.proofs.counted_sessions.drop_sessions.Goals as goal
 
 pub returns-clause-known : goal.returns-clause-known

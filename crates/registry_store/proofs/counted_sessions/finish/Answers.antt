@@ -7,9 +7,9 @@ use Rattle.registry_model.specs.Lookups.{session_at, finish}
 use Rattle.store_statements.specs.Held.{SettlesOn, world_in}
 use Rattle.store_statements.proofs.SettledAfter.{stays_then}
 use Rattle.store_statements.proofs.Transactions.{survives_all}
-use Rattle.registry_store.specs.Usages.{Foretells}
-use Rattle.registry_store.proofs.Foretold.{earlier, later, if_told, untold_settled, session_has_repo}
-use Rattle.registry_store.proofs.KnownWorlds.{follows, unfollowed}
+use Rattle.store_usages.specs.Usages.{Foretells}
+use Rattle.store_usages.proofs.Foretold.{earlier, later, if_told, untold_settled, session_has_repo}
+use Rattle.store_usages.proofs.KnownWorlds.{follows, unfollowed}
 use Rattle.registry_store.proofs.counted_sessions.finish.Goals as goal
 
 pub returns-in-Ok-finish-clause-made : goal.returns-in-Ok-finish-clause-made

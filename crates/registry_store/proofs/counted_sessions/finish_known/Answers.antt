@@ -8,10 +8,10 @@ use Rattle.registry_model.specs.Closing.{session_matches, finish_as_is}
 use Rattle.store_statements.specs.Held.{world_in}
 use Rattle.store_statements.proofs.SettledAfter.{stays_then}
 use Rattle.store_statements.proofs.Transactions.{survives_all}
-use Rattle.registry_store.specs.Usages.{Foretells, Knows}
-use Rattle.registry_store.proofs.Foretold.{later, if_told, untold_settled, session_has_repo}
+use Rattle.store_usages.specs.Usages.{Foretells, Knows}
+use Rattle.store_usages.proofs.Foretold.{later, if_told, untold_settled, session_has_repo}
 use Rattle.registry_store.proofs.KnownAnswers.{whether_then, was_open}
-use Rattle.registry_store.proofs.KnownWorlds.{follows, unfollowed}
+use Rattle.store_usages.proofs.KnownWorlds.{follows, unfollowed}
 use Rattle.registry_store.proofs.counted_sessions.finish_known.Goals as goal
 
 pub returns-in-Ok-true-clause-made : goal.returns-in-Ok-true-clause-made

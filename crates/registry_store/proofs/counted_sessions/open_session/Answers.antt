@@ -6,8 +6,8 @@ use Rattle.registry_model.specs.Lookups.{last_number_at, session_at}
 use Rattle.store_reads.proofs.WorldReads.{no_session}
 use Rattle.store_statements.specs.Held.{held, world_in}
 use Rattle.store_statements.proofs.Transactions.{registry}
-use Rattle.registry_store.proofs.Foretold.{open_foretold}
-use Rattle.registry_store.proofs.KnownWorlds.{follows, unfollowed}
+use Rattle.store_usages.proofs.Foretold.{open_foretold}
+use Rattle.store_usages.proofs.KnownWorlds.{follows, unfollowed}
 use Rattle.registry_store.proofs.counted_sessions.open_session.Goals as goal
 
 pub returns-in-Ok-clause-known : goal.returns-in-Ok-clause-known

@@ -1,26 +1,26 @@
-use Rattle.std.proofs.Common.{◌≡◌, true, is_some, arith}
+use Rattle.std.proofs.Common.{◌≡◌, true, is_some}
 use Rattle.registry_model.specs.Lookups.{append, session_at}
 use Rattle.registry_store.proofs.KeeperStates.{asked}
-use Rattle.sqlite.specs.State.{HasCleanDisk}
-use Rattle.sqlite.specs.Held.{state}
-use Rattle.registry_store.specs.Usages.{IsKnown}
-use Rattle.registry_store.proofs.KeeperAnswers.{write_told, written, unfailed}
+use Rattle.registry_store.proofs.KeeperAnswers.{spends_told, was_honest, write_holds, write_says}
 use Rattle.registry_store.proofs.keeper.StoreKeeper.append.Goals as goal
 
 pub invariant_of-self : goal.invariant_of-self
-invariant_of-self g c unspent ours clean =
-    let early : HasCleanDisk (state g.S.Store c.self.inside.conn) = omega (arith, c.append-answer.ensures.survives.clean) in
-    let is = (c.self.invariant c.if-self.false ours early).0 in
-    let is_open = asked g.S.Store c.self.inside.conn c.args.self.now c.self.inside.spent c.self.view_is (λ w. is_some (session_at w c.args.repo.now c.args.number) ≡ true) _ c.if-self.false ours c.requires.«open» in
-    let known : IsKnown g.S.Store c.self.inside.conn c.self.inside.known = λ k. (c.self.invariant c.if-self.false ours k).1 in
-    let sound = unfailed _ _ _ c.note_fault.ensures.noted unspent in
-    (written c.append-answer.result (state g.S.Store c.self.inside.conn) (state g.S.Store c.append-answer.new.conn) _ sound (c.append-answer.ensures.made is_open clean is) (c.append-answer.ensures.memory clean is), c.append-answer.ensures.known known is_open clean is sound)
+invariant_of-self g c =
+    write_holds g.S.Store g.O.Origin.is_ours c.self.inside.conn c.args.self.now c.self.inside.spent c.self.view_is c.self.inside.known c.self.invariant c.if-self.false c.append-answer.new.conn c.append-answer.ensures.survives
+    c.note_fault.result c.append-answer.result c.note_fault.new.spent c.note_fault.ensures.same c.note_fault.ensures.noted c.append-answer.new.known (λ w. append w c.args.repo.now c.args.number c.args.bytes.now)
+    (λ ours. c.append-answer.ensures.made (asked g.S.Store c.self.inside.conn c.args.self.now c.self.inside.spent c.self.view_is (λ w. is_some (session_at w c.args.repo.now c.args.number) ≡ true) g.O.Origin.is_ours c.if-self.false ours c.requires.«open»)) (λ ours. c.append-answer.ensures.memory) (λ ours known. c.append-answer.ensures.known known (asked g.S.Store c.self.inside.conn c.args.self.now c.self.inside.spent c.self.view_is (λ w. is_some (session_at w c.args.repo.now c.args.number) ≡ true) g.O.Origin.is_ours c.if-self.false ours c.requires.«open»))
 
 pub returns-clause-made : goal.returns-clause-made
-returns-clause-made g c honest =
-    let clean = honest.0 in
-    let ours = honest.1 in
-    let early : HasCleanDisk (state g.S.Store c.self.inside.conn) = omega (arith, c.append-answer.ensures.survives.clean) in
-    let is = (c.self.invariant c.if-self.false ours early).0 in
-    let is_open = asked g.S.Store c.self.inside.conn c.args.self.now c.self.inside.spent c.self.view_is (λ w. is_some (session_at w c.args.repo.now c.args.number) ≡ true) _ c.if-self.false ours c.requires.«open» in
-    write_told g.S.Store c.self.inside.conn c.args.self.now c.self.inside.spent c.self.view_is c.append-answer.new.conn (λ w. append w c.args.repo.now c.args.number c.args.bytes.now) c.note_fault.result c.append-answer.result c.note_fault.new.spent c.if-self.false c.note_fault.ensures.same c.note_fault.ensures.noted (c.append-answer.ensures.made is_open clean is) (c.append-answer.ensures.memory clean is)
+returns-clause-made g c =
+    write_says g.S.Store g.O.Origin.is_ours c.self.inside.conn c.args.self.now c.self.inside.spent c.self.view_is c.self.inside.known c.self.invariant c.if-self.false c.append-answer.new.conn c.append-answer.ensures.survives
+    c.note_fault.result c.append-answer.result c.note_fault.new.spent c.note_fault.ensures.same c.note_fault.ensures.noted (λ w. append w c.args.repo.now c.args.number c.args.bytes.now)
+    (λ ours. c.append-answer.ensures.made (asked g.S.Store c.self.inside.conn c.args.self.now c.self.inside.spent c.self.view_is (λ w. is_some (session_at w c.args.repo.now c.args.number) ≡ true) g.O.Origin.is_ours c.if-self.false ours c.requires.«open»)) (λ ours. c.append-answer.ensures.memory)
+
+pub returns-clause-spends : goal.returns-clause-spends
+returns-clause-spends g c =
+    spends_told g.S.Store g.O.Origin.is_ours c.self.inside.conn c.args.self.now c.self.inside.spent c.self.view_is c.self.inside.known c.self.invariant c.if-self.false c.append-answer.new.conn c.append-answer.ensures.survives
+    c.note_fault.result c.append-answer.result c.note_fault.new.spent c.note_fault.ensures.same c.note_fault.ensures.noted
+
+pub returns-clause-honest : goal.returns-clause-honest
+returns-clause-honest g c =
+    was_honest g.S.Store g.O.Origin.is_ours c.self.inside.conn c.args.self.now c.self.inside.spent c.self.view_is c.self.inside.known c.self.invariant c.if-self.false c.append-answer.new.conn c.append-answer.ensures.survives c.note_fault.new.spent

@@ -1,23 +1,24 @@
-use Rattle.std.proofs.Common.{arith}
 use Rattle.registry_model.specs.Pruning.{delete_blobs}
-use Rattle.sqlite.specs.State.{HasCleanDisk}
-use Rattle.sqlite.specs.Held.{state}
-use Rattle.registry_store.specs.Usages.{IsKnown}
-use Rattle.registry_store.proofs.KeeperAnswers.{write_told, written, unfailed}
+use Rattle.registry_store.proofs.KeeperAnswers.{spends_told, was_honest, write_holds, write_says}
 use Rattle.registry_store.proofs.keeper.StoreKeeper.delete_blobs.Goals as goal
 
 pub invariant_of-self : goal.invariant_of-self
-invariant_of-self g c unspent ours clean =
-    let early : HasCleanDisk (state g.S.Store c.self.inside.conn) = omega (arith, c.delete_blobs-answer.ensures.survives.clean) in
-    let is = (c.self.invariant c.if-self.false ours early).0 in
-    let known : IsKnown g.S.Store c.self.inside.conn c.self.inside.known = λ k. (c.self.invariant c.if-self.false ours k).1 in
-    let sound = unfailed _ _ _ c.note_fault.ensures.noted unspent in
-    (written c.delete_blobs-answer.result (state g.S.Store c.self.inside.conn) (state g.S.Store c.delete_blobs-answer.new.conn) _ sound (c.delete_blobs-answer.ensures.made clean is) (c.delete_blobs-answer.ensures.memory clean is), c.delete_blobs-answer.ensures.known known clean is sound)
+invariant_of-self g c =
+    write_holds g.S.Store g.O.Origin.is_ours c.self.inside.conn c.args.self.now c.self.inside.spent c.self.view_is c.self.inside.known c.self.invariant c.if-self.false c.delete_blobs-answer.new.conn c.delete_blobs-answer.ensures.survives
+    c.note_fault.result c.delete_blobs-answer.result c.note_fault.new.spent c.note_fault.ensures.same c.note_fault.ensures.noted c.delete_blobs-answer.new.known (λ w. delete_blobs w c.args.repo.now c.args.digests.now)
+    (λ ours. c.delete_blobs-answer.ensures.made) (λ ours. c.delete_blobs-answer.ensures.memory) (λ ours. c.delete_blobs-answer.ensures.known)
 
 pub returns-clause-made : goal.returns-clause-made
-returns-clause-made g c honest =
-    let clean = honest.0 in
-    let ours = honest.1 in
-    let early : HasCleanDisk (state g.S.Store c.self.inside.conn) = omega (arith, c.delete_blobs-answer.ensures.survives.clean) in
-    let is = (c.self.invariant c.if-self.false ours early).0 in
-    write_told g.S.Store c.self.inside.conn c.args.self.now c.self.inside.spent c.self.view_is c.delete_blobs-answer.new.conn (λ w. delete_blobs w c.args.repo.now c.args.digests.now) c.note_fault.result c.delete_blobs-answer.result c.note_fault.new.spent c.if-self.false c.note_fault.ensures.same c.note_fault.ensures.noted (c.delete_blobs-answer.ensures.made clean is) (c.delete_blobs-answer.ensures.memory clean is)
+returns-clause-made g c =
+    write_says g.S.Store g.O.Origin.is_ours c.self.inside.conn c.args.self.now c.self.inside.spent c.self.view_is c.self.inside.known c.self.invariant c.if-self.false c.delete_blobs-answer.new.conn c.delete_blobs-answer.ensures.survives
+    c.note_fault.result c.delete_blobs-answer.result c.note_fault.new.spent c.note_fault.ensures.same c.note_fault.ensures.noted (λ w. delete_blobs w c.args.repo.now c.args.digests.now)
+    (λ ours. c.delete_blobs-answer.ensures.made) (λ ours. c.delete_blobs-answer.ensures.memory)
+
+pub returns-clause-spends : goal.returns-clause-spends
+returns-clause-spends g c =
+    spends_told g.S.Store g.O.Origin.is_ours c.self.inside.conn c.args.self.now c.self.inside.spent c.self.view_is c.self.inside.known c.self.invariant c.if-self.false c.delete_blobs-answer.new.conn c.delete_blobs-answer.ensures.survives
+    c.note_fault.result c.delete_blobs-answer.result c.note_fault.new.spent c.note_fault.ensures.same c.note_fault.ensures.noted
+
+pub returns-clause-honest : goal.returns-clause-honest
+returns-clause-honest g c =
+    was_honest g.S.Store g.O.Origin.is_ours c.self.inside.conn c.args.self.now c.self.inside.spent c.self.view_is c.self.inside.known c.self.invariant c.if-self.false c.delete_blobs-answer.new.conn c.delete_blobs-answer.ensures.survives c.note_fault.new.spent

@@ -1,21 +1,22 @@
-use Rattle.std.proofs.Common.{arith}
 use Rattle.registry_model.specs.Lookups.{manifest_digests_at}
-use Rattle.sqlite.specs.State.{HasCleanDisk}
-use Rattle.sqlite.specs.Held.{state}
-use Rattle.registry_store.proofs.KeeperAnswers.{read_told, unfailed}
-use Rattle.registry_store.proofs.KnownWorlds.{still_knows}
+use Rattle.registry_store.proofs.KeeperAnswers.{read_holds, read_says, spends_told, was_honest}
 use Rattle.registry_store.proofs.keeper.StoreKeeper.manifest_digests.Goals as goal
 
 pub invariant_of-self : goal.invariant_of-self
-invariant_of-self g c unspent ours clean =
-    let early : HasCleanDisk (state g.S.Store c.self.inside.conn) = omega (arith, c.manifest_digests-answer.ensures.survives.clean) in
-    let is = (c.self.invariant c.if-self.false ours early).0 in
-    still_knows c.self.inside.known (state g.S.Store c.self.inside.conn) (state g.S.Store c.manifest_digests-answer.new.conn) (c.manifest_digests-answer.ensures.settled clean is (unfailed _ _ _ c.note_fault.ensures.noted unspent)) (c.self.invariant c.if-self.false ours early).1
+invariant_of-self g c =
+    read_holds g.S.Store g.O.Origin.is_ours c.self.inside.conn c.args.self.now c.self.inside.spent c.self.view_is c.self.inside.known c.self.invariant c.if-self.false c.manifest_digests-answer.new.conn c.manifest_digests-answer.ensures.survives
+    c.note_fault.result c.manifest_digests-answer.result c.note_fault.new.spent c.note_fault.ensures.same c.note_fault.ensures.noted c.manifest_digests-answer.ensures.settled
 
 pub returns-clause-found : goal.returns-clause-found
-returns-clause-found g c honest =
-    let clean = honest.0 in
-    let ours = honest.1 in
-    let early : HasCleanDisk (state g.S.Store c.self.inside.conn) = omega (arith, c.manifest_digests-answer.ensures.survives.clean) in
-    let is = (c.self.invariant c.if-self.false ours early).0 in
-    read_told g.S.Store c.self.inside.conn c.args.self.now c.self.inside.spent c.self.view_is c.manifest_digests-answer.new.conn _ (λ w. manifest_digests_at w c.args.repo.now) c.note_fault.result c.manifest_digests-answer.result c.note_fault.new.spent c.note_fault.ensures.same c.note_fault.ensures.noted (c.manifest_digests-answer.ensures.found clean is) (c.manifest_digests-answer.ensures.settled clean is)
+returns-clause-found g c =
+    read_says g.S.Store g.O.Origin.is_ours c.self.inside.conn c.args.self.now c.self.inside.spent c.self.view_is c.self.inside.known c.self.invariant c.if-self.false c.manifest_digests-answer.new.conn c.manifest_digests-answer.ensures.survives
+    c.note_fault.result c.manifest_digests-answer.result c.note_fault.new.spent c.note_fault.ensures.same c.note_fault.ensures.noted _ (λ w. manifest_digests_at w c.args.repo.now) (λ _. c.manifest_digests-answer.ensures.found) c.manifest_digests-answer.ensures.settled
+
+pub returns-clause-spends : goal.returns-clause-spends
+returns-clause-spends g c =
+    spends_told g.S.Store g.O.Origin.is_ours c.self.inside.conn c.args.self.now c.self.inside.spent c.self.view_is c.self.inside.known c.self.invariant c.if-self.false c.manifest_digests-answer.new.conn c.manifest_digests-answer.ensures.survives
+    c.note_fault.result c.manifest_digests-answer.result c.note_fault.new.spent c.note_fault.ensures.same c.note_fault.ensures.noted
+
+pub returns-clause-honest : goal.returns-clause-honest
+returns-clause-honest g c =
+    was_honest g.S.Store g.O.Origin.is_ours c.self.inside.conn c.args.self.now c.self.inside.spent c.self.view_is c.self.inside.known c.self.invariant c.if-self.false c.manifest_digests-answer.new.conn c.manifest_digests-answer.ensures.survives c.note_fault.new.spent

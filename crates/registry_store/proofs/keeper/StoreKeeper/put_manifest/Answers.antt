@@ -1,31 +1,31 @@
-use Rattle.std.proofs.Common.{◌≡◌, true, arith}
+use Rattle.std.proofs.Common.{◌≡◌, true}
 use Rattle.registry_model.specs.Lookups.{put_manifest}
 use Rattle.registry_model.specs.Ask.{text_in}
 use Rattle.registry_model.specs.World.{has_repo}
 use Rattle.registry_store.proofs.KeeperStates.{asked}
-use Rattle.sqlite.specs.State.{HasCleanDisk}
-use Rattle.sqlite.specs.Held.{state}
-use Rattle.registry_store.specs.Usages.{IsKnown}
-use Rattle.registry_store.proofs.KeeperAnswers.{write_told, written, unfailed}
+use Rattle.registry_store.proofs.KeeperAnswers.{spends_told, was_honest, write_holds, write_says}
 use Rattle.registry_store.proofs.keeper.StoreKeeper.put_manifest.Goals as goal
 
 pub put_manifest-answer-requires : goal.put_manifest-answer-requires
 put_manifest-answer-requires g c = record { matching = c.requires.matching; reads = c.requires.reads; fits = c.requires.fits }
 
 pub invariant_of-self : goal.invariant_of-self
-invariant_of-self g c unspent ours clean =
-    let early : HasCleanDisk (state g.S.Store c.self.inside.conn) = omega (arith, c.put_manifest-answer.ensures.survives.clean) in
-    let is = (c.self.invariant c.if-self.false ours early).0 in
-    let there = asked g.S.Store c.self.inside.conn c.args.self.now c.self.inside.spent c.self.view_is (λ w. has_repo w c.args.repo.now ≡ true) _ c.if-self.false ours c.requires.there in
-    let known : IsKnown g.S.Store c.self.inside.conn c.self.inside.known = λ k. (c.self.invariant c.if-self.false ours k).1 in
-    let sound = unfailed _ _ _ c.note_fault.ensures.noted unspent in
-    (written c.put_manifest-answer.result (state g.S.Store c.self.inside.conn) (state g.S.Store c.put_manifest-answer.new.conn) _ sound (c.put_manifest-answer.ensures.made there clean is) (c.put_manifest-answer.ensures.memory there clean is), c.put_manifest-answer.ensures.known known there clean is sound)
+invariant_of-self g c =
+    write_holds g.S.Store g.O.Origin.is_ours c.self.inside.conn c.args.self.now c.self.inside.spent c.self.view_is c.self.inside.known c.self.invariant c.if-self.false c.put_manifest-answer.new.conn c.put_manifest-answer.ensures.survives
+    c.note_fault.result c.put_manifest-answer.result c.note_fault.new.spent c.note_fault.ensures.same c.note_fault.ensures.noted c.put_manifest-answer.new.known (λ w. put_manifest w c.args.repo.now c.args.digest.now c.args.bytes.now (text_in c.args.tag))
+    (λ ours. c.put_manifest-answer.ensures.made (asked g.S.Store c.self.inside.conn c.args.self.now c.self.inside.spent c.self.view_is (λ w. has_repo w c.args.repo.now ≡ true) g.O.Origin.is_ours c.if-self.false ours c.requires.there)) (λ ours. c.put_manifest-answer.ensures.memory (asked g.S.Store c.self.inside.conn c.args.self.now c.self.inside.spent c.self.view_is (λ w. has_repo w c.args.repo.now ≡ true) g.O.Origin.is_ours c.if-self.false ours c.requires.there)) (λ ours known. c.put_manifest-answer.ensures.known known (asked g.S.Store c.self.inside.conn c.args.self.now c.self.inside.spent c.self.view_is (λ w. has_repo w c.args.repo.now ≡ true) g.O.Origin.is_ours c.if-self.false ours c.requires.there))
 
 pub returns-clause-made : goal.returns-clause-made
-returns-clause-made g c honest =
-    let clean = honest.0 in
-    let ours = honest.1 in
-    let early : HasCleanDisk (state g.S.Store c.self.inside.conn) = omega (arith, c.put_manifest-answer.ensures.survives.clean) in
-    let is = (c.self.invariant c.if-self.false ours early).0 in
-    let there = asked g.S.Store c.self.inside.conn c.args.self.now c.self.inside.spent c.self.view_is (λ w. has_repo w c.args.repo.now ≡ true) _ c.if-self.false ours c.requires.there in
-    write_told g.S.Store c.self.inside.conn c.args.self.now c.self.inside.spent c.self.view_is c.put_manifest-answer.new.conn (λ w. put_manifest w c.args.repo.now c.args.digest.now c.args.bytes.now (text_in c.args.tag)) c.note_fault.result c.put_manifest-answer.result c.note_fault.new.spent c.if-self.false c.note_fault.ensures.same c.note_fault.ensures.noted (c.put_manifest-answer.ensures.made there clean is) (c.put_manifest-answer.ensures.memory there clean is)
+returns-clause-made g c =
+    write_says g.S.Store g.O.Origin.is_ours c.self.inside.conn c.args.self.now c.self.inside.spent c.self.view_is c.self.inside.known c.self.invariant c.if-self.false c.put_manifest-answer.new.conn c.put_manifest-answer.ensures.survives
+    c.note_fault.result c.put_manifest-answer.result c.note_fault.new.spent c.note_fault.ensures.same c.note_fault.ensures.noted (λ w. put_manifest w c.args.repo.now c.args.digest.now c.args.bytes.now (text_in c.args.tag))
+    (λ ours. c.put_manifest-answer.ensures.made (asked g.S.Store c.self.inside.conn c.args.self.now c.self.inside.spent c.self.view_is (λ w. has_repo w c.args.repo.now ≡ true) g.O.Origin.is_ours c.if-self.false ours c.requires.there)) (λ ours. c.put_manifest-answer.ensures.memory (asked g.S.Store c.self.inside.conn c.args.self.now c.self.inside.spent c.self.view_is (λ w. has_repo w c.args.repo.now ≡ true) g.O.Origin.is_ours c.if-self.false ours c.requires.there))
+
+pub returns-clause-spends : goal.returns-clause-spends
+returns-clause-spends g c =
+    spends_told g.S.Store g.O.Origin.is_ours c.self.inside.conn c.args.self.now c.self.inside.spent c.self.view_is c.self.inside.known c.self.invariant c.if-self.false c.put_manifest-answer.new.conn c.put_manifest-answer.ensures.survives
+    c.note_fault.result c.put_manifest-answer.result c.note_fault.new.spent c.note_fault.ensures.same c.note_fault.ensures.noted
+
+pub returns-clause-honest : goal.returns-clause-honest
+returns-clause-honest g c =
+    was_honest g.S.Store g.O.Origin.is_ours c.self.inside.conn c.args.self.now c.self.inside.spent c.self.view_is c.self.inside.known c.self.invariant c.if-self.false c.put_manifest-answer.new.conn c.put_manifest-answer.ensures.survives c.note_fault.new.spent

@@ -1,0 +1,31 @@
+use Rattle.std.proofs.Common.{◌≡◌, ◌∙◌, None, refl, sym}
+use Rattle.std.specs.Prelude.{IfSome}
+use Rattle.sqlite.specs.Held.{state}
+use Rattle.registry_model.specs.Lookups.{blob_at, blob_size_at, with_mounted}
+use Rattle.store_statements.specs.Held.{world_in}
+use Rattle.store_statements.proofs.Transactions.{survives_all}
+use Rattle.store_usages.specs.Usages.{Foretells}
+use Rattle.store_usages.proofs.Foretold.{mount_kept}
+use Rattle.store_usages.proofs.Behind.{found_behind, tells_behind, stays_behind}
+use Rattle.store_usages.proofs.change_lookups.mount_change.Goals as goal
+
+pub returns-in-Ok-Some-clause-found : goal.returns-in-Ok-Some-clause-found
+returns-in-Ok-Some-clause-found g c clean is =
+    let w = world_in (state g.S.Store c.args.conn.now) in
+    mount_kept w c.args.to.now c.args.digest.now (blob_at w c.args.from.now c.args.digest.now) c.in-Ok-Some.field-0-0 (sym c.in-Ok-Some.field-0-is ∙ c.in-Ok-Some.ensures.found clean is)
+
+pub returns-in-Ok-None-clause-found : goal.returns-in-Ok-None-clause-found
+returns-in-Ok-None-clause-found g c clean is =
+    tells_behind g.S.Store c.args.conn.now c.blob_size.new.conn (λ mid is. c.in-Ok-None.ensures.settled mid is refl) c.source_change.new.conn c.source_change.ensures.survives
+    c.source_change.result (λ w change. IfSome change (Foretells w c.args.to.now (with_mounted c.args.digest.now (blob_at w c.args.from.now c.args.digest.now))))
+    (c.source_change.ensures.found (found_behind g.S.Store c.args.conn.now c.blob_size.new.conn (λ mid is. c.in-Ok-None.ensures.settled mid is refl)
+    (λ w. blob_size_at w c.args.to.now c.args.digest.now ≡ None) is (λ mid. sym (c.in-Ok-None.ensures.found mid is) ∙ c.in-Ok-None.field-0-is))) clean is
+
+pub returns-in-Ok-None-clause-settled : goal.returns-in-Ok-None-clause-settled
+returns-in-Ok-None-clause-settled g c =
+    stays_behind g.S.Store c.args.conn.now c.blob_size.new.conn (λ mid is. c.in-Ok-None.ensures.settled mid is refl) c.source_change.new.conn c.source_change.ensures.survives
+    c.source_change.result c.source_change.ensures.settled
+
+pub returns-in-Ok-None-clause-survives : goal.returns-in-Ok-None-clause-survives
+returns-in-Ok-None-clause-survives g c =
+    survives_all (state g.S.Store c.args.conn.now) (state g.S.Store c.blob_size.new.conn) (state g.S.Store c.source_change.new.conn) _ _ c.blob_size.ensures.survives c.source_change.ensures.survives

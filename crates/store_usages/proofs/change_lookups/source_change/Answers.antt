@@ -1,0 +1,12 @@
+use Rattle.std.proofs.Common.{◌∙◌, sym}
+use Rattle.sqlite.specs.Held.{state}
+use Rattle.registry_model.specs.Lookups.{blob_at}
+use Rattle.store_statements.specs.Held.{world_in}
+use Rattle.store_usages.proofs.CleanBefore.{was_clean}
+use Rattle.store_usages.proofs.Foretold.{mount_added}
+use Rattle.store_usages.proofs.change_lookups.source_change.Goals as goal
+
+pub returns-in-Ok-Some-clause-found : goal.returns-in-Ok-Some-clause-found
+returns-in-Ok-Some-clause-found g c fresh clean is =
+    let w = world_in (state g.S.Store c.args.conn.now) in
+    mount_added w c.args.to.now c.args.digest.now (blob_at w c.args.from.now c.args.digest.now) c.in-Ok-Some.size (sym (fresh (was_clean (state g.S.Store c.args.conn.now) (state g.S.Store c.blob_size.new.conn) c.blob_size.ensures.survives clean))) (sym c.in-Ok-Some.field-0-is ∙ c.in-Ok-Some.ensures.found clean is)
