@@ -1,5 +1,5 @@
 //! A registry's world in the tables of a database.
-ghost use Rattle.std.specs.Prelude.{◌≡◌, ◌≢◌, ℤ, pos, true, false, IfOk, IfErr, ⊤};
+ghost use Rattle.std.specs.Prelude.{◌≡◌, ◌≢◌, ℤ, pos, true, false, Ok, IfOk, IfErr, ⊤};
 ghost use Rattle.sqlite.specs.State.{HasCleanDisk, Survives};
 ghost use Rattle.sqlite.specs.Held.{state};
 ghost use Rattle.sqlite.specs.Steps.{over_memory};
@@ -16,7 +16,7 @@ ghost use Rattle.registry_store.specs.Opening.{IsOurs, OpensOn};
 
 use crate::origin::{Origin, Ours};
 use crate::written::Written;
-use sqlite::{Alter, Connection, FileFrom, FileStore, MemStore};
+use sqlite::{Alter, Connection, Error, FileFrom, FileStore, MemStore};
 use std::alloc::Global;
 use std::marker::{Model, PhantomData};
 use store_opening::{OpenFault, fault_in_opening, take_up};
@@ -152,6 +152,40 @@ impl<S: Alter + Drop, O: Origin> Store<S, O> {
     }
 }
 
+impl<S: Alter + Drop> Store<S> {
+    /// As `adopt`, but a refusal closes the connection.
+    fn adopt_or_close(alloc: Global, conn: Connection<S>) -> Result<Store<S>, OpenFault>
+        requires ours { HasCleanDisk (state S.Store conn)
+            → IsIdle (state S.Store conn) × IsOurs (state S.Store conn).now }
+        ensures made { IfOk result
+            (λ s. HasCleanDisk (state S.Store s.conn) → IsEmptyWith no_schema (state S.Store conn).now
+            → world_in (state S.Store s.conn) ≡ no_world) }
+        ensures found { IfOk result
+            (λ s. HasCleanDisk (state S.Store s.conn) → IsIdle (state S.Store conn)
+            → HoldsRegistry (state S.Store conn).now
+            → (state S.Store s.conn).now ≡ (state S.Store conn).now) }
+        ensures unspent { IfOk result (λ s. s.spent ≡ false) }
+        ensures survives { IfOk result (λ s. Survives (state S.Store conn) (state S.Store s.conn) (λ _. ⊤)) }
+        ensures another { IfErr result NamesNotTwo }
+    {
+        match Store::adopt(alloc, conn) {
+            Ok(opened) => Ok(opened),
+            Err((fault, _)) => Err(fault),
+        }
+    }
+}
+
+/// A connection that was opened, or why it was not; what is left of its files is let go.
+fn or_fault<C, L: Drop>(opened: Result<C, (Error, L)>) -> Result<C, OpenFault>
+    ensures same { IfOk result (λ conn. opened ≡ Ok conn) }
+    ensures another { IfErr result NamesNotTwo }
+{
+    match opened {
+        Ok(conn) => Ok(conn),
+        Err((error, _)) => Err(fault_in_opening(error)),
+    }
+}
+
 impl<F: Written> Store<FileStore<FileFrom<F>>> {
     /// The registry in the database file at the path, which is made where there is none, its log beside it.
     /// It is read whole once. The refusals are those of `adopt`; a file that is no database is `Storage`. A
@@ -166,13 +200,9 @@ impl<F: Written> Store<FileStore<FileFrom<F>>> {
         ensures unspent { IfOk result (λ s. s.spent ≡ false) }
         ensures another { IfErr result NamesNotTwo }
     {
-        let conn = match Connection::open_from(rt, path, false, start) {
-            Ok(conn) => conn,
-            Err((error, _)) => return Err(fault_in_opening(error)),
-        };
-        match Store::adopt(rt.alloc(), conn) {
-            Ok(opened) => Ok(opened),
-            Err((fault, _)) => Err(fault),
+        match or_fault(Connection::open_from(rt, path, false, start)) {
+            Ok(conn) => Store::adopt_or_close(rt.alloc(), conn),
+            Err(fault) => Err(fault),
         }
     }
 }
