@@ -8,8 +8,9 @@ use Rattle.registry_orders.specs.declared.tokens.TokenSource.{TokenSource}
 use Rattle.registry_orders.specs.declared.tokens.TokenSource.TheVariants.{Input, File}
 use Rattle.registry_orders.specs.Outputs.{IsSilent}
 use Rattle.registry_orders.specs.Tasks.{IsTask}
-use Rattle.registry_program.specs.Program.{Streams}
-use Rattle.registry_program.specs.Running.{Opened, output_of, RunsTokenOrder, LacksTokenOf, RunsWords, IsSparedFor}
+use Rattle.registry_tasks.specs.Program.{Streams}
+use Rattle.registry_tasks.specs.Opened.{Opened, output_of, RunsTokenOrder, LacksTokenOf}
+use Rattle.registry_program.specs.Running.{RunsWords, IsSparedFor}
 
 abbrev pub EndsTokenOrder : (Text → Opened) → Place → TokenSource → TokenOrder → ℕ → Streams → Type 0
 EndsTokenOrder at place source order status e =

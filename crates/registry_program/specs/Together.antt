@@ -4,7 +4,7 @@ use Rattle.std.specs.Bool.{MatchBool}
 use Rattle.registry_model.specs.Keeping.{State}
 use Rattle.registry_orders.specs.declared.limits.Limits.{Limits}
 use Rattle.registry_loop.specs.Together.{ServesTogether}
-use Rattle.registry_program.specs.Sockets.{ServesSome}
+use Rattle.registry_tasks.specs.Sockets.{ServesSome}
 
 -- with one at once they are served one after the other
 abbrev pub serves_within : Limits → State → State → Type 0

@@ -1,17 +1,17 @@
 //! Connections that are served together, over a registry that is opened again where its storage fails.
 ghost use Rattle.std.specs.Prelude.{OnOk, IfErr};
 ghost use Rattle.registry_orders.specs.Outputs.{output};
-ghost use Rattle.registry_program.specs.Stored.{Over};
-ghost use Rattle.registry_program.specs.Sockets.{ServesAddress};
+ghost use Rattle.registry_tasks.specs.Stored.{Over};
+ghost use Rattle.registry_tasks.specs.Sockets.{ServesAddress};
 ghost use Rattle.registry_loop.specs.Together.{ServesTogether};
 ghost use Rattle.registry_orders.specs.Failures.{IsOfServing};
 
-use crate::sockets::{announce, resume};
 use registry_loop::Gathering;
 use registry_model::Keeper;
 use registry_opening::Opener;
 use registry_orders::Failure;
 use registry_service::Service;
+use registry_tasks::sockets::{announce, resume};
 use std::alloc::Global;
 use std::io::Write;
 

@@ -1,33 +1,26 @@
-ghost use Rattle.std.specs.Prelude.{◌≡◌, ◌≢◌, ◌<◌, ◌≤◌, None, map};
-ghost use Rattle.registry_program.specs.Stored.{Over, OverAt};
-ghost use Rattle.registry_program.specs.Sockets.{ServesAddress};
+ghost use Rattle.std.specs.Prelude.{◌≡◌, ◌<◌, ◌≤◌, map};
+ghost use Rattle.registry_tasks.specs.Stored.{Over, OverAt};
+ghost use Rattle.registry_tasks.specs.Sockets.{ServesAddress};
+ghost use Rattle.registry_tasks.specs.Program.{streams};
 ghost use Rattle.registry_program.specs.Together.{serves_within};
-ghost use Rattle.registry_program.specs.Program.{streams, Tells};
-ghost use Rattle.registry_program.specs.Running.{RunsOrder, RunsAt, RunsStored, RunsServer, EndsMigration};
-ghost use Rattle.registry_program.specs.Running.{RunsWords, IsSparedFor};
-ghost use Rattle.clap.specs.Values.{kind_of};
-ghost use Rattle.registry_orders.specs.Failures.{status_of};
-ghost use Rattle.registry_orders.specs.Outputs.{output, IsSilent};
+ghost use Rattle.registry_program.specs.Running.{RunsServer, RunsWords, IsSparedFor};
+ghost use Rattle.registry_orders.specs.Outputs.{output};
 
-use crate::checking::run_check;
 use crate::gathering::serve_together;
-use crate::listening::{Listeners, introduce, listen};
-use crate::order_socket::stop_orders;
-use crate::sending::{send_order, send_stop};
-use crate::sockets::serve;
-use crate::stdio::{serve_from, serve_memory};
-use crate::tokens::run_token_order;
-use clap::Error;
-use clap::error::ErrorKind;
-use order_carrying::{Ended, carry_out};
 use registry_loop::{Crowd, Doors, Log};
 use registry_model::Keeper;
 use registry_opening::Opener;
-use registry_orders::cause::{explain, say_at};
+use registry_orders::cause::say_at;
 use registry_orders::failure::say;
 use registry_orders::line::read_words;
 use registry_orders::unread::Told;
-use registry_orders::{Beside, Failure, Limits, Order, Place, Task};
+use registry_orders::{Beside, Failure, Limits, Task};
+use registry_tasks::listening::{Listeners, introduce, listen};
+use registry_tasks::order_socket::stop_orders;
+use registry_tasks::{
+    run_check, run_migration, run_order_at, run_stored, run_token_order, send_stop, serve,
+    serve_memory, tell,
+};
 use std::alloc::Global;
 use std::convert::AsStr;
 use std::io;
@@ -36,123 +29,6 @@ use std::net::{Net, TcpListener, TcpStream};
 use std::os::fd::RawFd;
 use std::rt::Files;
 use std::time::Clock;
-
-/// Answers a command line that is a mistake, or that asks for help or the version.
-fn tell<W: Write, E: Write>(alloc: Global, error: &Error, out: &mut W, err: &mut E) -> u8
-    ensures tells { Tells result (streams None None (W.contents out.old) (W.contents out.new)) }
-    ensures wanting { kind_of error.now ≡ ErrorKind.OutOfMemory
-        → result ≡ status_of Failure.OutOfMemory }
-{
-    if error.kind() == ErrorKind::OutOfMemory {
-        return say(err, Failure::OutOfMemory);
-    }
-    let Ok(text) = error.to_string(alloc) else {
-        return say(err, Failure::OutOfMemory);
-    };
-    if error.use_stderr() {
-        let _ = err.write_all(text.as_bytes());
-        2
-    } else {
-        match out.write_all(text.as_bytes()) {
-            Ok(()) => 0,
-            Err(_) => say(err, Failure::ConnectionFailure),
-        }
-    }
-}
-
-/// Closes what an order or a connection was for, and where its storage has failed, says on a line behind
-/// that, where it can be seen, what is wrong with the path.
-pub(crate) fn end_at<K: Keeper + Drop, O: Opener<K>, E: Write>(
-    opener: &O,
-    path: &str,
-    ended: Ended<K>,
-    err: &mut E,
-) -> u8
-    ensures { result ≡ ended.status }
-{
-    let status = ended.status;
-    let failed = ended.keeper.spent() && status == Failure::StorageFailure.status();
-    opener.close(ended.keeper);
-    if failed {
-        if let Some(cause) = opener.cause(path, Failure::StorageFailure) {
-            let _ = explain(err, path, cause);
-        }
-    }
-    status
-}
-
-/// Opens the registry at a path, and carries an order out over it.
-#[tactic(auto, using(crate::proofs::ExitStatuses::opening_read))]
-fn run_order<K: Keeper + Drop, O: Opener<K>, W: Write, E: Write>(
-    alloc: Global,
-    opener: &O,
-    path: &str,
-    order: &Order,
-    out: &mut W,
-    err: &mut E,
-) -> u8
-    ensures runs { RunsOrder (OverAt K.is_honest K.state (O.opens opener.now) path.now) order.now result
-        (output (W.contents out.old) (W.contents out.new)) }
-    ensures silent { 0 < result → result < 4
-        → IsSilent (output (W.contents out.old) (W.contents out.new)) }
-    ensures status { result ≤ 4 }
-    ensures read { result ≢ 2 }
-{
-    match opener.open(path) {
-        Ok(kept) => {
-            let ended = carry_out(alloc, kept, order, out, err);
-            end_at(opener, path, ended, err)
-        }
-        Err(failure) => say_at(err, failure, path, opener.cause(path, failure)),
-    }
-}
-
-/// Carries an order out over the registry that is opened for it, or sends it to the server that holds it.
-pub(crate) fn run_order_at<T: Net, K: Keeper + Drop, O: Opener<K>, W: Write, E: Write>(
-    rt: &T,
-    alloc: Global,
-    opener: &O,
-    place: Place,
-    order: &Order,
-    out: &mut W,
-    err: &mut E,
-) -> u8
-    ensures runs { RunsAt (OverAt K.is_honest K.state (O.opens opener.now)) place.entry order.now result
-        (output (W.contents out.old) (W.contents out.new)) }
-    ensures silent { 0 < result → result < 4
-        → IsSilent (output (W.contents out.old) (W.contents out.new)) }
-    ensures status { result ≤ 4 }
-    ensures read { result ≢ 2 }
-{
-    match place {
-        Place::Database(path) => run_order(alloc, opener, path, order, out, err),
-        Place::Server(path) => send_order(rt, alloc, path, order, out, err),
-    }
-}
-
-/// Opens the registry at a path, and serves one connection over it.
-fn run_stored<K: Keeper + Drop, O: Opener<K>, R: Read, W: Write, E: Write>(
-    alloc: Global,
-    opener: &O,
-    path: &str,
-    reader: &mut R,
-    out: &mut W,
-    err: &mut E,
-) -> u8
-    ensures runs { RunsStored (OverAt K.is_honest K.state (O.opens opener.now) path.now) result
-        (streams (R.remaining reader.old) (R.remaining reader.new)
-        (W.contents out.old) (W.contents out.new)) }
-    ensures failed { 0 < result → 3 ≤ result }
-    ensures status { result ≤ 4 }
-{
-    match opener.open(path) {
-        Ok(kept) => {
-            let ended = serve_from(alloc, kept, reader, out, err);
-            end_at(opener, path, ended, err)
-        }
-        Err(failure) => say_at(err, failure, path, opener.cause(path, failure)),
-    }
-}
 
 /// The descriptor of standard input.
 const STANDARD_INPUT: RawFd = 0;
@@ -256,19 +132,6 @@ fn run_server<
     let served = serve_bound(rt, opener, path, kept, listeners, serving, out, err);
     stop_orders(rt, orders);
     match served {
-        Ok(()) => 0,
-        Err(failure) => say_at(err, failure, path, opener.cause(path, failure)),
-    }
-}
-
-/// Takes over the registry of schema 1 at a path.
-#[tactic(auto, using(crate::proofs::ExitStatuses::opening_read))]
-fn run_migration<K: Keeper, O: Opener<K>, E: Write>(opener: &O, path: &str, err: &mut E) -> u8
-    ensures runs { EndsMigration result }
-    ensures status { result ≤ 4 }
-    ensures read { result ≢ 2 }
-{
-    match opener.migrate(path) {
         Ok(()) => 0,
         Err(failure) => say_at(err, failure, path, opener.cause(path, failure)),
     }

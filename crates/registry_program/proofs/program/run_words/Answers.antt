@@ -1,8 +1,8 @@
 use Rattle.std.proofs.Common.{inl, inr, map, refl, arith}
 use Rattle.registry_orders.specs.declared.failure.Failure.TheVariants.{InvalidOptions}
 use Rattle.registry_orders.specs.declared.tasks.Task.TheVariants.{Memory}
-use Rattle.registry_program.specs.Stored.{OverAt}
-use Rattle.registry_program.proofs.ExitStatuses.{memory_read}
+use Rattle.registry_tasks.specs.Stored.{OverAt}
+use Rattle.registry_tasks.proofs.ExitStatuses.{memory_read, untouched_memory, untouched_telling}
 use Rattle.registry_program.proofs.TokenOrders.{order_runs, order_spares}
 use Rattle.registry_program.proofs.program.run_words.Goals as goal
 
@@ -12,6 +12,10 @@ returns-in-Ok-Memory-clause-runs g c =
     let read = rw c.in-Ok-Memory.field-0-is at c.in-Ok-Memory.ensures.read in
     let serves = c.serve_memory.ensures.serves in
     inl (Memory setup, read, memory_read setup c.serve_memory.result _ serves, serves)
+
+pub returns-in-Ok-Memory-clause-refused : goal.returns-in-Ok-Memory-clause-refused
+returns-in-Ok-Memory-clause-refused g c more less =
+    inl (untouched_memory c.in-Ok-Memory.setup c.serve_memory.result _ c.serve_memory.ensures.serves more (omega arith))
 
 pub returns-in-Ok-TokenOrder-clause-runs : goal.returns-in-Ok-TokenOrder-clause-runs
 returns-in-Ok-TokenOrder-clause-runs g c =
@@ -33,4 +37,8 @@ returns-in-Err-Options-clause-runs g c = inr (inr (inl (InvalidOptions, tt, (c.s
 pub returns-in-Err-Line-clause-runs : goal.returns-in-Err-Line-clause-runs
 returns-in-Err-Line-clause-runs g c =
     let told = rw c.in-Err-Line.field-0-is at c.in-Err-Line.ensures.refused in
-    inr (inr (inr ((refl, c.tell.ensures.tells.1), λ fits. c.tell.ensures.wanting (told fits))))
+    inr (inr (inr ((refl {a = g.R.Read.remaining c.args.reader.now}, c.tell.ensures.tells.1), λ fits. c.tell.ensures.wanting (told fits))))
+
+pub returns-in-Err-Line-clause-refused : goal.returns-in-Err-Line-clause-refused
+returns-in-Err-Line-clause-refused g c more less =
+    inl (record { left = refl; held = (untouched_telling c.tell.result _ c.tell.ensures.tells more (omega arith)).held })

@@ -1,0 +1,3 @@
+pub mod ExitStatuses
+pub mod SendingLemmas
+pub mod SinceOpened

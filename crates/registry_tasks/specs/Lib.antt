@@ -1,0 +1,7 @@
+pub mod Failures
+pub mod Program
+pub mod Stored
+pub mod Sockets
+pub mod Sending
+pub mod Checking
+pub mod Opened

@@ -1,0 +1,72 @@
+-- What the program does, by its exit status.
+use Rattle.std.specs.Prelude.{◌≡◌, ℕ, false, ◌⊎◌, Option, MatchResult}
+use Rattle.std.specs.Io.KnownBytes.{Appends}
+use Rattle.oci_names.specs.Text.{Text}
+use Rattle.registry_model.specs.World.{World}
+use Rattle.registry_model.specs.Keeping.{State}
+use Rattle.registry_model.specs.Doing.{keeps}
+use Rattle.registry_http.specs.Serving.{Traffic, Serves}
+use Rattle.registry_http.specs.declared.ending.End.{End}
+use Rattle.registry_orders.specs.declared.failure.Failure.{Failure}
+use Rattle.registry_orders.specs.declared.failure.Failure.TheVariants.{OutOfMemory, ConnectionFailure}
+use Rattle.registry_orders.specs.declared.options.Setup.{Setup}
+use Rattle.registry_orders.specs.Failures.{status_of}
+use Rattle.registry_orders.specs.Setting.{world_by}
+use Rattle.registry_tasks.specs.Failures.{status_after}
+
+-- the bytes that standard input had left before and after, and those that standard output held, where they
+-- are known
+pub record Streams : Type 0 where
+  pub left : Option Text
+  pub left' : Option Text
+  pub held : Option Text
+  pub held' : Option Text
+
+abbrev pub streams : Option Text → Option Text → Option Text → Option Text → Streams
+streams left left' held held' = record { left = left; left' = left'; held = held; held' = held' }
+
+-- what a connection over these ends took and gave, from one state to another
+abbrev pub traffic_of : Streams → State → State → Traffic
+traffic_of e s s' = record {
+  left = e.left;
+  left' = e.left';
+  held = e.held;
+  held' = e.held';
+  state = s;
+  state' = s';
+}
+
+-- nothing was read from standard input, and nothing written to standard output
+pub record IsUntouched (e : Streams) : Type 0 where
+  pub left : e.left' ≡ e.left
+  pub held : e.held' ≡ e.held
+
+-- the program ended for this reason, and did nothing
+abbrev pub GivesUp : Failure → ℕ → Streams → Type 0
+GivesUp f status e = (status ≡ status_of f) × IsUntouched e
+
+-- one connection was served from this world on; in memory no storage fails
+pub record ServesFrom (w : World) (status : ℕ) (e : Streams) : Type 0 where
+  pub end : End
+  pub last : State
+  pub ends : status ≡ status_after end false
+  pub serves : Serves end (traffic_of e (keeps w) last)
+
+-- a registry over memory that begins so serves one connection; or what it begins with is refused; or memory
+-- was wanting
+abbrev pub ServesMemory : Setup → ℕ → Streams → Type 0
+ServesMemory setup status e =
+    GivesUp OutOfMemory status e
+    ⊎ MatchResult (world_by setup) (λ w. ServesFrom w status e) (λ f. GivesUp f status e)
+
+-- one connection was served over a registry that was opened; its storage may fail
+abbrev pub ServesStored : ℕ → Streams → State → State → Type 0
+ServesStored status e s s' =
+    (end : End) × (status ≡ status_after end s'.spent) × Serves end (traffic_of e s s')
+
+-- help, the version or what is wrong with the words was told, on standard output only with status 0; or
+-- writing it there failed; or memory was wanting
+abbrev pub Tells : ℕ → Streams → Type 0
+Tells status e = (e.left' ≡ e.left)
+    × ((((status ≡ 2) ⊎ (status ≡ status_of OutOfMemory)) × (e.held' ≡ e.held))
+    ⊎ (((status ≡ 0) × (text : Text) × Appends e.held e.held' text) ⊎ (status ≡ status_of ConnectionFailure)))

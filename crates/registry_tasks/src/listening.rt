@@ -1,0 +1,139 @@
+//! Where a server listens, and what is said of an address: what is served there, or why it is not to be had.
+ghost use Rattle.std.specs.Prelude.{◌≡◌, OnOk, IfErr};
+ghost use Rattle.registry_orders.specs.Failures.{IsOfServing};
+
+use crate::order_socket::listen_for_orders;
+use oci_names::Fault;
+use os::FromRawFd;
+use registry_model::Keeper;
+use registry_orders::{Cause, Failure};
+use std::alloc::Global;
+use std::io;
+use std::io::{ErrorKind, Write};
+use std::net::{Net, TcpListener, TcpStream};
+use std::os::fd::IntoRawFd;
+use std::os::unix::net::UnixListener;
+use std::rt::Files;
+
+/// What is written in the place of an address where a listener is handed over.
+const HANDED_OVER: &str = "fd:3";
+
+/// Where a server takes connections, and where orders, if anywhere.
+#[derive(Drop)]
+pub struct Listeners {
+    pub connections: TcpListener,
+    pub orders: Option<UnixListener>,
+}
+
+/// The place at which a server cannot listen, and why, as far as it can be seen.
+#[derive(Clone, Copy)]
+pub struct NotBound<'a> {
+    pub place: &'a str,
+    pub cause: Option<Cause>,
+}
+
+/// The listener that was handed over, as by a socket unit of systemd, which gives it as the first descriptor
+/// behind standard error (sd_listen_fds). An error is that there is no socket.
+fn handed_over() -> io::Result<TcpListener> {
+    let listener = unsafe { TcpListener::from_raw_fd(3) };
+    match listener.local_addr() {
+        Ok(_) => Ok(listener),
+        Err(error) => {
+            // What else is open there is not closed.
+            let _ = listener.into_raw_fd();
+            Err(error)
+        }
+    }
+}
+
+/// Listens at an address, or takes the listener that was handed over where that is asked for.
+fn listener_at<T: Net<Listener = TcpListener, Stream = TcpStream>>(
+    rt: &T,
+    address: &str,
+) -> io::Result<TcpListener> {
+    if address == HANDED_OVER {
+        return handed_over();
+    }
+    TcpListener::bind(rt, address)
+}
+
+/// Listens at an address for connections, and then for orders at the path of a socket, if one is given.
+pub fn listen<'a, T: AllocGlobal + Files + Net<Listener = TcpListener, Stream = TcpStream>>(
+    rt: &T,
+    address: &'a str,
+    orders: Option<&'a str>,
+) -> Result<Listeners, NotBound<'a>> {
+    let connections = match listener_at(rt, address) {
+        Ok(listener) => listener,
+        Err(error) => {
+            return Err(NotBound {
+                place: address,
+                cause: cause_at_address(address, error.kind()),
+            });
+        }
+    };
+    let orders = match orders {
+        Some(place) => match listen_for_orders(rt, rt.alloc(), place) {
+            Ok(listener) => Some(listener),
+            Err(cause) => return Err(NotBound { place, cause }),
+        },
+        None => None,
+    };
+    Ok(Listeners {
+        connections,
+        orders,
+    })
+}
+
+/// Why nobody listens, where the kind of the error tells.
+fn cause_at_address(address: &str, kind: ErrorKind) -> Option<Cause> {
+    if address == HANDED_OVER {
+        Some(Cause::NoSocket)
+    } else {
+        cause_of_binding(kind)
+    }
+}
+
+/// Why an address is not listened on, where the kind of the error tells.
+pub fn cause_of_binding(kind: ErrorKind) -> Option<Cause> {
+    match kind {
+        ErrorKind::AddrInUse => Some(Cause::PortInUse),
+        ErrorKind::AddrNotAvailable => Some(Cause::Elsewhere),
+        ErrorKind::PermissionDenied => Some(Cause::NoRightToPort),
+        ErrorKind::InvalidInput => Some(Cause::NoAddress),
+        ErrorKind::Uncategorized => Some(Cause::NoHost),
+        _ => None,
+    }
+}
+
+/// Says on standard error which registry is served on which address, and how many repositories it has.
+/// Nothing is said where memory is wanting; the error is a storage failure.
+pub fn introduce<K: Keeper, E: Write>(
+    alloc: Global,
+    keeper: &mut K,
+    listener: &TcpListener,
+    path: &str,
+    err: &mut E,
+) -> Result<(), Failure>
+    ensures honest { K.is_honest keeper.new → K.is_honest keeper.old }
+    ensures stays { OnOk result (K.is_honest keeper.new → K.state keeper.new ≡ K.state keeper.old) }
+    ensures fails { IfErr result IsOfServing }
+{
+    let count = match keeper.usages(alloc) {
+        Ok(usages) => usages.len(),
+        Err(Fault::Memory) => return Ok(()),
+        Err(Fault::Storage) => return Err(Failure::StorageFailure),
+    };
+    if let Ok(address) = listener.local_addr() {
+        let many = if count == 1 {
+            "repository"
+        } else {
+            "repositories"
+        };
+        let _ = writeln!(
+            err,
+            "registry: serving {path} ({count} {many}) on {address}"
+        );
+    }
+    Ok(())
+}

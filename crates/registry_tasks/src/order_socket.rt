@@ -1,0 +1,92 @@
+//! The socket at which a server takes orders. Nobody but its owner can connect to it.
+use registry_orders::Cause;
+use std::alloc::Global;
+use std::fs::Permissions;
+use std::io::ErrorKind;
+use std::net::Net;
+use std::os::unix::fs::{FileTypeExt, PermissionsExt};
+use std::os::unix::net::{UnixListener, UnixStream};
+use std::rt::Files;
+use std::{fs, io};
+
+/// What is wrong with the path, where the kind of the error tells.
+fn cause_of(kind: ErrorKind) -> Option<Cause> {
+    match kind {
+        ErrorKind::NotFound | ErrorKind::NotADirectory => Some(Cause::NoFolder),
+        ErrorKind::PermissionDenied => Some(Cause::NoRightToWrite),
+        ErrorKind::ReadOnlyFilesystem => Some(Cause::ReadOnly),
+        ErrorKind::AddrInUse => Some(Cause::ServerThere),
+        ErrorKind::InvalidInput => Some(Cause::NoFileName),
+        _ => None,
+    }
+}
+
+fn cause_of_error(error: io::Error) -> Option<Cause> {
+    cause_of(error.kind())
+}
+
+/// Takes away the socket that a dead server left at a path. The error is that something else is there, or a
+/// server that lives.
+fn clear<T: Files + Net>(rt: &T, path: &str) -> Result<(), Option<Cause>> {
+    match fs::symlink_metadata(rt, path) {
+        Ok(found) if found.file_type().is_socket() => {}
+        Ok(_) => return Err(Some(Cause::NoSocket)),
+        Err(error) if error.kind() == ErrorKind::NotFound => return Ok(()),
+        Err(error) => return Err(cause_of(error.kind())),
+    }
+    match UnixStream::connect(rt, path) {
+        Ok(_) => Err(Some(Cause::ServerThere)),
+        Err(error) if error.kind() == ErrorKind::ConnectionRefused => {
+            fs::remove_file(rt, path).map_err(cause_of_error)
+        }
+        Err(error) => Err(cause_of(error.kind())),
+    }
+}
+
+/// Lets those go who connected before the socket was its owner's alone.
+fn turn_away(listener: &UnixListener) -> io::Result<()> {
+    listener.set_nonblocking(true)?;
+    for _ in 0..u64::MAX {
+        if listener.accept().is_err() {
+            break;
+        }
+    }
+    listener.set_nonblocking(false)
+}
+
+/// Makes a socket that was bound at a path that nobody asks for its owner's alone, and moves it then.
+fn settle<T: Files>(rt: &T, listener: &UnixListener, beside: &str, path: &str) -> io::Result<()> {
+    fs::set_permissions(rt, beside, Permissions::from_mode(0o600))?;
+    turn_away(listener)?;
+    fs::rename(rt, beside, path)
+}
+
+/// Listens for orders at a path. What a dead server left there is taken away. The socket is bound at the
+/// path with `.new` behind it, given mode 0600 there, and moved. An error has what is wrong with the path,
+/// as far as it can be seen; a path of more than 103 bytes is none of a socket.
+pub fn listen_for_orders<T: Files + Net>(
+    rt: &T,
+    alloc: Global,
+    path: &str,
+) -> Result<UnixListener, Option<Cause>> {
+    let Ok(beside) = format!(in alloc; "{path}.new") else {
+        return Err(None);
+    };
+    clear(rt, path)?;
+    clear(rt, beside.as_str())?;
+    let listener = UnixListener::bind(rt, beside.as_str()).map_err(cause_of_error)?;
+    match settle(rt, &listener, beside.as_str(), path) {
+        Ok(()) => Ok(listener),
+        Err(error) => {
+            let _ = fs::remove_file(rt, beside.as_str());
+            Err(cause_of(error.kind()))
+        }
+    }
+}
+
+/// Takes the socket away at which orders were taken, if they were.
+pub fn stop_orders<T: Files>(rt: &T, path: Option<&str>) {
+    if let Some(path) = path {
+        let _ = fs::remove_file(rt, path);
+    }
+}

@@ -1,0 +1,164 @@
+ghost use Rattle.std.specs.Prelude.{◌≡◌, ◌<◌, ◌≤◌, IfErr};
+ghost use Rattle.registry_orders.specs.Failures.{IsOfConnection};
+ghost use Rattle.registry_orders.specs.Setting.{with_repos, with_levels, world_from, SetsUp};
+ghost use Rattle.registry_tasks.specs.Failures.{ended_as};
+ghost use Rattle.registry_tasks.specs.Program.{streams, ServesMemory, ServesStored};
+
+use order_carrying::Ended;
+use registry_connection::serve_connection;
+use registry_http::End;
+use registry_maps::MapKeeper;
+use registry_model::Keeper;
+use registry_orders::Failure;
+use registry_orders::failure::{of_command, say};
+use registry_orders::options::{GrantOption, RepoOption, Setup};
+use registry_service::{AdminCommand, Service};
+use std::alloc::Global;
+use std::io::{Read, Write};
+
+/// Makes the repositories.
+fn make_repos<K: Keeper>(
+    alloc: Global,
+    service: &mut Service<K>,
+    repos: &[RepoOption],
+) -> Result<(), Failure>
+    ensures honest { K.is_honest service.new → K.is_honest service.old }
+    ensures made { K.is_honest service.new
+        → SetsUp (with_repos (K.state service.old).world repos.now) result (K.state service.new) }
+{
+    for repo in repos {
+        let command = AdminCommand::AddRepo {
+            name: &repo.name,
+            quota: repo.quota,
+        };
+        match service.admin(alloc, &command) {
+            Ok(()) => {}
+            Err(fault) => return Err(of_command(fault)),
+        }
+    }
+    Ok(())
+}
+
+/// Gives the levels.
+fn give_levels<K: Keeper>(
+    alloc: Global,
+    service: &mut Service<K>,
+    grants: &[GrantOption],
+) -> Result<(), Failure>
+    ensures honest { K.is_honest service.new → K.is_honest service.old }
+    ensures given { K.is_honest service.new
+        → SetsUp (with_levels (K.state service.old).world grants.now) result (K.state service.new) }
+{
+    for grant in grants {
+        let command = AdminCommand::Grant {
+            token: &grant.token,
+            name: &grant.name,
+            level: grant.level,
+        };
+        match service.admin(alloc, &command) {
+            Ok(()) => {}
+            Err(fault) => return Err(of_command(fault)),
+        }
+    }
+    Ok(())
+}
+
+/// Makes the repositories, then gives the levels.
+fn set_up<K: Keeper>(alloc: Global, service: &mut Service<K>, setup: &Setup) -> Result<(), Failure>
+    ensures honest { K.is_honest service.new → K.is_honest service.old }
+    ensures begins { K.is_honest service.new
+        → SetsUp (world_from (K.state service.old).world setup.now) result (K.state service.new) }
+{
+    match make_repos(alloc, service, &setup.repos) {
+        Ok(()) => give_levels(alloc, service, &setup.grants),
+        Err(failure) => Err(failure),
+    }
+}
+
+/// What the end of the one connection says of the program: a failed connection goes before a failed
+/// storage; a cut or refused connection is no failure.
+fn ended(end: End, spent: bool) -> Result<(), Failure>
+    ensures is { result ≡ ended_as end spent }
+    ensures fails { IfErr result IsOfConnection }
+{
+    match end {
+        End::ReadFailed => Err(Failure::ConnectionFailure),
+        End::WriteFailed { .. } => Err(Failure::ConnectionFailure),
+        _ => {
+            if spent {
+                Err(Failure::StorageFailure)
+            } else {
+                Ok(())
+            }
+        }
+    }
+}
+
+/// Serves one connection over the service, and says on standard error what failed. The status is 0;
+/// 4 where reading or writing failed; 3 where the service is spent at the end. A connection that was
+/// cut or refused is no failure.
+#[tactic(auto, using(crate::proofs::ExitStatuses::connection_status))]
+pub fn serve_stdio<R: Read, W: Write, E: Write, K: Keeper>(
+    alloc: Global,
+    service: &mut Service<K>,
+    reader: &mut R,
+    out: &mut W,
+    err: &mut E,
+) -> u8
+    ensures honest { K.is_honest service.new → K.is_honest service.old }
+    ensures serves { K.is_honest service.new → ServesStored result
+        (streams (R.remaining reader.old) (R.remaining reader.new) (W.contents out.old) (W.contents out.new))
+        (K.state service.old) (K.state service.new) }
+    ensures failed { 0 < result → 3 ≤ result }
+    ensures status { result ≤ 4 }
+{
+    let end = serve_connection(alloc, service, reader, out);
+    match ended(end, service.spent()) {
+        Ok(()) => 0,
+        Err(failure) => say(err, failure),
+    }
+}
+
+/// Serves one connection over a registry in memory that begins with this setup, and says on standard
+/// error what failed. The status is that of `serve_stdio`; or that of the command that was refused, 1,
+/// or of want of memory, 3, and then nothing was read or written.
+pub fn serve_memory<R: Read, W: Write, E: Write>(
+    alloc: Global,
+    setup: &Setup,
+    reader: &mut R,
+    out: &mut W,
+    err: &mut E,
+) -> u8
+    ensures serves { ServesMemory setup.now result
+        (streams (R.remaining reader.old) (R.remaining reader.new)
+        (W.contents out.old) (W.contents out.new)) }
+{
+    let mut service = Service::new(MapKeeper::new(alloc));
+    match set_up(alloc, &mut service, setup) {
+        Ok(()) => serve_stdio(alloc, &mut service, reader, out, err),
+        Err(failure) => say(err, failure),
+    }
+}
+
+/// Serves one connection over a keeper, as `serve_stdio` does, and hands the keeper back.
+pub fn serve_from<R: Read, W: Write, E: Write, K: Keeper>(
+    alloc: Global,
+    keeper: K,
+    reader: &mut R,
+    out: &mut W,
+    err: &mut E,
+) -> Ended<K>
+    ensures honest { K.is_honest result.keeper → K.is_honest keeper }
+    ensures serves { K.is_honest result.keeper → ServesStored result.status
+        (streams (R.remaining reader.old) (R.remaining reader.new) (W.contents out.old) (W.contents out.new))
+        (K.state keeper) (K.state result.keeper) }
+    ensures failed { 0 < result.status → 3 ≤ result.status }
+    ensures status { result.status ≤ 4 }
+{
+    let mut service = Service::new(keeper);
+    let status = serve_stdio(alloc, &mut service, reader, out, err);
+    Ended {
+        keeper: service.into_keeper(),
+        status,
+    }
+}
