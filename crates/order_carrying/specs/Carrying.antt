@@ -11,8 +11,8 @@ use Rattle.registry_orders.specs.declared.orders.Order.TheVariants as asked
 use Rattle.registry_orders.specs.Failures.{status_if}
 use Rattle.registry_orders.specs.Orders.{Obeys}
 use Rattle.registry_orders.specs.Outputs.{Output, IsSilent}
-use Rattle.registry_lists.specs.Table.{table_of}
-use Rattle.registry_lists.specs.Texts.{IsListText}
+use Rattle.list_texts.specs.Table.{table_of}
+use Rattle.registry_lists.specs.Listed.{IsListText}
 
 -- the table of the world was written; or memory was wanting, the storage failed or writing did; the world
 -- stays

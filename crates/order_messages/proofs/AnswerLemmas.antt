@@ -20,7 +20,7 @@ use Rattle.registry_orders.specs.declared.orders.Order.TheVariants as order
 use Rattle.registry_orders.specs.Outputs.{Output, output}
 use Rattle.order_carrying.specs.Carrying.{CarriesOrder}
 use Rattle.registry_orders.specs.Orders.{told}
-use Rattle.registry_lists.specs.Table.{table_of}
+use Rattle.list_texts.specs.Table.{table_of}
 use Rattle.registry_orders.specs.Outputs.{newline}
 use Rattle.order_messages.specs.Answers.{answer_text, failure_text}
 use Rattle.order_messages.specs.Answering.{IsAnswered, IsOneStep}

@@ -25,7 +25,7 @@ use Rattle.order_messages.specs.declared.reading.Unread.{Unread}
 use Rattle.order_messages.specs.declared.reading.Unread.TheVariants.{Malformed, Memory}
 use Rattle.order_messages.specs.Lines.{space, digit_of, form_word, held_word, shown_word, or_any, words_of_listing, words_of_change, words_of, line_of, IsProperName, IsProperToken, IsProperListing, IsProperChange, IsProper, AreWordsOf, Spells}
 use Rattle.order_messages.specs.Reading.{IsUnread, AreUnread}
-use Rattle.registry_lists.proofs.PlainTokens.{plain, plain_token}
+use Rattle.list_texts.proofs.PlainTokens.{plain, plain_token}
 use Rattle.order_messages.proofs.PlainWords.{plain_name, plain_decimal, has_no_space, is_utf8}
 
 abbrev pub split : Text → List Text

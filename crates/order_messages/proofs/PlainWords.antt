@@ -12,7 +12,7 @@ use Rattle.oci_names.specs.Text.{Text}
 use Rattle.oci_names.specs.Byte.{is_lowercase_or_digit}
 use Rattle.oci_names.specs.RepoName.{is_repo_name, component, path}
 use Rattle.oci_names.proofs.RepoNameLaw.{is_repo_name_decides}
-use Rattle.registry_lists.proofs.PlainTokens.{is_printing, plain, bounds, Prints, prints, printing_byte, ascii_at}
+use Rattle.list_texts.proofs.PlainTokens.{is_printing, plain, bounds, Prints, prints, printing_byte, ascii_at}
 
 printing_word : (b : ℕ) → is_lowercase_or_digit b ≡ true → is_printing b ≡ true
 printing_word b h = grind (arith, nat_tests)

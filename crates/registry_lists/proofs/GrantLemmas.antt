@@ -15,10 +15,11 @@ use Rattle.registry_orders.specs.declared.listing.Form.{Form}
 use Rattle.registry_orders.specs.declared.listing.Shown.{Shown}
 use Rattle.registry_orders.specs.declared.listing.Listing.{Listing}
 use Rattle.registry_orders.specs.declared.listing.Listing.TheVariants.{Repos, InRepo, Grants}
-use Rattle.registry_lists.specs.Lists.{ItemShown}
-use Rattle.registry_lists.specs.Grants.{grants_of, AreGrantsOn, AreGrantsOver, AreGrantsOf}
-use Rattle.registry_lists.specs.Listed.{AreListed}
-use Rattle.registry_lists.specs.Texts.{text_of, IsListText}
+use Rattle.list_texts.specs.Items.{ItemShown}
+use Rattle.list_texts.specs.Grants.{grants_of}
+use Rattle.registry_lists.specs.Grants.{AreGrantsOn, AreGrantsOver, AreGrantsOf}
+use Rattle.list_texts.specs.Texts.{text_of}
+use Rattle.registry_lists.specs.Listed.{AreListed, IsListText}
 
 -- ---- one repository after the other
 

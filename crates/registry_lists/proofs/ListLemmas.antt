@@ -21,7 +21,8 @@ use Rattle.registry_operations.proofs.PruningLemmas.{found_each}
 use Rattle.registry_service.specs.Tags.{tags_at}
 use Rattle.registry_orders.specs.declared.listing.Held.{Held}
 use Rattle.registry_orders.specs.declared.listing.Held.TheVariants.{Tags, Blobs, Unnamed}
-use Rattle.registry_lists.specs.Lists.{ItemShown, repo_item, tag_item, blob_item, unnamed_item, repos_of, tags_of, namers_of, blobs_of, held_of}
+use Rattle.list_texts.specs.Items.{ItemShown, repo_item, tag_item, blob_item, unnamed_item}
+use Rattle.registry_lists.specs.Lists.{repos_of, tags_of, namers_of, blobs_of, held_of}
 use Rattle.registry_lists.specs.Reading.{namings_at, namers_among, tag_item_at, blob_item_at, held_at}
 
 -- ---- one item more

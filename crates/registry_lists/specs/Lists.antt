@@ -1,39 +1,15 @@
 -- What the lists of an operator show of the world, item by item (profile).
-use Rattle.std.specs.Prelude.{ℕ, List, [], map, filter, length, option_map, string_bytes, Vec}
+use Rattle.std.specs.Prelude.{List, [], map, filter, length, option_map}
 use Rattle.std.specs.List.{filter_map}
 use Rattle.std.specs.FinMap.{get, entries}
-use Rattle.std.specs.declared.alloc.Global.{Global}
 use Rattle.oci_names.specs.Text.{Text}
-use Rattle.registry_model.specs.declared.level.Level.{Level}
 use Rattle.registry_model.specs.World.{Repo, World}
 use Rattle.registry_model.specs.TagPage.{tags_behind}
 use Rattle.registry_model.specs.Pruning.{names_in, is_among}
 use Rattle.registry_operations.specs.Pruning.{unnamed_of}
 use Rattle.registry_orders.specs.declared.listing.Held.{Held}
 use Rattle.registry_orders.specs.declared.listing.Held.TheVariants.{Tags, Blobs, Unnamed}
-use Rattle.registry_lists.specs.declared.items.Item.{Item}
-use Rattle.registry_lists.specs.declared.items.Item.TheVariants as item
-
-pub data ItemShown : Type 0 where
-  repo_item : Text → ItemShown
-  -- a tag, and the digest that it names
-  tag_item : Text → Text → ItemShown
-  -- a blob's digest, its length in bytes, and the digests of the manifests that name it
-  blob_item : Text → ℕ → List Text → ItemShown
-  -- a blob that no manifest names
-  unnamed_item : Text → ItemShown
-  -- a repository's name, a token as it is shown, and its level
-  grant_item : Text → Text → Level → ItemShown
-
-abbrev pub item_shown : Item → ItemShown
-item_shown (item.Repo name) = repo_item name
-item_shown (item.Tag tag digest) = tag_item tag digest
-item_shown (item.Blob digest size manifests) = blob_item digest size manifests.items
-item_shown (item.Unnamed digest) = unnamed_item digest
-item_shown (item.Grant name token level) = grant_item name (string_bytes token) level
-
-abbrev pub items_shown : Vec Item Global → List ItemShown
-items_shown v = map item_shown v.items
+use Rattle.list_texts.specs.Items.{ItemShown, repo_item, tag_item, blob_item, unnamed_item}
 
 -- the repositories, in byte order of their names
 abbrev pub repos_of : World → List ItemShown

@@ -11,9 +11,10 @@ use Rattle.registry_model.specs.Pruning.{is_among}
 use Rattle.registry_model.specs.Keeping.{State}
 use Rattle.registry_operations.specs.Pruning.{names_at}
 use Rattle.registry_orders.specs.declared.listing.Held.{Held}
-use Rattle.registry_lists.specs.declared.items.Item.{Item}
+use Rattle.list_texts.specs.declared.items.Item.{Item}
+use Rattle.list_texts.specs.Items.{ItemShown, items_shown, tag_item, blob_item}
 use Rattle.registry_lists.specs.declared.reading.Naming.{Naming}
-use Rattle.registry_lists.specs.Lists.{ItemShown, items_shown, held_of, tag_item, blob_item}
+use Rattle.registry_lists.specs.Lists.{held_of}
 
 -- a manifest, and what it names
 abbrev pub naming_shown : Naming → Text × List Text

@@ -4,7 +4,7 @@ ghost use Rattle.oci_names.specs.Text.{Text};
 ghost use Rattle.registry_model.specs.World.{World};
 ghost use Rattle.registry_orders.specs.declared.listing.Form.{Form};
 ghost use Rattle.registry_orders.specs.declared.listing.Listing.{Listing};
-ghost use Rattle.registry_lists.specs.Texts.{IsListText};
+ghost use Rattle.registry_lists.specs.Listed.{IsListText};
 
 /// A list of a world has one text in each form: what is said of the text says it whole.
 pub fn a_list_has_one_text()

@@ -1,16 +1,11 @@
 //! The text of a list.
-ghost use Rattle.std.specs.Prelude.{◌≡◌, map, string_bytes, MatchResult};
 ghost use Rattle.registry_model.specs.Keeping.{ReadsSo, Spends};
-ghost use Rattle.registry_lists.specs.Lists.{item_shown};
-ghost use Rattle.registry_lists.specs.Listed.{AreListed};
-ghost use Rattle.registry_lists.specs.Texts.{text_of, IsListText};
+ghost use Rattle.registry_lists.specs.Listed.{AreListed, IsListText};
 ghost use Rattle.registry_lists.specs.Reading.{items_if, TellsText};
 
 use crate::grants::grants;
-use crate::items::Item;
-use crate::lines::as_lines;
-use crate::objects::as_json;
 use crate::reading::{held, repos};
+use list_texts::{Item, text_of};
 use oci_names::Fault;
 use registry_model::Keeper;
 use registry_orders::{Form, Listing};
@@ -41,20 +36,6 @@ fn items<K: Keeper>(
     }
 }
 
-fn text(alloc: Global, items: &[Item], form: Form) -> Result<String, Fault>
-    ensures { MatchResult result (λ text. string_bytes text ≡ text_of form (map item_shown items.now))
-        (λ fault. fault ≡ Fault.Memory) }
-{
-    let made = match form {
-        Form::Lines => as_lines(alloc, items),
-        Form::Json => as_json(alloc, items),
-    };
-    match made {
-        Ok(text) => Ok(text),
-        Err(_) => Err(Fault::Memory),
-    }
-}
-
 /// The text of a list: its lines, or its JSON array and a line's end. None where the list is of a
 /// repository that is not there. Nothing changes.
 pub fn list_text<K: Keeper>(
@@ -70,7 +51,7 @@ pub fn list_text<K: Keeper>(
     ensures honest { K.is_honest service.new → K.is_honest service.old }
 {
     match items(alloc, service, listing)? {
-        Some(items) => Ok(Some(text(alloc, &items, form)?)),
+        Some(items) => Ok(Some(text_of(alloc, &items, form)?)),
         None => Ok(None),
     }
 }

@@ -3,10 +3,11 @@ ghost use Rattle.std.specs.Prelude.{◌≡◌, [], ◌∷◌, ◌++◌, map, IfO
 ghost use Rattle.std.specs.List.{cons_option};
 ghost use Rattle.registry_model.specs.Keeping.{ReadsBy, Spends};
 ghost use Rattle.registry_model.specs.Pruning.{is_among};
-ghost use Rattle.registry_lists.specs.Lists.{item_shown, items_shown, repos_of, tag_item, blob_item};
+ghost use Rattle.list_texts.specs.Items.{item_shown, items_shown, tag_item, blob_item};
+ghost use Rattle.registry_lists.specs.Lists.{repos_of};
 ghost use Rattle.registry_lists.specs.Reading.{naming_shown, namings_shown, namings_at, namers_among, held_at};
 
-use crate::items::Item;
+use list_texts::Item;
 use oci_names::{Digest, Fault, RepoName, Tag};
 use registry_model::Keeper;
 use registry_orders::Held;

@@ -1,5 +1,5 @@
 use Rattle.std.proofs.Common.{◌≡◌, false, map}
-use Rattle.registry_lists.specs.Lists.{items_shown}
+use Rattle.list_texts.specs.Items.{items_shown}
 use Rattle.registry_lists.specs.Grants.{AreGrantsOver}
 use Rattle.registry_lists.proofs.grants.on_all.Given as goal
 

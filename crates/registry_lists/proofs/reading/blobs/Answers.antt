@@ -3,7 +3,7 @@ use Rattle.std.specs.Prelude.{Option, option_map}
 use Rattle.std.proofs.lemmas.Iterator.Adapters.{YieldsList-from_vec}
 use Rattle.std.proofs.lemmas.Iterator.Consumers.{YieldsList-end}
 use Rattle.registry_lists.specs.declared.reading.Naming.{Naming}
-use Rattle.registry_lists.specs.Lists.{blob_item}
+use Rattle.list_texts.specs.Items.{blob_item}
 use Rattle.registry_lists.specs.Reading.{naming_shown, namings_shown, namers_among, blob_item_at}
 use Rattle.registry_lists.proofs.ListLemmas.{found_more, blobs_found}
 use Rattle.registry_lists.proofs.reading.blobs.Goals as goal

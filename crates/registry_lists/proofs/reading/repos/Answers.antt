@@ -3,7 +3,7 @@ use Rattle.oci_names.specs.Text.{Text}
 use Rattle.std.proofs.lemmas.Iterator.Adapters.{YieldsList-from_vec}
 use Rattle.std.proofs.lemmas.Iterator.Consumers.{YieldsList-end}
 use Rattle.registry_model.specs.declared.quota.Usage.{Usage}
-use Rattle.registry_lists.specs.Lists.{repo_item}
+use Rattle.list_texts.specs.Items.{repo_item}
 use Rattle.registry_lists.proofs.ListLemmas.{all_found, repos_are}
 use Rattle.registry_lists.proofs.reading.repos.Goals as goal
 

@@ -1,5 +1,5 @@
 use Rattle.std.proofs.Common.{◌≡◌, map}
-use Rattle.registry_lists.specs.Lists.{items_shown, repo_item}
+use Rattle.list_texts.specs.Items.{items_shown, repo_item}
 use Rattle.registry_lists.proofs.reading.repos.Given as goal
 
 abbrev pub invariant-loop-name : goal.invariant-loop-name

@@ -3,7 +3,7 @@ use Rattle.std.specs.Prelude.{option_map}
 use Rattle.std.specs.List.{filter_map}
 use Rattle.std.proofs.lemmas.Iterator.Adapters.{YieldsList-from_vec}
 use Rattle.std.proofs.lemmas.Iterator.Consumers.{YieldsList-end}
-use Rattle.registry_lists.specs.Lists.{tag_item}
+use Rattle.list_texts.specs.Items.{tag_item}
 use Rattle.registry_lists.specs.Reading.{tag_item_at}
 use Rattle.registry_lists.proofs.ListLemmas.{all_found, found_more, tags_are}
 use Rattle.registry_lists.proofs.reading.tags.Goals as goal

@@ -1,6 +1,6 @@
 use Rattle.std.proofs.Common.{◌≡◌, false}
 use Rattle.std.specs.List.{filter_map}
-use Rattle.registry_lists.specs.Lists.{items_shown}
+use Rattle.list_texts.specs.Items.{items_shown}
 use Rattle.registry_lists.specs.Reading.{tag_item_at}
 use Rattle.registry_lists.proofs.reading.tags.Given as goal
 

@@ -2,7 +2,7 @@ use Rattle.std.proofs.Common.{◌∙◌, List, map, refl, rules}
 use Rattle.oci_names.specs.Text.{Text}
 use Rattle.std.proofs.lemmas.Iterator.Adapters.{YieldsList-from_vec}
 use Rattle.std.proofs.lemmas.Iterator.Consumers.{YieldsList-end}
-use Rattle.registry_lists.specs.Lists.{unnamed_item}
+use Rattle.list_texts.specs.Items.{unnamed_item}
 use Rattle.registry_lists.proofs.ListLemmas.{all_found, unnamed_are}
 use Rattle.registry_lists.proofs.reading.unnamed.Goals as goal
 

@@ -1,5 +1,5 @@
 use Rattle.std.proofs.Common.{◌≡◌, map}
-use Rattle.registry_lists.specs.Lists.{items_shown, unnamed_item}
+use Rattle.list_texts.specs.Items.{items_shown, unnamed_item}
 use Rattle.registry_lists.proofs.reading.unnamed.Given as goal
 
 abbrev pub invariant-loop-digest : goal.invariant-loop-digest

@@ -1,0 +1,4 @@
+pub mod Table
+pub mod Items
+pub mod Grants
+pub mod Texts
