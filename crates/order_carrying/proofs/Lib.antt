@@ -1,1 +1,2 @@
 pub mod OrderStatuses
+pub mod AnsweringLemmas

@@ -1,5 +1,4 @@
 pub mod Lines
 pub mod Reading
 pub mod Answers
-pub mod Answering
 pub mod Stopping

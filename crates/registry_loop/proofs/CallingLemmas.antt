@@ -7,7 +7,7 @@ use Rattle.std.proofs.lemmas.Bool.Decides.{nat_tests}
 use Rattle.std.proofs.lemmas.List.Elements.{All-nil, All-cons, All-append}
 use Rattle.oci_names.specs.Text.{Text}
 use Rattle.registry_model.specs.Keeping.{State}
-use Rattle.order_messages.specs.Answering.{AnswersLine, IsOneStep}
+use Rattle.order_carrying.specs.Answering.{AnswersLine, IsOneStep}
 use Rattle.registry_loop.specs.Together.{LeadsBeside}
 use Rattle.order_messages.specs.Stopping.{stop_line, stop_answer}
 use Rattle.registry_loop.specs.Calling.{Called, fresh, line_in, CarriesOutLine, Obeys, Attends, AttendsAll, Come, Stay}

@@ -8,7 +8,7 @@ use Rattle.registry_server.specs.Events.{Leads, elsewhere}
 use Rattle.registry_server.proofs.LedgerLemmas.{all_are_served}
 use Rattle.registry_server.proofs.RoomLemmas.{all_within}
 use Rattle.registry_server.proofs.CallLemmas.{leads_none, leads_then}
-use Rattle.order_messages.specs.Answering.{IsOneStep}
+use Rattle.order_carrying.specs.Answering.{IsOneStep}
 use Rattle.registry_loop.specs.Together.{ServesWithin, ServesTogether, LeadsBeside, bounds_of}
 
 pub within_from : (at_once buffer : ℕ) (s : State) (u : Open) (s' : State) → Leads (none (bounds_of at_once buffer)) s u s'

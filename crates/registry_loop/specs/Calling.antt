@@ -3,7 +3,7 @@ use Rattle.std.specs.Prelude.{◌≡◌, ◌≢◌, ◌⊎◌, ◌||◌, Bool, t
 use Rattle.std.specs.List.{list_any}
 use Rattle.oci_names.specs.Text.{Text}
 use Rattle.registry_model.specs.Keeping.{State}
-use Rattle.order_messages.specs.Answering.{AnswersLine, IsOneStep}
+use Rattle.order_carrying.specs.Answering.{AnswersLine, IsOneStep}
 use Rattle.order_messages.specs.Stopping.{stop_line, stop_answer}
 
 -- what came of a caller's line, whether it was carried out, the answer to it, whether there is nothing more

@@ -1,6 +1,6 @@
 //! Somebody who gives one order over a socket, or asks the server to stop.
 ghost use Rattle.std.specs.Prelude.{◌≡◌, ◌≢◌, ◌==◌, true, false, position, MatchOption, IfOk, OnErr};
-ghost use Rattle.order_messages.specs.Answering.{AnswersLine, IsOneStep};
+ghost use Rattle.order_carrying.specs.Answering.{AnswersLine, IsOneStep};
 ghost use Rattle.order_messages.specs.Stopping.{stop_line, stop_answer};
 ghost use Rattle.registry_loop.specs.Calling.{Attends, Obeys, fresh, line_in};
 ghost use Rattle.registry_loop.specs.Calls.{called};
@@ -8,7 +8,8 @@ ghost use Rattle.registry_loop.specs.Calls.{called};
 use mio::Token;
 use mio::event::Event;
 use mio::net::UnixStream;
-use order_messages::{LONGEST_LINE, answer_line, is_stop, write_stopping};
+use order_carrying::answer_line;
+use order_messages::{LONGEST_LINE, is_stop, write_stopping};
 use registry_model::Keeper;
 use registry_service::Service;
 use std::alloc::{AllocError, Global};

@@ -2,9 +2,8 @@
 
 use crate::setting::{Registry, empty, same};
 use oci_names::{RepoName, Token};
-use order_messages::{
-    STOP, Unread, answer_line, is_stop, read_answer, read_order, write_order, write_stopping,
-};
+use order_carrying::answer_line;
+use order_messages::{STOP, Unread, is_stop, read_answer, read_order, write_order, write_stopping};
 use registry_model::Level;
 use registry_orders::{Change, Form, Listing, Order, Shown};
 use std::alloc::Global;

@@ -1,6 +1,6 @@
 use Rattle.std.proofs.Common.{◌≡◌, ◌==◌, true, min, position, length, take, inl, inr, refl, ap, subst, sym, ◌∙◌, arith}
 use Rattle.oci_names.specs.Text.{Text}
-use Rattle.order_messages.specs.Answering.{AnswersLine}
+use Rattle.order_carrying.specs.Answering.{AnswersLine}
 use Rattle.registry_loop.specs.Calling.{Called}
 use Rattle.registry_loop.proofs.CallingLemmas.{found_line, obeyed_line, obeyed_by}
 use Rattle.registry_loop.proofs.caller.Caller.obey.Goals as goal

@@ -1,10 +1,9 @@
 //! An order carried out over a service that goes on, and answered.
 ghost use Rattle.std.specs.Prelude.{◌≡◌, IfOk, OnErr};
-ghost use Rattle.order_messages.specs.Answering.{IsAnswered, AnswersLine, IsOneStep};
+ghost use Rattle.order_carrying.specs.Answering.{IsAnswered, AnswersLine, IsOneStep};
 
-use crate::answer::write_failure;
-use crate::reading::{Unread, read_order};
-use order_carrying::carry_over;
+use crate::carrying::carry_over;
+use order_messages::{Unread, read_order, write_failure};
 use registry_model::Keeper;
 use registry_orders::{Failure, Order};
 use registry_service::Service;
