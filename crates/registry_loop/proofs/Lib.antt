@@ -1,2 +1,2 @@
 pub mod TogetherLemmas
-pub mod CallingLemmas
+pub mod CallerLemmas

@@ -1,3 +1,1 @@
 pub mod Together
-pub mod Calling
-pub mod Calls

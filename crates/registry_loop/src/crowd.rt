@@ -5,7 +5,6 @@ ghost use Rattle.registry_server.specs.Showing.{connected};
 ghost use Rattle.registry_server.specs.Lives.{NoneSilent};
 ghost use Rattle.registry_loop.specs.Together.{LeadsBeside, bounds_of, most_silence};
 
-use crate::callers::Callers;
 use crate::gathering::Gathering;
 use crate::log::Log;
 use crate::peer::Peer;
@@ -13,6 +12,7 @@ use crate::peers::{forget, is_any_ready, leaves, note};
 use crate::stopping::{is_end, watch};
 use mio::net::TcpListener;
 use mio::{Events, Interest, Poll, Token};
+use order_callers::Callers;
 use registry_model::Keeper;
 use registry_orders::Limits;
 use registry_server::{Bounds, Connections, Turn};

@@ -5,8 +5,6 @@
 //! no contract says.
 #![tactic(auto)]
 
-pub mod caller;
-pub mod callers;
 pub mod crowd;
 pub mod gathering;
 pub mod limit;
