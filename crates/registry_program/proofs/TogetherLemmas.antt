@@ -1,5 +1,5 @@
 -- What is said of an address, by how many connections may be there at once.
-use Rattle.std.proofs.Common.{◌≡◌, ◌≢◌, Bool, Result, Ok, Err, sym, subst, eq-eqb}
+use Rattle.std.proofs.Common.{◌≡◌, ◌≢◌, ◌⊎◌, ◌∙◌, Bool, true, false, inl, inr, Result, Ok, Err, ap, sym, subst, eq-eqb}
 use Rattle.std.specs.Bool.{MatchBool}
 use Rattle.std.proofs.lemmas.Bool.{ne_eqb}
 use Rattle.registry_model.specs.Keeping.{State}
@@ -34,3 +34,10 @@ alone limits e s s' x =
 pub many : (limits : Limits) → limits.at_once ≢ 1 → (s s' : State) → ServesTogether limits.at_once s s' → serves_within limits s s'
 many limits ne s s' x =
     subst (λ (b : Bool). MatchBool b (ServesSome s s') (ServesTogether limits.at_once s s')) (sym (ne_eqb limits.at_once 1 ne)) x
+
+-- where the service is spent, the registry is opened again
+pub opened_again : {K : Type 0} (is_honest : K → Type 0) (state : K → State) (opens : State → Type 0) (k next : K)
+    → (state k).spent ≡ true → (state next).spent ≡ false → (next ≡ k) ⊎ (is_honest next → opens (state next)) → is_honest next → opens (state next)
+opened_again is_honest state opens k next spent fresh (inl same) honest =
+    absurd (let e : true ≡ false = sym spent ∙ ap (λ x. (state x).spent) (sym same) ∙ fresh in cc)
+opened_again is_honest state opens k next spent fresh (inr opened) honest = opened honest

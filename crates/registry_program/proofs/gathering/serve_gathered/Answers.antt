@@ -1,4 +1,6 @@
+use Rattle.std.proofs.Common.{sym, subst}
 use Rattle.registry_loop.proofs.TogetherLemmas.{together_none}
+use Rattle.registry_program.proofs.TogetherLemmas.{opened_again}
 use Rattle.registry_program.proofs.gathering.serve_gathered.Goals as goal
 
 pub returns-in-Ok-true-clause-served : goal.returns-in-Ok-true-clause-served
@@ -20,3 +22,14 @@ returns-clause-served g c = record {
     together_none c.args.at_once (g.K.Keeper.state c.loop.service),
   );
 }
+
+pub loop-init : goal.loop-init
+loop-init g c honest =
+    let k = g.K.Keeper in
+    subst (λ x. k.is_honest x → g.O.Opener.opens c.args.opener.now c.args.path.now (k.state x)) (sym c.new-service.ensures) c.requires.opened honest
+
+pub loop-preserved : goal.loop-preserved
+loop-preserved g c =
+    let k = g.K.Keeper in
+    opened_again k.is_honest k.state (g.O.Opener.opens c.args.opener.now c.args.path.now) c.serve_all.new.service c.in_ok-service-in-Ok-false.service
+    (c.in-Ok-false.ensures.spent c.in-Ok-false.field-0-test) c.in_ok-service-in-Ok-false.ensures.fresh c.in_ok-service-in-Ok-false.ensures.resumed
