@@ -3,7 +3,7 @@
 
 use crate::setting::{Registry, same, setting};
 use crate::texts::{
-    BAD_REQUEST, CONTINUE, HELLO, IN_CHUNKS, created, joined, push, three_replies, three_requests,
+    BAD_REQUEST, CONTINUE, HELLO, IN_CHUNKS, PUSH, THREE_REPLIES, THREE_REQUESTS, filled,
 };
 use registry_conversation::{Conversation, Step, Wants};
 use registry_http::{End, FramingRefusal};
@@ -27,21 +27,6 @@ fn new_talk(rt: &impl Abort, alloc: Global) -> Talk {
         registry: setting(rt, alloc),
         output: Vec::new(alloc),
     }
-}
-
-/// Some bytes come.
-fn hear(talk: &mut Talk, bytes: &[u8]) {
-    talk.conversation.receive(bytes);
-}
-
-/// The input ends.
-fn finish(talk: &mut Talk) {
-    talk.conversation.finish();
-}
-
-/// Room that holds nothing is given back.
-fn give_back(alloc: Global, talk: &mut Talk) {
-    talk.conversation.give_back(alloc);
 }
 
 /// A turn, after which nothing goes out.
@@ -78,166 +63,179 @@ fn turns(rt: &impl Abort, alloc: Global, talk: &mut Talk) -> Step {
     Step::Answered
 }
 
-/// These bytes come, and the next turn comes to this; this has gone out then.
-fn goes_on(
-    rt: &impl Abort,
-    alloc: Global,
-    talk: &mut Talk,
-    place: usize,
-    bytes: &[u8],
-    step: Step,
-    output: &[u8],
-) {
-    hear(talk, bytes);
-    same(rt, place, turn(rt, alloc, talk), step);
-    same(rt, place, talk.output.as_slice(), output);
-}
-
-/// It holds so many bytes, and waits for this.
-fn is_at(rt: &impl Abort, talk: &Talk, held: usize, wants: Wants) {
-    same(rt, held, talk.conversation.held(), held);
-    same(rt, held, talk.conversation.wants(), wants);
-}
-
 /// Whatever is in hand where the input is cut, the same goes out.
 fn is_cut_at(rt: &impl Abort, alloc: Global, input: &[u8], output: &[u8], at: usize) {
     let (front, rest) = input.split_at(at.min(input.len()));
     let mut talk = new_talk(rt, alloc);
-    hear(&mut talk, front);
+    talk.conversation.receive(front);
     let _ = turns(rt, alloc, &mut talk);
     assert!(rt; output.starts_with(talk.output.as_slice()));
-    give_back(alloc, &mut talk);
-    hear(&mut talk, rest);
-    finish(&mut talk);
-    same(
-        rt,
-        at,
-        turns(rt, alloc, &mut talk),
-        Step::Ended(End::Closed),
-    );
+    talk.conversation.give_back(alloc);
+    talk.conversation.receive(rest);
+    talk.conversation.finish();
+    let step = turns(rt, alloc, &mut talk);
+    same(rt, at, step, Step::Ended(End::Closed));
     same(rt, at, talk.output.as_slice(), output);
 }
 
-/// Three requests, cut at every byte; before the replies to them goes this.
-fn are_cut(rt: &impl Abort, alloc: Global, body: &str, before: &str) {
-    let input = three_requests(rt, alloc, "team/app", HELLO, body);
-    let replies = three_replies(rt, alloc, "team/app", HELLO, "hello");
-    let output = joined(rt, alloc, &[before, replies.as_str()]);
-    for at in 0..input.len() + 1 {
-        is_cut_at(rt, alloc, input.as_bytes(), output.as_bytes(), at);
+/// Three requests, by their length and in chunks, cut at every byte; and what goes round the replies.
+#[test]
+fn requests_cut_at_every_byte(rt: HostRuntime) {
+    let (alloc, waited) = (rt.alloc(), "HTTP/1.1 100 Continue\r\n\r\n{body}");
+    for (body, whole) in [(BY_LENGTH, "{body}"), (IN_CHUNKS, waited)] {
+        let input = filled(&rt, alloc, THREE_REQUESTS, "team/app", HELLO, body);
+        let replies = filled(&rt, alloc, THREE_REPLIES, "team/app", HELLO, "hello");
+        let output = filled(&rt, alloc, whole, "", "", replies.as_str());
+        for at in 0..input.len() + 1 {
+            is_cut_at(&rt, alloc, input.as_bytes(), output.as_bytes(), at);
+        }
     }
 }
 
-/// By their length and in chunks.
-#[test]
-fn requests_cut_at_every_byte(rt: HostRuntime) {
-    are_cut(&rt, rt.alloc(), BY_LENGTH, "");
-    are_cut(&rt, rt.alloc(), IN_CHUNKS, CONTINUE);
+/// What happens to a conversation, and what comes of it. A body stands for the word in a text of what comes,
+/// and `hello` in one of what goes.
+#[derive(Clone, Copy)]
+enum Event<'a> {
+    /// Bytes come.
+    Hear(&'a str, &'a str),
+    /// The input ends.
+    Finish,
+    /// Room that holds nothing is given back.
+    GiveBack,
+    /// A turn comes to this, after which nothing goes out.
+    Step(Step),
+    /// A turn comes to this, after which all goes out.
+    Turn(Step),
+    /// This has gone out.
+    Went(&'a str),
+    /// A turn answers a request with a body of so many bytes; a log is told it, and no query.
+    Answers(&'a str, usize),
+    /// It holds so many bytes, and waits for this.
+    Holds(usize, Wants),
 }
 
-/// The next turn answers this request, with a body of so many bytes; a log is told it, and no query.
-fn answers_one(
-    rt: &impl Abort,
-    alloc: Global,
-    talk: &mut Talk,
-    method: &str,
-    path: &str,
-    came: usize,
-) {
-    let before = talk.output.len();
-    same(rt, came, turn(rt, alloc, talk), Step::Answered);
-    assert!(rt; before < talk.output.len());
-    let line = joined(rt, alloc, &[method, " /v2/team/app/blobs/", path]);
-    same(
-        rt,
-        came,
-        talk.conversation.exchange().line(),
-        line.as_bytes(),
-    );
-    same(rt, came, talk.conversation.exchange().came(), came);
+fn happens(rt: &impl Abort, alloc: Global, place: usize, talk: &mut Talk, event: Event) {
+    match event {
+        Event::Hear(text, body) => {
+            let text = filled(rt, alloc, text, "team/app", HELLO, body);
+            talk.conversation.receive(text.as_bytes());
+        }
+        Event::Finish => talk.conversation.finish(),
+        Event::GiveBack => talk.conversation.give_back(alloc),
+        Event::Step(wanted) => same(rt, place, step(alloc, talk), wanted),
+        Event::Turn(wanted) => same(rt, place, turn(rt, alloc, talk), wanted),
+        Event::Went(output) => {
+            let output = filled(rt, alloc, output, "team/app", HELLO, "hello");
+            same(rt, place, talk.output.as_slice(), output.as_bytes());
+        }
+        Event::Answers(line, came) => {
+            let line = filled(rt, alloc, line, "team/app", HELLO, "");
+            let before = talk.output.len();
+            same(rt, place, turn(rt, alloc, talk), Step::Answered);
+            assert!(rt; before < talk.output.len());
+            same(
+                rt,
+                place,
+                talk.conversation.exchange().line(),
+                line.as_bytes(),
+            );
+            same(rt, place, talk.conversation.exchange().came(), came);
+        }
+        Event::Holds(held, wants) => {
+            same(rt, place, talk.conversation.held(), held);
+            same(rt, place, talk.conversation.wants(), wants);
+        }
+    }
+}
+
+/// All of it happens, one after the other.
+fn all_happens(rt: &impl Abort, alloc: Global, events: &[Event]) {
+    let mut talk = new_talk(rt, alloc);
+    for (place, event) in events.iter().enumerate() {
+        happens(rt, alloc, place, &mut talk, *event);
+    }
 }
 
 /// Three requests that came at once take three turns, and a log is told each in its turn.
+const AT_ONCE: [Event; 7] = [
+    Event::Hear(THREE_REQUESTS, BY_LENGTH),
+    Event::Answers("POST /v2/{name}/blobs/uploads/", 5),
+    Event::Answers("GET /v2/{name}/blobs/{digest}", 0),
+    Event::Answers("HEAD /v2/{name}/blobs/{digest}", 0),
+    Event::Went(THREE_REPLIES),
+    Event::Turn(Step::Ended(End::Closed)),
+    Event::Went(THREE_REPLIES),
+];
+
 #[test]
 fn one_request_a_turn(rt: HostRuntime) {
-    let alloc = rt.alloc();
-    let input = three_requests(&rt, alloc, "team/app", HELLO, BY_LENGTH);
-    let output = three_replies(&rt, alloc, "team/app", HELLO, "hello");
-    let mut talk = new_talk(&rt, alloc);
-    hear(&mut talk, input.as_bytes());
-    answers_one(&rt, alloc, &mut talk, "POST", "uploads/", 5);
-    answers_one(&rt, alloc, &mut talk, "GET", HELLO, 0);
-    answers_one(&rt, alloc, &mut talk, "HEAD", HELLO, 0);
-    same(&rt, 3, talk.output.as_slice(), output.as_bytes());
-    goes_on(
-        &rt,
-        alloc,
-        &mut talk,
-        4,
-        b"",
-        Step::Ended(End::Closed),
-        output.as_bytes(),
-    );
+    all_happens(&rt, rt.alloc(), AT_ONCE.as_slice());
 }
+
+/// The reply to a push whose client waits.
+const CONTINUE_AND_CREATED: &str = "HTTP/1.1 100 Continue\r\n\r\n\
+      HTTP/1.1 201 Created\r\nContent-Length: 0\r\nDocker-Content-Digest: {digest}\r\n\
+      Location: /v2/{name}/blobs/{digest}\r\n\r\n";
 
 /// A client that waits is told so once, before its body came.
+const WAITING: [Event; 11] = [
+    Event::Hear(PUSH, "Expect: 100-continue\r\nContent-Length: 5\r\n\r\n"),
+    Event::Turn(Step::Waits),
+    Event::Went(CONTINUE),
+    Event::Turn(Step::Waits),
+    Event::Went(CONTINUE),
+    Event::Hear("hel", ""),
+    Event::Turn(Step::Waits),
+    Event::Went(CONTINUE),
+    Event::Hear("lo", ""),
+    Event::Turn(Step::Answered),
+    Event::Went(CONTINUE_AND_CREATED),
+];
+
 #[test]
 fn continue_before_the_body(rt: HostRuntime) {
-    let alloc = rt.alloc();
-    let fields = "Expect: 100-continue\r\nContent-Length: 5\r\n\r\n";
-    let head = push(&rt, alloc, "team/app", HELLO, fields);
-    let reply = created(&rt, alloc, "team/app", HELLO);
-    let output = joined(&rt, alloc, &[CONTINUE, reply.as_str()]);
-    let before = CONTINUE.as_bytes();
-    let mut talk = new_talk(&rt, alloc);
-    goes_on(
-        &rt,
-        alloc,
-        &mut talk,
-        0,
-        head.as_bytes(),
-        Step::Waits,
-        before,
-    );
-    goes_on(&rt, alloc, &mut talk, 1, b"", Step::Waits, before);
-    goes_on(&rt, alloc, &mut talk, 2, b"hel", Step::Waits, before);
-    goes_on(
-        &rt,
-        alloc,
-        &mut talk,
-        3,
-        b"lo",
-        Step::Answered,
-        output.as_bytes(),
-    );
+    all_happens(&rt, rt.alloc(), WAITING.as_slice());
 }
 
+const REFUSED: Step = Step::Ended(End::Refused(FramingRefusal::UnreadableChunk));
+
 /// A refusal is the end, and bytes behind it come to nothing.
+const REFUSAL: [Event; 9] = [
+    Event::Hear(
+        "POST / HTTP/1.1\r\nHost: r\r\nTransfer-Encoding: chunked\r\n\r\n3\r\nabcX",
+        "",
+    ),
+    Event::Step(REFUSED),
+    Event::Holds(BAD_REQUEST.len(), Wants::Room),
+    Event::Turn(REFUSED),
+    Event::Went(BAD_REQUEST),
+    Event::Holds(0, Wants::Nothing),
+    Event::Hear("GET /v2/ HTTP/1.1\r\nHost: r\r\n\r\n", ""),
+    Event::Turn(REFUSED),
+    Event::Went(BAD_REQUEST),
+];
+
 #[test]
 fn refusal_ends_it(rt: HostRuntime) {
-    let alloc = rt.alloc();
-    let unreadable = b"POST / HTTP/1.1\r\nHost: r\r\nTransfer-Encoding: chunked\r\n\r\n3\r\nabcX";
-    let end = Step::Ended(End::Refused(FramingRefusal::UnreadableChunk));
-    let mut talk = new_talk(&rt, alloc);
-    hear(&mut talk, unreadable);
-    same(&rt, 0, step(alloc, &mut talk), end);
-    is_at(&rt, &talk, BAD_REQUEST.len(), Wants::Room);
-    goes_on(&rt, alloc, &mut talk, 1, b"", end, BAD_REQUEST);
-    is_at(&rt, &talk, 0, Wants::Nothing);
-    let behind = b"GET /v2/ HTTP/1.1\r\nHost: r\r\n\r\n";
-    goes_on(&rt, alloc, &mut talk, 2, behind, end, BAD_REQUEST);
+    all_happens(&rt, rt.alloc(), REFUSAL.as_slice());
 }
+
+/// Whatever comes behind the end of the input completes no head.
+const CUT: [Event; 11] = [
+    Event::Holds(0, Wants::Bytes),
+    Event::Hear("GET /v2/ HT", ""),
+    Event::Turn(Step::Waits),
+    Event::Went(""),
+    Event::Holds(11, Wants::Bytes),
+    Event::GiveBack,
+    Event::Holds(11, Wants::Bytes),
+    Event::Finish,
+    Event::Hear("TP/1.1\r\nHost: r\r\n\r\n", ""),
+    Event::Turn(Step::Ended(End::Cut)),
+    Event::Went(""),
+];
 
 #[test]
 fn input_ends_in_a_head(rt: HostRuntime) {
-    let alloc = rt.alloc();
-    let mut talk = new_talk(&rt, alloc);
-    is_at(&rt, &talk, 0, Wants::Bytes);
-    goes_on(&rt, alloc, &mut talk, 0, b"GET /v2/ HT", Step::Waits, b"");
-    is_at(&rt, &talk, 11, Wants::Bytes);
-    give_back(alloc, &mut talk);
-    is_at(&rt, &talk, 11, Wants::Bytes);
-    finish(&mut talk);
-    let behind = b"TP/1.1\r\nHost: r\r\n\r\n";
-    goes_on(&rt, alloc, &mut talk, 1, behind, Step::Ended(End::Cut), b"");
+    all_happens(&rt, rt.alloc(), CUT.as_slice());
 }

@@ -4,8 +4,8 @@
 use crate::setting::{Registry, add, empty, grant, is_answered, is_told, setting};
 use crate::streams::Reads;
 use crate::texts::{
-    ABC, BLOB_UNKNOWN, CONTINUE, DELETED, HELLO, IN_CHUNKS, created, found, joined, on_blob, push,
-    three_replies, three_requests,
+    ABC, BLOB_UNKNOWN, CREATED, DELETE, DELETED, GET, HELLO, IN_CHUNKS, PUSH, THREE_REPLIES,
+    THREE_REQUESTS, filled,
 };
 use registry_http::End;
 use registry_model::Level;
@@ -21,7 +21,19 @@ const BY_LENGTH: &str = "Content-Length: 3\r\n\r\nabc";
 /// The same in a chunk.
 const IN_A_CHUNK: &str = "Transfer-Encoding: chunked\r\n\r\n3\r\nabc\r\n0\r\n\r\n";
 
-/// A push and the fetch behind it, and the replies to both; how long the push is, and the reply to it.
+/// A push and the fetch behind it.
+const PUSH_AND_GET: &str = "POST /v2/{name}/blobs/uploads/?digest={digest} HTTP/1.1\r\nHost: r\r\n\
+      Authorization: Bearer t1\r\n{body}\
+      GET /v2/{name}/blobs/{digest} HTTP/1.1\r\nHost: r\r\nAuthorization: Bearer t1\r\n\r\n";
+
+/// The replies to both.
+const CREATED_AND_FOUND: &str =
+    "HTTP/1.1 201 Created\r\nContent-Length: 0\r\nDocker-Content-Digest: {digest}\r\n\
+      Location: /v2/{name}/blobs/{digest}\r\n\r\n\
+      HTTP/1.1 200 OK\r\nContent-Length: {length}\r\nContent-Type: application/octet-stream\r\n\
+      Docker-Content-Digest: {digest}\r\n\r\n{body}";
+
+/// Both, and how long the push is, and the reply to it.
 #[derive(Drop)]
 struct Pair {
     input: String,
@@ -30,17 +42,14 @@ struct Pair {
     created: usize,
 }
 
-/// The push of this blob with these fields and this body, and the fetch of it.
-fn push_and_get(rt: &impl Abort, alloc: Global, digest: &str, data: &str, rest: &str) -> Pair {
-    let push = push(rt, alloc, "team/app", digest, rest);
-    let get = on_blob(rt, alloc, "GET", "team/app", digest, "");
-    let created = created(rt, alloc, "team/app", digest);
-    let found = found(rt, alloc, digest, data);
+/// The push of `abc` with these fields and this body, and the fetch of it.
+fn push_and_get(rt: &impl Abort, alloc: Global, rest: &str) -> Pair {
+    let (name, data) = ("team/app", "abc");
     Pair {
-        input: joined(rt, alloc, &[push.as_str(), get.as_str()]),
-        pushed: push.len(),
-        output: joined(rt, alloc, &[created.as_str(), found.as_str()]),
-        created: created.len(),
+        input: filled(rt, alloc, PUSH_AND_GET, name, ABC, rest),
+        pushed: filled(rt, alloc, PUSH, name, ABC, rest).len(),
+        output: filled(rt, alloc, CREATED_AND_FOUND, name, ABC, data),
+        created: filled(rt, alloc, CREATED, name, ABC, data).len(),
     }
 }
 
@@ -78,25 +87,18 @@ fn is_stopped_at(
     let output = first(pair.output.as_str(), written);
     let mut reader = first(pair.input.as_str(), come);
     is_answered(rt, alloc, registry, come, &mut reader, end, output);
-    let mut reader = Reads::failing(pair.input.as_bytes(), 1, come);
-    is_answered(
-        rt,
-        alloc,
-        registry,
-        come,
-        &mut reader,
-        End::ReadFailed,
-        output,
-    );
+    let all = Reads::of(pair.input.as_bytes(), 1);
+    let (mut reader, end) = (Reads { room: come, ..all }, End::ReadFailed);
+    is_answered(rt, alloc, registry, come, &mut reader, end, output);
 }
 
 /// A request that is not whole leaves nothing behind, so one registry serves for all places.
 fn is_stopped_at_each_byte(rt: &impl Abort, alloc: Global, rest: &str) {
-    let pair = push_and_get(rt, alloc, ABC, "abc", rest);
+    let pair = push_and_get(rt, alloc, rest);
     let mut registry = setting(rt, alloc);
     for come in 0..pair.input.len() + 1 {
         if come == pair.pushed {
-            is_told(rt, alloc, &mut registry, "GET", ABC, BLOB_UNKNOWN);
+            is_told(rt, alloc, &mut registry, ABC, GET, BLOB_UNKNOWN);
         }
         is_stopped_at(rt, alloc, &mut registry, &pair, come);
     }
@@ -106,48 +108,52 @@ fn is_stopped_at_each_byte(rt: &impl Abort, alloc: Global, rest: &str) {
 /// whole requests before.
 #[test]
 fn input_stopped_at_each_byte(rt: HostRuntime) {
-    is_stopped_at_each_byte(&rt, rt.alloc(), BY_LENGTH);
-    is_stopped_at_each_byte(&rt, rt.alloc(), IN_A_CHUNK);
+    for rest in [BY_LENGTH, IN_A_CHUNK] {
+        is_stopped_at_each_byte(&rt, rt.alloc(), rest);
+    }
 }
 
-/// What a connection says and what is answered, and the digest of the blob that it pushes.
-#[derive(Drop)]
-struct Talk<'a> {
-    digest: &'a str,
-    input: String,
-    output: String,
-}
-
-/// Serves one connection in these reads, and deletes what was pushed.
+/// Serves one connection in these reads, and deletes the blob that was pushed.
 fn is_served(
     rt: &impl Abort,
     alloc: Global,
     registry: &mut Registry,
-    talk: &Talk,
     mut reader: Reads,
+    output: &[u8],
+    mut delete: &[u8],
 ) {
-    let cut = reader.cut;
+    let (place, end) = (reader.cut, End::Closed);
+    is_answered(rt, alloc, registry, place, &mut reader, end, output);
     is_answered(
         rt,
         alloc,
         registry,
-        cut,
-        &mut reader,
-        End::Closed,
-        talk.output.as_bytes(),
+        place,
+        &mut delete,
+        end,
+        DELETED.as_bytes(),
     );
-    is_told(rt, alloc, registry, "DELETE", talk.digest, DELETED);
 }
 
 /// Wherever the input is cut into two reads, and in reads of several sizes, the same is written.
-fn is_cut_anywhere(rt: &impl Abort, alloc: Global, talk: &Talk) {
+fn is_cut_anywhere(rt: &impl Abort, alloc: Global, digest: &str, input: &[u8], output: &[u8]) {
     let mut registry = setting(rt, alloc);
-    let input = talk.input.as_bytes();
-    for at in 1..input.len() + 1 {
-        is_served(rt, alloc, &mut registry, talk, Reads::cut(input, at));
+    let delete = filled(rt, alloc, DELETE, "team/app", digest, "");
+    let delete = delete.as_bytes();
+    for cut in 1..input.len() + 1 {
+        let whole = Reads::of(input, usize::MAX);
+        is_served(
+            rt,
+            alloc,
+            &mut registry,
+            Reads { cut, ..whole },
+            output,
+            delete,
+        );
     }
     for size in [1, 2, 7, 100] {
-        is_served(rt, alloc, &mut registry, talk, Reads::of(input, size));
+        let reader = Reads::of(input, size);
+        is_served(rt, alloc, &mut registry, reader, output, delete);
     }
 }
 
@@ -156,73 +162,50 @@ fn is_cut_anywhere(rt: &impl Abort, alloc: Global, talk: &Talk) {
 #[test]
 fn whole_input_in_all_cuts(rt: HostRuntime) {
     let alloc = rt.alloc();
-    let talk = Talk {
-        digest: ABC,
-        input: three_requests(&rt, alloc, "team/app", ABC, BY_LENGTH),
-        output: three_replies(&rt, alloc, "team/app", ABC, "abc"),
-    };
-    is_cut_anywhere(&rt, alloc, &talk);
+    let input = filled(&rt, alloc, THREE_REQUESTS, "team/app", ABC, BY_LENGTH);
+    let output = filled(&rt, alloc, THREE_REPLIES, "team/app", ABC, "abc");
+    is_cut_anywhere(&rt, alloc, ABC, input.as_bytes(), output.as_bytes());
 }
 
 /// A push in chunks, with an extension, a trailer and a client that waits, and a fetch with a body,
 /// which is read and ignored.
+const CHUNKED: &str = "POST /v2/{name}/blobs/uploads/?digest={digest} HTTP/1.1\r\nHost: r\r\n\
+      Authorization: Bearer t1\r\n{body}\
+      GET /v2/{name}/blobs/{digest} HTTP/1.1\r\nHost: r\r\nAuthorization: Bearer t1\r\n\
+      Content-Length: 4\r\n\r\nGET ";
+
+const TO_CHUNKED: &str = "HTTP/1.1 100 Continue\r\n\r\n\
+      HTTP/1.1 201 Created\r\nContent-Length: 0\r\nDocker-Content-Digest: {digest}\r\n\
+      Location: /v2/{name}/blobs/{digest}\r\n\r\n\
+      HTTP/1.1 200 OK\r\nContent-Length: {length}\r\nContent-Type: application/octet-stream\r\n\
+      Docker-Content-Digest: {digest}\r\n\r\n{body}";
+
 #[test]
 fn chunked_input_in_all_cuts(rt: HostRuntime) {
     let alloc = rt.alloc();
-    let push = push(&rt, alloc, "team/app", HELLO, IN_CHUNKS);
-    let get = on_blob(
-        &rt,
-        alloc,
-        "GET",
-        "team/app",
-        HELLO,
-        "Content-Length: 4\r\n",
-    );
-    let created = created(&rt, alloc, "team/app", HELLO);
-    let found = found(&rt, alloc, HELLO, "hello");
-    let talk = Talk {
-        digest: HELLO,
-        input: joined(&rt, alloc, &[push.as_str(), get.as_str(), "GET "]),
-        output: joined(&rt, alloc, &[CONTINUE, created.as_str(), found.as_str()]),
-    };
-    is_cut_anywhere(&rt, alloc, &talk);
+    let input = filled(&rt, alloc, CHUNKED, "team/app", HELLO, IN_CHUNKS);
+    let output = filled(&rt, alloc, TO_CHUNKED, "team/app", HELLO, "hello");
+    is_cut_anywhere(&rt, alloc, HELLO, input.as_bytes(), output.as_bytes());
 }
 
-/// So many bytes `k`.
-fn data(rt: &impl Abort, alloc: Global, count: usize) -> String {
-    "k".repeat(alloc, count).expect(rt, "memory")
-}
+/// A body of 200,000 bytes: parts of so many, so many times; the texts round a part, and round all of them.
+type Long = (usize, usize, &'static str, &'static str);
 
-/// 200,000 bytes by their length.
-fn long_by_length(rt: &impl Abort, alloc: Global) -> String {
-    let data = data(rt, alloc, 200_000);
-    joined(
-        rt,
-        alloc,
-        &["Content-Length: 200000\r\n\r\n", data.as_str()],
-    )
-}
+const CHUNKS: &str = "Transfer-Encoding: chunked\r\n\r\n{body}0\r\n\r\n";
 
-/// So many bytes, so many times, in chunks whose length has this text.
-fn long_in_chunks(
-    rt: &impl Abort,
-    alloc: Global,
-    length: &str,
-    count: usize,
-    times: usize,
-) -> String {
-    let data = data(rt, alloc, count);
-    let chunk = joined(rt, alloc, &[length, "\r\n", data.as_str(), "\r\n"]);
-    let chunks = chunk.repeat(alloc, times).expect(rt, "memory");
-    joined(
-        rt,
-        alloc,
-        &[
-            "Transfer-Encoding: chunked\r\n\r\n",
-            chunks.as_str(),
-            "0\r\n\r\n",
-        ],
-    )
+/// By its length, in chunks of 1,000 and in chunks of 40,000.
+const LONG_BODIES: [Long; 3] = [
+    (200_000, 1, "{body}", "Content-Length: 200000\r\n\r\n{body}"),
+    (1_000, 200, "3e8\r\n{body}\r\n", CHUNKS),
+    (40_000, 5, "9c40\r\n{body}\r\n", CHUNKS),
+];
+
+/// Such a body, behind its fields.
+fn written(rt: &impl Abort, alloc: Global, (count, times, part, whole): Long) -> String {
+    let data = "k".repeat(alloc, count).expect(rt, "memory");
+    let part = filled(rt, alloc, part, "", "", data.as_str());
+    let parts = part.repeat(alloc, times).expect(rt, "memory");
+    filled(rt, alloc, whole, "", "", parts.as_str())
 }
 
 /// A registry with room for 200,000 bytes.
@@ -234,31 +217,30 @@ fn large_setting(rt: &impl Abort, alloc: Global) -> Registry {
 }
 
 /// Pushes 200,000 bytes with these fields and this body, and fetches them, in reads of several sizes.
-fn is_pushed(rt: &impl Abort, alloc: Global, rest: String) {
-    let data = data(rt, alloc, 200_000);
-    let pair = push_and_get(rt, alloc, LONG, data.as_str(), rest.as_str());
+fn is_pushed(rt: &impl Abort, alloc: Global, rest: &str) {
+    let data = "k".repeat(alloc, 200_000).expect(rt, "memory");
+    let input = filled(rt, alloc, PUSH_AND_GET, "team/app", LONG, rest);
+    let output = filled(
+        rt,
+        alloc,
+        CREATED_AND_FOUND,
+        "team/app",
+        LONG,
+        data.as_str(),
+    );
     for size in [999, 4_096, 65_536, 65_537, 131_072, 1_000_000] {
         let mut registry = large_setting(rt, alloc);
-        let mut reader = Reads::of(pair.input.as_bytes(), size);
-        let output = pair.output.as_bytes();
-        is_answered(
-            rt,
-            alloc,
-            &mut registry,
-            size,
-            &mut reader,
-            End::Closed,
-            output,
-        );
+        let mut reader = Reads::of(input.as_bytes(), size);
+        let (end, output) = (End::Closed, output.as_bytes());
+        is_answered(rt, alloc, &mut registry, size, &mut reader, end, output);
     }
 }
 
-/// A body that is longer than a read, and than the room for one: by its length, in chunks of 1,000 and in
-/// chunks of 40,000.
+/// A body that is longer than a read, and than the room for one.
 #[test]
 fn body_longer_than_a_read(rt: HostRuntime) {
-    let alloc = rt.alloc();
-    is_pushed(&rt, alloc, long_by_length(&rt, alloc));
-    is_pushed(&rt, alloc, long_in_chunks(&rt, alloc, "3e8", 1_000, 200));
-    is_pushed(&rt, alloc, long_in_chunks(&rt, alloc, "9c40", 40_000, 5));
+    for long in LONG_BODIES.iter() {
+        let rest = written(&rt, rt.alloc(), *long);
+        is_pushed(&rt, rt.alloc(), rest.as_str());
+    }
 }

@@ -3,20 +3,20 @@
 use crate::setting::{Registry, connect, empty, is_answered, is_told, same, setting};
 use crate::streams::{Reads, Writes};
 use crate::texts::{
-    ABC, BAD_REQUEST, BLOB_UNKNOWN, CONTINUE, SMALL, TOKEN_REQUIRED, created, found, joined, push,
+    ABC, BAD_REQUEST, BLOB_UNKNOWN, CONTINUE, CREATED, FOUND, GET, PUSH, TOKEN_REQUIRED, filled,
 };
 use registry_http::{End, FramingRefusal};
 use std::alloc::Global;
 use std::process::Abort;
 
 /// The request for the base twice.
-const TWICE: &[u8] =
-    b"GET /v2/ HTTP/1.1\r\nHost: r\r\nAuthorization: Bearer t1\r\n\r\nGET /v2/ HTTP/1.1\r\nHost: r\r\n\
+const TWICE: &str =
+    "GET /v2/ HTTP/1.1\r\nHost: r\r\nAuthorization: Bearer t1\r\n\r\nGET /v2/ HTTP/1.1\r\nHost: r\r\n\
       Authorization: Bearer t1\r\n\r\n";
 
 /// The replies to them, of 72 bytes each.
-const BASES: &[u8] =
-    b"HTTP/1.1 200 OK\r\nContent-Length: 2\r\nContent-Type: application/json\r\n\r\n{}\
+const BASES: &str =
+    "HTTP/1.1 200 OK\r\nContent-Length: 2\r\nContent-Type: application/json\r\n\r\n{}\
       HTTP/1.1 200 OK\r\nContent-Length: 2\r\nContent-Type: application/json\r\n\r\n{}";
 
 /// Heads that no byte can complete.
@@ -39,18 +39,14 @@ const HOPELESS: [&[u8]; 5] = [
 fn hopeless_heads_are_refused_at_once(rt: HostRuntime) {
     let alloc = rt.alloc();
     let mut registry = setting(&rt, alloc);
-    let end = End::Refused(FramingRefusal::UnreadableHead);
+    let (end, output) = (
+        End::Refused(FramingRefusal::UnreadableHead),
+        BAD_REQUEST.as_bytes(),
+    );
     for (place, head) in HOPELESS.iter().enumerate() {
-        let mut reader = Reads::failing(head, usize::MAX, 1);
-        is_answered(
-            &rt,
-            alloc,
-            &mut registry,
-            place,
-            &mut reader,
-            end,
-            BAD_REQUEST,
-        );
+        let all = Reads::of(head, usize::MAX);
+        let mut reader = Reads { room: 1, ..all };
+        is_answered(&rt, alloc, &mut registry, place, &mut reader, end, output);
     }
 }
 
@@ -61,33 +57,36 @@ const OF_CURL: &[u8] = b"POST /v2/team/app/blobs/uploads/?digest=\
       Authorization: Bearer t1\r\nContent-Length: 3\r\n\
       Content-Type: application/x-www-form-urlencoded\r\nExpect: 100-continue\r\n\r\nabc";
 
+const TO_CURL: &str = "HTTP/1.1 100 Continue\r\n\r\n\
+      HTTP/1.1 201 Created\r\nContent-Length: 0\r\nDocker-Content-Digest: {digest}\r\n\
+      Location: /v2/{name}/blobs/{digest}\r\n\r\n";
+
 /// curl asks before it sends a long body: it is told to go on before a byte of the body is there.
 #[test]
 fn continue_is_written_before_the_body_comes(rt: HostRuntime) {
     let alloc = rt.alloc();
     let mut registry = setting(&rt, alloc);
     let (head, _) = OF_CURL.split_at(OF_CURL.len() - 3);
-    let mut reader = Reads::failing(head, usize::MAX, 1);
-    let before = CONTINUE.as_bytes();
+    let all = Reads::of(head, usize::MAX);
+    let (mut reader, end) = (Reads { room: 1, ..all }, End::ReadFailed);
     is_answered(
         &rt,
         alloc,
         &mut registry,
         0,
         &mut reader,
-        End::ReadFailed,
-        before,
+        end,
+        CONTINUE.as_bytes(),
     );
-    let created = created(&rt, alloc, "team/app", ABC);
-    let output = joined(&rt, alloc, &[CONTINUE, created.as_str()]);
-    let mut reader = OF_CURL;
+    let output = filled(&rt, alloc, TO_CURL, "team/app", ABC, "");
+    let (mut reader, end) = (OF_CURL, End::Closed);
     is_answered(
         &rt,
         alloc,
         &mut registry,
         1,
         &mut reader,
-        End::Closed,
+        end,
         output.as_bytes(),
     );
 }
@@ -100,70 +99,97 @@ const CHUNKS_AND_ONE: &[u8] =
     b"POST /v2/ HTTP/1.1\r\nHost: r\r\nTransfer-Encoding: Chunked\r\n\r\n3\r\nabc\r\n0\r\n\
       X: y\r\n\r\nGET / HTTP/1.1\r\nHost: r\r\n\r\n";
 
-/// A read fails behind this input, over a registry to which no token is known: so many requests are answered.
-fn read_fails_behind(rt: &impl Abort, alloc: Global, input: &[u8], requests: usize) {
-    let mut registry = empty(alloc);
-    let mut reader = Reads::failing(input, 1, input.len());
-    let output = TOKEN_REQUIRED.repeat(alloc, requests).expect(rt, "memory");
-    is_answered(
-        rt,
-        alloc,
-        &mut registry,
-        requests,
-        &mut reader,
-        End::ReadFailed,
-        &output,
-    );
-}
-
-/// In the middle of a second request, and behind one whose body comes in chunks.
+/// In the middle of a second request, and behind one whose body comes in chunks, over a registry to which no
+/// token is known: so many requests are answered.
 #[test]
 fn reader_fails_at_a_read(rt: HostRuntime) {
-    read_fails_behind(&rt, rt.alloc(), ONE_AND_MORE, 1);
-    read_fails_behind(&rt, rt.alloc(), CHUNKS_AND_ONE, 2);
+    let alloc = rt.alloc();
+    for (input, requests) in [(ONE_AND_MORE, 1), (CHUNKS_AND_ONE, 2)] {
+        let mut registry = empty(alloc);
+        let all = Reads::of(input, 1);
+        let (mut reader, end) = (
+            Reads {
+                room: input.len(),
+                ..all
+            },
+            End::ReadFailed,
+        );
+        let output = TOKEN_REQUIRED.repeat(alloc, requests).expect(&rt, "memory");
+        is_answered(
+            &rt,
+            alloc,
+            &mut registry,
+            requests,
+            &mut reader,
+            end,
+            output.as_bytes(),
+        );
+    }
 }
 
-/// Serves a connection whose writer takes so many bytes, and then fails or takes no more: the first so many
-/// of these go out, and of the text in hand so many are told.
-fn is_stopped_behind(
-    rt: &impl Abort,
-    alloc: Global,
-    registry: &mut Registry,
-    mut input: &[u8],
-    mut writer: Writes,
-    end: End,
-    wanted: &[u8],
-) {
-    let room = writer.room;
-    let found = connect(alloc, registry, &mut input, &mut writer);
+/// What comes; whether the writer fails, or takes no more, behind so many bytes; how the connection ends; and
+/// what is to be written, of which the first so many bytes are.
+type Stop = (&'static str, bool, usize, End, &'static str);
+
+/// Serves a connection whose writer stops.
+fn is_stopped(rt: &impl Abort, alloc: Global, registry: &mut Registry, stop: &Stop) {
+    let (input, fails, room, end, wanted) = *stop;
+    let input = filled(rt, alloc, input, "team/app", ABC, BODY);
+    let size = if fails { 1 } else { usize::MAX };
+    let taken = Vec::new(alloc);
+    let mut writer = Writes {
+        room,
+        size,
+        fails,
+        taken,
+    };
+    let found = connect(alloc, registry, &mut input.as_bytes(), &mut writer);
     same(rt, room, found, end);
-    same(rt, room, Some(writer.taken.as_slice()), wanted.get(..room));
+    let wanted = wanted.as_bytes().get(..room);
+    same(rt, room, Some(writer.taken.as_slice()), wanted);
 }
 
-/// The same of a writer that takes one byte a call, and then fails.
-fn fails_behind(
-    rt: &impl Abort,
-    alloc: Global,
-    registry: &mut Registry,
-    input: &[u8],
-    wanted: &[u8],
-    (room, written): (usize, usize),
-) {
-    let writer = Writes::failing(alloc, room);
-    let end = End::WriteFailed { written };
-    is_stopped_behind(rt, alloc, registry, input, writer, end, wanted);
+fn are_stopped(rt: &impl Abort, alloc: Global, stops: &[Stop]) {
+    let mut registry = setting(rt, alloc);
+    for stop in stops.iter() {
+        is_stopped(rt, alloc, &mut registry, stop);
+    }
 }
 
-/// After a failed write what went out is told exactly.
+/// The request for the base without a token.
+const NO_TOKEN: &str = "GET /v2/ HTTP/1.1\r\nHost: r\r\n\r\n";
+
+/// Writers that take one byte a call, and then fail.
+const FAILING: [Stop; 5] = [
+    (TWICE, true, 82, End::WriteFailed { written: 10 }, BASES),
+    (TWICE, true, 0, End::WriteFailed { written: 0 }, BASES),
+    (TWICE, true, 72, End::WriteFailed { written: 0 }, BASES),
+    (TWICE, true, 71, End::WriteFailed { written: 71 }, BASES),
+    (
+        NO_TOKEN,
+        true,
+        3,
+        End::WriteFailed { written: 3 },
+        TOKEN_REQUIRED,
+    ),
+];
+
+/// After a failed write what went out of the text in hand is told exactly.
 #[test]
 fn writer_fails_midway(rt: HostRuntime) {
-    let alloc = rt.alloc();
-    let mut registry = setting(&rt, alloc);
-    for stop in [(82, 10), (0, 0), (72, 0), (71, 71)] {
-        fails_behind(&rt, alloc, &mut registry, TWICE, BASES, stop);
-    }
-    fails_behind(&rt, alloc, &mut registry, SMALL, TOKEN_REQUIRED, (3, 3));
+    are_stopped(&rt, rt.alloc(), FAILING.as_slice());
 }
+
+/// The body of the pushes below, and its length.
+const BODY: &str = "Content-Length: 3\r\n\r\nabc";
+
+/// A push whose client waits.
+const WAITING: &str = "POST /v2/{name}/blobs/uploads/?digest={digest} HTTP/1.1\r\nHost: r\r\n\
+      Authorization: Bearer t1\r\nExpect: 100-continue\r\n{body}";
+
+const NOT_TOLD: Stop = (WAITING, true, 5, End::WriteFailed { written: 5 }, CONTINUE);
+
+const NO_REPLY: Stop = (PUSH, true, 0, End::WriteFailed { written: 0 }, "");
 
 /// The blob of a push whose client was not told to go on is not there; the one whose reply could not be
 /// written is.
@@ -171,40 +197,26 @@ fn writer_fails_midway(rt: HostRuntime) {
 fn writer_fails_behind_a_push(rt: HostRuntime) {
     let alloc = rt.alloc();
     let mut registry = setting(&rt, alloc);
-    let body = "Content-Length: 3\r\n\r\nabc";
-    let pushed = push(&rt, alloc, "team/app", ABC, body);
-    let fields = joined(&rt, alloc, &["Expect: 100-continue\r\n", body]);
-    let waiting = push(&rt, alloc, "team/app", ABC, fields.as_str());
-    let found = found(&rt, alloc, ABC, "abc");
-    fails_behind(
-        &rt,
-        alloc,
-        &mut registry,
-        waiting.as_bytes(),
-        CONTINUE.as_bytes(),
-        (5, 5),
-    );
-    is_told(&rt, alloc, &mut registry, "GET", ABC, BLOB_UNKNOWN);
-    fails_behind(&rt, alloc, &mut registry, pushed.as_bytes(), b"", (0, 0));
-    is_told(&rt, alloc, &mut registry, "GET", ABC, found.as_str());
+    for (stop, reply) in [(&NOT_TOLD, BLOB_UNKNOWN), (&NO_REPLY, FOUND)] {
+        is_stopped(&rt, alloc, &mut registry, stop);
+        is_told(&rt, alloc, &mut registry, ABC, GET, reply);
+    }
 }
 
-/// A writer that takes no more bytes ends the connection like one that fails: of the reply in hand,
-/// of 72 bytes, exactly so many went out.
+/// Writers that take no more. The replies have 72 bytes.
+const FULL: [Stop; 7] = [
+    (TWICE, false, 0, End::WriteFailed { written: 0 }, BASES),
+    (TWICE, false, 1, End::WriteFailed { written: 1 }, BASES),
+    (TWICE, false, 71, End::WriteFailed { written: 71 }, BASES),
+    (TWICE, false, 72, End::WriteFailed { written: 0 }, BASES),
+    (TWICE, false, 100, End::WriteFailed { written: 28 }, BASES),
+    (TWICE, false, 143, End::WriteFailed { written: 71 }, BASES),
+    (TWICE, false, 144, End::Closed, BASES),
+];
+
+/// A writer that takes no more bytes ends the connection like one that fails: of the reply in hand exactly
+/// so many went out.
 #[test]
 fn writer_takes_no_more(rt: HostRuntime) {
-    let alloc = rt.alloc();
-    let mut registry = setting(&rt, alloc);
-    for (room, end) in [
-        (0, End::WriteFailed { written: 0 }),
-        (1, End::WriteFailed { written: 1 }),
-        (71, End::WriteFailed { written: 71 }),
-        (72, End::WriteFailed { written: 0 }),
-        (100, End::WriteFailed { written: 28 }),
-        (143, End::WriteFailed { written: 71 }),
-        (144, End::Closed),
-    ] {
-        let writer = Writes::full(alloc, room);
-        is_stopped_behind(&rt, alloc, &mut registry, TWICE, writer, end, BASES);
-    }
+    are_stopped(&rt, rt.alloc(), FULL.as_slice());
 }

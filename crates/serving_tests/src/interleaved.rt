@@ -2,7 +2,7 @@
 
 use crate::play::{Play, new_play, send};
 use crate::setting::{add, empty, grant, same};
-use crate::texts::{HELLO, three_replies, three_requests};
+use crate::texts::{HELLO, THREE_REPLIES, THREE_REQUESTS, filled};
 use registry_conversation::Wants;
 use registry_model::Level;
 use registry_server::Connections;
@@ -47,39 +47,36 @@ fn happen(rt: &impl Abort, alloc: Global, play: &mut Play, clients: &mut [Client
     let which = draw(seed, clients.len());
     let count = draw(seed, 60);
     let what = draw(seed, 3);
+    let connections = &mut play.connections;
     if let Some(client) = clients.get_mut(which) {
         match what {
-            0 => hear(&mut play.connections, client, count),
-            1 => goes(rt, play, client, count),
+            0 => hear(connections, client, count),
+            1 => send(rt, connections, client.number, count, &mut client.output),
             _ => {
-                let _ = play.connections.turn(alloc, &mut play.registry);
+                let _ = connections.turn(alloc, &mut play.registry);
             }
         }
     }
 }
 
-/// Some bytes go out.
-fn goes(rt: &impl Abort, play: &mut Play, client: &mut Client, count: usize) {
-    send(
-        rt,
-        &mut play.connections,
-        client.number,
-        count,
-        &mut client.output,
-    );
-}
-
 /// All that is left comes, is answered and goes out, a reply before the next request is answered.
 fn settle(rt: &impl Abort, alloc: Global, play: &mut Play, clients: &mut [Client]) {
+    let connections = &mut play.connections;
     for client in clients.iter_mut() {
-        hear(&mut play.connections, client, usize::MAX);
-        let _ = play.connections.finish(client.number);
+        hear(connections, client, usize::MAX);
+        let _ = connections.finish(client.number);
     }
     for _ in 0..100 {
         for client in clients.iter_mut() {
-            goes(rt, play, client, usize::MAX);
+            send(
+                rt,
+                connections,
+                client.number,
+                usize::MAX,
+                &mut client.output,
+            );
         }
-        if play.connections.turn(alloc, &mut play.registry).is_none() {
+        if connections.turn(alloc, &mut play.registry).is_none() {
             break;
         }
     }
@@ -91,10 +88,10 @@ fn come(rt: &impl Abort, alloc: Global, play: &mut Play, name: &str) -> Client {
     grant(rt, alloc, &mut play.registry, "t1", name, Level::Delete);
     Client {
         number: play.connections.open(alloc).expect(rt, "a number"),
-        input: three_requests(rt, alloc, name, HELLO, CHUNKS),
+        input: filled(rt, alloc, THREE_REQUESTS, name, HELLO, CHUNKS),
         came: 0,
         output: Vec::new(alloc),
-        wanted: three_replies(rt, alloc, name, HELLO, "hello"),
+        wanted: filled(rt, alloc, THREE_REPLIES, name, HELLO, "hello"),
     }
 }
 
@@ -113,19 +110,8 @@ fn all_come(rt: &impl Abort, alloc: Global, play: &mut Play) -> Vec<Client> {
     clients
 }
 
-/// All of it came, was answered as if it were alone, and went out.
-fn is_answered(rt: &impl Abort, play: &Play, client: &Client) {
-    let Client {
-        number,
-        output,
-        wanted,
-        ..
-    } = client;
-    same(rt, 0, output.as_slice(), wanted.as_bytes());
-    same(rt, 1, play.connections.wants(*number), Some(Wants::Nothing));
-}
-
-/// Eight connections, which are cut and interleaved by this seed.
+/// Eight connections, which are cut and interleaved by this seed: all that comes is answered as if each were
+/// alone, and goes out.
 fn are_interleaved(rt: &impl Abort, alloc: Global, mut seed: u64) {
     let mut play = new_play(alloc, empty(alloc), 8, 1_000_000);
     let mut clients = all_come(rt, alloc, &mut play);
@@ -134,7 +120,13 @@ fn are_interleaved(rt: &impl Abort, alloc: Global, mut seed: u64) {
     }
     settle(rt, alloc, &mut play, clients.as_mut_slice());
     for client in clients.iter() {
-        is_answered(rt, &play, client);
+        same(rt, 0, client.output.as_slice(), client.wanted.as_bytes());
+        same(
+            rt,
+            1,
+            play.connections.wants(client.number),
+            Some(Wants::Nothing),
+        );
     }
 }
 

@@ -130,12 +130,6 @@ fn is_answered(
     same(rt, place, str::from_utf8(&answer), Ok(wanted));
 }
 
-/// A line spells an order, whose line it is.
-fn is_written_again(rt: &impl Abort, alloc: Global, place: usize, line: &str) {
-    let order = read_order(alloc, line.as_bytes()).expect(rt, "an order");
-    is_written(rt, alloc, place, order, line);
-}
-
 /// An order has this line.
 fn is_written(rt: &impl Abort, alloc: Global, place: usize, order: Order, line: &str) {
     let written = write_order(alloc, &order).expect(rt, "memory");
@@ -154,7 +148,8 @@ fn each_line_is_answered_and_written_again(rt: HostRuntime) {
     let mut registry = empty(alloc);
     for (place, (line, wanted)) in TALK.iter().enumerate() {
         is_answered(&rt, alloc, &mut registry, place, line.as_bytes(), wanted);
-        is_written_again(&rt, alloc, place, line);
+        let order = read_order(alloc, line.as_bytes()).expect(&rt, "an order");
+        is_written(&rt, alloc, place, order, line);
     }
 }
 
@@ -178,12 +173,6 @@ fn t1(rt: &impl Abort, alloc: Global) -> Token {
     Token::parse(alloc, "t1").expect(rt, "a token")
 }
 
-/// A list of levels.
-fn levels(name: Option<RepoName>, token: Option<Token>, shown: Shown, form: Form) -> Order {
-    let listing = Listing::Grants { name, token, shown };
-    Order::List { listing, form }
-}
-
 #[test]
 fn changes_are_written(rt: HostRuntime) {
     let alloc = rt.alloc();
@@ -199,33 +188,45 @@ fn changes_are_written(rt: HostRuntime) {
 #[test]
 fn lists_of_levels_are_written(rt: HostRuntime) {
     let alloc = rt.alloc();
-    let of_token = levels(None, Some(t1(&rt, alloc)), Shown::Beginning, Form::Lines);
+    let (name, token, shown) = (None, Some(t1(&rt, alloc)), Shown::Beginning);
+    let listing = Listing::Grants { name, token, shown };
+    let of_token = Order::List {
+        listing,
+        form: Form::Lines,
+    };
     is_written(&rt, alloc, 0, of_token, "list lines grants beginning * t1");
-    let on_name = levels(Some(app(&rt, alloc)), None, Shown::Whole, Form::Json);
+    let (name, token, shown) = (Some(app(&rt, alloc)), None, Shown::Whole);
+    let listing = Listing::Grants { name, token, shown };
+    let on_name = Order::List {
+        listing,
+        form: Form::Json,
+    };
     is_written(&rt, alloc, 1, on_name, "list json grants whole team/app *");
 }
 
-/// An answer of this status and text.
-fn is_read(rt: &impl Abort, bytes: &[u8], status: u8, text: &[u8]) {
-    let answer = read_answer(bytes).expect(rt, "an answer");
-    same(rt, 0, answer.status, status);
-    same(rt, 1, answer.text, text);
-}
-
-/// Bytes that are no answer.
-const NO_ANSWERS: [&[u8]; 6] = [b"", b"0", b"\n", b"5\n", b"00\n", b" 0\n"];
+/// Bytes, and the status and the text of the answer that they are.
+const ANSWERS: [(&[u8], Option<(u8, &[u8])>); 8] = [
+    (
+        b"1\nregistry: no such repository\n",
+        Some((1, b"registry: no such repository\n")),
+    ),
+    (b"0\n", Some((0, b""))),
+    (b"", None),
+    (b"0", None),
+    (b"\n", None),
+    (b"5\n", None),
+    (b"00\n", None),
+    (b" 0\n", None),
+];
 
 #[test]
 fn answers_are_read(rt: HostRuntime) {
-    is_read(
-        &rt,
-        NO_REPO.as_bytes(),
-        1,
-        b"registry: no such repository\n",
-    );
-    is_read(&rt, DONE.as_bytes(), 0, b"");
-    for (place, bytes) in NO_ANSWERS.iter().enumerate() {
-        same(&rt, place, read_answer(bytes).is_none(), true);
+    for (place, (bytes, wanted)) in ANSWERS.iter().enumerate() {
+        let answer = match read_answer(bytes) {
+            Some(answer) => Some((answer.status, answer.text)),
+            None => None,
+        };
+        same(&rt, place, answer, *wanted);
     }
 }
 

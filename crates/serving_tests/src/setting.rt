@@ -1,7 +1,7 @@
 //! What the tests share: registries over ordered maps, who asks them, and a comparison. What fails where it
 //! is to succeed ends the test.
 
-use crate::texts::on_blob;
+use crate::texts::filled;
 use oci_names::{RepoName, Token};
 use registry_connection::serve_connection;
 use registry_http::End;
@@ -57,16 +57,25 @@ pub fn grant(
     );
 }
 
-/// Repositories `team/app`, `team/lib` and `other` of quota 1,000; `t1` of level 3 on the first two,
-/// `t2` of level 2 on the third.
+/// The repositories of the setting.
+const NAMES: [&str; 3] = ["team/app", "team/lib", "other"];
+
+/// The tokens of the setting, and their levels.
+const GRANTS: [(&str, &str, Level); 3] = [
+    ("t1", "team/app", Level::Delete),
+    ("t1", "team/lib", Level::Delete),
+    ("t2", "other", Level::Push),
+];
+
+/// Repositories of quota 1,000, and the levels on them.
 pub fn setting(rt: &impl Abort, alloc: Global) -> Registry {
     let mut registry = empty(alloc);
-    add(rt, alloc, &mut registry, "team/app", 1000);
-    add(rt, alloc, &mut registry, "team/lib", 1000);
-    add(rt, alloc, &mut registry, "other", 1000);
-    grant(rt, alloc, &mut registry, "t1", "team/app", Level::Delete);
-    grant(rt, alloc, &mut registry, "t1", "team/lib", Level::Delete);
-    grant(rt, alloc, &mut registry, "t2", "other", Level::Push);
+    for name in NAMES.iter() {
+        add(rt, alloc, &mut registry, name, 1000);
+    }
+    for (token, name, level) in GRANTS.iter() {
+        grant(rt, alloc, &mut registry, token, name, *level);
+    }
     registry
 }
 
@@ -96,24 +105,17 @@ pub fn is_answered<R: Read>(
     same(rt, place, written.as_slice(), output);
 }
 
-/// A request of `t1` on a blob of `team/app` is told this.
+/// A request on `team/app` with this digest is answered by this.
 pub fn is_told(
     rt: &impl Abort,
     alloc: Global,
     registry: &mut Registry,
-    method: &str,
     digest: &str,
-    wanted: &str,
+    request: &str,
+    reply: &str,
 ) {
-    let input = on_blob(rt, alloc, method, "team/app", digest, "");
-    let mut reader = input.as_bytes();
-    is_answered(
-        rt,
-        alloc,
-        registry,
-        0,
-        &mut reader,
-        End::Closed,
-        wanted.as_bytes(),
-    );
+    let input = filled(rt, alloc, request, "team/app", digest, "");
+    let output = filled(rt, alloc, reply, "team/app", digest, "abc");
+    let (mut reader, end) = (input.as_bytes(), End::Closed);
+    is_answered(rt, alloc, registry, 0, &mut reader, end, output.as_bytes());
 }

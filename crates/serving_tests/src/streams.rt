@@ -25,18 +25,6 @@ impl<'a> Reads<'a> {
             room: usize::MAX,
         }
     }
-
-    /// The same, of which so many succeed.
-    pub fn failing(left: &'a [u8], size: usize, room: usize) -> Reads<'a> {
-        let all = Reads::of(left, size);
-        Reads { room, ..all }
-    }
-
-    /// Long reads, none of which goes across this place.
-    pub fn cut(left: &'a [u8], cut: usize) -> Reads<'a> {
-        let all = Reads::of(left, usize::MAX);
-        Reads { cut, ..all }
-    }
 }
 
 impl Read for Reads<'_> {
@@ -66,28 +54,6 @@ pub struct Writes {
     pub size: usize,
     pub fails: bool,
     pub taken: Vec<u8>,
-}
-
-impl Writes {
-    /// Takes so many bytes, one a call, and then fails.
-    pub fn failing(alloc: Global, room: usize) -> Writes {
-        Writes {
-            room,
-            size: 1,
-            fails: true,
-            taken: Vec::new(alloc),
-        }
-    }
-
-    /// Takes so many bytes, and then no more.
-    pub fn full(alloc: Global, room: usize) -> Writes {
-        Writes {
-            room,
-            size: usize::MAX,
-            fails: false,
-            taken: Vec::new(alloc),
-        }
-    }
 }
 
 impl Write for Writes {

@@ -1,4 +1,5 @@
-//! Requests and replies. They are those of RFC 9112 and of the worked examples.
+//! Requests and replies. They are those of RFC 9112 and of the worked examples. Words in braces stand for
+//! what `filled` puts there.
 
 use std::alloc::Global;
 use std::process::Abort;
@@ -8,15 +9,46 @@ pub const ABC: &str = "sha256:ba7816bf8f01cfea414140de5dae2223b00361a396177a9cb4
 
 pub const HELLO: &str = "sha256:2cf24dba5fb0a30e26e83b2ac5b9e29e1b161e5c1fa7425e73043362938b9824";
 
-/// The fields of a request of `t1`.
-pub const FIELDS: &str = "Host: r\r\nAuthorization: Bearer t1\r\n";
+/// A push of `t1`, with these fields and this body.
+pub const PUSH: &str = "POST /v2/{name}/blobs/uploads/?digest={digest} HTTP/1.1\r\nHost: r\r\n\
+      Authorization: Bearer t1\r\n{body}";
+
+/// The reply to a push that was taken.
+pub const CREATED: &str =
+    "HTTP/1.1 201 Created\r\nContent-Length: 0\r\nDocker-Content-Digest: {digest}\r\n\
+      Location: /v2/{name}/blobs/{digest}\r\n\r\n";
+
+pub const GET: &str = "GET /v2/{name}/blobs/{digest} HTTP/1.1\r\nHost: r\r\n\
+      Authorization: Bearer t1\r\n\r\n";
+
+/// The reply to the fetch of a blob.
+pub const FOUND: &str =
+    "HTTP/1.1 200 OK\r\nContent-Length: {length}\r\nContent-Type: application/octet-stream\r\n\
+      Docker-Content-Digest: {digest}\r\n\r\n{body}";
+
+/// A push, an empty line, a fetch, and a HEAD that closes the connection, with bytes behind it.
+pub const THREE_REQUESTS: &str =
+    "POST /v2/{name}/blobs/uploads/?digest={digest} HTTP/1.1\r\nHost: r\r\n\
+      Authorization: Bearer t1\r\n{body}\r\n\
+      GET /v2/{name}/blobs/{digest} HTTP/1.1\r\nHost: r\r\nAuthorization: Bearer t1\r\n\r\n\
+      HEAD /v2/{name}/blobs/{digest} HTTP/1.1\r\nHost: r\r\nAuthorization: Bearer t1\r\n\
+      Connection: close\r\n\r\nGET /";
+
+/// The replies to them.
+pub const THREE_REPLIES: &str =
+    "HTTP/1.1 201 Created\r\nContent-Length: 0\r\nDocker-Content-Digest: {digest}\r\n\
+      Location: /v2/{name}/blobs/{digest}\r\n\r\n\
+      HTTP/1.1 200 OK\r\nContent-Length: {length}\r\nContent-Type: application/octet-stream\r\n\
+      Docker-Content-Digest: {digest}\r\n\r\n{body}\
+      HTTP/1.1 200 OK\r\nContent-Length: {length}\r\nContent-Type: application/octet-stream\r\n\
+      Docker-Content-Digest: {digest}\r\nConnection: close\r\n\r\n";
 
 /// A whole request.
 pub const SMALL: &[u8] = b"GET /v2/ HTTP/1.1\r\nHost: r\r\n\r\n";
 
 /// The reply to it, 215 bytes.
-pub const TOKEN_REQUIRED: &[u8] =
-    b"HTTP/1.1 401 Unauthorized\r\nContent-Length: 63\r\nContent-Type: application/json\r\n\
+pub const TOKEN_REQUIRED: &str =
+    "HTTP/1.1 401 Unauthorized\r\nContent-Length: 63\r\nContent-Type: application/json\r\n\
       WWW-Authenticate: Bearer realm=\"registry\"\r\n\r\n\
       {\"errors\":[{\"code\":\"UNAUTHORIZED\",\"message\":\"token required\"}]}";
 
@@ -29,109 +61,39 @@ pub const IN_CHUNKS: &str = "Expect: 100-continue\r\nTransfer-Encoding: chunked\
 
 pub const CONTINUE: &str = "HTTP/1.1 100 Continue\r\n\r\n";
 
+pub const DELETE: &str = "DELETE /v2/{name}/blobs/{digest} HTTP/1.1\r\nHost: r\r\n\
+      Authorization: Bearer t1\r\n\r\n";
+
 /// The reply to a deletion.
 pub const DELETED: &str = "HTTP/1.1 202 Accepted\r\nContent-Length: 0\r\n\r\n";
 
 /// What is written where bytes spell no request.
-pub const BAD_REQUEST: &[u8] =
-    b"HTTP/1.1 400 Bad Request\r\nContent-Length: 0\r\nConnection: close\r\n\r\n";
+pub const BAD_REQUEST: &str =
+    "HTTP/1.1 400 Bad Request\r\nContent-Length: 0\r\nConnection: close\r\n\r\n";
 
 /// The reply to the fetch of a blob that is not there.
 pub const BLOB_UNKNOWN: &str =
     "HTTP/1.1 404 Not Found\r\nContent-Length: 61\r\nContent-Type: application/json\r\n\r\n\
       {\"errors\":[{\"code\":\"BLOB_UNKNOWN\",\"message\":\"blob unknown\"}]}";
 
-/// The texts one behind the other.
-pub fn joined(rt: &impl Abort, alloc: Global, texts: &[&str]) -> String {
-    let mut all = String::new(alloc);
-    for text in texts {
-        all.push_str(text).expect(rt, "memory");
-    }
-    all
-}
-
-/// A push of `t1`; the rest are further fields, and the body.
-pub fn push(rt: &impl Abort, alloc: Global, name: &str, digest: &str, rest: &str) -> String {
-    format!(in alloc;
-        "POST /v2/{name}/blobs/uploads/?digest={digest} HTTP/1.1\r\n{FIELDS}{rest}"
-    ).expect(rt, "memory")
-}
-
-/// A request of `t1` on a blob, with these further fields.
-pub fn on_blob(
+/// A text with its words filled in: the name of a repository, a digest, a body, and the body's length. Of a
+/// request the body is what stands behind the fields of all requests.
+pub fn filled(
     rt: &impl Abort,
     alloc: Global,
-    method: &str,
+    text: &str,
     name: &str,
     digest: &str,
-    fields: &str,
+    body: &str,
 ) -> String {
-    format!(in alloc; "{method} /v2/{name}/blobs/{digest} HTTP/1.1\r\n{FIELDS}{fields}\r\n").expect(
-        rt, "memory",
-    )
-}
-
-/// The reply to a push that was taken.
-pub fn created(rt: &impl Abort, alloc: Global, name: &str, digest: &str) -> String {
-    format!(in alloc;
-        "HTTP/1.1 201 Created\r\nContent-Length: 0\r\nDocker-Content-Digest: {digest}\r\n\
-          Location: /v2/{name}/blobs/{digest}\r\n\r\n"
-    )
-    .expect(rt, "memory")
-}
-
-/// The reply to the fetch of a blob.
-pub fn found(rt: &impl Abort, alloc: Global, digest: &str, body: &str) -> String {
     let length = body.len();
-    format!(in alloc;
-        "HTTP/1.1 200 OK\r\nContent-Length: {length}\r\nContent-Type: application/octet-stream\r\n\
-          Docker-Content-Digest: {digest}\r\n\r\n{body}"
-    )
-    .expect(rt, "memory")
-}
-
-/// The reply to HEAD on a blob that closes the connection.
-fn found_last(rt: &impl Abort, alloc: Global, digest: &str, length: usize) -> String {
-    format!(in alloc;
-        "HTTP/1.1 200 OK\r\nContent-Length: {length}\r\nContent-Type: application/octet-stream\r\n\
-          Docker-Content-Digest: {digest}\r\nConnection: close\r\n\r\n"
-    )
-    .expect(rt, "memory")
-}
-
-/// A push with this body, an empty line, a fetch, and a HEAD that closes the connection, with bytes behind
-/// it.
-pub fn three_requests(
-    rt: &impl Abort,
-    alloc: Global,
-    name: &str,
-    digest: &str,
-    body: &str,
-) -> String {
-    let push = push(rt, alloc, name, digest, body);
-    let get = on_blob(rt, alloc, "GET", name, digest, "");
-    let head = on_blob(rt, alloc, "HEAD", name, digest, "Connection: close\r\n");
-    joined(
-        rt,
-        alloc,
-        &[push.as_str(), "\r\n", get.as_str(), head.as_str(), "GET /"],
-    )
-}
-
-/// The replies to them.
-pub fn three_replies(
-    rt: &impl Abort,
-    alloc: Global,
-    name: &str,
-    digest: &str,
-    body: &str,
-) -> String {
-    let created = created(rt, alloc, name, digest);
-    let found = found(rt, alloc, digest, body);
-    let last = found_last(rt, alloc, digest, body.len());
-    joined(
-        rt,
-        alloc,
-        &[created.as_str(), found.as_str(), last.as_str()],
-    )
+    let length = format!(in alloc; "{length}").expect(rt, "memory");
+    let named = text.replace(alloc, "{name}", name).expect(rt, "memory");
+    let named = named
+        .replace(alloc, "{digest}", digest)
+        .expect(rt, "memory");
+    let named = named
+        .replace(alloc, "{length}", length.as_str())
+        .expect(rt, "memory");
+    named.replace(alloc, "{body}", body).expect(rt, "memory")
 }
