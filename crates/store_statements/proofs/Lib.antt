@@ -28,3 +28,7 @@ pub mod PageRows
 pub mod ContentRows
 pub mod ContentDigests
 pub mod DigestReads
+pub mod Executed
+pub mod ReadRows
+pub mod Checks
+pub mod ReadInside

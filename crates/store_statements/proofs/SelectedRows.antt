@@ -82,3 +82,6 @@ each_of g f some rows (Err x) same e = tt
 pub all_of_them : {X E : Type 0} (g : Row → X) (f : Row → Row) (some rows : List Row) (r : Result (Vec X Global) E) → rows ≡ map f some → IfOk r (λ xs. xs.items ≡ map g rows) → IfOk r (λ xs. xs.items ≡ map (λ r. g (f r)) some)
 all_of_them g f some rows (Ok xs) same e = e ∙ ap (map g) same ∙ map-map g f some
 all_of_them g f some rows (Err x) same e = tt
+
+pub mapped : {X : Type 0} (g : Row → X) (f : Row → Row) (some rows : List Row) (xs : List X) → rows ≡ map f some → xs ≡ map g rows → xs ≡ map (λ r. g (f r)) some
+mapped g f some rows xs same e = e ∙ ap (map g) same ∙ map-map g f some

@@ -16,3 +16,5 @@ pub mod ManifestShown
 pub mod ContentShown
 pub mod TagPages
 pub mod Drops
+pub mod Told
+pub mod FirstRows

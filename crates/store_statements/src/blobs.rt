@@ -1,21 +1,21 @@
 //! The rows of links to blobs.
-ghost use Rattle.std.specs.Prelude.{◌≡◌, ◌<◌, ◌^◌, ◌∷◌, [], map, filter, find, None, option_map};
-ghost use Rattle.std.specs.Option.{option_to_list};
+ghost use Rattle.std.specs.Prelude.{◌≡◌, ◌<◌, ◌^◌, IfOk, map, filter, find, None, option_map, slice_get};
 ghost use Rattle.std.specs.List.Sorted.{IsPermutation};
-ghost use Rattle.sqlite.specs.Order.{column};
 ghost use Rattle.sqlite_keyed.specs.Lists.{sort_by};
 ghost use Rattle.store_schema.specs.Rows.{bytes_at, natural_at};
 ghost use Rattle.store_world.specs.Keys.{of_first, has_key};
 ghost use Rattle.store_world.specs.Changes.{blob_columns};
-ghost use Rattle.store_statements.specs.Between.{ChangesNothing, FailsAsWas, Finds, Stays};
+ghost use Rattle.store_statements.specs.Between.{Finds, Stays};
 ghost use Rattle.store_statements.specs.Clauses.{Adds, Changes, ChangesNothingInside, FindsInside, KeepsInside, Lasts, LastsUncommitted};
+ghost use Rattle.store_statements.specs.FirstRows.{blob_shown};
 ghost use Rattle.store_statements.specs.ManifestShown.{by_second};
 ghost use Rattle.store_statements.specs.Shown.{blob_link, content_named};
 ghost use Rattle.store_statements.specs.Steps.{blobs_without, BlobComes};
+ghost use Rattle.store_statements.specs.Told.{IsRead};
 
-use crate::columns::{contents_in, numbers_in};
-use crate::names::digests_in;
-use crate::open_check::checked_fault;
+use crate::columns::{all_contents, all_numbers};
+use crate::names::all_digests;
+use crate::telling::{checked, done, told};
 use oci_names::{Digest, Fault};
 use sqlite::{Alter, Connection, Error, Row, Transaction, params};
 use std::alloc::Global;
@@ -40,13 +40,10 @@ pub fn take_blob_link<S: Alter>(
     ensures same_reference { tx.new.conn.ghost_name ≡ tx.old.conn.ghost_name }
     ensures survives { LastsUncommitted S.Store tx.old.conn.now tx.new.conn.now }
 {
-    match tx.execute(
+    done(tx.execute(
         "DELETE FROM registry_blob_links WHERE repo = ?1 AND digest = ?2",
         params![repo, digest],
-    ) {
-        Ok(_) => Ok(()),
-        Err(error) => Err(fault_of(error)),
-    }
+    ))
 }
 
 /// Takes all links of the repository out.
@@ -57,13 +54,10 @@ pub fn take_blob_links<S: Alter>(tx: &mut Transaction<'_, S>, repo: &str) -> Res
     ensures same_reference { tx.new.conn.ghost_name ≡ tx.old.conn.ghost_name }
     ensures survives { LastsUncommitted S.Store tx.old.conn.now tx.new.conn.now }
 {
-    match tx.execute(
+    done(tx.execute(
         "DELETE FROM registry_blob_links WHERE repo = ?1",
         params![repo],
-    ) {
-        Ok(_) => Ok(()),
-        Err(error) => Err(fault_of(error)),
-    }
+    ))
 }
 
 /// Puts a link in that is not there. The size is in bytes.
@@ -82,54 +76,41 @@ pub fn add_blob_link<S: Alter>(
     ensures same_reference { tx.new.conn.ghost_name ≡ tx.old.conn.ghost_name }
     ensures survives { LastsUncommitted S.Store tx.old.conn.now tx.new.conn.now }
 {
-    match tx.execute(
+    done(tx.execute(
         "INSERT INTO registry_blob_links (repo, digest, size, content) VALUES (?1, ?2, ?3, ?4)",
         params![repo, digest, size as i64, content.get()],
-    ) {
-        Ok(_) => Ok(()),
-        Err(error) => Err(fault_of(error)),
+    ))
+}
+
+/// The link that the row shows.
+fn link_in(row: &Row) -> Result<BlobLink, Error>
+    ensures { IfOk result (λ link. link ≡ blob_shown row.now) }
+{
+    let size: u64 = row.get(0)?;
+    let id: i64 = row.get(1)?;
+    Ok(BlobLink {
+        size,
+        content: ContentId::new(id),
+    })
+}
+
+/// The link that the first row shows, if there is a row.
+fn link_of(rows: &[Row]) -> Result<Option<BlobLink>, Error>
+    ensures { IfOk result (λ o. o ≡ option_map blob_shown (slice_get rows.now 0)) }
+{
+    match rows.first() {
+        Some(row) => Ok(Some(link_in(row)?)),
+        None => Ok(None),
     }
 }
 
-/// The size and the content of a link: one row, or none.
-fn blob_link_rows<S: Alter>(
-    conn: &mut Connection<S>,
-    repo: &str,
-    digest: &str,
-) -> Result<Vec<Row>, Error>
-    ensures shown { Finds S.Store conn.old conn.new result
-        (λ t rows. rows.items ≡ map (λ r. column r 3 ∷ column r 4 ∷ [])
-        (option_to_list (find (has_key repo.now digest.now) t.blobs))) }
-    ensures same { ChangesNothing S.Store conn.old conn.new result }
-    ensures err { FailsAsWas S.Store conn.old conn.new result }
-    ensures survives { Lasts S.Store conn.old conn.new }
+/// The same of what a query gave.
+fn first_link(shown: Result<Vec<Row>, Error>) -> Result<Option<BlobLink>, Fault>
+    ensures { IsRead shown result (λ rows o. o ≡ option_map blob_shown (slice_get rows 0)) }
 {
-    conn.query_all(
-        "SELECT size, content FROM registry_blob_links WHERE repo = ?1 AND digest = ?2",
-        params![repo, digest],
-    )
-}
-
-fn select_blob_link<S: Alter>(
-    conn: &mut Connection<S>,
-    repo: &str,
-    digest: &str,
-) -> Result<Option<BlobLink>, Error>
-    ensures found { Finds S.Store conn.old conn.new result
-        (λ t o. o ≡ option_map blob_link (find (has_key repo.now digest.now) t.blobs)) }
-    ensures same { ChangesNothing S.Store conn.old conn.new result }
-    ensures err { FailsAsWas S.Store conn.old conn.new result }
-    ensures survives { Lasts S.Store conn.old conn.new }
-{
-    let rows = blob_link_rows(conn, repo, digest)?;
-    match rows.first() {
-        Some(row) => {
-            let size: u64 = row.get(0)?;
-            let id: i64 = row.get(1)?;
-            let content = ContentId::new(id);
-            Ok(Some(BlobLink { size, content }))
-        }
-        None => Ok(None),
+    match shown {
+        Ok(rows) => told(link_of(&rows)),
+        Err(error) => Err(fault_of(error)),
     }
 }
 
@@ -144,42 +125,12 @@ pub fn find_blob_link<S: Alter>(
     ensures settled { Stays S.Store conn.old conn.new result }
     ensures survives { Lasts S.Store conn.old conn.new }
 {
-    match select_blob_link(conn, repo, digest) {
-        Ok(found) => Ok(found),
-        Err(error) => Err(checked_fault(conn, fault_of(error))),
-    }
-}
-
-/// The size of each blob of the repository.
-fn blob_size_rows<S: Alter>(conn: &mut Connection<S>, repo: &str) -> Result<Vec<Row>, Error>
-    ensures shown { Finds S.Store conn.old conn.new result
-        (λ t rows. IsPermutation (map (λ r. column r 3 ∷ []) (filter (of_first repo.now) t.blobs))
-        rows.items) }
-    ensures same { ChangesNothing S.Store conn.old conn.new result }
-    ensures err { FailsAsWas S.Store conn.old conn.new result }
-    ensures survives { Lasts S.Store conn.old conn.new }
-{
-    conn.query_all(
-        "SELECT size FROM registry_blob_links WHERE repo = ?1",
-        params![repo],
-    )
-}
-
-fn select_blob_sizes<S: Alter>(
-    alloc: Global,
-    conn: &mut Connection<S>,
-    repo: &str,
-) -> Result<Vec<u64>, Error>
-    ensures found { Finds S.Store conn.old conn.new result
-        (λ t sizes. IsPermutation (map (λ r. natural_at r 3) (filter (of_first repo.now) t.blobs))
-        sizes.items) }
-    ensures same { ChangesNothing S.Store conn.old conn.new result }
-    ensures err { FailsAsWas S.Store conn.old conn.new result }
-    ensures survives { Lasts S.Store conn.old conn.new }
-{
-    let rows = blob_size_rows(conn, repo)?;
-    let sizes = numbers_in(alloc, &rows)?;
-    Ok(sizes)
+    let shown = conn.query_all(
+        "SELECT size, content FROM registry_blob_links WHERE repo = ?1 AND digest = ?2",
+        params![repo, digest],
+    );
+    let found = first_link(shown);
+    checked(conn, found)
 }
 
 /// The size in bytes of each blob of the repository, in any order.
@@ -194,43 +145,12 @@ pub fn blob_sizes<S: Alter>(
     ensures settled { Stays S.Store conn.old conn.new result }
     ensures survives { Lasts S.Store conn.old conn.new }
 {
-    match select_blob_sizes(alloc, conn, repo) {
-        Ok(sizes) => Ok(sizes),
-        Err(error) => Err(checked_fault(conn, fault_of(error))),
-    }
-}
-
-/// The digest of each blob of the repository, in byte order.
-fn blob_digest_rows<S: Alter>(conn: &mut Connection<S>, repo: &str) -> Result<Vec<Row>, Error>
-    ensures shown { Finds S.Store conn.old conn.new result
-        (λ t rows. rows.items ≡ map (λ r. column r 2 ∷ [])
-        (sort_by by_second (filter (of_first repo.now) t.blobs))) }
-    ensures same { ChangesNothing S.Store conn.old conn.new result }
-    ensures err { FailsAsWas S.Store conn.old conn.new result }
-    ensures survives { Lasts S.Store conn.old conn.new }
-{
-    conn.query_all(
-        "SELECT digest FROM registry_blob_links WHERE repo = ?1 ORDER BY digest",
+    let shown = conn.query_all(
+        "SELECT size FROM registry_blob_links WHERE repo = ?1",
         params![repo],
-    )
-}
-
-fn select_blob_digests<S: Alter>(
-    alloc: Global,
-    conn: &mut Connection<S>,
-    repo: &str,
-) -> Result<Vec<Digest>, Fault>
-    ensures found { Finds S.Store conn.old conn.new result
-        (λ t digests. digests.items ≡ map (λ r. bytes_at r 2)
-        (sort_by by_second (filter (of_first repo.now) t.blobs))) }
-    ensures same { ChangesNothing S.Store conn.old conn.new result }
-    ensures err { FailsAsWas S.Store conn.old conn.new result }
-    ensures survives { Lasts S.Store conn.old conn.new }
-{
-    match blob_digest_rows(conn, repo) {
-        Ok(rows) => digests_in(alloc, &rows),
-        Err(error) => Err(fault_of(error)),
-    }
+    );
+    let found = all_numbers(alloc, shown);
+    checked(conn, found)
 }
 
 /// The digest of each blob of the repository, in byte order.
@@ -245,38 +165,12 @@ pub fn list_blob_digests<S: Alter>(
     ensures settled { Stays S.Store conn.old conn.new result }
     ensures survives { Lasts S.Store conn.old conn.new }
 {
-    match select_blob_digests(alloc, conn, repo) {
-        Ok(found) => Ok(found),
-        Err(fault) => Err(checked_fault(conn, fault)),
-    }
-}
-
-/// The content of each link.
-fn blob_content_rows<S: Alter>(tx: &mut Transaction<'_, S>) -> Result<Vec<Row>, Error>
-    ensures shown { FindsInside S.Store tx.old.conn.now tx.new.conn.now result
-        (λ t rows. IsPermutation (map (λ r. column r 4 ∷ []) t.blobs) rows.items) }
-    ensures same { ChangesNothingInside S.Store tx.old.conn.now tx.new.conn.now result }
-    ensures kept { KeepsInside S.Store tx.old.conn.now tx.new.conn.now }
-    ensures same_reference { tx.new.conn.ghost_name ≡ tx.old.conn.ghost_name }
-    ensures survives { LastsUncommitted S.Store tx.old.conn.now tx.new.conn.now }
-{
-    tx.query_all("SELECT content FROM registry_blob_links", &[])
-}
-
-fn select_blob_contents<S: Alter>(
-    alloc: Global,
-    tx: &mut Transaction<'_, S>,
-) -> Result<Vec<ContentId>, Error>
-    ensures found { FindsInside S.Store tx.old.conn.now tx.new.conn.now result
-        (λ t ids. IsPermutation (map (content_named 4) t.blobs) ids.items) }
-    ensures same { ChangesNothingInside S.Store tx.old.conn.now tx.new.conn.now result }
-    ensures kept { KeepsInside S.Store tx.old.conn.now tx.new.conn.now }
-    ensures same_reference { tx.new.conn.ghost_name ≡ tx.old.conn.ghost_name }
-    ensures survives { LastsUncommitted S.Store tx.old.conn.now tx.new.conn.now }
-{
-    let rows = blob_content_rows(tx)?;
-    let ids = contents_in(alloc, &rows)?;
-    Ok(ids)
+    let shown = conn.query_all(
+        "SELECT digest FROM registry_blob_links WHERE repo = ?1 ORDER BY digest",
+        params![repo],
+    );
+    let found = all_digests(alloc, shown);
+    checked(conn, found)
 }
 
 /// The content that each blob's link names, of all repositories, in any order. Nothing changes.
@@ -291,8 +185,8 @@ pub fn blob_contents<S: Alter>(
     ensures same_reference { tx.new.conn.ghost_name ≡ tx.old.conn.ghost_name }
     ensures survives { LastsUncommitted S.Store tx.old.conn.now tx.new.conn.now }
 {
-    match select_blob_contents(alloc, tx) {
-        Ok(ids) => Ok(ids),
-        Err(error) => Err(fault_of(error)),
-    }
+    all_contents(
+        alloc,
+        tx.query_all("SELECT content FROM registry_blob_links", &[]),
+    )
 }

@@ -1,7 +1,5 @@
 //! The rows of grants: what level a token has on a repository.
-ghost use Rattle.std.specs.Prelude.{◌≡◌, ◌∷◌, [], pos, map, nat_lt, option_map, find, filter, length, None};
-ghost use Rattle.std.specs.Option.{option_to_list};
-ghost use Rattle.std.specs.List.Sorted.{IsPermutation};
+ghost use Rattle.std.specs.Prelude.{◌≡◌, ◌∷◌, [], pos, map, nat_lt, option_map, find, filter, length, None, IfOk, slice_get};
 ghost use Rattle.sqlite.specs.Order.{column};
 ghost use Rattle.sqlite_keyed.specs.Lists.{sort_by};
 ghost use Rattle.store_schema.specs.Rows.{natural_at};
@@ -12,8 +10,10 @@ ghost use Rattle.store_statements.specs.Between.{ChangesNothing, FailsAsWas, Fin
 ghost use Rattle.store_statements.specs.Clauses.{Adds, Changes, FindsInside, KeepsInside, Lasts, LastsUncommitted};
 ghost use Rattle.store_statements.specs.Shown.{by_token};
 ghost use Rattle.store_statements.specs.Steps.{grants_without, grants_changed, GrantComes};
+ghost use Rattle.store_statements.specs.Told.{IsRead};
 
-use crate::open_check::checked_fault;
+use crate::columns::any_row;
+use crate::telling::{checked, done, told};
 use oci_names::Fault;
 use registry_model::Level;
 use sqlite::{Alter, Connection, Error, Row, Transaction, params};
@@ -42,13 +42,10 @@ pub fn take_grant<S: Alter>(
     ensures same_reference { tx.new.conn.ghost_name ≡ tx.old.conn.ghost_name }
     ensures survives { LastsUncommitted S.Store tx.old.conn.now tx.new.conn.now }
 {
-    match tx.execute(
+    done(tx.execute(
         "DELETE FROM registry_grants WHERE token = ?1 AND repo = ?2",
         params![token, repo],
-    ) {
-        Ok(_) => Ok(()),
-        Err(error) => Err(fault_of(error)),
-    }
+    ))
 }
 
 /// Takes each grant on the repository out.
@@ -59,10 +56,7 @@ pub fn take_grants<S: Alter>(tx: &mut Transaction<'_, S>, repo: &str) -> Result<
     ensures same_reference { tx.new.conn.ghost_name ≡ tx.old.conn.ghost_name }
     ensures survives { LastsUncommitted S.Store tx.old.conn.now tx.new.conn.now }
 {
-    match tx.execute("DELETE FROM registry_grants WHERE repo = ?1", params![repo]) {
-        Ok(_) => Ok(()),
-        Err(error) => Err(fault_of(error)),
-    }
+    done(tx.execute("DELETE FROM registry_grants WHERE repo = ?1", params![repo]))
 }
 
 /// Takes each grant to the token out.
@@ -73,13 +67,10 @@ pub fn take_token_grants<S: Alter>(tx: &mut Transaction<'_, S>, token: &str) -> 
     ensures same_reference { tx.new.conn.ghost_name ≡ tx.old.conn.ghost_name }
     ensures survives { LastsUncommitted S.Store tx.old.conn.now tx.new.conn.now }
 {
-    match tx.execute(
+    done(tx.execute(
         "DELETE FROM registry_grants WHERE token = ?1",
         params![token],
-    ) {
-        Ok(_) => Ok(()),
-        Err(error) => Err(fault_of(error)),
-    }
+    ))
 }
 
 /// Sets the level, where there is a grant, and tells how many rows that were: one, or none.
@@ -97,13 +88,10 @@ pub fn set_level<S: Alter>(
     ensures same_reference { tx.new.conn.ghost_name ≡ tx.old.conn.ghost_name }
     ensures survives { LastsUncommitted S.Store tx.old.conn.now tx.new.conn.now }
 {
-    match tx.execute(
+    told(tx.execute(
         "UPDATE registry_grants SET level = ?3 WHERE token = ?1 AND repo = ?2",
         params![token, repo, number_of(level)],
-    ) {
-        Ok(count) => Ok(count),
-        Err(error) => Err(fault_of(error)),
-    }
+    ))
 }
 
 /// Puts a grant in that is not there.
@@ -120,32 +108,10 @@ pub fn add_grant<S: Alter>(
     ensures same_reference { tx.new.conn.ghost_name ≡ tx.old.conn.ghost_name }
     ensures survives { LastsUncommitted S.Store tx.old.conn.now tx.new.conn.now }
 {
-    match tx.execute(
+    done(tx.execute(
         "INSERT INTO registry_grants (token, repo, level) VALUES (?1, ?2, ?3)",
         params![token, repo, number_of(level)],
-    ) {
-        Ok(_) => Ok(()),
-        Err(error) => Err(fault_of(error)),
-    }
-}
-
-/// The level of a grant: one row, or none.
-fn level_rows<S: Alter>(
-    conn: &mut Connection<S>,
-    token: &str,
-    repo: &str,
-) -> Result<Vec<Row>, Error>
-    ensures shown { Finds S.Store conn.old conn.new result
-        (λ t rows. rows.items ≡ map (λ r. column r 3 ∷ [])
-        (option_to_list (find (has_key token.now repo.now) t.grants))) }
-    ensures same { ChangesNothing S.Store conn.old conn.new result }
-    ensures err { FailsAsWas S.Store conn.old conn.new result }
-    ensures survives { Lasts S.Store conn.old conn.new }
-{
-    conn.query_all(
-        "SELECT level FROM registry_grants WHERE token = ?1 AND repo = ?2",
-        params![token, repo],
-    )
+    ))
 }
 
 /// The level that a column's number stands for.
@@ -159,25 +125,27 @@ pub fn level_in(number: u64) -> Level
     }
 }
 
-fn select_level<S: Alter>(
-    conn: &mut Connection<S>,
-    token: &str,
-    repo: &str,
-) -> Result<Option<Level>, Error>
-    ensures found { Finds S.Store conn.old conn.new result
-        (λ t o. o ≡ option_map (λ r. level_of (natural_at r 3))
-        (find (has_key token.now repo.now) t.grants)) }
-    ensures same { ChangesNothing S.Store conn.old conn.new result }
-    ensures err { FailsAsWas S.Store conn.old conn.new result }
-    ensures survives { Lasts S.Store conn.old conn.new }
+/// The level that the first row shows, if there is a row.
+fn level_shown(rows: &[Row]) -> Result<Option<Level>, Error>
+    ensures { IfOk result (λ o. o ≡ option_map (λ row. level_of (natural_at row 0)) (slice_get rows.now 0)) }
 {
-    let rows = level_rows(conn, token, repo)?;
     match rows.first() {
         Some(row) => {
             let number: u64 = row.get(0)?;
             Ok(Some(level_in(number)))
         }
         None => Ok(None),
+    }
+}
+
+/// The same of what a query gave.
+fn first_level(shown: Result<Vec<Row>, Error>) -> Result<Option<Level>, Fault>
+    ensures { IsRead shown result 
+        (λ rows o. o ≡ option_map (λ row. level_of (natural_at row 0)) (slice_get rows 0)) }
+{
+    match shown {
+        Ok(rows) => told(level_shown(&rows)),
+        Err(error) => Err(fault_of(error)),
     }
 }
 
@@ -193,25 +161,12 @@ pub fn find_level<S: Alter>(
     ensures settled { Stays S.Store conn.old conn.new result }
     ensures survives { Lasts S.Store conn.old conn.new }
 {
-    match select_level(conn, token, repo) {
-        Ok(found) => Ok(found),
-        Err(error) => Err(checked_fault(conn, fault_of(error))),
-    }
-}
-
-/// The level of each grant to a token.
-fn known_rows<S: Alter>(conn: &mut Connection<S>, token: &str) -> Result<Vec<Row>, Error>
-    ensures shown { Finds S.Store conn.old conn.new result
-        (λ t rows. IsPermutation (map (λ r. column r 3 ∷ []) (filter (of_first token.now) t.grants))
-        rows.items) }
-    ensures same { ChangesNothing S.Store conn.old conn.new result }
-    ensures err { FailsAsWas S.Store conn.old conn.new result }
-    ensures survives { Lasts S.Store conn.old conn.new }
-{
-    conn.query_all(
-        "SELECT level FROM registry_grants WHERE token = ?1",
-        params![token],
-    )
+    let shown = conn.query_all(
+        "SELECT level FROM registry_grants WHERE token = ?1 AND repo = ?2",
+        params![token, repo],
+    );
+    let found = first_level(shown);
+    checked(conn, found)
 }
 
 /// Whether the token has a grant on some repository.
@@ -221,10 +176,12 @@ pub fn is_known<S: Alter>(conn: &mut Connection<S>, token: &str) -> Result<bool,
     ensures settled { Stays S.Store conn.old conn.new result }
     ensures survives { Lasts S.Store conn.old conn.new }
 {
-    match known_rows(conn, token) {
-        Ok(rows) => Ok(!rows.is_empty()),
-        Err(error) => Err(checked_fault(conn, fault_of(error))),
-    }
+    let shown = conn.query_all(
+        "SELECT level FROM registry_grants WHERE token = ?1",
+        params![token],
+    );
+    let found = any_row(shown);
+    checked(conn, found)
 }
 
 /// The token of each grant on the repository, in byte order, with the number of its level.

@@ -14,4 +14,5 @@ pub mod repos;
 pub mod subjects;
 pub mod tag_pages;
 pub mod tags;
+mod telling;
 pub mod uploads;

@@ -1,20 +1,19 @@
 //! The rows of the links to manifests.
-ghost use Rattle.std.specs.Prelude.{◌≡◌, ◌<◌, ◌^◌, ◌∷◌, [], IfOk, map, find, filter, option_map, slice_get, None};
-ghost use Rattle.std.specs.Option.{option_to_list};
+ghost use Rattle.std.specs.Prelude.{◌≡◌, ◌<◌, ◌^◌, IfOk, map, find, filter, option_map, slice_get, None};
 ghost use Rattle.std.specs.List.Sorted.{IsPermutation};
-ghost use Rattle.sqlite.specs.Order.{column};
 ghost use Rattle.sqlite_keyed.specs.Lists.{sort_by};
 ghost use Rattle.store_schema.specs.Rows.{bytes_at, natural_at};
 ghost use Rattle.store_world.specs.Keys.{of_first, has_key};
 ghost use Rattle.store_world.specs.Changes.{manifest_columns};
-ghost use Rattle.store_statements.specs.Between.{ChangesNothing, FailsAsWas, Finds, Stays};
+ghost use Rattle.store_statements.specs.Between.{Finds, Stays};
 ghost use Rattle.store_statements.specs.Clauses.{Adds, Changes, ChangesNothingInside, FindsInside, KeepsInside, Lasts, LastsUncommitted};
 ghost use Rattle.store_statements.specs.Steps.{manifests_without, ManifestComes};
 ghost use Rattle.store_statements.specs.ManifestShown.{by_second, link_shown, manifest_link, manifest_content};
+ghost use Rattle.store_statements.specs.Told.{IsRead};
 
-use crate::columns::{contents_in, numbers_in};
-use crate::names::digests_in;
-use crate::open_check::checked_fault;
+use crate::columns::{all_contents, all_numbers};
+use crate::names::all_digests;
+use crate::telling::{checked, done};
 use oci_manifest::Kind;
 use oci_names::{Digest, Fault};
 use sqlite::{Alter, Connection, Error, ErrorCode, Row, Transaction, params};
@@ -48,7 +47,7 @@ pub fn add_manifest_link<S: Alter>(
     ensures same_reference { tx.new.conn.ghost_name ≡ tx.old.conn.ghost_name }
     ensures survives { LastsUncommitted S.Store tx.old.conn.now tx.new.conn.now }
 {
-    match tx.execute(
+    done(tx.execute(
         "INSERT INTO registry_manifest_links (repo, digest, size, kind, subject, content) \
          VALUES (?1, ?2, ?3, ?4, ?5, ?6)",
         params![
@@ -59,10 +58,7 @@ pub fn add_manifest_link<S: Alter>(
             subject,
             content.get()
         ],
-    ) {
-        Ok(_) => Ok(()),
-        Err(error) => Err(fault_of(error)),
-    }
+    ))
 }
 
 /// Takes the link out, where it is there.
@@ -77,13 +73,10 @@ pub fn take_manifest_link<S: Alter>(
     ensures same_reference { tx.new.conn.ghost_name ≡ tx.old.conn.ghost_name }
     ensures survives { LastsUncommitted S.Store tx.old.conn.now tx.new.conn.now }
 {
-    match tx.execute(
+    done(tx.execute(
         "DELETE FROM registry_manifest_links WHERE repo = ?1 AND digest = ?2",
         params![repo, digest],
-    ) {
-        Ok(_) => Ok(()),
-        Err(error) => Err(fault_of(error)),
-    }
+    ))
 }
 
 /// Takes out all links of the repository.
@@ -94,32 +87,10 @@ pub fn take_manifest_links<S: Alter>(tx: &mut Transaction<'_, S>, repo: &str) ->
     ensures same_reference { tx.new.conn.ghost_name ≡ tx.old.conn.ghost_name }
     ensures survives { LastsUncommitted S.Store tx.old.conn.now tx.new.conn.now }
 {
-    match tx.execute(
+    done(tx.execute(
         "DELETE FROM registry_manifest_links WHERE repo = ?1",
         params![repo],
-    ) {
-        Ok(_) => Ok(()),
-        Err(error) => Err(fault_of(error)),
-    }
-}
-
-/// What the link has: one row, or none.
-fn link_rows<S: Alter>(
-    conn: &mut Connection<S>,
-    repo: &str,
-    digest: &str,
-) -> Result<Vec<Row>, Error>
-    ensures shown { Finds S.Store conn.old conn.new result
-        (λ t rows. rows.items ≡ map (λ r. column r 3 ∷ column r 4 ∷ column r 6 ∷ [])
-        (option_to_list (find (has_key repo.now digest.now) t.manifests))) }
-    ensures same { ChangesNothing S.Store conn.old conn.new result }
-    ensures err { FailsAsWas S.Store conn.old conn.new result }
-    ensures survives { Lasts S.Store conn.old conn.new }
-{
-    conn.query_all(
-        "SELECT size, kind, content FROM registry_manifest_links WHERE repo = ?1 AND digest = ?2",
-        params![repo, digest],
-    )
+    ))
 }
 
 /// The link that the row shows. A kind of another number is `Err`.
@@ -142,7 +113,7 @@ fn link_in(row: &Row) -> Result<ManifestLink, Error>
 }
 
 /// The link that the first row shows, if there is a row.
-fn first_link(rows: &[Row]) -> Result<Option<ManifestLink>, Fault>
+fn link_of(rows: &[Row]) -> Result<Option<ManifestLink>, Fault>
     ensures { IfOk result (λ o. o ≡ option_map link_shown (slice_get rows.now 0)) }
 {
     match rows.first() {
@@ -154,19 +125,12 @@ fn first_link(rows: &[Row]) -> Result<Option<ManifestLink>, Fault>
     }
 }
 
-fn select_link<S: Alter>(
-    conn: &mut Connection<S>,
-    repo: &str,
-    digest: &str,
-) -> Result<Option<ManifestLink>, Fault>
-    ensures found { Finds S.Store conn.old conn.new result
-        (λ t o. o ≡ option_map manifest_link (find (has_key repo.now digest.now) t.manifests)) }
-    ensures same { ChangesNothing S.Store conn.old conn.new result }
-    ensures err { FailsAsWas S.Store conn.old conn.new result }
-    ensures survives { Lasts S.Store conn.old conn.new }
+/// The same of what a query gave.
+fn first_link(shown: Result<Vec<Row>, Error>) -> Result<Option<ManifestLink>, Fault>
+    ensures { IsRead shown result (λ rows o. o ≡ option_map link_shown (slice_get rows 0)) }
 {
-    match link_rows(conn, repo, digest) {
-        Ok(rows) => first_link(&rows),
+    match shown {
+        Ok(rows) => link_of(&rows),
         Err(error) => Err(fault_of(error)),
     }
 }
@@ -182,43 +146,12 @@ pub fn find_manifest_link<S: Alter>(
     ensures settled { Stays S.Store conn.old conn.new result }
     ensures survives { Lasts S.Store conn.old conn.new }
 {
-    match select_link(conn, repo, digest) {
-        Ok(found) => Ok(found),
-        Err(fault) => Err(checked_fault(conn, fault)),
-    }
-}
-
-/// The sizes of the manifests of the repository, in any order.
-fn size_rows<S: Alter>(conn: &mut Connection<S>, repo: &str) -> Result<Vec<Row>, Error>
-    ensures shown { Finds S.Store conn.old conn.new result
-        (λ t rows. IsPermutation (map (λ r. column r 3 ∷ []) (filter (of_first repo.now) t.manifests))
-        rows.items) }
-    ensures same { ChangesNothing S.Store conn.old conn.new result }
-    ensures err { FailsAsWas S.Store conn.old conn.new result }
-    ensures survives { Lasts S.Store conn.old conn.new }
-{
-    conn.query_all(
-        "SELECT size FROM registry_manifest_links WHERE repo = ?1",
-        params![repo],
-    )
-}
-
-fn select_sizes<S: Alter>(
-    alloc: Global,
-    conn: &mut Connection<S>,
-    repo: &str,
-) -> Result<Vec<u64>, Error>
-    ensures found { Finds S.Store conn.old conn.new result
-        (λ t sizes. IsPermutation (map (λ r. natural_at r 3) (filter (of_first repo.now) t.manifests))
-        sizes.items) }
-    ensures same { ChangesNothing S.Store conn.old conn.new result }
-    ensures err { FailsAsWas S.Store conn.old conn.new result }
-    ensures survives { Lasts S.Store conn.old conn.new }
-{
-    match size_rows(conn, repo) {
-        Ok(rows) => numbers_in(alloc, &rows),
-        Err(error) => Err(error),
-    }
+    let shown = conn.query_all(
+        "SELECT size, kind, content FROM registry_manifest_links WHERE repo = ?1 AND digest = ?2",
+        params![repo, digest],
+    );
+    let found = first_link(shown);
+    checked(conn, found)
 }
 
 /// The sizes in bytes of the manifests of the repository, in any order.
@@ -233,43 +166,12 @@ pub fn manifest_sizes<S: Alter>(
     ensures settled { Stays S.Store conn.old conn.new result }
     ensures survives { Lasts S.Store conn.old conn.new }
 {
-    match select_sizes(alloc, conn, repo) {
-        Ok(found) => Ok(found),
-        Err(error) => Err(checked_fault(conn, fault_of(error))),
-    }
-}
-
-/// The digest of each manifest of the repository, in byte order.
-fn manifest_digest_rows<S: Alter>(conn: &mut Connection<S>, repo: &str) -> Result<Vec<Row>, Error>
-    ensures shown { Finds S.Store conn.old conn.new result
-        (λ t rows. rows.items ≡ map (λ r. column r 2 ∷ [])
-        (sort_by by_second (filter (of_first repo.now) t.manifests))) }
-    ensures same { ChangesNothing S.Store conn.old conn.new result }
-    ensures err { FailsAsWas S.Store conn.old conn.new result }
-    ensures survives { Lasts S.Store conn.old conn.new }
-{
-    conn.query_all(
-        "SELECT digest FROM registry_manifest_links WHERE repo = ?1 ORDER BY digest",
+    let shown = conn.query_all(
+        "SELECT size FROM registry_manifest_links WHERE repo = ?1",
         params![repo],
-    )
-}
-
-fn select_manifest_digests<S: Alter>(
-    alloc: Global,
-    conn: &mut Connection<S>,
-    repo: &str,
-) -> Result<Vec<Digest>, Fault>
-    ensures found { Finds S.Store conn.old conn.new result
-        (λ t digests. digests.items ≡ map (λ r. bytes_at r 2)
-        (sort_by by_second (filter (of_first repo.now) t.manifests))) }
-    ensures same { ChangesNothing S.Store conn.old conn.new result }
-    ensures err { FailsAsWas S.Store conn.old conn.new result }
-    ensures survives { Lasts S.Store conn.old conn.new }
-{
-    match manifest_digest_rows(conn, repo) {
-        Ok(rows) => digests_in(alloc, &rows),
-        Err(error) => Err(fault_of(error)),
-    }
+    );
+    let found = all_numbers(alloc, shown);
+    checked(conn, found)
 }
 
 /// The digest of each manifest of the repository, in byte order.
@@ -284,38 +186,12 @@ pub fn list_manifest_digests<S: Alter>(
     ensures settled { Stays S.Store conn.old conn.new result }
     ensures survives { Lasts S.Store conn.old conn.new }
 {
-    match select_manifest_digests(alloc, conn, repo) {
-        Ok(found) => Ok(found),
-        Err(fault) => Err(checked_fault(conn, fault)),
-    }
-}
-
-/// The contents of all manifests, in any order.
-fn content_rows<S: Alter>(tx: &mut Transaction<'_, S>) -> Result<Vec<Row>, Error>
-    ensures shown { FindsInside S.Store tx.old.conn.now tx.new.conn.now result
-        (λ t rows. IsPermutation (map (λ r. column r 6 ∷ []) t.manifests) rows.items) }
-    ensures same { ChangesNothingInside S.Store tx.old.conn.now tx.new.conn.now result }
-    ensures kept { KeepsInside S.Store tx.old.conn.now tx.new.conn.now }
-    ensures same_reference { tx.new.conn.ghost_name ≡ tx.old.conn.ghost_name }
-    ensures survives { LastsUncommitted S.Store tx.old.conn.now tx.new.conn.now }
-{
-    tx.query_all("SELECT content FROM registry_manifest_links", &[])
-}
-
-fn select_contents<S: Alter>(
-    alloc: Global,
-    tx: &mut Transaction<'_, S>,
-) -> Result<Vec<ContentId>, Error>
-    ensures found { FindsInside S.Store tx.old.conn.now tx.new.conn.now result
-        (λ t ids. IsPermutation (map manifest_content t.manifests) ids.items) }
-    ensures same { ChangesNothingInside S.Store tx.old.conn.now tx.new.conn.now result }
-    ensures kept { KeepsInside S.Store tx.old.conn.now tx.new.conn.now }
-    ensures same_reference { tx.new.conn.ghost_name ≡ tx.old.conn.ghost_name }
-    ensures survives { LastsUncommitted S.Store tx.old.conn.now tx.new.conn.now }
-{
-    let rows = content_rows(tx)?;
-    let ids = contents_in(alloc, &rows)?;
-    Ok(ids)
+    let shown = conn.query_all(
+        "SELECT digest FROM registry_manifest_links WHERE repo = ?1 ORDER BY digest",
+        params![repo],
+    );
+    let found = all_digests(alloc, shown);
+    checked(conn, found)
 }
 
 /// The content of each manifest of each repository, in any order. Nothing changes.
@@ -330,8 +206,8 @@ pub fn manifest_contents<S: Alter>(
     ensures same_reference { tx.new.conn.ghost_name ≡ tx.old.conn.ghost_name }
     ensures survives { LastsUncommitted S.Store tx.old.conn.now tx.new.conn.now }
 {
-    match select_contents(alloc, tx) {
-        Ok(ids) => Ok(ids),
-        Err(error) => Err(fault_of(error)),
-    }
+    all_contents(
+        alloc,
+        tx.query_all("SELECT content FROM registry_manifest_links", &[]),
+    )
 }

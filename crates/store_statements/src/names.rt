@@ -1,9 +1,10 @@
 //! Names that the columns of a row show.
 ghost use Rattle.std.specs.Prelude.{◌≡◌, ◌∷◌, ◌++◌, [], IfOk, OnOk, map, option_map, slice_get};
 ghost use Rattle.store_schema.specs.Rows.{bytes_at};
+ghost use Rattle.store_statements.specs.Told.{IsRead};
 
 use oci_names::{Digest, Fault, NameFault, Tag};
-use sqlite::Row;
+use sqlite::{Error, Row};
 use std::alloc::Global;
 use store_contents::fault_of;
 
@@ -38,7 +39,7 @@ pub(crate) fn tag_at(alloc: Global, row: &Row, at: usize) -> Result<Tag, Fault>
 }
 
 /// The digest that the first row shows first, if there is a row.
-pub(crate) fn first_digest(alloc: Global, rows: &[Row]) -> Result<Option<Digest>, Fault>
+fn digest_in(alloc: Global, rows: &[Row]) -> Result<Option<Digest>, Fault>
     ensures { IfOk result (λ o. o ≡ option_map (λ row. bytes_at row 0) (slice_get rows.now 0)) }
 {
     match rows.first() {
@@ -50,8 +51,22 @@ pub(crate) fn first_digest(alloc: Global, rows: &[Row]) -> Result<Option<Digest>
     }
 }
 
+/// The same of what a query gave.
+pub(crate) fn first_digest(
+    alloc: Global,
+    shown: Result<Vec<Row>, Error>,
+) -> Result<Option<Digest>, Fault>
+    ensures { IsRead shown result
+        (λ rows o. o ≡ option_map (λ row. bytes_at row 0) (slice_get rows 0)) }
+{
+    match shown {
+        Ok(rows) => digest_in(alloc, &rows),
+        Err(error) => Err(fault_of(error)),
+    }
+}
+
 /// The digest in each row's first column, in the order of the rows.
-pub(crate) fn digests_in(alloc: Global, rows: &[Row]) -> Result<Vec<Digest>, Fault>
+fn digests_in(alloc: Global, rows: &[Row]) -> Result<Vec<Digest>, Fault>
     ensures { IfOk result (λ digests. digests.items ≡ map (λ row. bytes_at row 0) rows.now) }
 {
     let mut digests = Vec::new(alloc);
@@ -62,4 +77,17 @@ pub(crate) fn digests_in(alloc: Global, rows: &[Row]) -> Result<Vec<Digest>, Fau
         };
     }
     Ok(digests)
+}
+
+/// The same of what a query gave.
+pub(crate) fn all_digests(
+    alloc: Global,
+    shown: Result<Vec<Row>, Error>,
+) -> Result<Vec<Digest>, Fault>
+    ensures { IsRead shown result (λ rows digests. digests.items ≡ map (λ row. bytes_at row 0) rows) }
+{
+    match shown {
+        Ok(rows) => digests_in(alloc, &rows),
+        Err(error) => Err(fault_of(error)),
+    }
 }

@@ -1,21 +1,20 @@
 //! The rows of the pieces of upload sessions.
-ghost use Rattle.std.specs.Prelude.{◌≡◌, ◌<◌, ◌^◌, ◌∷◌, [], map, find, None};
+ghost use Rattle.std.specs.Prelude.{◌≡◌, ◌<◌, ◌^◌, map, find, None};
 ghost use Rattle.std.specs.List.Sorted.{IsPermutation};
-ghost use Rattle.sqlite.specs.Order.{column};
 ghost use Rattle.store_world.specs.Keys.{of_first, of_session, has_start};
 ghost use Rattle.store_world.specs.Changes.{piece_columns};
 ghost use Rattle.store_world.specs.World.{pieces_of};
-ghost use Rattle.store_statements.specs.Between.{ChangesNothing, FailsAsWas, Finds, Stays};
+ghost use Rattle.store_statements.specs.Between.{Finds, Stays};
 ghost use Rattle.store_statements.specs.Clauses.{Adds, Changes, ChangesNothingInside, FindsInside, KeepsInside, Lasts, LastsUncommitted};
 ghost use Rattle.store_statements.specs.Shown.{content_named};
 ghost use Rattle.store_statements.specs.Steps.{pieces_without, PieceComes};
 
-use crate::columns::contents_in;
-use crate::open_check::checked_fault;
+use crate::columns::all_contents;
+use crate::telling::{checked, done};
 use oci_names::Fault;
-use sqlite::{Alter, Connection, Error, Row, Transaction, params};
+use sqlite::{Alter, Connection, Transaction, params};
 use std::alloc::Global;
-use store_contents::{ContentId, fault_of};
+use store_contents::ContentId;
 
 /// Takes all pieces of the session out.
 pub fn take_pieces_of<S: Alter>(
@@ -30,13 +29,10 @@ pub fn take_pieces_of<S: Alter>(
     ensures same_reference { tx.new.conn.ghost_name ≡ tx.old.conn.ghost_name }
     ensures survives { LastsUncommitted S.Store tx.old.conn.now tx.new.conn.now }
 {
-    match tx.execute(
+    done(tx.execute(
         "DELETE FROM registry_pieces WHERE repo = ?1 AND number = ?2",
         params![repo, number as i64],
-    ) {
-        Ok(_) => Ok(()),
-        Err(error) => Err(fault_of(error)),
-    }
+    ))
 }
 
 /// Takes the pieces of all sessions of the repository out.
@@ -47,10 +43,7 @@ pub fn take_pieces<S: Alter>(tx: &mut Transaction<'_, S>, repo: &str) -> Result<
     ensures same_reference { tx.new.conn.ghost_name ≡ tx.old.conn.ghost_name }
     ensures survives { LastsUncommitted S.Store tx.old.conn.now tx.new.conn.now }
 {
-    match tx.execute("DELETE FROM registry_pieces WHERE repo = ?1", params![repo]) {
-        Ok(_) => Ok(()),
-        Err(error) => Err(fault_of(error)),
-    }
+    done(tx.execute("DELETE FROM registry_pieces WHERE repo = ?1", params![repo]))
 }
 
 /// Puts a piece in where none of the session begins. `start` and `size` are in bytes.
@@ -72,7 +65,7 @@ pub fn add_piece<S: Alter>(
     ensures same_reference { tx.new.conn.ghost_name ≡ tx.old.conn.ghost_name }
     ensures survives { LastsUncommitted S.Store tx.old.conn.now tx.new.conn.now }
 {
-    match tx.execute(
+    done(tx.execute(
         "INSERT INTO registry_pieces (repo, number, start, size, content) VALUES (?1, ?2, ?3, ?4, ?5)",
         params![
             repo,
@@ -81,47 +74,7 @@ pub fn add_piece<S: Alter>(
             size as i64,
             content.get()
         ],
-    ) {
-        Ok(_) => Ok(()),
-        Err(error) => Err(fault_of(error)),
-    }
-}
-
-/// The content of each piece of the session, in order of where the pieces begin.
-fn piece_rows<S: Alter>(
-    conn: &mut Connection<S>,
-    repo: &str,
-    number: u64,
-) -> Result<Vec<Row>, Error>
-    requires fits { number < 2 ^ 63 }
-    ensures shown { Finds S.Store conn.old conn.new result
-        (λ t rows. rows.items ≡ map (λ r. column r 5 ∷ []) (pieces_of t.pieces repo.now number)) }
-    ensures same { ChangesNothing S.Store conn.old conn.new result }
-    ensures err { FailsAsWas S.Store conn.old conn.new result }
-    ensures survives { Lasts S.Store conn.old conn.new }
-{
-    conn.query_all(
-        "SELECT content FROM registry_pieces WHERE repo = ?1 AND number = ?2 ORDER BY start",
-        params![repo, number as i64],
-    )
-}
-
-fn select_pieces<S: Alter>(
-    alloc: Global,
-    conn: &mut Connection<S>,
-    repo: &str,
-    number: u64,
-) -> Result<Vec<ContentId>, Error>
-    requires fits { number < 2 ^ 63 }
-    ensures found { Finds S.Store conn.old conn.new result
-        (λ t ids. ids.items ≡ map (content_named 5) (pieces_of t.pieces repo.now number)) }
-    ensures same { ChangesNothing S.Store conn.old conn.new result }
-    ensures err { FailsAsWas S.Store conn.old conn.new result }
-    ensures survives { Lasts S.Store conn.old conn.new }
-{
-    let rows = piece_rows(conn, repo, number)?;
-    let ids = contents_in(alloc, &rows)?;
-    Ok(ids)
+    ))
 }
 
 /// The contents of the session's pieces, in the order in which they were appended.
@@ -137,38 +90,12 @@ pub fn pieces_in_order<S: Alter>(
     ensures settled { Stays S.Store conn.old conn.new result }
     ensures survives { Lasts S.Store conn.old conn.new }
 {
-    match select_pieces(alloc, conn, repo, number) {
-        Ok(ids) => Ok(ids),
-        Err(error) => Err(checked_fault(conn, fault_of(error))),
-    }
-}
-
-/// The content of each piece.
-fn piece_content_rows<S: Alter>(tx: &mut Transaction<'_, S>) -> Result<Vec<Row>, Error>
-    ensures shown { FindsInside S.Store tx.old.conn.now tx.new.conn.now result
-        (λ t rows. IsPermutation (map (λ r. column r 5 ∷ []) t.pieces) rows.items) }
-    ensures same { ChangesNothingInside S.Store tx.old.conn.now tx.new.conn.now result }
-    ensures kept { KeepsInside S.Store tx.old.conn.now tx.new.conn.now }
-    ensures same_reference { tx.new.conn.ghost_name ≡ tx.old.conn.ghost_name }
-    ensures survives { LastsUncommitted S.Store tx.old.conn.now tx.new.conn.now }
-{
-    tx.query_all("SELECT content FROM registry_pieces", &[])
-}
-
-fn select_piece_contents<S: Alter>(
-    alloc: Global,
-    tx: &mut Transaction<'_, S>,
-) -> Result<Vec<ContentId>, Error>
-    ensures found { FindsInside S.Store tx.old.conn.now tx.new.conn.now result
-        (λ t ids. IsPermutation (map (content_named 5) t.pieces) ids.items) }
-    ensures same { ChangesNothingInside S.Store tx.old.conn.now tx.new.conn.now result }
-    ensures kept { KeepsInside S.Store tx.old.conn.now tx.new.conn.now }
-    ensures same_reference { tx.new.conn.ghost_name ≡ tx.old.conn.ghost_name }
-    ensures survives { LastsUncommitted S.Store tx.old.conn.now tx.new.conn.now }
-{
-    let rows = piece_content_rows(tx)?;
-    let ids = contents_in(alloc, &rows)?;
-    Ok(ids)
+    let shown = conn.query_all(
+        "SELECT content FROM registry_pieces WHERE repo = ?1 AND number = ?2 ORDER BY start",
+        params![repo, number as i64],
+    );
+    let found = all_contents(alloc, shown);
+    checked(conn, found)
 }
 
 /// The content that each piece names, of all sessions, in any order. Nothing changes.
@@ -183,8 +110,8 @@ pub fn piece_contents<S: Alter>(
     ensures same_reference { tx.new.conn.ghost_name ≡ tx.old.conn.ghost_name }
     ensures survives { LastsUncommitted S.Store tx.old.conn.now tx.new.conn.now }
 {
-    match select_piece_contents(alloc, tx) {
-        Ok(ids) => Ok(ids),
-        Err(error) => Err(fault_of(error)),
-    }
+    all_contents(
+        alloc,
+        tx.query_all("SELECT content FROM registry_pieces", &[]),
+    )
 }

@@ -1,21 +1,21 @@
 //! The rows of repositories.
-ghost use Rattle.std.specs.Prelude.{◌≡◌, ◌<◌, ◌^◌, ◌∷◌, [], map, option_map, OnOk, IfOk, find, filter, length, None};
-ghost use Rattle.std.specs.Option.{option_to_list};
-ghost use Rattle.sqlite.specs.Order.{column};
+ghost use Rattle.std.specs.Prelude.{◌≡◌, ◌<◌, ◌^◌, map, option_map, OnOk, IfOk, find, filter, length, None, slice_get};
 ghost use Rattle.sqlite.specs.State.{HasCleanDisk};
 ghost use Rattle.sqlite_keyed.specs.Lists.{sort_by};
 ghost use Rattle.store_schema.specs.Rows.{bytes_at};
 ghost use Rattle.sqlite.specs.Held.{state};
 ghost use Rattle.store_world.specs.Keys.{of_first};
 ghost use Rattle.store_world.specs.Changes.{with_quota, with_last, repo_columns};
-ghost use Rattle.store_statements.specs.Between.{ChangesNothing, FailsAsWas, Finds, Stays};
+ghost use Rattle.store_statements.specs.Between.{Finds, Stays};
 ghost use Rattle.store_statements.specs.Clauses.{Adds, Changes, FindsInside, KeepsInside, Lasts, LastsUncommitted};
 ghost use Rattle.store_statements.specs.Held.{IsReady, Becomes, held};
 ghost use Rattle.store_statements.specs.Shown.{repo_row, by_name};
 ghost use Rattle.store_statements.specs.Steps.{repos_without, repos_changed, RepoComes};
 ghost use Rattle.store_statements.specs.Drops.{HasNoChildren};
+ghost use Rattle.store_statements.specs.FirstRows.{repo_shown};
+ghost use Rattle.store_statements.specs.Told.{IsRead};
 
-use crate::open_check::checked_fault;
+use crate::telling::{checked, done, told};
 use oci_names::{Fault, NameFault, RepoName};
 use sqlite::{Alter, Connection, Error, ErrorCode, Row, Transaction, params};
 use std::alloc::Global;
@@ -38,13 +38,10 @@ pub fn add_repo<S: Alter>(tx: &mut Transaction<'_, S>, name: &str, quota: u64) -
     ensures same_reference { tx.new.conn.ghost_name ≡ tx.old.conn.ghost_name }
     ensures survives { LastsUncommitted S.Store tx.old.conn.now tx.new.conn.now }
 {
-    match tx.execute(
+    done(tx.execute(
         "INSERT INTO registry_repos (name, quota, last_session) VALUES (?1, ?2, 0)",
         params![name, quota as i64],
-    ) {
-        Ok(_) => Ok(()),
-        Err(error) => Err(fault_of(error)),
-    }
+    ))
 }
 
 /// Sets the quota of the repository, where it is there, and tells how many rows that were: one, or none.
@@ -62,13 +59,10 @@ pub fn set_quota<S: Alter>(
     ensures same_reference { tx.new.conn.ghost_name ≡ tx.old.conn.ghost_name }
     ensures survives { LastsUncommitted S.Store tx.old.conn.now tx.new.conn.now }
 {
-    match tx.execute(
+    told(tx.execute(
         "UPDATE registry_repos SET quota = ?2 WHERE name = ?1",
         params![name, quota as i64],
-    ) {
-        Ok(count) => Ok(count),
-        Err(error) => Err(fault_of(error)),
-    }
+    ))
 }
 
 /// Sets the last number that an upload session of the repository got, where the repository is there, and
@@ -87,13 +81,10 @@ pub fn set_last<S: Alter>(
     ensures same_reference { tx.new.conn.ghost_name ≡ tx.old.conn.ghost_name }
     ensures survives { LastsUncommitted S.Store tx.old.conn.now tx.new.conn.now }
 {
-    match tx.execute(
+    told(tx.execute(
         "UPDATE registry_repos SET last_session = ?2 WHERE name = ?1",
         params![name, number as i64],
-    ) {
-        Ok(count) => Ok(count),
-        Err(error) => Err(fault_of(error)),
-    }
+    ))
 }
 
 /// Takes a repository out that no row of another table names, where it is there.
@@ -107,42 +98,35 @@ pub fn take_repo<S: Alter>(tx: &mut Transaction<'_, S>, name: &str) -> Result<()
     ensures same_reference { tx.new.conn.ghost_name ≡ tx.old.conn.ghost_name }
     ensures survives { LastsUncommitted S.Store tx.old.conn.now tx.new.conn.now }
 {
-    match tx.execute("DELETE FROM registry_repos WHERE name = ?1", params![name]) {
-        Ok(_) => Ok(()),
-        Err(error) => Err(fault_of(error)),
+    done(tx.execute("DELETE FROM registry_repos WHERE name = ?1", params![name]))
+}
+
+/// What the row shows.
+fn repo_in(row: &Row) -> Result<RepoRow, Error>
+    ensures { IfOk result (λ repo. repo ≡ repo_shown row.now) }
+{
+    let quota: u64 = row.get(0)?;
+    let last: u64 = row.get(1)?;
+    Ok(RepoRow { quota, last })
+}
+
+/// What the first row shows, if there is a row.
+fn repo_of(rows: &[Row]) -> Result<Option<RepoRow>, Error>
+    ensures { IfOk result (λ o. o ≡ option_map repo_shown (slice_get rows.now 0)) }
+{
+    match rows.first() {
+        Some(row) => Ok(Some(repo_in(row)?)),
+        None => Ok(None),
     }
 }
 
-/// The quota and the last number of the repository: one row, or none.
-fn repo_rows<S: Alter>(conn: &mut Connection<S>, name: &str) -> Result<Vec<Row>, Error>
-    ensures shown { Finds S.Store conn.old conn.new result
-        (λ t rows. rows.items ≡ map (λ r. column r 2 ∷ column r 3 ∷ [])
-        (option_to_list (find (of_first name.now) t.repos))) }
-    ensures same { ChangesNothing S.Store conn.old conn.new result }
-    ensures err { FailsAsWas S.Store conn.old conn.new result }
-    ensures survives { Lasts S.Store conn.old conn.new }
+/// The same of what a query gave.
+fn first_repo(shown: Result<Vec<Row>, Error>) -> Result<Option<RepoRow>, Fault>
+    ensures { IsRead shown result (λ rows o. o ≡ option_map repo_shown (slice_get rows 0)) }
 {
-    conn.query_all(
-        "SELECT quota, last_session FROM registry_repos WHERE name = ?1",
-        params![name],
-    )
-}
-
-fn select_repo<S: Alter>(conn: &mut Connection<S>, name: &str) -> Result<Option<RepoRow>, Error>
-    ensures found { Finds S.Store conn.old conn.new result
-        (λ t o. o ≡ option_map repo_row (find (of_first name.now) t.repos)) }
-    ensures same { ChangesNothing S.Store conn.old conn.new result }
-    ensures err { FailsAsWas S.Store conn.old conn.new result }
-    ensures survives { Lasts S.Store conn.old conn.new }
-{
-    let rows = repo_rows(conn, name)?;
-    match rows.first() {
-        Some(row) => {
-            let quota: u64 = row.get(0)?;
-            let last: u64 = row.get(1)?;
-            Ok(Some(RepoRow { quota, last }))
-        }
-        None => Ok(None),
+    match shown {
+        Ok(rows) => told(repo_of(&rows)),
+        Err(error) => Err(fault_of(error)),
     }
 }
 
@@ -153,21 +137,12 @@ pub fn find_repo<S: Alter>(conn: &mut Connection<S>, name: &str) -> Result<Optio
     ensures settled { Stays S.Store conn.old conn.new result }
     ensures survives { Lasts S.Store conn.old conn.new }
 {
-    match select_repo(conn, name) {
-        Ok(found) => Ok(found),
-        Err(error) => Err(checked_fault(conn, fault_of(error))),
-    }
-}
-
-/// The name of each repository, in the order of their bytes.
-fn name_rows<S: Alter>(conn: &mut Connection<S>) -> Result<Vec<Row>, Error>
-    ensures shown { Finds S.Store conn.old conn.new result
-        (λ t rows. rows.items ≡ map (λ r. column r 1 ∷ []) (sort_by by_name t.repos)) }
-    ensures same { ChangesNothing S.Store conn.old conn.new result }
-    ensures err { FailsAsWas S.Store conn.old conn.new result }
-    ensures survives { Lasts S.Store conn.old conn.new }
-{
-    conn.query_all("SELECT name FROM registry_repos ORDER BY name", &[])
+    let shown = conn.query_all(
+        "SELECT quota, last_session FROM registry_repos WHERE name = ?1",
+        params![name],
+    );
+    let found = first_repo(shown);
+    checked(conn, found)
 }
 
 /// The name in the row's first column. What is none is told as a failure of the database.
@@ -193,16 +168,14 @@ fn names_in(alloc: Global, rows: &[Row]) -> Result<Vec<RepoName>, Error>
     Ok(names)
 }
 
-fn select_names<S: Alter>(alloc: Global, conn: &mut Connection<S>) -> Result<Vec<RepoName>, Error>
-    ensures found { Finds S.Store conn.old conn.new result
-        (λ t names. names.items ≡ map (λ r. bytes_at r 1) (sort_by by_name t.repos)) }
-    ensures same { ChangesNothing S.Store conn.old conn.new result }
-    ensures err { FailsAsWas S.Store conn.old conn.new result }
-    ensures survives { Lasts S.Store conn.old conn.new }
+/// The names of what a query gave.
+fn all_names(alloc: Global, shown: Result<Vec<Row>, Error>) -> Result<Vec<RepoName>, Fault>
+    ensures { IsRead shown result (λ rows names. names.items ≡ map (λ r. bytes_at r 0) rows) }
 {
-    let rows = name_rows(conn)?;
-    let names = names_in(alloc, &rows)?;
-    Ok(names)
+    match shown {
+        Ok(rows) => told(names_in(alloc, &rows)),
+        Err(error) => Err(fault_of(error)),
+    }
 }
 
 /// The name of each repository, in the order of their bytes.
@@ -212,8 +185,7 @@ pub fn list_repos<S: Alter>(alloc: Global, conn: &mut Connection<S>) -> Result<V
     ensures settled { Stays S.Store conn.old conn.new result }
     ensures survives { Lasts S.Store conn.old conn.new }
 {
-    match select_names(alloc, conn) {
-        Ok(names) => Ok(names),
-        Err(error) => Err(checked_fault(conn, fault_of(error))),
-    }
+    let shown = conn.query_all("SELECT name FROM registry_repos ORDER BY name", &[]);
+    let found = all_names(alloc, shown);
+    checked(conn, found)
 }

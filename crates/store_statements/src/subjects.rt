@@ -1,40 +1,19 @@
 //! The manifests that name a digest as their subject.
-ghost use Rattle.std.specs.Prelude.{◌≡◌, ◌∷◌, [], true, IfOk, map, filter};
-ghost use Rattle.sqlite.specs.Order.{column};
+ghost use Rattle.std.specs.Prelude.{◌≡◌, true, IfOk, map, filter};
 ghost use Rattle.sqlite_keyed.specs.Lists.{sort_by};
 ghost use Rattle.oci_names.specs.Digest.{is_digest};
 ghost use Rattle.store_world.specs.Keys.{on_subject};
-ghost use Rattle.store_statements.specs.Between.{ChangesNothing, FailsAsWas, Finds, Stays};
+ghost use Rattle.store_statements.specs.Between.{Finds, Stays};
 ghost use Rattle.store_statements.specs.Clauses.{Lasts};
 ghost use Rattle.store_statements.specs.ManifestShown.{by_second, referrer, referrer_shown};
+ghost use Rattle.store_statements.specs.Told.{IsRead};
 
 use crate::names::digest_at;
-use crate::open_check::checked_fault;
+use crate::telling::checked;
 use oci_names::{Digest, Fault};
 use sqlite::{Alter, Connection, Error, Row, params};
 use std::alloc::Global;
 use store_contents::{ContentId, fault_of};
-
-/// The digests and contents of the manifests on the subject, in the order of the digests.
-fn subject_rows<S: Alter>(
-    conn: &mut Connection<S>,
-    repo: &str,
-    digest: &str,
-) -> Result<Vec<Row>, Error>
-    requires digest { is_digest digest.now ≡ true }
-    ensures shown { Finds S.Store conn.old conn.new result
-        (λ t rows. rows.items ≡ map (λ r. column r 2 ∷ column r 6 ∷ [])
-        (sort_by by_second (filter (on_subject repo.now digest.now) t.manifests))) }
-    ensures same { ChangesNothing S.Store conn.old conn.new result }
-    ensures err { FailsAsWas S.Store conn.old conn.new result }
-    ensures survives { Lasts S.Store conn.old conn.new }
-{
-    conn.query_all(
-        "SELECT digest, content FROM registry_manifest_links WHERE repo = ?1 AND subject = ?2 \
-         ORDER BY digest",
-        params![repo, digest],
-    )
-}
 
 /// The digest and the content that the row shows.
 fn referrer_in(alloc: Global, row: &Row) -> Result<(Digest, ContentId), Fault>
@@ -63,21 +42,14 @@ fn referrers_in(alloc: Global, rows: &[Row]) -> Result<Vec<(Digest, ContentId)>,
     Ok(referrers)
 }
 
-fn select_referrers<S: Alter>(
+/// The same of what a query gave.
+fn all_referrers(
     alloc: Global,
-    conn: &mut Connection<S>,
-    repo: &str,
-    digest: &str,
+    shown: Result<Vec<Row>, Error>,
 ) -> Result<Vec<(Digest, ContentId)>, Fault>
-    requires digest { is_digest digest.now ≡ true }
-    ensures found { Finds S.Store conn.old conn.new result
-        (λ t found. found.items ≡ map referrer
-        (sort_by by_second (filter (on_subject repo.now digest.now) t.manifests))) }
-    ensures same { ChangesNothing S.Store conn.old conn.new result }
-    ensures err { FailsAsWas S.Store conn.old conn.new result }
-    ensures survives { Lasts S.Store conn.old conn.new }
+    ensures { IsRead shown result (λ rows found. found.items ≡ map referrer_shown rows) }
 {
-    match subject_rows(conn, repo, digest) {
+    match shown {
         Ok(rows) => referrers_in(alloc, &rows),
         Err(error) => Err(fault_of(error)),
     }
@@ -98,8 +70,11 @@ pub fn manifests_on_subject<S: Alter>(
     ensures settled { Stays S.Store conn.old conn.new result }
     ensures survives { Lasts S.Store conn.old conn.new }
 {
-    match select_referrers(alloc, conn, repo, digest) {
-        Ok(found) => Ok(found),
-        Err(fault) => Err(checked_fault(conn, fault)),
-    }
+    let shown = conn.query_all(
+        "SELECT digest, content FROM registry_manifest_links WHERE repo = ?1 AND subject = ?2 \
+         ORDER BY digest",
+        params![repo, digest],
+    );
+    let found = all_referrers(alloc, shown);
+    checked(conn, found)
 }

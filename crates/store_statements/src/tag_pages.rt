@@ -1,19 +1,15 @@
 //! Pages of the tags of a repository.
-ghost use Rattle.std.specs.Prelude.{◌≡◌, ◌∷◌, [], IfOk, map, filter, length};
-ghost use Rattle.sqlite.specs.declared.types.Value.TheVariants.{Int};
-ghost use Rattle.sqlite.specs.Order.{column};
-ghost use Rattle.sqlite.specs.Query.{limited, as_count};
-ghost use Rattle.sqlite_keyed.specs.Lists.{sort_by};
+ghost use Rattle.std.specs.Prelude.{◌≡◌, IfOk, map, length};
 ghost use Rattle.registry_model.specs.TagPage.{first_of, more_than};
 ghost use Rattle.store_schema.specs.Rows.{bytes_at};
-ghost use Rattle.store_statements.specs.Between.{ChangesNothing, FailsAsWas, Finds, Stays};
+ghost use Rattle.store_statements.specs.Between.{Finds, Stays};
 ghost use Rattle.store_statements.specs.Clauses.{Lasts};
-ghost use Rattle.store_statements.specs.ManifestShown.{by_second};
-ghost use Rattle.store_statements.specs.TagPages.{tag_behind, tags_behind, IsEnough, first_rows, are_more};
+ghost use Rattle.store_statements.specs.TagPages.{tags_behind, IsEnough, first_rows, are_more};
+ghost use Rattle.store_statements.specs.Told.{IsRead};
 
 use crate::names::tag_at;
 use crate::numbers::LARGEST;
-use crate::open_check::checked_fault;
+use crate::telling::checked;
 use oci_names::{Fault, Tag};
 use sqlite::{Alter, Connection, Error, Row, params};
 use std::alloc::Global;
@@ -34,26 +30,6 @@ fn rows_for(n: Option<u64>) -> i64
         Some(n) if n < LARGEST => (n + 1) as i64,
         _ => -1,
     }
-}
-
-/// The first tags behind `last`, in their order. A negative `limit` asks for all.
-fn page_rows<S: Alter>(
-    conn: &mut Connection<S>,
-    repo: &str,
-    last: &str,
-    limit: i64,
-) -> Result<Vec<Row>, Error>
-    ensures shown { Finds S.Store conn.old conn.new result
-        (λ t rows. rows.items ≡ limited (as_count (Int limit))
-        (map (λ r. column r 2 ∷ []) (sort_by by_second (filter (tag_behind repo.now last.now) t.tags)))) }
-    ensures same { ChangesNothing S.Store conn.old conn.new result }
-    ensures err { FailsAsWas S.Store conn.old conn.new result }
-    ensures survives { Lasts S.Store conn.old conn.new }
-{
-    conn.query_all(
-        "SELECT tag FROM registry_tags WHERE repo = ?1 AND tag > ?2 ORDER BY tag LIMIT ?3",
-        params![repo, last, limit],
-    )
 }
 
 /// The tags that the rows show, in the order of the rows.
@@ -100,21 +76,17 @@ fn page_in(alloc: Global, rows: &[Row], n: Option<u64>) -> Result<TagPage, Fault
     })
 }
 
-fn select_page<S: Alter>(
+/// The same of what a query gave.
+fn page_of(
     alloc: Global,
-    conn: &mut Connection<S>,
-    repo: &str,
-    last: &str,
+    shown: Result<Vec<Row>, Error>,
     n: Option<u64>,
 ) -> Result<TagPage, Fault>
-    ensures found { Finds S.Store conn.old conn.new result
-        (λ t page. (page.tags.items ≡ first_of n (tags_behind t.tags repo.now last.now)) ×
-        (page.more ≡ more_than n (tags_behind t.tags repo.now last.now))) }
-    ensures same { ChangesNothing S.Store conn.old conn.new result }
-    ensures err { FailsAsWas S.Store conn.old conn.new result }
-    ensures survives { Lasts S.Store conn.old conn.new }
+    ensures { IsRead shown result
+        (λ rows page. (page.tags.items ≡ map (λ row. bytes_at row 0) (first_rows n rows)) ×
+        (page.more ≡ are_more n (length rows))) }
 {
-    match page_rows(conn, repo, last, rows_for(n)) {
+    match shown {
         Ok(rows) => page_in(alloc, &rows, n),
         Err(error) => Err(fault_of(error)),
     }
@@ -135,8 +107,10 @@ pub fn tags_page<S: Alter>(
     ensures settled { Stays S.Store conn.old conn.new result }
     ensures survives { Lasts S.Store conn.old conn.new }
 {
-    match select_page(alloc, conn, repo, last, n) {
-        Ok(found) => Ok(found),
-        Err(fault) => Err(checked_fault(conn, fault)),
-    }
+    let shown = conn.query_all(
+        "SELECT tag FROM registry_tags WHERE repo = ?1 AND tag > ?2 ORDER BY tag LIMIT ?3",
+        params![repo, last, rows_for(n)],
+    );
+    let found = page_of(alloc, shown, n);
+    checked(conn, found)
 }

@@ -1,21 +1,18 @@
 //! The rows of tags.
-ghost use Rattle.std.specs.Prelude.{◌≡◌, ◌∷◌, [], map, find, filter, length, option_map, None};
-ghost use Rattle.std.specs.Option.{option_to_list};
-ghost use Rattle.std.specs.List.Sorted.{IsPermutation};
-ghost use Rattle.sqlite.specs.Order.{column};
+ghost use Rattle.std.specs.Prelude.{◌≡◌, find, filter, length, option_map, None};
 ghost use Rattle.store_schema.specs.Rows.{bytes_at};
 ghost use Rattle.store_world.specs.Keys.{of_first, has_key};
 ghost use Rattle.store_world.specs.Changes.{with_digest, tag_columns};
-ghost use Rattle.store_statements.specs.Between.{ChangesNothing, FailsAsWas, Finds, Stays};
+ghost use Rattle.store_statements.specs.Between.{Finds, Stays};
 ghost use Rattle.store_statements.specs.Clauses.{Adds, Changes, FindsInside, KeepsInside, Lasts, LastsUncommitted};
 ghost use Rattle.store_statements.specs.Steps.{names_digest, tags_without, tags_changed, TagComes};
 
+use crate::columns::count_rows;
 use crate::names::first_digest;
-use crate::open_check::checked_fault;
+use crate::telling::{checked, done, told};
 use oci_names::{Digest, Fault};
-use sqlite::{Alter, Connection, Error, Row, Transaction, params};
+use sqlite::{Alter, Connection, Transaction, params};
 use std::alloc::Global;
-use store_contents::fault_of;
 
 /// Takes the tag out, where it is there.
 pub fn take_tag<S: Alter>(tx: &mut Transaction<'_, S>, repo: &str, tag: &str) -> Result<(), Fault>
@@ -25,13 +22,10 @@ pub fn take_tag<S: Alter>(tx: &mut Transaction<'_, S>, repo: &str, tag: &str) ->
     ensures same_reference { tx.new.conn.ghost_name ≡ tx.old.conn.ghost_name }
     ensures survives { LastsUncommitted S.Store tx.old.conn.now tx.new.conn.now }
 {
-    match tx.execute(
+    done(tx.execute(
         "DELETE FROM registry_tags WHERE repo = ?1 AND tag = ?2",
         params![repo, tag],
-    ) {
-        Ok(_) => Ok(()),
-        Err(error) => Err(fault_of(error)),
-    }
+    ))
 }
 
 /// Sets the tag to the digest, where it is there, and tells how many rows that were: one, or none.
@@ -49,13 +43,10 @@ pub fn set_tag<S: Alter>(
     ensures same_reference { tx.new.conn.ghost_name ≡ tx.old.conn.ghost_name }
     ensures survives { LastsUncommitted S.Store tx.old.conn.now tx.new.conn.now }
 {
-    match tx.execute(
+    told(tx.execute(
         "UPDATE registry_tags SET digest = ?3 WHERE repo = ?1 AND tag = ?2",
         params![repo, tag, digest],
-    ) {
-        Ok(count) => Ok(count),
-        Err(error) => Err(fault_of(error)),
-    }
+    ))
 }
 
 /// Puts a tag in that is not there.
@@ -72,13 +63,10 @@ pub fn add_tag<S: Alter>(
     ensures same_reference { tx.new.conn.ghost_name ≡ tx.old.conn.ghost_name }
     ensures survives { LastsUncommitted S.Store tx.old.conn.now tx.new.conn.now }
 {
-    match tx.execute(
+    done(tx.execute(
         "INSERT INTO registry_tags (repo, tag, digest) VALUES (?1, ?2, ?3)",
         params![repo, tag, digest],
-    ) {
-        Ok(_) => Ok(()),
-        Err(error) => Err(fault_of(error)),
-    }
+    ))
 }
 
 /// Takes out the tags of the repository that name the digest.
@@ -93,13 +81,10 @@ pub fn take_tags_named<S: Alter>(
     ensures same_reference { tx.new.conn.ghost_name ≡ tx.old.conn.ghost_name }
     ensures survives { LastsUncommitted S.Store tx.old.conn.now tx.new.conn.now }
 {
-    match tx.execute(
+    done(tx.execute(
         "DELETE FROM registry_tags WHERE repo = ?1 AND digest = ?2",
         params![repo, digest],
-    ) {
-        Ok(_) => Ok(()),
-        Err(error) => Err(fault_of(error)),
-    }
+    ))
 }
 
 /// Takes out all tags of the repository.
@@ -110,43 +95,7 @@ pub fn take_tags<S: Alter>(tx: &mut Transaction<'_, S>, repo: &str) -> Result<()
     ensures same_reference { tx.new.conn.ghost_name ≡ tx.old.conn.ghost_name }
     ensures survives { LastsUncommitted S.Store tx.old.conn.now tx.new.conn.now }
 {
-    match tx.execute("DELETE FROM registry_tags WHERE repo = ?1", params![repo]) {
-        Ok(_) => Ok(()),
-        Err(error) => Err(fault_of(error)),
-    }
-}
-
-/// The digest of the tag: one row, or none.
-fn digest_rows<S: Alter>(conn: &mut Connection<S>, repo: &str, tag: &str) -> Result<Vec<Row>, Error>
-    ensures shown { Finds S.Store conn.old conn.new result
-        (λ t rows. rows.items ≡ map (λ r. column r 3 ∷ [])
-        (option_to_list (find (has_key repo.now tag.now) t.tags))) }
-    ensures same { ChangesNothing S.Store conn.old conn.new result }
-    ensures err { FailsAsWas S.Store conn.old conn.new result }
-    ensures survives { Lasts S.Store conn.old conn.new }
-{
-    conn.query_all(
-        "SELECT digest FROM registry_tags WHERE repo = ?1 AND tag = ?2",
-        params![repo, tag],
-    )
-}
-
-fn select_tag<S: Alter>(
-    alloc: Global,
-    conn: &mut Connection<S>,
-    repo: &str,
-    tag: &str,
-) -> Result<Option<Digest>, Fault>
-    ensures found { Finds S.Store conn.old conn.new result
-        (λ t o. o ≡ option_map (λ r. bytes_at r 3) (find (has_key repo.now tag.now) t.tags)) }
-    ensures same { ChangesNothing S.Store conn.old conn.new result }
-    ensures err { FailsAsWas S.Store conn.old conn.new result }
-    ensures survives { Lasts S.Store conn.old conn.new }
-{
-    match digest_rows(conn, repo, tag) {
-        Ok(rows) => first_digest(alloc, &rows),
-        Err(error) => Err(fault_of(error)),
-    }
+    done(tx.execute("DELETE FROM registry_tags WHERE repo = ?1", params![repo]))
 }
 
 /// The digest that the tag names, if it is there.
@@ -161,38 +110,12 @@ pub fn find_tag<S: Alter>(
     ensures settled { Stays S.Store conn.old conn.new result }
     ensures survives { Lasts S.Store conn.old conn.new }
 {
-    match select_tag(alloc, conn, repo, tag) {
-        Ok(found) => Ok(found),
-        Err(fault) => Err(checked_fault(conn, fault)),
-    }
-}
-
-/// The tags of the repository, in any order.
-fn tag_rows<S: Alter>(conn: &mut Connection<S>, repo: &str) -> Result<Vec<Row>, Error>
-    ensures shown { Finds S.Store conn.old conn.new result
-        (λ t rows. IsPermutation (map (λ r. column r 2 ∷ []) (filter (of_first repo.now) t.tags))
-        rows.items) }
-    ensures same { ChangesNothing S.Store conn.old conn.new result }
-    ensures err { FailsAsWas S.Store conn.old conn.new result }
-    ensures survives { Lasts S.Store conn.old conn.new }
-{
-    conn.query_all(
-        "SELECT tag FROM registry_tags WHERE repo = ?1",
-        params![repo],
-    )
-}
-
-fn select_count<S: Alter>(conn: &mut Connection<S>, repo: &str) -> Result<usize, Fault>
-    ensures found { Finds S.Store conn.old conn.new result
-        (λ t n. n ≡ length (filter (of_first repo.now) t.tags)) }
-    ensures same { ChangesNothing S.Store conn.old conn.new result }
-    ensures err { FailsAsWas S.Store conn.old conn.new result }
-    ensures survives { Lasts S.Store conn.old conn.new }
-{
-    match tag_rows(conn, repo) {
-        Ok(rows) => Ok(rows.len()),
-        Err(error) => Err(fault_of(error)),
-    }
+    let shown = conn.query_all(
+        "SELECT digest FROM registry_tags WHERE repo = ?1 AND tag = ?2",
+        params![repo, tag],
+    );
+    let found = first_digest(alloc, shown);
+    checked(conn, found)
 }
 
 /// How many tags the repository has.
@@ -202,8 +125,10 @@ pub fn count_tags<S: Alter>(conn: &mut Connection<S>, repo: &str) -> Result<usiz
     ensures settled { Stays S.Store conn.old conn.new result }
     ensures survives { Lasts S.Store conn.old conn.new }
 {
-    match select_count(conn, repo) {
-        Ok(found) => Ok(found),
-        Err(fault) => Err(checked_fault(conn, fault)),
-    }
+    let shown = conn.query_all(
+        "SELECT tag FROM registry_tags WHERE repo = ?1",
+        params![repo],
+    );
+    let found = count_rows(shown);
+    checked(conn, found)
 }

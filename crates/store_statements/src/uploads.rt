@@ -1,21 +1,18 @@
 //! The rows of upload sessions.
-ghost use Rattle.std.specs.Prelude.{◌≡◌, ◌<◌, ◌^◌, ◌∷◌, [], map, filter, find, length, None, option_map};
-ghost use Rattle.std.specs.Option.{option_to_list};
+ghost use Rattle.std.specs.Prelude.{◌≡◌, ◌<◌, ◌^◌, map, filter, find, length, None, option_map};
 ghost use Rattle.std.specs.List.Sorted.{IsPermutation};
-ghost use Rattle.sqlite.specs.Order.{column};
 ghost use Rattle.store_schema.specs.Rows.{natural_at};
 ghost use Rattle.store_world.specs.Keys.{of_first, of_session};
 ghost use Rattle.store_world.specs.Changes.{with_size, upload_columns};
-ghost use Rattle.store_statements.specs.Between.{ChangesNothing, FailsAsWas, Finds, Stays};
+ghost use Rattle.store_statements.specs.Between.{Finds, Stays};
 ghost use Rattle.store_statements.specs.Clauses.{Adds, Changes, FindsInside, KeepsInside, Lasts, LastsUncommitted};
 ghost use Rattle.store_statements.specs.Steps.{uploads_without, uploads_changed, UploadComes};
 
-use crate::columns::numbers_in;
-use crate::open_check::checked_fault;
+use crate::columns::{all_numbers, count_rows, first_number};
+use crate::telling::{checked, done, told};
 use oci_names::Fault;
-use sqlite::{Alter, Connection, Error, Row, Transaction, params};
+use sqlite::{Alter, Connection, Transaction, params};
 use std::alloc::Global;
-use store_contents::fault_of;
 
 /// Takes the session out, where it is there.
 pub fn take_upload<S: Alter>(
@@ -30,13 +27,10 @@ pub fn take_upload<S: Alter>(
     ensures same_reference { tx.new.conn.ghost_name ≡ tx.old.conn.ghost_name }
     ensures survives { LastsUncommitted S.Store tx.old.conn.now tx.new.conn.now }
 {
-    match tx.execute(
+    done(tx.execute(
         "DELETE FROM registry_uploads WHERE repo = ?1 AND number = ?2",
         params![repo, number as i64],
-    ) {
-        Ok(_) => Ok(()),
-        Err(error) => Err(fault_of(error)),
-    }
+    ))
 }
 
 /// Takes all sessions of the repository out.
@@ -47,13 +41,10 @@ pub fn take_uploads<S: Alter>(tx: &mut Transaction<'_, S>, repo: &str) -> Result
     ensures same_reference { tx.new.conn.ghost_name ≡ tx.old.conn.ghost_name }
     ensures survives { LastsUncommitted S.Store tx.old.conn.now tx.new.conn.now }
 {
-    match tx.execute(
+    done(tx.execute(
         "DELETE FROM registry_uploads WHERE repo = ?1",
         params![repo],
-    ) {
-        Ok(_) => Ok(()),
-        Err(error) => Err(fault_of(error)),
-    }
+    ))
 }
 
 /// Sets the session's size in bytes, where it is there, and tells how many rows that were: one, or none.
@@ -73,13 +64,10 @@ pub fn set_size<S: Alter>(
     ensures same_reference { tx.new.conn.ghost_name ≡ tx.old.conn.ghost_name }
     ensures survives { LastsUncommitted S.Store tx.old.conn.now tx.new.conn.now }
 {
-    match tx.execute(
+    told(tx.execute(
         "UPDATE registry_uploads SET size = ?3 WHERE repo = ?1 AND number = ?2",
         params![repo, number as i64, size as i64],
-    ) {
-        Ok(count) => Ok(count),
-        Err(error) => Err(fault_of(error)),
-    }
+    ))
 }
 
 /// Opens a session that is not there, with nothing in it.
@@ -96,55 +84,10 @@ pub fn add_upload<S: Alter>(
     ensures same_reference { tx.new.conn.ghost_name ≡ tx.old.conn.ghost_name }
     ensures survives { LastsUncommitted S.Store tx.old.conn.now tx.new.conn.now }
 {
-    match tx.execute(
+    done(tx.execute(
         "INSERT INTO registry_uploads (repo, number, size) VALUES (?1, ?2, 0)",
         params![repo, number as i64],
-    ) {
-        Ok(_) => Ok(()),
-        Err(error) => Err(fault_of(error)),
-    }
-}
-
-/// The size of a session: one row, or none.
-fn upload_rows<S: Alter>(
-    conn: &mut Connection<S>,
-    repo: &str,
-    number: u64,
-) -> Result<Vec<Row>, Error>
-    requires fits { number < 2 ^ 63 }
-    ensures shown { Finds S.Store conn.old conn.new result
-        (λ t rows. rows.items ≡ map (λ r. column r 3 ∷ [])
-        (option_to_list (find (of_session repo.now number) t.uploads))) }
-    ensures same { ChangesNothing S.Store conn.old conn.new result }
-    ensures err { FailsAsWas S.Store conn.old conn.new result }
-    ensures survives { Lasts S.Store conn.old conn.new }
-{
-    conn.query_all(
-        "SELECT size FROM registry_uploads WHERE repo = ?1 AND number = ?2",
-        params![repo, number as i64],
-    )
-}
-
-fn select_upload<S: Alter>(
-    conn: &mut Connection<S>,
-    repo: &str,
-    number: u64,
-) -> Result<Option<u64>, Error>
-    requires fits { number < 2 ^ 63 }
-    ensures found { Finds S.Store conn.old conn.new result
-        (λ t o. o ≡ option_map (λ r. natural_at r 3) (find (of_session repo.now number) t.uploads)) }
-    ensures same { ChangesNothing S.Store conn.old conn.new result }
-    ensures err { FailsAsWas S.Store conn.old conn.new result }
-    ensures survives { Lasts S.Store conn.old conn.new }
-{
-    let rows = upload_rows(conn, repo, number)?;
-    match rows.first() {
-        Some(row) => {
-            let size: u64 = row.get(0)?;
-            Ok(Some(size))
-        }
-        None => Ok(None),
-    }
+    ))
 }
 
 /// How many bytes the session has, if it is open.
@@ -159,25 +102,12 @@ pub fn find_upload<S: Alter>(
     ensures settled { Stays S.Store conn.old conn.new result }
     ensures survives { Lasts S.Store conn.old conn.new }
 {
-    match select_upload(conn, repo, number) {
-        Ok(found) => Ok(found),
-        Err(error) => Err(checked_fault(conn, fault_of(error))),
-    }
-}
-
-/// The size of each session of the repository.
-fn upload_size_rows<S: Alter>(conn: &mut Connection<S>, repo: &str) -> Result<Vec<Row>, Error>
-    ensures shown { Finds S.Store conn.old conn.new result
-        (λ t rows. IsPermutation (map (λ r. column r 3 ∷ []) (filter (of_first repo.now) t.uploads))
-        rows.items) }
-    ensures same { ChangesNothing S.Store conn.old conn.new result }
-    ensures err { FailsAsWas S.Store conn.old conn.new result }
-    ensures survives { Lasts S.Store conn.old conn.new }
-{
-    conn.query_all(
-        "SELECT size FROM registry_uploads WHERE repo = ?1",
-        params![repo],
-    )
+    let shown = conn.query_all(
+        "SELECT size FROM registry_uploads WHERE repo = ?1 AND number = ?2",
+        params![repo, number as i64],
+    );
+    let found = first_number(shown);
+    checked(conn, found)
 }
 
 /// How many sessions of the repository are open.
@@ -187,27 +117,9 @@ pub fn count_uploads<S: Alter>(conn: &mut Connection<S>, repo: &str) -> Result<u
     ensures settled { Stays S.Store conn.old conn.new result }
     ensures survives { Lasts S.Store conn.old conn.new }
 {
-    match upload_size_rows(conn, repo) {
-        Ok(rows) => Ok(rows.len()),
-        Err(error) => Err(checked_fault(conn, fault_of(error))),
-    }
-}
-
-fn select_upload_sizes<S: Alter>(
-    alloc: Global,
-    conn: &mut Connection<S>,
-    repo: &str,
-) -> Result<Vec<u64>, Error>
-    ensures found { Finds S.Store conn.old conn.new result
-        (λ t sizes. IsPermutation (map (λ r. natural_at r 3) (filter (of_first repo.now) t.uploads))
-        sizes.items) }
-    ensures same { ChangesNothing S.Store conn.old conn.new result }
-    ensures err { FailsAsWas S.Store conn.old conn.new result }
-    ensures survives { Lasts S.Store conn.old conn.new }
-{
-    let rows = upload_size_rows(conn, repo)?;
-    let sizes = numbers_in(alloc, &rows)?;
-    Ok(sizes)
+    let shown = conn.query_all("SELECT size FROM registry_uploads WHERE repo = ?1", params![repo]);
+    let found = count_rows(shown);
+    checked(conn, found)
 }
 
 /// The size in bytes of each open session of the repository, in any order.
@@ -222,8 +134,7 @@ pub fn upload_sizes<S: Alter>(
     ensures settled { Stays S.Store conn.old conn.new result }
     ensures survives { Lasts S.Store conn.old conn.new }
 {
-    match select_upload_sizes(alloc, conn, repo) {
-        Ok(sizes) => Ok(sizes),
-        Err(error) => Err(checked_fault(conn, fault_of(error))),
-    }
+    let shown = conn.query_all("SELECT size FROM registry_uploads WHERE repo = ?1", params![repo]);
+    let found = all_numbers(alloc, shown);
+    checked(conn, found)
 }

@@ -1,28 +1,26 @@
-use Rattle.std.proofs.Common.{ℕ, arith}
-use Rattle.sqlite.specs.State.{HasCleanDisk}
 use Rattle.sqlite.specs.Held.{state}
-use Rattle.store_statements.proofs.Transactions.{survives_all}
-use Rattle.store_statements.proofs.SettledAfter.{stays_read, stays_failed, is_memory}
+use Rattle.sqlite.specs.Order.{column}
+use Rattle.store_statements.specs.Held.{held}
+use Rattle.store_statements.proofs.ReadRows.{reads}
+use Rattle.store_statements.proofs.Executed.{given}
+use Rattle.std.proofs.Common.{◌≡◌, [], ◌∷◌, map, filter, refl}
+use Rattle.store_statements.proofs.SelectedRows.{mapped}
+use Rattle.store_world.specs.Keys.{of_first}
+use Rattle.store_schema.specs.Rows.{bytes_at}
+use Rattle.sqlite_keyed.specs.Lists.{sort_by}
+use Rattle.store_statements.specs.ManifestShown.{by_second}
+use Rattle.store_statements.proofs.DigestReads.{manifest_digests_shown}
 use Rattle.store_statements.proofs.manifests.list_manifest_digests.Goals as goal
 
-pub returns-in-Ok-clause-settled : goal.returns-in-Ok-clause-settled
-returns-in-Ok-clause-settled g c clean is unspent =
-    stays_read (state g.S.Store c.args.conn.now) (state g.S.Store c.select_manifest_digests.new.conn) is (c.in-Ok.ensures.same clean is)
-
-pub returns-in-Err-clause-settled : goal.returns-in-Err-clause-settled
-returns-in-Err-clause-settled g c clean is unspent =
-    let mid : HasCleanDisk (state g.S.Store c.select_manifest_digests.new.conn) = omega (arith, c.checked_fault.ensures.survives.clean) in
-    stays_failed (state g.S.Store c.args.conn.now) (state g.S.Store c.select_manifest_digests.new.conn) (state g.S.Store c.checked_fault.new.conn) is (c.in-Err.ensures.err mid is) (c.checked_fault.ensures.memory clean (is_memory ℕ _ unspent))
-
-pub returns-in-Ok-clause-survives : goal.returns-in-Ok-clause-survives
-returns-in-Ok-clause-survives g c = c.select_manifest_digests.ensures.survives
-
-pub returns-in-Err-clause-found : goal.returns-in-Err-clause-found
-returns-in-Err-clause-found g c clean is = tt
-
-pub returns-in-Err-clause-survives : goal.returns-in-Err-clause-survives
-returns-in-Err-clause-survives g c =
-    survives_all (state g.S.Store c.args.conn.now) (state g.S.Store c.select_manifest_digests.new.conn) (state g.S.Store c.checked_fault.new.conn) _ _ c.select_manifest_digests.ensures.survives c.checked_fault.ensures.survives
-
-pub returns-in-Ok-clause-found : goal.returns-in-Ok-clause-found
-returns-in-Ok-clause-found g c clean is = c.in-Ok.ensures.found clean is
+pub returns : goal.returns
+returns g c =
+    let old = state g.S.Store c.args.conn.now in
+    let new = state g.S.Store c.query_all-shown.new.self in
+    let xs = sort_by by_second (filter (of_first c.args.repo.now) (held old).manifests) in
+    let it = reads g.S.Store c.args.conn.now c.query_all-shown.new.self c.checked.new.conn _ _ c.query_all-shown.result c.query_all-shown.ensures.ok c.query_all-shown.ensures.err
+        (λ rows digests. digests.items ≡ map (λ row. bytes_at row 0) rows) c.all_digests-found.result c.checked.result c.all_digests-found.ensures c.checked.ensures.told
+        _ c.query_all-shown.ensures.survives (λ is. is.holds.known.manifest_texts.digests.plain) _ (given c.params-to_sql.ensures refl)
+        (λ v. v.items ≡ map (λ r. bytes_at r 2) xs) (λ rows. rows.items ≡ map (λ r. column r 2 ∷ []) xs)
+        (manifest_digests_shown old new c.args.repo.now c.query_all-shown.result)
+        (λ rows v q p. mapped (λ row. bytes_at row 0) (λ r. column r 2 ∷ []) xs rows.items v.items q p) in
+    record { found = it.0; settled = it.1; survives = it.2 }

@@ -1,31 +1,27 @@
-use Rattle.std.proofs.Common.{arith}
-use Rattle.std.specs.Prelude.{Vec}
-use Rattle.std.specs.declared.alloc.Global.{Global}
-use Rattle.store_contents.specs.declared.content_id.ContentId.{ContentId}
-use Rattle.sqlite.specs.State.{HasCleanDisk}
 use Rattle.sqlite.specs.Held.{state}
-use Rattle.store_statements.proofs.Transactions.{survives_all}
-use Rattle.store_statements.proofs.SettledAfter.{stays_read, stays_failed, is_memory}
+use Rattle.sqlite.specs.Order.{column}
+use Rattle.store_statements.specs.Held.{held}
+use Rattle.store_statements.proofs.ReadRows.{reads}
+use Rattle.store_statements.proofs.Executed.{given}
+use Rattle.std.proofs.Common.{◌≡◌, [], ◌∷◌, map, ◌∙◌, ap, arith, pos, to_z, w64, refl}
+use Rattle.store_statements.proofs.SelectedRows.{mapped}
+use Rattle.std.proofs.lemmas.Int.{ints}
+use Rattle.sqlite.specs.declared.types.Value.TheVariants.{Int}
+use Rattle.store_world.specs.World.{pieces_of}
+use Rattle.store_statements.specs.Shown.{content_named}
+use Rattle.store_statements.proofs.PieceRows.{list_rows}
 use Rattle.store_statements.proofs.pieces.pieces_in_order.Goals as goal
 
-pub returns-in-Ok-clause-settled : goal.returns-in-Ok-clause-settled
-returns-in-Ok-clause-settled g c clean is unspent =
-    stays_read (state g.S.Store c.args.conn.now) (state g.S.Store c.select_pieces.new.conn) is (c.in-Ok.ensures.same clean is)
-
-pub returns-in-Err-clause-settled : goal.returns-in-Err-clause-settled
-returns-in-Err-clause-settled g c clean is unspent =
-    let mid : HasCleanDisk (state g.S.Store c.select_pieces.new.conn) = omega (arith, c.checked_fault.ensures.survives.clean) in
-    stays_failed (state g.S.Store c.args.conn.now) (state g.S.Store c.select_pieces.new.conn) (state g.S.Store c.checked_fault.new.conn) is (c.in-Err.ensures.err mid is) (c.checked_fault.ensures.memory clean (is_memory (Vec ContentId Global) _ unspent))
-
-pub returns-in-Ok-clause-survives : goal.returns-in-Ok-clause-survives
-returns-in-Ok-clause-survives g c = c.select_pieces.ensures.survives
-
-pub returns-in-Err-clause-found : goal.returns-in-Err-clause-found
-returns-in-Err-clause-found g c clean is = tt
-
-pub returns-in-Err-clause-survives : goal.returns-in-Err-clause-survives
-returns-in-Err-clause-survives g c =
-    survives_all (state g.S.Store c.args.conn.now) (state g.S.Store c.select_pieces.new.conn) (state g.S.Store c.checked_fault.new.conn) _ _ c.select_pieces.ensures.survives c.checked_fault.ensures.survives
-
-pub returns-in-Ok-clause-found : goal.returns-in-Ok-clause-found
-returns-in-Ok-clause-found g c clean is = c.in-Ok.ensures.found clean is
+pub returns : goal.returns
+returns g c =
+    let old = state g.S.Store c.args.conn.now in
+    let new = state g.S.Store c.query_all-shown.new.self in
+    let whole : to_z w64 c.args.number ≡ pos c.args.number = omega (arith, ints) in
+    let xs = pieces_of (held old).pieces c.args.repo.now c.args.number in
+    let it = reads g.S.Store c.args.conn.now c.query_all-shown.new.self c.checked.new.conn _ _ c.query_all-shown.result c.query_all-shown.ensures.ok c.query_all-shown.ensures.err
+        (λ rows ids. ids.items ≡ map (content_named 0) rows) c.all_contents-found.result c.checked.result c.all_contents-found.ensures c.checked.ensures.told
+        _ c.query_all-shown.ensures.survives (λ is. is.holds.known.piece_texts.list.plain) _ (given c.params-to_sql.ensures (given (c.params-to_sql-2.ensures ∙ ap Int whole) refl))
+        (λ v. v.items ≡ map (content_named 5) xs) (λ rows. rows.items ≡ map (λ r. column r 5 ∷ []) xs)
+        (list_rows c.args.repo.now c.args.number old new c.query_all-shown.result)
+        (λ rows v q p. mapped (content_named 0) (λ r. column r 5 ∷ []) xs rows.items v.items q p) in
+    record { found = it.0; settled = it.1; survives = it.2 }

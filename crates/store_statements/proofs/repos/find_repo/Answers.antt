@@ -1,30 +1,27 @@
-use Rattle.std.proofs.Common.{arith}
-use Rattle.std.specs.Prelude.{Option}
-use Rattle.store_statements.specs.declared.repos.RepoRow.{RepoRow}
-use Rattle.sqlite.specs.State.{HasCleanDisk}
 use Rattle.sqlite.specs.Held.{state}
-use Rattle.store_statements.proofs.Transactions.{survives_all}
-use Rattle.store_statements.proofs.SettledAfter.{stays_read, stays_failed, is_memory}
+use Rattle.sqlite.specs.Order.{column}
+use Rattle.store_statements.specs.Held.{held}
+use Rattle.store_statements.proofs.ReadRows.{reads}
+use Rattle.store_statements.proofs.Executed.{given}
+use Rattle.std.proofs.Common.{◌≡◌, ◌∙◌, [], ◌∷◌, find, map, slice_get, refl}
+use Rattle.std.specs.Prelude.{option_map}
+use Rattle.std.specs.Option.{option_to_list}
+use Rattle.store_statements.proofs.SelectedRows.{first_shown}
+use Rattle.store_world.specs.Keys.{of_first}
+use Rattle.store_statements.specs.Shown.{repo_row}
+use Rattle.store_statements.specs.FirstRows.{repo_shown}
+use Rattle.store_statements.proofs.RepoReads.{shows_repo}
 use Rattle.store_statements.proofs.repos.find_repo.Goals as goal
 
-pub returns-in-Ok-clause-settled : goal.returns-in-Ok-clause-settled
-returns-in-Ok-clause-settled g c clean is unspent =
-    stays_read (state g.S.Store c.args.conn.now) (state g.S.Store c.select_repo.new.conn) is (c.in-Ok.ensures.same clean is)
-
-pub returns-in-Err-clause-settled : goal.returns-in-Err-clause-settled
-returns-in-Err-clause-settled g c clean is unspent =
-    let mid : HasCleanDisk (state g.S.Store c.select_repo.new.conn) = omega (arith, c.checked_fault.ensures.survives.clean) in
-    stays_failed (state g.S.Store c.args.conn.now) (state g.S.Store c.select_repo.new.conn) (state g.S.Store c.checked_fault.new.conn) is (c.in-Err.ensures.err mid is) (c.checked_fault.ensures.memory clean (is_memory (Option RepoRow) _ unspent))
-
-pub returns-in-Ok-clause-survives : goal.returns-in-Ok-clause-survives
-returns-in-Ok-clause-survives g c = c.select_repo.ensures.survives
-
-pub returns-in-Err-clause-found : goal.returns-in-Err-clause-found
-returns-in-Err-clause-found g c clean is = tt
-
-pub returns-in-Err-clause-survives : goal.returns-in-Err-clause-survives
-returns-in-Err-clause-survives g c =
-    survives_all (state g.S.Store c.args.conn.now) (state g.S.Store c.select_repo.new.conn) (state g.S.Store c.checked_fault.new.conn) _ _ c.select_repo.ensures.survives c.checked_fault.ensures.survives
-
-pub returns-in-Ok-clause-found : goal.returns-in-Ok-clause-found
-returns-in-Ok-clause-found g c clean is = c.in-Ok.ensures.found clean is
+pub returns : goal.returns
+returns g c =
+    let old = state g.S.Store c.args.conn.now in
+    let new = state g.S.Store c.query_all-shown.new.self in
+    let o = find (of_first c.args.name.now) (held old).repos in
+    let it = reads g.S.Store c.args.conn.now c.query_all-shown.new.self c.checked.new.conn _ _ c.query_all-shown.result c.query_all-shown.ensures.ok c.query_all-shown.ensures.err
+        (λ rows o. o ≡ option_map repo_shown (slice_get rows 0)) c.first_repo-found.result c.checked.result c.first_repo-found.ensures c.checked.ensures.told
+        _ c.query_all-shown.ensures.survives (λ is. is.holds.known.repo_texts.find.plain) _ (given c.params-to_sql.ensures refl)
+        (λ v. v ≡ option_map repo_row o) (λ rows. rows.items ≡ map (λ r. column r 2 ∷ column r 3 ∷ []) (option_to_list o))
+        (shows_repo c.args.name.now old new c.query_all-shown.result)
+        (λ rows v q p. p ∙ first_shown repo_shown (λ r. column r 2 ∷ column r 3 ∷ []) o rows.items q) in
+    record { found = it.0; settled = it.1; survives = it.2 }

@@ -1,45 +1,19 @@
-use Rattle.std.proofs.Common.{◌≡◌, ◌∙◌, Ok, ap, arith, pos, to_z, w64}
+use Rattle.std.proofs.Common.{◌≡◌, ◌∙◌, ap, arith, pos, to_z, w64, refl}
 use Rattle.std.proofs.lemmas.Int.{ints}
 use Rattle.sqlite.specs.Held.{state}
 use Rattle.sqlite.specs.declared.types.Value.TheVariants.{Int}
 use Rattle.store_statements.proofs.RepoRows.{quota_set_by}
-use Rattle.store_statements.proofs.CommitsKept.{kept_by_execute}
+use Rattle.store_statements.proofs.Executed.{given, keeps, makes_so_many}
 use Rattle.store_statements.proofs.repos.set_quota.Goals as goal
 
-pub returns-in-Ok-clause-set : goal.returns-in-Ok-clause-set
-returns-in-Ok-clause-set g c clean is =
+pub returns : goal.returns
+returns g c =
     let whole : to_z w64 c.args.quota ≡ pos c.args.quota = omega (arith, ints) in
-    (quota_set_by c.args.name.now c.args.quota (state g.S.Store c.args.tx.now.conn.now) (state g.S.Store c.execute.new.self.conn.now) (Ok c.in-Ok.count) is.holds
-    (rw (c.params-to_sql.ensures, c.params-to_sql-2.ensures ∙ ap Int whole) at (c.in-Ok.ensures.runs clean is.inside))).0
-
-pub returns-in-Ok-clause-counted : goal.returns-in-Ok-clause-counted
-returns-in-Ok-clause-counted g c clean is =
-    let whole : to_z w64 c.args.quota ≡ pos c.args.quota = omega (arith, ints) in
-    (quota_set_by c.args.name.now c.args.quota (state g.S.Store c.args.tx.now.conn.now) (state g.S.Store c.execute.new.self.conn.now) (Ok c.in-Ok.count) is.holds
-    (rw (c.params-to_sql.ensures, c.params-to_sql-2.ensures ∙ ap Int whole) at (c.in-Ok.ensures.runs clean is.inside))).1
-
-pub returns-in-Ok-clause-kept : goal.returns-in-Ok-clause-kept
-returns-in-Ok-clause-kept g c clean is =
-    kept_by_execute _ _ (state g.S.Store c.args.tx.now.conn.now) (state g.S.Store c.execute.new.self.conn.now) c.execute.result (c.execute.ensures.runs clean is.inside)
-
-pub returns-in-Ok-clause-same_reference : goal.returns-in-Ok-clause-same_reference
-returns-in-Ok-clause-same_reference g c = c.execute.ensures.same_reference
-
-pub returns-in-Ok-clause-survives : goal.returns-in-Ok-clause-survives
-returns-in-Ok-clause-survives g c = c.execute.ensures.survives
-
-pub returns-in-Err-clause-set : goal.returns-in-Err-clause-set
-returns-in-Err-clause-set g c clean is = tt
-
-pub returns-in-Err-clause-counted : goal.returns-in-Err-clause-counted
-returns-in-Err-clause-counted g c clean is = tt
-
-pub returns-in-Err-clause-kept : goal.returns-in-Err-clause-kept
-returns-in-Err-clause-kept g c clean is =
-    kept_by_execute _ _ (state g.S.Store c.args.tx.now.conn.now) (state g.S.Store c.execute.new.self.conn.now) c.execute.result (c.execute.ensures.runs clean is.inside)
-
-pub returns-in-Err-clause-same_reference : goal.returns-in-Err-clause-same_reference
-returns-in-Err-clause-same_reference g c = c.execute.ensures.same_reference
-
-pub returns-in-Err-clause-survives : goal.returns-in-Err-clause-survives
-returns-in-Err-clause-survives g c = c.execute.ensures.survives
+    let it = makes_so_many g.S.Store c.args.tx.now.conn.now c.execute.new.self.conn.now _ _ c.execute.result c.execute.ensures.runs _ (given c.params-to_sql.ensures (given (c.params-to_sql-2.ensures ∙ ap Int whole) refl)) c.told.result _ _ c.told.ensures (quota_set_by c.args.name.now c.args.quota (state g.S.Store c.args.tx.now.conn.now) (state g.S.Store c.execute.new.self.conn.now) c.execute.result) in
+    record {
+      set = it.0;
+      counted = it.1;
+      kept = keeps g.S.Store c.args.tx.now.conn.now c.execute.new.self.conn.now _ _ c.execute.result c.execute.ensures.runs;
+      same_reference = c.execute.ensures.same_reference;
+      survives = c.execute.ensures.survives;
+    }

@@ -1,28 +1,25 @@
-use Rattle.std.proofs.Common.{ℕ, arith}
-use Rattle.sqlite.specs.State.{HasCleanDisk}
 use Rattle.sqlite.specs.Held.{state}
-use Rattle.store_statements.proofs.Transactions.{survives_all}
-use Rattle.store_statements.proofs.SettledAfter.{stays_read, stays_failed, is_memory}
+use Rattle.sqlite.specs.Order.{column}
+use Rattle.store_statements.specs.Held.{held}
+use Rattle.store_statements.proofs.ReadRows.{reads}
+use Rattle.store_statements.proofs.Executed.{given}
+use Rattle.std.proofs.Common.{◌≡◌, [], ◌∷◌, map, filter, refl}
+use Rattle.store_statements.proofs.SelectedRows.{mapped}
+use Rattle.store_world.specs.Keys.{on_subject}
+use Rattle.sqlite_keyed.specs.Lists.{sort_by}
+use Rattle.store_statements.specs.ManifestShown.{by_second, referrer, referrer_shown}
+use Rattle.store_statements.proofs.ManifestReads.{subject_shown}
 use Rattle.store_statements.proofs.subjects.manifests_on_subject.Goals as goal
 
-pub returns-in-Ok-clause-settled : goal.returns-in-Ok-clause-settled
-returns-in-Ok-clause-settled g c clean is unspent =
-    stays_read (state g.S.Store c.args.conn.now) (state g.S.Store c.select_referrers.new.conn) is (c.in-Ok.ensures.same clean is)
-
-pub returns-in-Err-clause-settled : goal.returns-in-Err-clause-settled
-returns-in-Err-clause-settled g c clean is unspent =
-    let mid : HasCleanDisk (state g.S.Store c.select_referrers.new.conn) = omega (arith, c.checked_fault.ensures.survives.clean) in
-    stays_failed (state g.S.Store c.args.conn.now) (state g.S.Store c.select_referrers.new.conn) (state g.S.Store c.checked_fault.new.conn) is (c.in-Err.ensures.err mid is) (c.checked_fault.ensures.memory clean (is_memory ℕ _ unspent))
-
-pub returns-in-Ok-clause-survives : goal.returns-in-Ok-clause-survives
-returns-in-Ok-clause-survives g c = c.select_referrers.ensures.survives
-
-pub returns-in-Err-clause-found : goal.returns-in-Err-clause-found
-returns-in-Err-clause-found g c clean is = tt
-
-pub returns-in-Err-clause-survives : goal.returns-in-Err-clause-survives
-returns-in-Err-clause-survives g c =
-    survives_all (state g.S.Store c.args.conn.now) (state g.S.Store c.select_referrers.new.conn) (state g.S.Store c.checked_fault.new.conn) _ _ c.select_referrers.ensures.survives c.checked_fault.ensures.survives
-
-pub returns-in-Ok-clause-found : goal.returns-in-Ok-clause-found
-returns-in-Ok-clause-found g c clean is = c.in-Ok.ensures.found clean is
+pub returns : goal.returns
+returns g c =
+    let old = state g.S.Store c.args.conn.now in
+    let new = state g.S.Store c.query_all-shown.new.self in
+    let xs = sort_by by_second (filter (on_subject c.args.repo.now c.args.digest.now) (held old).manifests) in
+    let it = reads g.S.Store c.args.conn.now c.query_all-shown.new.self c.checked.new.conn _ _ c.query_all-shown.result c.query_all-shown.ensures.ok c.query_all-shown.ensures.err
+        (λ rows found. found.items ≡ map referrer_shown rows) c.all_referrers-found.result c.checked.result c.all_referrers-found.ensures c.checked.ensures.told
+        _ c.query_all-shown.ensures.survives (λ is. is.holds.known.manifest_texts.subject.plain) _ (given c.params-to_sql.ensures (given c.params-to_sql-2.ensures refl))
+        (λ v. v.items ≡ map referrer xs) (λ rows. rows.items ≡ map (λ r. column r 2 ∷ column r 6 ∷ []) xs)
+        (λ holds ran. subject_shown old new c.args.repo.now c.args.digest.now c.query_all-shown.result holds c.requires.digest ran)
+        (λ rows v q p. mapped referrer_shown (λ r. column r 2 ∷ column r 6 ∷ []) xs rows.items v.items q p) in
+    record { found = it.0; settled = it.1; survives = it.2 }

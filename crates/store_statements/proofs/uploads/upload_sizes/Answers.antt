@@ -1,30 +1,25 @@
-use Rattle.std.proofs.Common.{arith}
-use Rattle.std.specs.Prelude.{Vec, ℕ}
-use Rattle.std.specs.declared.alloc.Global.{Global}
-use Rattle.sqlite.specs.State.{HasCleanDisk}
 use Rattle.sqlite.specs.Held.{state}
-use Rattle.store_statements.proofs.Transactions.{survives_all}
-use Rattle.store_statements.proofs.SettledAfter.{stays_read, stays_failed, is_memory}
+use Rattle.sqlite.specs.Order.{column}
+use Rattle.store_statements.specs.Held.{held}
+use Rattle.store_statements.proofs.ReadRows.{reads}
+use Rattle.store_statements.proofs.Executed.{given}
+use Rattle.std.proofs.Common.{◌≡◌, [], ◌∷◌, filter, map, refl}
+use Rattle.std.specs.List.Sorted.{IsPermutation}
+use Rattle.store_statements.proofs.SelectedRows.{lists_of}
+use Rattle.store_world.specs.Keys.{of_first}
+use Rattle.store_schema.specs.Rows.{natural_at}
+use Rattle.store_statements.proofs.UploadRows.{size_rows}
 use Rattle.store_statements.proofs.uploads.upload_sizes.Goals as goal
 
-pub returns-in-Ok-clause-settled : goal.returns-in-Ok-clause-settled
-returns-in-Ok-clause-settled g c clean is unspent =
-    stays_read (state g.S.Store c.args.conn.now) (state g.S.Store c.select_upload_sizes.new.conn) is (c.in-Ok.ensures.same clean is)
-
-pub returns-in-Err-clause-settled : goal.returns-in-Err-clause-settled
-returns-in-Err-clause-settled g c clean is unspent =
-    let mid : HasCleanDisk (state g.S.Store c.select_upload_sizes.new.conn) = omega (arith, c.checked_fault.ensures.survives.clean) in
-    stays_failed (state g.S.Store c.args.conn.now) (state g.S.Store c.select_upload_sizes.new.conn) (state g.S.Store c.checked_fault.new.conn) is (c.in-Err.ensures.err mid is) (c.checked_fault.ensures.memory clean (is_memory (Vec ℕ Global) _ unspent))
-
-pub returns-in-Ok-clause-survives : goal.returns-in-Ok-clause-survives
-returns-in-Ok-clause-survives g c = c.select_upload_sizes.ensures.survives
-
-pub returns-in-Err-clause-found : goal.returns-in-Err-clause-found
-returns-in-Err-clause-found g c clean is = tt
-
-pub returns-in-Err-clause-survives : goal.returns-in-Err-clause-survives
-returns-in-Err-clause-survives g c =
-    survives_all (state g.S.Store c.args.conn.now) (state g.S.Store c.select_upload_sizes.new.conn) (state g.S.Store c.checked_fault.new.conn) _ _ c.select_upload_sizes.ensures.survives c.checked_fault.ensures.survives
-
-pub returns-in-Ok-clause-found : goal.returns-in-Ok-clause-found
-returns-in-Ok-clause-found g c clean is = c.in-Ok.ensures.found clean is
+pub returns : goal.returns
+returns g c =
+    let old = state g.S.Store c.args.conn.now in
+    let new = state g.S.Store c.query_all-shown.new.self in
+    let xs = filter (of_first c.args.repo.now) (held old).uploads in
+    let it = reads g.S.Store c.args.conn.now c.query_all-shown.new.self c.checked.new.conn _ _ c.query_all-shown.result c.query_all-shown.ensures.ok c.query_all-shown.ensures.err
+        (λ rows numbers. numbers.items ≡ map (λ r. natural_at r 0) rows) c.all_numbers-found.result c.checked.result c.all_numbers-found.ensures c.checked.ensures.told
+        _ c.query_all-shown.ensures.survives (λ is. is.holds.known.upload_texts.sizes.plain) _ (given c.params-to_sql.ensures refl)
+        (λ v. IsPermutation (map (λ r. natural_at r 3) xs) v.items) (λ rows. IsPermutation (map (λ r. column r 3 ∷ []) xs) rows.items)
+        (size_rows c.args.repo.now old new c.query_all-shown.result)
+        (λ rows v q p. lists_of (λ r. natural_at r 0) (λ r. column r 3 ∷ []) xs rows.items v.items q p) in
+    record { found = it.0; settled = it.1; survives = it.2 }

@@ -1,0 +1,26 @@
+-- What is read of rows that a query showed, and what a caller is told of it.
+use Rattle.std.specs.Prelude.{◌≡◌, List, false, Result, Ok, Err, OnOk, IfOk, IsOk, Vec}
+use Rattle.std.specs.declared.alloc.Global.{Global}
+use Rattle.sqlite_trees.specs.declared.store.Store.{Ghosts}
+use Rattle.sqlite.specs.Order.{Row}
+use Rattle.sqlite.specs.State.{HasCleanDisk, Shows}
+use Rattle.sqlite.specs.Held.{Held, state}
+use Rattle.sqlite.specs.declared.error.Error.{Error}
+use Rattle.oci_names.specs.declared.fault.Fault.{Fault}
+use Rattle.oci_names.specs.declared.fault.Fault.TheVariants.{Memory}
+use Rattle.store_statements.specs.Clauses.{Lasts}
+
+-- what is read is this of the rows, and where they were not shown nothing is
+pub record IsRead {A : Type 0} (rows : Result (Vec Row Global) Error) (read : Result A Fault)
+    (P : List Row → A → Type 0) : Type 0 where
+  pub shown : OnOk read (IsOk rows)
+  pub value : IfOk rows (λ xs. IfOk read (P xs.items))
+
+-- The connection was this when the value was found, or was not, and is that when it is told.
+pub record Checked {S : Type 0} (g : Ghosts S) (mid new : Held S) {A : Type 0} (found r : Result A Fault)
+    : Type 0 where
+  pub told : IfOk r (λ v. (found ≡ Ok v) × (new ≡ mid))
+  -- want of memory is told of an open connection alone
+  pub memory : HasCleanDisk (state g new) → r ≡ Err Memory
+      → Shows (state g mid) (state g new) (state g mid).now (state g mid).now false
+  pub survives : Lasts g mid new

@@ -1,0 +1,41 @@
+//! What the result of a statement is to the store's caller.
+ghost use Rattle.std.specs.Prelude.{◌≡◌, Ok, IfOk, IsOk, OnOk};
+ghost use Rattle.store_statements.specs.Told.{Checked};
+
+use crate::open_check::checked_fault;
+use oci_names::Fault;
+use sqlite::{Alter, Connection, Error};
+use store_contents::fault_of;
+
+/// Whether it was done, without how many rows that were.
+pub(crate) fn done(ran: Result<usize, Error>) -> Result<(), Fault>
+    ensures { OnOk result (IsOk ran) }
+{
+    match ran {
+        Ok(_) => Ok(()),
+        Err(error) => Err(fault_of(error)),
+    }
+}
+
+/// The value, or what the error is to a caller.
+pub(crate) fn told<T>(found: Result<T, Error>) -> Result<T, Fault>
+    ensures { IfOk result (λ value. found ≡ Ok value) }
+{
+    match found {
+        Ok(value) => Ok(value),
+        Err(error) => Err(fault_of(error)),
+    }
+}
+
+/// What was found; of a failure, whether the connection is open still.
+pub(crate) fn checked<S: Alter, T>(
+    conn: &mut Connection<S>,
+    found: Result<T, Fault>,
+) -> Result<T, Fault>
+    ensures told { Checked S.Store conn.old conn.new found result }
+{
+    match found {
+        Ok(value) => Ok(value),
+        Err(fault) => Err(checked_fault(conn, fault)),
+    }
+}
