@@ -1,12 +1,12 @@
 -- What a statement inside a transaction leaves, by the kind of the statement, and what its caller is told.
-use Rattle.std.proofs.Common.{◌≡◌, ◌∙◌, ℕ, List, [], ◌∷◌, Ok, Err, Result, OnOk, IfOk, ap, ap₂, subst, refl}
+use Rattle.std.proofs.Common.{◌≡◌, ◌∙◌, ℕ, List, ◌∷◌, Ok, Err, Result, OnOk, IfOk, ap, ap₂, subst}
 use Rattle.std.specs.Prelude.{IsOk, IsTrue, is_ok}
 use Rattle.sqlite_trees.specs.declared.store.Store.{Ghosts}
 use Rattle.sqlite.specs.Order.{Row}
 use Rattle.sqlite.specs.declared.types.Value.{Value}
 use Rattle.sqlite.specs.declared.error.Error.{Error}
 use Rattle.sqlite.specs.Values.{bound_value}
-use Rattle.sqlite.specs.State.{State, ExecutesInside, HasCleanDisk}
+use Rattle.sqlite.specs.State.{ExecutesInside, HasCleanDisk}
 use Rattle.sqlite.specs.Held.{Held, state}
 use Rattle.oci_names.specs.declared.fault.Fault.{Fault}
 use Rattle.store_statements.specs.Clauses.{KeepsInside}

@@ -1,5 +1,5 @@
 -- A page of tags.
-use Rattle.std.proofs.Common.{◌≡◌, ◌∙◌, inl, inr, ℕ, ℤ, suc, zero, ◌+◌, ◌<◌, ◌≤◌, List, [], ◌∷◌, map, Bool, true, false, None, Some, Less, Equal, Greater, Ok, Err, Result, IfOk, length, take, is_gt, is_lt, sym, ap, refl, arith}
+use Rattle.std.proofs.Common.{◌≡◌, ◌∙◌, inl, inr, ℕ, ℤ, suc, zero, ◌+◌, ◌<◌, ◌≤◌, List, [], ◌∷◌, map, Bool, true, false, None, Some, Less, Equal, Greater, IfOk, length, take, is_gt, is_lt, sym, ap, refl, arith}
 use Rattle.std.specs.Prelude.{Option, ◌&&◌, nat_lt, filter}
 use Rattle.std.specs.Ordering.{nat_cmp, ordering_reverse}
 use Rattle.std.specs.declared.cmp.Ordering.{Ordering}
@@ -20,7 +20,6 @@ use Rattle.sqlite.specs.State.{State, Shown}
 use Rattle.store_schema.proofs.Selects.{Answer, is_text, both_tests, map-map}
 use Rattle.registry_model.specs.TagPage.{first_of, more_than}
 use Rattle.store_world.specs.Tables.{IsTagRow}
-use Rattle.store_statements.specs.declared.tag_pages.TagPage.{TagPage}
 use Rattle.store_statements.specs.TagTexts.{tag_page}
 use Rattle.store_statements.specs.Held.{HoldsTables, held}
 use Rattle.store_statements.specs.ManifestShown.{by_second}
@@ -92,9 +91,3 @@ page_is (Some n) limit f g some rows tags more (inl enough) e t m =
       t ∙ ap (λ l. map g (take n l)) part ∙ ap (map g) (first_within n (map f some)) ∙ sym (take-map g n (map f some)) ∙ ap (take n) (map-map g f some),
       m ∙ ap (λ l. nat_lt 0 n && nat_lt n (length l)) part ∙ ap (λ b. nat_lt 0 n && b) (more_within n (map f some)) ∙ ap (λ k. nat_lt 0 n && nat_lt n k) (length_mapped f some ∙ sym (length_mapped (λ r. g (f r)) some)),
     )
-
-pub page_by : {E : Type 0} (n : Option ℕ) (limit : ℤ) (f : Row → Row) (g : Row → List ℕ) (some rows : List Row) (r : Result TagPage E) → IsEnough n limit → rows ≡ limited (as_count (Int limit)) (map f some)
-    → IfOk r (λ page. (page.tags.items ≡ map g (first_rows n rows)) × (page.more ≡ are_more n (length rows)))
-    → IfOk r (λ page. (page.tags.items ≡ first_of n (map (λ r. g (f r)) some)) × (page.more ≡ more_than n (map (λ r. g (f r)) some)))
-page_by n limit f g some rows (Ok page) enough e h = page_is n limit f g some rows page.tags.items page.more enough e h.0 h.1
-page_by n limit f g some rows (Err x) enough e h = tt

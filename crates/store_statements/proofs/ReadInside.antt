@@ -1,12 +1,12 @@
 -- What a read inside a transaction leaves and tells.
-use Rattle.std.proofs.Common.{◌≡◌, ℕ, List, Ok, Err, Result, OnOk, IfOk, IfErr}
+use Rattle.std.proofs.Common.{ℕ, List, Ok, Err, Result, OnOk, IfOk, IfErr}
 use Rattle.std.specs.Prelude.{IsOk, Vec, ◌⊎◌}
 use Rattle.std.specs.declared.alloc.Global.{Global}
 use Rattle.sqlite_trees.specs.declared.store.Store.{Ghosts}
 use Rattle.sqlite.specs.Order.{Row}
 use Rattle.sqlite.specs.Given.{IsPlain}
 use Rattle.sqlite.specs.Listing.{understood}
-use Rattle.sqlite.specs.State.{State, HasCleanDisk, IsUnchanged, IsTooLate, Shown, FailsToQuery}
+use Rattle.sqlite.specs.State.{HasCleanDisk, IsTooLate, Shown, FailsToQuery}
 use Rattle.sqlite.specs.Held.{Held, state}
 use Rattle.oci_names.specs.declared.fault.Fault.{Fault}
 use Rattle.store_schema.proofs.Selects.{Answer, leaves_all, keeps_by_query}

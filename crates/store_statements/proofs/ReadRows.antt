@@ -1,6 +1,6 @@
 -- What a read between transactions leaves and tells: a query, what is read of its rows, and a look at the
 -- connection where either failed.
-use Rattle.std.proofs.Common.{◌≡◌, ◌∙◌, ℕ, List, inl, true, false, Ok, Err, Result, OnOk, IfOk, IfErr, sym, ap, subst, refl, arith}
+use Rattle.std.proofs.Common.{◌≡◌, ℕ, List, inl, false, Ok, Err, Result, OnOk, IfOk, IfErr, sym, ap, subst, refl, arith}
 use Rattle.std.specs.Prelude.{IsOk, Vec, ⊤}
 use Rattle.std.specs.declared.alloc.Global.{Global}
 use Rattle.sqlite_trees.specs.declared.store.Store.{Ghosts}
@@ -84,8 +84,8 @@ module _ {S : Type 0} (g : Ghosts S) (old mid new : Held S) (sql : List ℕ) (ro
       → ((xs : Vec Row Global) (v : A) → Q xs → P xs.items v → T v) → (HasCleanDisk (state g new) → IsSettled (state g old) → IfOk r T) × Stays g old new r × Lasts g old new
   reads C survives plain params are T Q shows then = (
     λ clean is.
-      value_told T Q P then (λ _. new ≡ mid) rows read r it checks.told
-      (shows is.holds (subst (λ p. IfOk rows (λ xs. Shown sql p (state g old) (state g mid) xs.items)) are (ok (late clean)))),
+        value_told T Q P then (λ _. new ≡ mid) rows read r it checks.told
+        (shows is.holds (subst (λ p. IfOk rows (λ xs. Shown sql p (state g old) (state g mid) xs.items)) are (ok (late clean)))),
     settled plain,
     lasts C survives,
   )

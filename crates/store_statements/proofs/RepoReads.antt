@@ -16,7 +16,7 @@ use Rattle.sqlite.specs.State.{State, Shown}
 use Rattle.sqlite.specs.Term.{col}
 use Rattle.sqlite.specs.Tree.{IsAscending}
 use Rattle.sqlite.proofs.Callers.{reads_as}
-use Rattle.sqlite_trees.proofs.ListLemmas.{filter_all, all_of, map-map}
+use Rattle.sqlite_trees.proofs.ListLemmas.{filter_all, all_of}
 use Rattle.sqlite_keyed.specs.Lists.{sort_by}
 use Rattle.sqlite_keyed.proofs.ListLemmas.{ascending-map}
 use Rattle.sqlite_keyed.proofs.SortLemmas.{HasNoTies}
@@ -93,6 +93,3 @@ pub names_more : (rows : List Row) (at : ℕ) (row : Row) (name : List ℕ) (nam
 names_more rows at row name names news low is read e f =
     f ∙ ap (λ xs. xs ++ name ∷ []) e ∙ ap (λ x. map (λ r. bytes_at r 0) (take at rows) ++ x ∷ []) read
     ∙ sym (map-append (λ r. bytes_at r 0) (take at rows) (row ∷ [])) ∙ ap (map (λ r. bytes_at r 0)) (sym (take_more rows at row low ∙ ap (λ x. take at rows ++ x ∷ []) (sym is)))
-
-pub names_read : (rows : List Row) (table : List Row) (names : List (List ℕ)) → rows ≡ map (λ r. column r 1 ∷ []) table → names ≡ map (λ r. bytes_at r 0) rows → names ≡ map (λ r. bytes_at r 1) table
-names_read rows table names shown read = read ∙ ap (map (λ r. bytes_at r 0)) shown ∙ map-map (λ r. bytes_at r 0) (λ r. column r 1 ∷ []) table

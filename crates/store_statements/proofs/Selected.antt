@@ -1,5 +1,5 @@
 -- What a SELECT over one table shows, whose rows are of its types.
-use Rattle.std.proofs.Common.{◌≡◌, ◌∙◌, ◌+◌, ◌<◌, ◌++◌, ℕ, pos, List, [], ◌∷◌, map, length, take, get_or, slice_get, Bool, true, false, None, Some, Ok, Err, IfOk, IfErr, sym, ap, subst, refl}
+use Rattle.std.proofs.Common.{◌≡◌, ◌∙◌, ◌+◌, ◌<◌, ◌++◌, ℕ, pos, List, [], ◌∷◌, map, length, take, get_or, slice_get, Bool, true, false, None, Some, Ok, Err, IfOk, sym, ap, subst, refl}
 use Rattle.std.specs.Prelude.{◌^◌, nat_le, filter, find, Option, option_map}
 use Rattle.std.specs.List.Sorted.{IsPermutation}
 use Rattle.std.specs.Option.{option_to_list}
@@ -10,19 +10,16 @@ use Rattle.sqlite.specs.Order.{Row, column}
 use Rattle.sqlite.specs.Table.{Table}
 use Rattle.sqlite.specs.Term.{Term, eval_all}
 use Rattle.sqlite.specs.Command.TheVariants.{Select}
-use Rattle.sqlite.specs.Listing.{understood}
-use Rattle.sqlite.specs.Given.{IsPlain}
-use Rattle.sqlite.specs.State.{State, Shown, FailsToQuery}
+use Rattle.sqlite.specs.State.{State, Shown}
 use Rattle.sqlite.proofs.Callers.{one_permutation}
 use Rattle.sqlite_trees.proofs.ListLemmas.{filter_same, all_weaker, map-map}
 use Rattle.store_schema.specs.Rows.{natural_at, natural, integer}
 use Rattle.store_schema.specs.Layout.{rows_of, tree_of, Means, select_from}
 use Rattle.store_schema.proofs.Lists.{only_one, no_permutation}
-use Rattle.store_schema.proofs.Selects.{Answer, shows, left_by_query}
+use Rattle.store_schema.proofs.Selects.{Answer, shows}
 use Rattle.store_schema.proofs.Writes.{passes}
 use Rattle.store_world.specs.Tables.{AreRows}
 use Rattle.store_contents.specs.declared.content_id.ContentId.{ContentId}
-use Rattle.store_statements.specs.Held.{LeavesAsWas}
 use Rattle.store_statements.specs.Shown.{content_named}
 
 one_or_none : (f : Row → Row) (o : Option Row) (rows : List Row) → IsPermutation (map f (option_to_list o)) rows → rows ≡ map f (option_to_list o)
@@ -49,11 +46,6 @@ module _ (table : Table) (Is : Row → Type 0) (same : Row → Row → Bool) whe
   finds text names terms project params p old new (Ok rows) means stored are test parts h =
       one_or_none _ _ rows.items (subst (λ xs. IsPermutation (map (λ r. eval_all project (params ∷ r ∷ [])) xs) rows.items) (only_one p (λ a b. same a b ≡ false) parts _ are.apart)
       (lists text names terms project params p old new (Ok rows) means stored are test h))
-
--- a query that fails
-pub leaves_failed : (sql : List ℕ) (params : Row) (old new : State) (r : Answer) → IsPlain (understood old.now.schema sql) → IfErr r (FailsToQuery sql params old new) → IfErr r (λ e. LeavesAsWas old new)
-leaves_failed sql params old new (Ok rows) plain h = tt
-leaves_failed sql params old new (Err e) plain h = left_by_query sql params old new e plain h
 
 -- ---- what rows read as
 

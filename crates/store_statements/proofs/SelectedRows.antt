@@ -1,5 +1,5 @@
 -- What a SELECT over one table shows of it.
-use Rattle.std.proofs.Common.{◌≡◌, ◌∙◌, ℕ, List, ◌∷◌, [], map, Bool, true, false, None, Some, Ok, Err, Result, OnOk, IfOk, IfErr, sym, ap, subst, refl, length, suc, ◌<◌, ◌+◌, ◌++◌, get_or, take, arith}
+use Rattle.std.proofs.Common.{◌≡◌, ◌∙◌, ℕ, List, ◌∷◌, [], map, Bool, true, false, None, Some, Ok, Err, Result, IfOk, IfErr, sym, ap, subst, refl, length, suc, ◌<◌, ◌+◌, ◌++◌, get_or, take, arith}
 use Rattle.std.specs.declared.alloc.Global.{Global}
 use Rattle.std.specs.Prelude.{Vec, ◌^◌, Option, filter, find, nat_le, option_map, slice_get}
 use Rattle.std.specs.Option.{option_to_list}
@@ -52,10 +52,6 @@ pub first_shown : {X : Type 0} (g : Row → X) (f : Row → Row) (o : Option Row
 first_shown g f None rows e = ap (λ l. option_map g (slice_get l 0)) e
 first_shown g f (Some r) rows e = ap (λ l. option_map g (slice_get l 0)) e
 
-pub on_ok : {X E P : Type 0} (r : Result X E) → P → OnOk r P
-on_ok (Ok x) p = p
-on_ok (Err e) p = tt
-
 pub length_mapped : {X : Type 0} (f : Row → X) (xs : List Row) → length (map f xs) ≡ length xs
 length_mapped f [] = refl
 length_mapped f (x ∷ xs) = ap suc (length_mapped f xs)
@@ -73,10 +69,6 @@ mapped_more g rows at row x xs news low is shown e f =
 -- what is read of all the rows
 pub lists_of : {X : Type 0} (g : Row → X) (f : Row → Row) (some rows : List Row) (xs : List X) → IsPermutation (map f some) rows → xs ≡ map g rows → IsPermutation (map (λ r. g (f r)) some) xs
 lists_of g f some rows xs same e = subst (IsPermutation (map (λ r. g (f r)) some)) (sym e) (subst (λ l. IsPermutation l (map g rows)) (map-map g f some) (IsPermutation-map g _ _ same))
-
-pub each_of : {X E : Type 0} (g : Row → X) (f : Row → Row) (some rows : List Row) (r : Result (Vec X Global) E) → IsPermutation (map f some) rows → IfOk r (λ xs. xs.items ≡ map g rows) → IfOk r (λ xs. IsPermutation (map (λ r. g (f r)) some) xs.items)
-each_of g f some rows (Ok xs) same e = lists_of g f some rows xs.items same e
-each_of g f some rows (Err x) same e = tt
 
 -- in their order
 pub all_of_them : {X E : Type 0} (g : Row → X) (f : Row → Row) (some rows : List Row) (r : Result (Vec X Global) E) → rows ≡ map f some → IfOk r (λ xs. xs.items ≡ map g rows) → IfOk r (λ xs. xs.items ≡ map (λ r. g (f r)) some)

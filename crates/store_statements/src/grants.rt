@@ -140,7 +140,7 @@ fn level_shown(rows: &[Row]) -> Result<Option<Level>, Error>
 
 /// The same of what a query gave.
 fn first_level(shown: Result<Vec<Row>, Error>) -> Result<Option<Level>, Fault>
-    ensures { IsRead shown result 
+    ensures { IsRead shown result
         (λ rows o. o ≡ option_map (λ row. level_of (natural_at row 0)) (slice_get rows 0)) }
 {
     match shown {

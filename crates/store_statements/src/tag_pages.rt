@@ -77,11 +77,7 @@ fn page_in(alloc: Global, rows: &[Row], n: Option<u64>) -> Result<TagPage, Fault
 }
 
 /// The same of what a query gave.
-fn page_of(
-    alloc: Global,
-    shown: Result<Vec<Row>, Error>,
-    n: Option<u64>,
-) -> Result<TagPage, Fault>
+fn page_of(alloc: Global, shown: Result<Vec<Row>, Error>, n: Option<u64>) -> Result<TagPage, Fault>
     ensures { IsRead shown result
         (λ rows page. (page.tags.items ≡ map (λ row. bytes_at row 0) (first_rows n rows)) ×
         (page.more ≡ are_more n (length rows))) }

@@ -117,7 +117,10 @@ pub fn count_uploads<S: Alter>(conn: &mut Connection<S>, repo: &str) -> Result<u
     ensures settled { Stays S.Store conn.old conn.new result }
     ensures survives { Lasts S.Store conn.old conn.new }
 {
-    let shown = conn.query_all("SELECT size FROM registry_uploads WHERE repo = ?1", params![repo]);
+    let shown = conn.query_all(
+        "SELECT size FROM registry_uploads WHERE repo = ?1",
+        params![repo],
+    );
     let found = count_rows(shown);
     checked(conn, found)
 }
@@ -134,7 +137,10 @@ pub fn upload_sizes<S: Alter>(
     ensures settled { Stays S.Store conn.old conn.new result }
     ensures survives { Lasts S.Store conn.old conn.new }
 {
-    let shown = conn.query_all("SELECT size FROM registry_uploads WHERE repo = ?1", params![repo]);
+    let shown = conn.query_all(
+        "SELECT size FROM registry_uploads WHERE repo = ?1",
+        params![repo],
+    );
     let found = all_numbers(alloc, shown);
     checked(conn, found)
 }

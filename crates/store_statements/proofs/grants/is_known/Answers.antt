@@ -16,9 +16,9 @@ returns g c =
     let new = state g.S.Store c.query_all-shown.new.self in
     let xs = filter (of_first c.args.token.now) (held old).grants in
     let it = reads g.S.Store c.args.conn.now c.query_all-shown.new.self c.checked.new.conn _ _ c.query_all-shown.result c.query_all-shown.ensures.ok c.query_all-shown.ensures.err
-        (λ rows any. any ≡ not (length rows == 0)) c.any_row-found.result c.checked.result c.any_row-found.ensures c.checked.ensures.told
-        _ c.query_all-shown.ensures.survives (λ is. is.holds.known.grant_texts.known.plain) _ (given c.params-to_sql.ensures refl)
-        (λ known. known ≡ nat_lt 0 (length xs)) (λ rows. IsPermutation (map (λ r. column r 3 ∷ []) xs) rows.items)
-        (shows_known c.args.token.now old new c.query_all-shown.result)
-        (λ rows v q p. p ∙ known_by_rows c.args.token.now old rows.items q) in
+    (λ rows any. any ≡ not (length rows == 0)) c.any_row-found.result c.checked.result c.any_row-found.ensures c.checked.ensures.told
+    _ c.query_all-shown.ensures.survives (λ is. is.holds.known.grant_texts.known.plain) _ (given c.params-to_sql.ensures refl)
+    (λ known. known ≡ nat_lt 0 (length xs)) (λ rows. IsPermutation (map (λ r. column r 3 ∷ []) xs) rows.items)
+    (shows_known c.args.token.now old new c.query_all-shown.result)
+    (λ rows v q p. p ∙ known_by_rows c.args.token.now old rows.items q) in
     record { found = it.0; settled = it.1; survives = it.2 }

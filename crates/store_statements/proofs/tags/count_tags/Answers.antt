@@ -16,9 +16,9 @@ returns g c =
     let new = state g.S.Store c.query_all-shown.new.self in
     let xs = filter (of_first c.args.repo.now) (held old).tags in
     let it = reads g.S.Store c.args.conn.now c.query_all-shown.new.self c.checked.new.conn _ _ c.query_all-shown.result c.query_all-shown.ensures.ok c.query_all-shown.ensures.err
-        (λ rows n. n ≡ length rows) c.count_rows-found.result c.checked.result c.count_rows-found.ensures c.checked.ensures.told
-        _ c.query_all-shown.ensures.survives (λ is. is.holds.known.tag_texts.list.plain) _ (given c.params-to_sql.ensures refl)
-        (λ n. n ≡ length xs) (λ rows. IsPermutation (map (λ r. column r 2 ∷ []) xs) rows.items)
-        (tags_shown old new c.args.repo.now c.query_all-shown.result)
-        (λ rows n q p. p ∙ counted (λ r. column r 2 ∷ []) xs rows.items q) in
+    (λ rows n. n ≡ length rows) c.count_rows-found.result c.checked.result c.count_rows-found.ensures c.checked.ensures.told
+    _ c.query_all-shown.ensures.survives (λ is. is.holds.known.tag_texts.list.plain) _ (given c.params-to_sql.ensures refl)
+    (λ n. n ≡ length xs) (λ rows. IsPermutation (map (λ r. column r 2 ∷ []) xs) rows.items)
+    (tags_shown old new c.args.repo.now c.query_all-shown.result)
+    (λ rows n q p. p ∙ counted (λ r. column r 2 ∷ []) xs rows.items q) in
     record { found = it.0; settled = it.1; survives = it.2 }

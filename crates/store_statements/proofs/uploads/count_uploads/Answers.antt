@@ -16,9 +16,9 @@ returns g c =
     let new = state g.S.Store c.query_all-shown.new.self in
     let xs = filter (of_first c.args.repo.now) (held old).uploads in
     let it = reads g.S.Store c.args.conn.now c.query_all-shown.new.self c.checked.new.conn _ _ c.query_all-shown.result c.query_all-shown.ensures.ok c.query_all-shown.ensures.err
-        (λ rows n. n ≡ length rows) c.count_rows-found.result c.checked.result c.count_rows-found.ensures c.checked.ensures.told
-        _ c.query_all-shown.ensures.survives (λ is. is.holds.known.upload_texts.sizes.plain) _ (given c.params-to_sql.ensures refl)
-        (λ n. n ≡ length xs) (λ rows. IsPermutation (map (λ r. column r 3 ∷ []) xs) rows.items)
-        (size_rows c.args.repo.now old new c.query_all-shown.result)
-        (λ rows n q p. p ∙ counted (λ r. column r 3 ∷ []) xs rows.items q) in
+    (λ rows n. n ≡ length rows) c.count_rows-found.result c.checked.result c.count_rows-found.ensures c.checked.ensures.told
+    _ c.query_all-shown.ensures.survives (λ is. is.holds.known.upload_texts.sizes.plain) _ (given c.params-to_sql.ensures refl)
+    (λ n. n ≡ length xs) (λ rows. IsPermutation (map (λ r. column r 3 ∷ []) xs) rows.items)
+    (size_rows c.args.repo.now old new c.query_all-shown.result)
+    (λ rows n q p. p ∙ counted (λ r. column r 3 ∷ []) xs rows.items q) in
     record { found = it.0; settled = it.1; survives = it.2 }
