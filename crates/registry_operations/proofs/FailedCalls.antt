@@ -8,7 +8,7 @@ use Rattle.oci_names.specs.declared.fault.Fault.TheVariants.{Memory, Storage}
 use Rattle.registry_model.specs.declared.reply.Reply.{Reply}
 use Rattle.registry_model.specs.World.{Repo, World}
 use Rattle.registry_model.specs.Decision.{Decision}
-use Rattle.registry_model.specs.Keeping.{State, Reads, Writes, Spends}
+use Rattle.registry_model.specs.Keeping.{State, Reads, Writes, WritesBy, Spends}
 use Rattle.registry_operations.specs.Operating.{Operates, Answers, Carries}
 
 -- the clauses of an operation
@@ -38,6 +38,17 @@ memory_ran_out (Ok x) e name act s s' before after is memory stays unspent late 
 memory_ran_out (Err f) e name act s s' before after is memory stays unspent late honest =
     subst (λ x. Clauses (Err x) name act s s' before after) (sym (is.1 ∙ memory))
     (let whole : Clauses (Err Memory) name act s s' before after = record { comes = stays; answers = tt; carries = tt; spends = (unspent, late); honest = honest } in whole)
+
+-- what a call says that gave a part of the reply and failed
+abbrev pub GaveUp : {A B : Type 0} → (A → B) → Fault → B → World → State → State → Type 0 → Type 0 → Type 0
+GaveUp {A} {B} show f value w s s' before after =
+    record { comes : after → WritesBy {A = A} {B = B} show (Err f) value w s s'; spends : Spends {A = A} (Err f) s s'; honest : after → before }
+
+-- its fault is the operation's
+pub passed_on : {A B : Type 0} (show : A → B) (f : Fault) (value : B) (w : World) (name : Text) (act : Repo → Decision) (s s' : State) (before after : Type 0)
+    → GaveUp show f value w s s' before after → Clauses (Err f) name act s s' before after
+passed_on show Memory value w name act s s' before after h = record { comes = h.comes; answers = tt; carries = tt; spends = h.spends; honest = h.honest }
+passed_on show Storage value w name act s s' before after h = record { comes = λ honest. tt; answers = tt; carries = tt; spends = h.spends; honest = h.honest }
 
 -- ---- after calls that changed nothing
 

@@ -146,8 +146,7 @@ module _ (s : State) (name reference : Text) (there : has_repo s.world name ≡ 
       told s s' name (λ r. read_manifest r reference) r.0 r.1 a _ e unspent stays (ap (λ o. found_manifest (option_and_then (manifest_of_digest r.0) o)) nothing)
 
 -- the reply by its parts
-pub shows_manifest : (a : Answer) → a ≡ bare_answer OK → (digest type : Text) (kind : Kind) (body : Content) → type ≡ media_type_of kind
-    → record a { digest = Some digest; content_type = Some type; body = body } ≡ manifest_reply digest kind body
-shows_manifest a bare digest type kind body e =
-    ap {B = Answer} (λ (a : Answer). record a { digest = Some digest; content_type = Some type; body = body }) bare
-    ∙ ap {B = Answer} (λ t. record (bare_answer OK) { digest = Some digest; content_type = Some t; body = body }) e
+pub shows_manifest : (a : Answer) (digest type : Text) (kind : Kind) (body : Content) → a ≡ record (bare_answer OK) { digest = Some digest; content_type = Some type; body = body }
+    → type ≡ media_type_of kind → a ≡ manifest_reply digest kind body
+shows_manifest a digest type kind body shown e =
+    shown ∙ ap {B = Answer} (λ t. record (bare_answer OK) { digest = Some digest; content_type = Some t; body = body }) e

@@ -1,5 +1,6 @@
 -- The push of a manifest, by the steps in which it is done.
-use Rattle.std.specs.Prelude.{List, Bool, not, Option, None, is_some, if◌then◌else◌, Result, Ok, Err}
+use Rattle.std.specs.Prelude.{List, Bool, not, Option, None, Some, is_some, if◌then◌else◌, Result, Ok, Err, String, string_bytes}
+use Rattle.std.specs.declared.alloc.Global.{Global}
 use Rattle.std.specs.List.{list_all}
 use Rattle.oci_names.specs.Text.{Text}
 use Rattle.oci_names.specs.declared.digest.Verdict.{Verdict}
@@ -7,10 +8,16 @@ use Rattle.oci_names.specs.declared.digest.Verdict.TheVariants.{Matches, Differs
 use Rattle.oci_manifest.specs.declared.fault.ManifestFault.{ManifestFault}
 use Rattle.oci_manifest.specs.Manifest.{ManifestShown, manifest_in}
 use Rattle.registry_model.specs.declared.refusal.Refusal.TheVariants.{InvalidDigest, DigestMismatch, InvalidManifest, ManifestBlobUnknown}
-use Rattle.registry_model.specs.World.{Repo, World}
+use Rattle.registry_model.specs.declared.refusal.Refusal.{Refusal}
+use Rattle.registry_model.specs.declared.reply.Status.TheVariants.{Created}
+use Rattle.oci_names.specs.declared.fault.Fault.{Fault}
+use Rattle.registry_model.specs.Answer.{Answer, refused, bare_answer}
+use Rattle.registry_model.specs.Judging.{changed}
+use Rattle.registry_model.specs.Keeping.{State, WritesBy}
+use Rattle.registry_model.specs.World.{Repo, World, repo_at}
 use Rattle.registry_model.specs.Lookups.{blob_size_at}
 use Rattle.registry_model.specs.Manifests.{has_needs, with_manifest, created_manifest, content_type_fits}
-use Rattle.registry_model.specs.Decision.{Decision, refuses, within_quota}
+use Rattle.registry_model.specs.Decision.{Decision, refuses, within_quota, in_repo}
 
 -- every needed blob is in the repository of the name
 abbrev pub has_needs_at : World → Text → List Text → Bool
@@ -21,6 +28,21 @@ abbrev pub keep_manifest : Repo → Text → Text → Option Text → Text → M
 keep_manifest r name digest tag body m =
     if not (has_needs r m.needs) then refuses ManifestBlobUnknown
     else within_quota r (with_manifest r digest body tag) (created_manifest name digest m.subject)
+
+-- the reply of a manifest that was kept and is fetched at the location, or that was refused
+abbrev pub kept_answer : Text → Option Text → Result (String Global) Refusal → Answer
+kept_answer digest subject (Err e) = refused e
+kept_answer digest subject (Ok location) = record (bare_answer Created) {
+  location = Some (string_bytes location); digest = Some digest; subject = subject;
+}
+
+-- what comes of it in the repository of the name
+abbrev pub Keeps : Result (Result (String Global) Refusal) Fault
+    → Text → Text → Option Text → Text → ManifestShown → State → State → Type 0
+Keeps result name digest tag body m s s' =
+    let decision = in_repo (repo_at s.world name) (λ r. keep_manifest r name digest tag body m) in
+    WritesBy (kept_answer digest m.subject) result decision.reply
+    (changed s.world (Some name) decision.change) s s'
 
 -- bytes that match the digest
 abbrev pub push_under : Repo → Text → Text → Option Text → Option Text → Text

@@ -8,7 +8,7 @@ ghost use Rattle.registry_operations.specs.Operating.{Operates, IsUnspent, HasRe
 
 use crate::digests::read_digest;
 use crate::quota::blob_goes_over;
-use crate::replies::{blob_location, created_blob};
+use crate::replies::{blob_location, created_blob, found};
 use oci_names::{Digest, Fault, RepoName, Verdict};
 use registry_model::{Body, Keeper, LARGEST_BLOB, Refusal, Reply, Status};
 use std::alloc::Global;
@@ -34,12 +34,7 @@ pub fn read_blob<K: Keeper>(
     };
     match keeper.blob(alloc, name, &digest)? {
         None => Ok(Reply::refusal(Refusal::BlobUnknown)),
-        Some(bytes) => Ok(Reply {
-            digest: Some(digest),
-            content_type: Some("application/octet-stream"),
-            body: Body::Owned(bytes),
-            ..Reply::bare(Status::OK)
-        }),
+        Some(bytes) => Ok(found(digest, "application/octet-stream", Body::Owned(bytes))),
     }
 }
 
@@ -63,12 +58,7 @@ pub fn size_blob<K: Keeper>(
     };
     match keeper.blob_size(name, &digest)? {
         None => Ok(Reply::refusal(Refusal::BlobUnknown)),
-        Some(size) => Ok(Reply {
-            digest: Some(digest),
-            content_type: Some("application/octet-stream"),
-            body: Body::Unsent(size),
-            ..Reply::bare(Status::OK)
-        }),
+        Some(size) => Ok(found(digest, "application/octet-stream", Body::Unsent(size))),
     }
 }
 

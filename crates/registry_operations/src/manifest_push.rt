@@ -9,16 +9,16 @@ ghost use Rattle.registry_model.specs.Ask.{text_in};
 ghost use Rattle.registry_model.specs.Keeping.{Spends};
 ghost use Rattle.registry_model.specs.Manifests.{push_manifest};
 ghost use Rattle.registry_operations.specs.Operating.{Operates, IsUnspent, HasRepo, Answers, Carries};
-ghost use Rattle.registry_operations.specs.Push.{has_needs_at, keep_manifest, push_under, push_checked};
+ghost use Rattle.registry_operations.specs.Push.{has_needs_at, keep_manifest, Keeps, push_under, push_checked};
 ghost use Rattle.registry_operations.specs.Finding.{Finds};
 
 use crate::content_type::content_type_fits;
 use crate::quota::manifest_goes_over;
-use crate::replies::manifest_location;
+use crate::replies::{created_manifest, manifest_location};
 use oci_documents::read_manifest;
 use oci_manifest::{Manifest, ManifestFault};
 use oci_names::{Digest, Fault, NameFault, Reference, RepoName, Tag, Verdict};
-use registry_model::{Keeper, LARGEST_MANIFEST, Refusal, Reply, Status};
+use registry_model::{Keeper, LARGEST_MANIFEST, Refusal, Reply};
 use std::alloc::Global;
 
 /// Whether every needed blob is in the repository. Reads no blob.
@@ -37,8 +37,49 @@ fn has_needs<K: Keeper>(keeper: &mut K, name: &RepoName, needs: &[Digest]) -> Re
     Ok(true)
 }
 
-/// Keeps a manifest that was read, and sets the tag to it, if one is given. The reply's memory is
-/// taken before the write.
+/// Keeps a manifest that was read, and sets the tag to it, if one is given: where it is fetched, or
+/// why it is refused. The reply's memory is taken before the write.
+fn keep<K: Keeper>(
+    keeper: &mut K,
+    alloc: Global,
+    name: &RepoName,
+    digest: &Digest,
+    tag: Option<&Tag>,
+    body: &[u8],
+    manifest: &Manifest,
+) -> Result<Result<String, Refusal>, Fault>
+    requires unspent { IsUnspent (K.state keeper.old) }
+    requires there { K.is_honest keeper.old → HasRepo (K.state keeper.old) name.now }
+    requires matching { matches digest.now body.now ≡ true }
+    requires reads { manifest_in body.now ≡ Ok (shown manifest.now) }
+    requires fits { length body.now ≤ largest_manifest }
+    ensures comes { K.is_honest keeper.new → Keeps result name.now
+        digest.now (text_in tag.entry) body.now (shown manifest.now)
+        (K.state keeper.old) (K.state keeper.new) }
+    ensures spends { Spends result (K.state keeper.old) (K.state keeper.new) }
+    ensures honest { K.is_honest keeper.new → K.is_honest keeper.old }
+{
+    if !has_needs(keeper, name, &manifest.needs)? {
+        return Ok(Err(Refusal::ManifestBlobUnknown));
+    }
+    if manifest_goes_over(keeper, name, digest, body.len() as u64)? {
+        return Ok(Err(Refusal::QuotaExceeded));
+    }
+    let Ok(location) = manifest_location(alloc, name, digest) else {
+        return Err(Fault::Memory);
+    };
+    keeper.put_manifest(name, digest, body, manifest, tag)?;
+    Ok(Ok(location))
+}
+
+fn subject_of(manifest: Manifest) -> Option<Digest>
+    ensures { result ≡ (shown manifest).subject }
+{
+    let Manifest { subject, .. } = manifest;
+    subject
+}
+
+/// The same, and the reply. What a manifest owns is dear to drop at each end, so it has one here.
 fn keep_manifest<K: Keeper>(
     keeper: &mut K,
     alloc: Global,
@@ -61,23 +102,13 @@ fn keep_manifest<K: Keeper>(
     ensures spends { Spends result (K.state keeper.old) (K.state keeper.new) }
     ensures honest { K.is_honest keeper.new → K.is_honest keeper.old }
 {
-    if !has_needs(keeper, name, &manifest.needs)? {
-        return Ok(Reply::refusal(Refusal::ManifestBlobUnknown));
+    let kept = keep(keeper, alloc, name, &digest, tag, body, &manifest);
+    let subject = subject_of(manifest);
+    match kept {
+        Err(fault) => Err(fault),
+        Ok(Err(refusal)) => Ok(Reply::refusal(refusal)),
+        Ok(Ok(location)) => Ok(created_manifest(location, digest, subject)),
     }
-    if manifest_goes_over(keeper, name, &digest, body.len() as u64)? {
-        return Ok(Reply::refusal(Refusal::QuotaExceeded));
-    }
-    let Ok(location) = manifest_location(alloc, name, &digest) else {
-        return Err(Fault::Memory);
-    };
-    keeper.put_manifest(name, &digest, body, &manifest, tag)?;
-    let Manifest { subject, .. } = manifest;
-    Ok(Reply {
-        location: Some(location),
-        digest: Some(digest),
-        subject,
-        ..Reply::bare(Status::Created)
-    })
 }
 
 /// The push of bytes that match the digest.

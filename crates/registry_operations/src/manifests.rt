@@ -6,6 +6,7 @@ ghost use Rattle.registry_model.specs.Manifests.{reference_digest, read_manifest
 ghost use Rattle.registry_operations.specs.Operating.{Operates, IsUnspent, HasRepo, Answers, Carries};
 ghost use Rattle.registry_operations.specs.Finding.{FindsIn};
 
+use crate::replies::found;
 use oci_names::{Digest, Fault, NameFault, Reference, RepoName, Tag};
 use registry_model::{Body, Keeper, Refusal, Reply, Status};
 use std::alloc::Global;
@@ -56,12 +57,7 @@ pub fn read_manifest<K: Keeper>(
     };
     match keeper.manifest(alloc, name, &digest)? {
         None => Ok(Reply::refusal(Refusal::ManifestUnknown)),
-        Some((kind, bytes)) => Ok(Reply {
-            digest: Some(digest),
-            content_type: Some(kind.media_type()),
-            body: Body::Owned(bytes),
-            ..Reply::bare(Status::OK)
-        }),
+        Some((kind, bytes)) => Ok(found(digest, kind.media_type(), Body::Owned(bytes))),
     }
 }
 
@@ -85,12 +81,7 @@ pub fn size_manifest<K: Keeper>(
     };
     match keeper.manifest_size(name, &digest)? {
         None => Ok(Reply::refusal(Refusal::ManifestUnknown)),
-        Some((kind, size)) => Ok(Reply {
-            digest: Some(digest),
-            content_type: Some(kind.media_type()),
-            body: Body::Unsent(size),
-            ..Reply::bare(Status::OK)
-        }),
+        Some((kind, size)) => Ok(found(digest, kind.media_type(), Body::Unsent(size))),
     }
 }
 

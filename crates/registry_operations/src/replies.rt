@@ -2,13 +2,14 @@
 
 ghost use Rattle.registry_model.specs.Heads.{is_sent};
 ghost use Rattle.std.specs.Prelude.{◌≡◌, true, ◌++◌, ℕ, List, Some, IfOk, codes, string_bytes};
-ghost use Rattle.registry_model.specs.Answer.{answer_of};
+ghost use Rattle.registry_model.specs.Answer.{answer_of, bare_answer, content_of};
+ghost use Rattle.registry_model.specs.declared.reply.Status.TheVariants.{OK, Created};
 ghost use Rattle.registry_model.specs.Blobs.{blob_location, created_blob};
 ghost use Rattle.registry_model.specs.Manifests.{manifest_location};
 ghost use Rattle.registry_model.specs.Sessions.{session_location, session_range, session_reply, refuses_order};
 
 use oci_names::{Digest, RepoName};
-use registry_model::{Refusal, Reply, Status};
+use registry_model::{Body, Refusal, Reply, Status};
 use std::alloc::{AllocError, Global};
 
 /// Where something is fetched from the repository, by its digest.
@@ -56,6 +57,34 @@ pub fn created_blob(location: String, digest: Digest) -> Reply
         location: Some(location),
         digest: Some(digest),
         ..Reply::bare(Status::Created)
+    }
+}
+
+/// The reply of a manifest that was kept and is fetched at the location. Takes no memory.
+pub fn created_manifest(location: String, digest: Digest, subject: Option<Digest>) -> Reply
+    ensures { answer_of result ≡ record (bare_answer Created) {
+      location = Some (string_bytes location); digest = Some digest; subject = subject;
+    } }
+{
+    Reply {
+        location: Some(location),
+        digest: Some(digest),
+        subject,
+        ..Reply::bare(Status::Created)
+    }
+}
+
+/// The reply that has what is kept under the digest, or its length.
+pub fn found(digest: Digest, content_type: &'static str, body: Body) -> Reply
+    ensures { answer_of result ≡ record (bare_answer OK) {
+      digest = Some digest; content_type = Some content_type.now; body = content_of body;
+    } }
+{
+    Reply {
+        digest: Some(digest),
+        content_type: Some(content_type),
+        body,
+        ..Reply::bare(Status::OK)
     }
 }
 

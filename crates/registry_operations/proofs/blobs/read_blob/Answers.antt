@@ -30,8 +30,7 @@ returns-in-Some-2-clause-comes g c honest =
     let read = digest_found c.in_ok-digest.field-0 c.in-Some.digest c.args.text.now c.in-Some.is c.in_ok-digest.ensures in
     reads _ _ c.args.name.now c.requires.unspent there c.args.text.now _ found.1 (search rules) (Some c.in-Some-2.bytes.items)
     (sym (ap bytes_in c.in-Some-2.is) ∙ found.0 ∙ search rules)
-    (ap {B = Answer} (λ (a : Answer). record a { digest = Some c.in-Some.digest; content_type = Some (codes "application/octet-stream"); body = sent c.in-Some-2.bytes.items }) c.bare.ensures
-    ∙ ap {B = Answer} (λ d. record (bare_answer OK) { digest = Some d; content_type = Some (codes "application/octet-stream"); body = sent c.in-Some-2.bytes.items }) (search rules))
+    (c.found.ensures ∙ ap {B = Answer} (λ d. record (bare_answer OK) { digest = Some d; content_type = Some (codes "application/octet-stream"); body = sent c.in-Some-2.bytes.items }) (search rules))
 
 pub returns-in_err-digest : goal.returns-in_err-digest
 returns-in_err-digest g c = memory_ran_out c.from_residual.result c.in_err-digest.field-0.0 _ _ _ _ _ _ c.from_residual.ensures c.in_err-digest.ensures (λ _. refl) c.requires.unspent c.requires.unspent (λ honest. honest)

@@ -60,7 +60,7 @@ returns-in-Some-2-clause-comes g c honest =
     let there = c.requires.there (c.in_ok-digest.ensures.honest first) in
     reads _ c.args.name.now c.args.reference.now there c.requires.unspent _ _ c.in-Some.digest (sym c.in-Some.is ∙ named.0) named.1 found.1
     (Some (c.in-Some-2.kind, c.in-Some-2.bytes.items)) (sym (ap manifest_shown c.in-Some-2.is) ∙ found.0) _
-    (shows_manifest _ c.bare.ensures _ _ c.in-Some-2.kind (sent c.in-Some-2.bytes.items) c.media_type.ensures)
+    (shows_manifest _ c.in-Some.digest _ c.in-Some-2.kind (sent c.in-Some-2.bytes.items) c.found.ensures c.media_type.ensures)
 
 pub returns-in-Some-2-clause-spends : goal.returns-in-Some-2-clause-spends
 returns-in-Some-2-clause-spends g c = (c.requires.unspent, c.in_ok-manifest.ensures.spends.1)
