@@ -9,74 +9,56 @@ use Rattle.registry_operations.proofs.DigestLemmas.{digest_absent, digest_found}
 use Rattle.registry_operations.proofs.BlobLemmas.{deletes_invalid, deletes_absent, deletes, absent_size, there_size}
 use Rattle.registry_operations.proofs.blobs.delete_blob.Goals as goal
 
-pub returns-in_default-clause-comes : goal.returns-in_default-clause-comes
-returns-in_default-clause-comes g c honest =
-    deletes_invalid _ _ c.args.name.now c.requires.unspent (c.requires.there honest) c.args.text.now _ refl
-    (digest_absent c.in_ok-digest.field-0 c.args.text.now c.in_default.not-Some c.in_ok-digest.ensures) c.refusal.ensures
+pub returns-in_default : goal.returns-in_default
+returns-in_default g c = record {
+  comes = λ honest. (
+      deletes_invalid _ _ c.args.name.now c.requires.unspent (c.requires.there honest) c.args.text.now _ refl
+      (digest_absent c.in_ok-digest.field-0 c.args.text.now c.in_default.not-Some c.in_ok-digest.ensures) c.refusal.ensures);
+  answers = ap course_of_answer c.refusal.ensures;
+  carries = ap (λ (a : Answer). is_sent a.body) c.refusal.ensures;
+  spends = (c.requires.unspent, c.requires.unspent);
+  honest = λ honest. honest;
+}
 
-pub returns-then-is_none-clause-comes : goal.returns-then-is_none-clause-comes
-returns-then-is_none-clause-comes g c honest =
-    let s = g.K.Keeper.state c.args.keeper.now in
-    let found = c.in_ok-blob_size.ensures.found honest in
-    let there = c.requires.there (c.in_ok-blob_size.ensures.honest honest) in
-    let read = digest_found c.in_ok-digest.field-0 c.in-Some.digest c.args.text.now c.in-Some.is c.in_ok-digest.ensures in
-    deletes_absent s _ c.args.name.now c.requires.unspent there c.args.text.now _ found.1 read.1
-    (absent_size s.world c.args.name.now c.in-Some.digest c.args.text.now read.0 _ found.0 (c.is_none.ensures ∙ ap not c.if-is_none.true)) c.refusal-then-is_none.ensures
+pub returns-then-is_none : goal.returns-then-is_none
+returns-then-is_none g c = record {
+  comes = λ honest. (
+      let s = g.K.Keeper.state c.args.keeper.now in
+      let found = c.in_ok-blob_size.ensures.found honest in
+      let there = c.requires.there (c.in_ok-blob_size.ensures.honest honest) in
+      let read = digest_found c.in_ok-digest.field-0 c.in-Some.digest c.args.text.now c.in-Some.is c.in_ok-digest.ensures in
+      deletes_absent s _ c.args.name.now c.requires.unspent there c.args.text.now _ found.1 read.1
+      (absent_size s.world c.args.name.now c.in-Some.digest c.args.text.now read.0 _ found.0 (c.is_none.ensures ∙ ap not c.if-is_none.true)) c.refusal-then-is_none.ensures);
+  answers = ap course_of_answer c.refusal-then-is_none.ensures;
+  carries = ap (λ (a : Answer). is_sent a.body) c.refusal-then-is_none.ensures;
+  spends = c.in_ok-blob_size.ensures.spends;
+  honest = c.in_ok-blob_size.ensures.honest;
+}
 
-pub returns-clause-comes : goal.returns-clause-comes
-returns-clause-comes g c honest =
-    let s = g.K.Keeper.state c.args.keeper.now in
-    let before = c.in_ok-delete_blob.ensures.honest honest in
-    let found = c.in_ok-blob_size.ensures.found before in
-    let there = c.requires.there (c.in_ok-blob_size.ensures.honest before) in
-    let read = digest_found c.in_ok-digest.field-0 c.in-Some.digest c.args.text.now c.in-Some.is c.in_ok-digest.ensures in
-    deletes s _ c.args.name.now c.requires.unspent there c.args.text.now _ read.1
-    (there_size s.world c.args.name.now c.in-Some.digest c.args.text.now read.0 _ found.0 (c.is_none.ensures ∙ ap not c.if-is_none.false))
-    (subst (λ d. g.K.Keeper.state c.delete_blob.new.self ≡ record { world = lookups.delete_blob s.world c.args.name.now d; spent = false }) read.0
-    (subst (λ (x : State). g.K.Keeper.state c.delete_blob.new.self ≡ record { world = lookups.delete_blob x.world c.args.name.now c.in-Some.digest; spent = false }) found.1 (c.in_ok-delete_blob.ensures.made honest)))
-    c.bare.ensures
+pub returns : goal.returns
+returns g c = record {
+  comes = λ honest. (
+      let s = g.K.Keeper.state c.args.keeper.now in
+      let before = c.in_ok-delete_blob.ensures.honest honest in
+      let found = c.in_ok-blob_size.ensures.found before in
+      let there = c.requires.there (c.in_ok-blob_size.ensures.honest before) in
+      let read = digest_found c.in_ok-digest.field-0 c.in-Some.digest c.args.text.now c.in-Some.is c.in_ok-digest.ensures in
+      deletes s _ c.args.name.now c.requires.unspent there c.args.text.now _ read.1
+      (there_size s.world c.args.name.now c.in-Some.digest c.args.text.now read.0 _ found.0 (c.is_none.ensures ∙ ap not c.if-is_none.false))
+      (subst (λ d. g.K.Keeper.state c.delete_blob.new.self ≡ record { world = lookups.delete_blob s.world c.args.name.now d; spent = false }) read.0
+      (subst (λ (x : State). g.K.Keeper.state c.delete_blob.new.self ≡ record { world = lookups.delete_blob x.world c.args.name.now c.in-Some.digest; spent = false }) found.1 (c.in_ok-delete_blob.ensures.made honest)))
+      c.bare.ensures);
+  answers = ap course_of_answer c.bare.ensures;
+  carries = ap (λ (a : Answer). is_sent a.body) c.bare.ensures;
+  spends = (c.requires.unspent, c.in_ok-delete_blob.ensures.spends.1);
+  honest = λ honest. c.in_ok-blob_size.ensures.honest (c.in_ok-delete_blob.ensures.honest honest);
+}
 
 pub returns-in_err-digest : goal.returns-in_err-digest
 returns-in_err-digest g c = memory_ran_out c.from_residual.result c.in_err-digest.field-0.0 _ _ _ _ _ _ c.from_residual.ensures c.in_err-digest.ensures (λ _. refl) c.requires.unspent c.requires.unspent (λ honest. honest)
 
-pub returns-in_default-clause-answers : goal.returns-in_default-clause-answers
-returns-in_default-clause-answers g c = ap course_of_answer c.refusal.ensures
-
-pub returns-in_default-clause-carries : goal.returns-in_default-clause-carries
-returns-in_default-clause-carries g c = ap (λ (a : Answer). is_sent a.body) c.refusal.ensures
-
-pub returns-in_default-clause-spends : goal.returns-in_default-clause-spends
-returns-in_default-clause-spends g c = (c.requires.unspent, c.requires.unspent)
-
-pub returns-in_default-clause-honest : goal.returns-in_default-clause-honest
-returns-in_default-clause-honest g c honest = honest
-
 pub returns-in_err-blob_size : goal.returns-in_err-blob_size
 returns-in_err-blob_size g c = read_failed _ c.from_residual-in_err-blob_size.result c.in_err-blob_size.field-0.0 _ _ _ _ _ _ c.from_residual-in_err-blob_size.ensures c.in_err-blob_size.ensures
 
-pub returns-then-is_none-clause-answers : goal.returns-then-is_none-clause-answers
-returns-then-is_none-clause-answers g c = ap course_of_answer c.refusal-then-is_none.ensures
-
-pub returns-then-is_none-clause-carries : goal.returns-then-is_none-clause-carries
-returns-then-is_none-clause-carries g c = ap (λ (a : Answer). is_sent a.body) c.refusal-then-is_none.ensures
-
-pub returns-then-is_none-clause-spends : goal.returns-then-is_none-clause-spends
-returns-then-is_none-clause-spends g c = c.in_ok-blob_size.ensures.spends
-
-pub returns-then-is_none-clause-honest : goal.returns-then-is_none-clause-honest
-returns-then-is_none-clause-honest g c = c.in_ok-blob_size.ensures.honest
-
 pub returns-in_err-delete_blob : goal.returns-in_err-delete_blob
 returns-in_err-delete_blob g c = write_failed _ c.from_residual-in_err-delete_blob.result c.in_err-delete_blob.field-0.0 _ _ _ _ _ _ _ _ c.from_residual-in_err-delete_blob.ensures (λ between. (c.in_ok-blob_size.ensures.found between).1) c.in_ok-blob_size.ensures.honest c.requires.unspent c.in_err-delete_blob.ensures
-
-pub returns-clause-answers : goal.returns-clause-answers
-returns-clause-answers g c = ap course_of_answer c.bare.ensures
-
-pub returns-clause-carries : goal.returns-clause-carries
-returns-clause-carries g c = ap (λ (a : Answer). is_sent a.body) c.bare.ensures
-
-pub returns-clause-spends : goal.returns-clause-spends
-returns-clause-spends g c = (c.requires.unspent, c.in_ok-delete_blob.ensures.spends.1)
-
-pub returns-clause-honest : goal.returns-clause-honest
-returns-clause-honest g c honest = c.in_ok-blob_size.ensures.honest (c.in_ok-delete_blob.ensures.honest honest)

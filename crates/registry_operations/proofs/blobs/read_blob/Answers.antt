@@ -10,60 +10,48 @@ use Rattle.registry_operations.proofs.DigestLemmas.{digest_absent, digest_found}
 use Rattle.registry_operations.proofs.BlobLemmas.{reads, reads_nothing}
 use Rattle.registry_operations.proofs.blobs.read_blob.Goals as goal
 
-pub returns-in_default-clause-comes : goal.returns-in_default-clause-comes
-returns-in_default-clause-comes g c honest =
-    reads_nothing _ _ c.args.name.now c.requires.unspent (c.requires.there honest) c.args.text.now _ refl
-    (digest_absent c.in_ok-digest.field-0 c.args.text.now c.in_default.not-Some c.in_ok-digest.ensures) c.refusal.ensures
+pub returns-in_default : goal.returns-in_default
+returns-in_default g c = record {
+  comes = λ honest. (
+      reads_nothing _ _ c.args.name.now c.requires.unspent (c.requires.there honest) c.args.text.now _ refl
+      (digest_absent c.in_ok-digest.field-0 c.args.text.now c.in_default.not-Some c.in_ok-digest.ensures) c.refusal.ensures);
+  answers = ap course_of_answer c.refusal.ensures;
+  carries = ap (λ (a : Answer). is_sent a.body) c.refusal.ensures;
+  spends = (c.requires.unspent, c.requires.unspent);
+  honest = λ honest. honest;
+}
 
-pub returns-in-None-clause-comes : goal.returns-in-None-clause-comes
-returns-in-None-clause-comes g c honest =
-    let found = c.in_ok-blob.ensures.found honest in
-    let there = c.requires.there (c.in_ok-blob.ensures.honest honest) in
-    let read = digest_found c.in_ok-digest.field-0 c.in-Some.digest c.args.text.now c.in-Some.is c.in_ok-digest.ensures in
-    reads _ _ c.args.name.now c.requires.unspent there c.args.text.now _ found.1 (search rules) None
-    (sym (ap bytes_in c.in-None.is) ∙ found.0 ∙ search rules) c.refusal-in-None.ensures
+pub returns-in-None : goal.returns-in-None
+returns-in-None g c = record {
+  comes = λ honest. (
+      let found = c.in_ok-blob.ensures.found honest in
+      let there = c.requires.there (c.in_ok-blob.ensures.honest honest) in
+      let read = digest_found c.in_ok-digest.field-0 c.in-Some.digest c.args.text.now c.in-Some.is c.in_ok-digest.ensures in
+      reads _ _ c.args.name.now c.requires.unspent there c.args.text.now _ found.1 (search rules) None
+      (sym (ap bytes_in c.in-None.is) ∙ found.0 ∙ search rules) c.refusal-in-None.ensures);
+  answers = ap course_of_answer c.refusal-in-None.ensures;
+  carries = ap (λ (a : Answer). is_sent a.body) c.refusal-in-None.ensures;
+  spends = c.in_ok-blob.ensures.spends;
+  honest = c.in_ok-blob.ensures.honest;
+}
 
-pub returns-in-Some-2-clause-comes : goal.returns-in-Some-2-clause-comes
-returns-in-Some-2-clause-comes g c honest =
-    let found = c.in_ok-blob.ensures.found honest in
-    let there = c.requires.there (c.in_ok-blob.ensures.honest honest) in
-    let read = digest_found c.in_ok-digest.field-0 c.in-Some.digest c.args.text.now c.in-Some.is c.in_ok-digest.ensures in
-    reads _ _ c.args.name.now c.requires.unspent there c.args.text.now _ found.1 (search rules) (Some c.in-Some-2.bytes.items)
-    (sym (ap bytes_in c.in-Some-2.is) ∙ found.0 ∙ search rules)
-    (c.found.ensures ∙ ap {B = Answer} (λ d. record (bare_answer OK) { digest = Some d; content_type = Some (codes "application/octet-stream"); body = sent c.in-Some-2.bytes.items }) (search rules))
+pub returns-in-Some-2 : goal.returns-in-Some-2
+returns-in-Some-2 g c = record {
+  comes = λ honest. (
+      let found = c.in_ok-blob.ensures.found honest in
+      let there = c.requires.there (c.in_ok-blob.ensures.honest honest) in
+      let read = digest_found c.in_ok-digest.field-0 c.in-Some.digest c.args.text.now c.in-Some.is c.in_ok-digest.ensures in
+      reads _ _ c.args.name.now c.requires.unspent there c.args.text.now _ found.1 (search rules) (Some c.in-Some-2.bytes.items)
+      (sym (ap bytes_in c.in-Some-2.is) ∙ found.0 ∙ search rules)
+      (c.found.ensures ∙ ap {B = Answer} (λ d. record (bare_answer OK) { digest = Some d; content_type = Some (codes "application/octet-stream"); body = sent c.in-Some-2.bytes.items }) (search rules)));
+  answers = search rules;
+  carries = search rules;
+  spends = c.in_ok-blob.ensures.spends;
+  honest = c.in_ok-blob.ensures.honest;
+}
 
 pub returns-in_err-digest : goal.returns-in_err-digest
 returns-in_err-digest g c = memory_ran_out c.from_residual.result c.in_err-digest.field-0.0 _ _ _ _ _ _ c.from_residual.ensures c.in_err-digest.ensures (λ _. refl) c.requires.unspent c.requires.unspent (λ honest. honest)
 
-pub returns-in_default-clause-answers : goal.returns-in_default-clause-answers
-returns-in_default-clause-answers g c = ap course_of_answer c.refusal.ensures
-
-pub returns-in_default-clause-carries : goal.returns-in_default-clause-carries
-returns-in_default-clause-carries g c = ap (λ (a : Answer). is_sent a.body) c.refusal.ensures
-
-pub returns-in_default-clause-spends : goal.returns-in_default-clause-spends
-returns-in_default-clause-spends g c = (c.requires.unspent, c.requires.unspent)
-
-pub returns-in_default-clause-honest : goal.returns-in_default-clause-honest
-returns-in_default-clause-honest g c honest = honest
-
 pub returns-in_err-blob : goal.returns-in_err-blob
 returns-in_err-blob g c = read_failed _ c.from_residual-in_err-blob.result c.in_err-blob.field-0.0 _ _ _ _ _ _ c.from_residual-in_err-blob.ensures c.in_err-blob.ensures
-
-pub returns-in-None-clause-answers : goal.returns-in-None-clause-answers
-returns-in-None-clause-answers g c = ap course_of_answer c.refusal-in-None.ensures
-
-pub returns-in-None-clause-carries : goal.returns-in-None-clause-carries
-returns-in-None-clause-carries g c = ap (λ (a : Answer). is_sent a.body) c.refusal-in-None.ensures
-
-pub returns-in-None-clause-spends : goal.returns-in-None-clause-spends
-returns-in-None-clause-spends g c = c.in_ok-blob.ensures.spends
-
-pub returns-in-None-clause-honest : goal.returns-in-None-clause-honest
-returns-in-None-clause-honest g c = c.in_ok-blob.ensures.honest
-
-pub returns-in-Some-2-clause-spends : goal.returns-in-Some-2-clause-spends
-returns-in-Some-2-clause-spends g c = c.in_ok-blob.ensures.spends
-
-pub returns-in-Some-2-clause-honest : goal.returns-in-Some-2-clause-honest
-returns-in-Some-2-clause-honest g c = c.in_ok-blob.ensures.honest

@@ -6,25 +6,19 @@ use Rattle.registry_operations.proofs.PushLemmas.{other_type}
 use Rattle.registry_model.specs.Ask.{text_in}
 use Rattle.registry_operations.proofs.manifest_push.push_under.Goals as goal
 
-pub returns-then-not-content_type_fits-clause-comes : goal.returns-then-not-content_type_fits-clause-comes
-returns-then-not-content_type_fits-clause-comes g c honest =
-    let read = c.in-Ok.ensures.exact in
-    let fits = c.content_type_fits.ensures in
-    let no = c.if-not-content_type_fits.true in
-    let e = c.refusal-then-not-content_type_fits.ensures in
-    other_type _ c.args.name.now c.args.digest (text_in c.args.content_type) c.args.body.now (c.requires.there honest) c.requires.unspent (text_in c.args.tag) _ read _ fits no _ e
-
-pub returns-then-not-content_type_fits-clause-answers : goal.returns-then-not-content_type_fits-clause-answers
-returns-then-not-content_type_fits-clause-answers g c = ap course_of_answer c.refusal-then-not-content_type_fits.ensures
-
-pub returns-then-not-content_type_fits-clause-carries : goal.returns-then-not-content_type_fits-clause-carries
-returns-then-not-content_type_fits-clause-carries g c = ap (λ (a : Answer). is_sent a.body) c.refusal-then-not-content_type_fits.ensures
-
-pub returns-then-not-content_type_fits-clause-spends : goal.returns-then-not-content_type_fits-clause-spends
-returns-then-not-content_type_fits-clause-spends g c = (c.requires.unspent, c.requires.unspent)
-
-pub returns-then-not-content_type_fits-clause-honest : goal.returns-then-not-content_type_fits-clause-honest
-returns-then-not-content_type_fits-clause-honest g c honest = honest
+pub returns-then-not-content_type_fits : goal.returns-then-not-content_type_fits
+returns-then-not-content_type_fits g c = record {
+  comes = λ honest. (
+      let read = c.in-Ok.ensures.exact in
+      let fits = c.content_type_fits.ensures in
+      let no = c.if-not-content_type_fits.true in
+      let e = c.refusal-then-not-content_type_fits.ensures in
+      other_type _ c.args.name.now c.args.digest (text_in c.args.content_type) c.args.body.now (c.requires.there honest) c.requires.unspent (text_in c.args.tag) _ read _ fits no _ e);
+  answers = ap course_of_answer c.refusal-then-not-content_type_fits.ensures;
+  carries = ap (λ (a : Answer). is_sent a.body) c.refusal-then-not-content_type_fits.ensures;
+  spends = (c.requires.unspent, c.requires.unspent);
+  honest = λ honest. honest;
+}
 
 pub returns-clause-answers : goal.returns-clause-answers
 returns-clause-answers g c = c.keep_manifest.ensures.answers

@@ -1,4 +1,4 @@
-use Rattle.std.proofs.Common.{◌∙◌, sym, ap, None, Some}
+use Rattle.std.proofs.Common.{rules, ◌∙◌, sym, ap, None, Some}
 use Rattle.registry_model.specs.Keeping.{manifest_shown}
 use Rattle.registry_model.specs.Answer.{sent, Answer}
 use Rattle.registry_model.specs.Doing.{course_of_answer}
@@ -8,62 +8,50 @@ use Rattle.registry_operations.proofs.DigestLemmas.{not_found}
 use Rattle.registry_operations.proofs.ManifestLemmas.{reads, reads_unnamed, shows_manifest}
 use Rattle.registry_operations.proofs.manifests.read_manifest.Goals as goal
 
-pub returns-in-None-clause-comes : goal.returns-in-None-clause-comes
-returns-in-None-clause-comes g c honest =
-    let first = c.in_ok-manifest.ensures.honest honest in
-    let named = c.in_ok-digest.ensures.found first in
-    let found = c.in_ok-manifest.ensures.found honest in
-    let there = c.requires.there (c.in_ok-digest.ensures.honest first) in
-    reads _ c.args.name.now c.args.reference.now there c.requires.unspent _ _ c.in-Some.digest (sym c.in-Some.is ∙ named.0) named.1 found.1
-    None (sym (ap manifest_shown c.in-None.is) ∙ found.0) _ c.refusal-in-None.ensures
+pub returns-in-None : goal.returns-in-None
+returns-in-None g c = record {
+  comes = λ honest. (
+      let first = c.in_ok-manifest.ensures.honest honest in
+      let named = c.in_ok-digest.ensures.found first in
+      let found = c.in_ok-manifest.ensures.found honest in
+      let there = c.requires.there (c.in_ok-digest.ensures.honest first) in
+      reads _ c.args.name.now c.args.reference.now there c.requires.unspent _ _ c.in-Some.digest (sym c.in-Some.is ∙ named.0) named.1 found.1
+      None (sym (ap manifest_shown c.in-None.is) ∙ found.0) _ c.refusal-in-None.ensures);
+  answers = ap course_of_answer c.refusal-in-None.ensures;
+  carries = ap (λ (a : Answer). is_sent a.body) c.refusal-in-None.ensures;
+  spends = (c.requires.unspent, c.in_ok-manifest.ensures.spends.1);
+  honest = λ honest. c.in_ok-digest.ensures.honest (c.in_ok-manifest.ensures.honest honest);
+}
 
 pub returns-in_err-digest : goal.returns-in_err-digest
 returns-in_err-digest g c = read_failed _ c.from_residual.result c.in_err-digest.field-0.0 _ _ _ _ _ _ c.from_residual.ensures c.in_err-digest.ensures
 
-pub returns-in_default-clause-comes : goal.returns-in_default-clause-comes
-returns-in_default-clause-comes g c honest =
-    let named = c.in_ok-digest.ensures.found honest in
-    reads_unnamed _ c.args.name.now c.args.reference.now (c.requires.there (c.in_ok-digest.ensures.honest honest)) c.requires.unspent _ (not_found c.in_ok-digest.field-0 c.in_default.not-Some ∙ named.0) named.1 _ c.refusal.ensures
-
-pub returns-in_default-clause-answers : goal.returns-in_default-clause-answers
-returns-in_default-clause-answers g c = ap course_of_answer c.refusal.ensures
-
-pub returns-in_default-clause-carries : goal.returns-in_default-clause-carries
-returns-in_default-clause-carries g c = ap (λ (a : Answer). is_sent a.body) c.refusal.ensures
-
-pub returns-in_default-clause-spends : goal.returns-in_default-clause-spends
-returns-in_default-clause-spends g c = c.in_ok-digest.ensures.spends
-
-pub returns-in_default-clause-honest : goal.returns-in_default-clause-honest
-returns-in_default-clause-honest g c = c.in_ok-digest.ensures.honest
+pub returns-in_default : goal.returns-in_default
+returns-in_default g c = record {
+  comes = λ honest. (
+      let named = c.in_ok-digest.ensures.found honest in
+      reads_unnamed _ c.args.name.now c.args.reference.now (c.requires.there (c.in_ok-digest.ensures.honest honest)) c.requires.unspent _ (not_found c.in_ok-digest.field-0 c.in_default.not-Some ∙ named.0) named.1 _ c.refusal.ensures);
+  answers = ap course_of_answer c.refusal.ensures;
+  carries = ap (λ (a : Answer). is_sent a.body) c.refusal.ensures;
+  spends = c.in_ok-digest.ensures.spends;
+  honest = c.in_ok-digest.ensures.honest;
+}
 
 pub returns-in_err-manifest : goal.returns-in_err-manifest
 returns-in_err-manifest g c = later_read_failed _ c.from_residual-in_err-manifest.result c.in_err-manifest.field-0.0 _ _ _ _ _ _ _ _ c.from_residual-in_err-manifest.ensures (λ between. (c.in_ok-digest.ensures.found between).1) c.in_ok-digest.ensures.honest c.requires.unspent c.in_err-manifest.ensures
 
-pub returns-in-None-clause-answers : goal.returns-in-None-clause-answers
-returns-in-None-clause-answers g c = ap course_of_answer c.refusal-in-None.ensures
-
-pub returns-in-None-clause-carries : goal.returns-in-None-clause-carries
-returns-in-None-clause-carries g c = ap (λ (a : Answer). is_sent a.body) c.refusal-in-None.ensures
-
-pub returns-in-None-clause-spends : goal.returns-in-None-clause-spends
-returns-in-None-clause-spends g c = (c.requires.unspent, c.in_ok-manifest.ensures.spends.1)
-
-pub returns-in-None-clause-honest : goal.returns-in-None-clause-honest
-returns-in-None-clause-honest g c honest = c.in_ok-digest.ensures.honest (c.in_ok-manifest.ensures.honest honest)
-
-pub returns-in-Some-2-clause-comes : goal.returns-in-Some-2-clause-comes
-returns-in-Some-2-clause-comes g c honest =
-    let first = c.in_ok-manifest.ensures.honest honest in
-    let named = c.in_ok-digest.ensures.found first in
-    let found = c.in_ok-manifest.ensures.found honest in
-    let there = c.requires.there (c.in_ok-digest.ensures.honest first) in
-    reads _ c.args.name.now c.args.reference.now there c.requires.unspent _ _ c.in-Some.digest (sym c.in-Some.is ∙ named.0) named.1 found.1
-    (Some (c.in-Some-2.kind, c.in-Some-2.bytes.items)) (sym (ap manifest_shown c.in-Some-2.is) ∙ found.0) _
-    (shows_manifest _ c.in-Some.digest _ c.in-Some-2.kind (sent c.in-Some-2.bytes.items) c.found.ensures c.media_type.ensures)
-
-pub returns-in-Some-2-clause-spends : goal.returns-in-Some-2-clause-spends
-returns-in-Some-2-clause-spends g c = (c.requires.unspent, c.in_ok-manifest.ensures.spends.1)
-
-pub returns-in-Some-2-clause-honest : goal.returns-in-Some-2-clause-honest
-returns-in-Some-2-clause-honest g c honest = c.in_ok-digest.ensures.honest (c.in_ok-manifest.ensures.honest honest)
+pub returns-in-Some-2 : goal.returns-in-Some-2
+returns-in-Some-2 g c = record {
+  comes = λ honest. (
+      let first = c.in_ok-manifest.ensures.honest honest in
+      let named = c.in_ok-digest.ensures.found first in
+      let found = c.in_ok-manifest.ensures.found honest in
+      let there = c.requires.there (c.in_ok-digest.ensures.honest first) in
+      reads _ c.args.name.now c.args.reference.now there c.requires.unspent _ _ c.in-Some.digest (sym c.in-Some.is ∙ named.0) named.1 found.1
+      (Some (c.in-Some-2.kind, c.in-Some-2.bytes.items)) (sym (ap manifest_shown c.in-Some-2.is) ∙ found.0) _
+      (shows_manifest _ c.in-Some.digest _ c.in-Some-2.kind (sent c.in-Some-2.bytes.items) c.found.ensures c.media_type.ensures));
+  answers = search rules;
+  carries = search rules;
+  spends = (c.requires.unspent, c.in_ok-manifest.ensures.spends.1);
+  honest = λ honest. c.in_ok-digest.ensures.honest (c.in_ok-manifest.ensures.honest honest);
+}

@@ -7,14 +7,20 @@ use Rattle.registry_operations.proofs.UploadLemmas.{found_session}
 use Rattle.registry_operations.proofs.SessionCloseLemmas.{none_so_far, finish_unread, known}
 use Rattle.registry_operations.proofs.session_close.close_with.Goals as goal
 
-pub returns-then-upload-eq0-clause-comes : goal.returns-then-upload-eq0-clause-comes
-returns-then-upload-eq0-clause-comes g c honest =
-    let s = g.K.Keeper.state c.args.keeper.now in
-    let name = c.args.name.now in
-    let number = c.args.upload.number in
-    let f = found_session s.world name number c.args.upload.size (c.requires.open (c.finish.ensures.honest honest)) in
-    same_act c.finish.result name (λ r. finish_with r name number c.args.digest c.args.body.now) (λ r. finish_with r name number c.args.digest (bytes_so_far r number ++ c.args.body.now))
-    s s _ f.repo refl f.at (none_so_far s.world name number c.args.upload.size f c.args.digest c.args.body.now c.if-upload-eq0.true) (c.finish.ensures.comes honest)
+pub returns-then-upload-eq0 : goal.returns-then-upload-eq0
+returns-then-upload-eq0 g c = record {
+  comes = λ honest. (
+      let s = g.K.Keeper.state c.args.keeper.now in
+      let name = c.args.name.now in
+      let number = c.args.upload.number in
+      let f = found_session s.world name number c.args.upload.size (c.requires.open (c.finish.ensures.honest honest)) in
+      same_act c.finish.result name (λ r. finish_with r name number c.args.digest c.args.body.now) (λ r. finish_with r name number c.args.digest (bytes_so_far r number ++ c.args.body.now))
+      s s _ f.repo refl f.at (none_so_far s.world name number c.args.upload.size f c.args.digest c.args.body.now c.if-upload-eq0.true) (c.finish.ensures.comes honest));
+  answers = c.finish.ensures.answers;
+  carries = c.finish.ensures.carries;
+  spends = c.finish.ensures.spends;
+  honest = c.finish.ensures.honest;
+}
 
 pub returns-then-branch-clause-comes : goal.returns-then-branch-clause-comes
 returns-then-branch-clause-comes g c honest =
@@ -28,38 +34,20 @@ returns-then-branch-clause-comes g c honest =
     (λ r. finished r number c.args.digest (bytes_or_none (session_at s.world name number))) did.1
     (finish_unread s.world name number c.args.upload.size f c.args.digest did.0 c.args.body.now none)
 
-pub returns-then-upload-eq0-clause-answers : goal.returns-then-upload-eq0-clause-answers
-returns-then-upload-eq0-clause-answers g c = c.finish.ensures.answers
+pub returns-then-not-is_empty : goal.returns-then-not-is_empty
+returns-then-not-is_empty g c = record {
+  comes = search rules;
+  answers = c.close_read.ensures.answers;
+  carries = c.close_read.ensures.carries;
+  spends = c.close_read.ensures.spends;
+  honest = c.close_read.ensures.honest;
+}
 
-pub returns-then-upload-eq0-clause-carries : goal.returns-then-upload-eq0-clause-carries
-returns-then-upload-eq0-clause-carries g c = c.finish.ensures.carries
-
-pub returns-then-upload-eq0-clause-spends : goal.returns-then-upload-eq0-clause-spends
-returns-then-upload-eq0-clause-spends g c = c.finish.ensures.spends
-
-pub returns-then-upload-eq0-clause-honest : goal.returns-then-upload-eq0-clause-honest
-returns-then-upload-eq0-clause-honest g c = c.finish.ensures.honest
-
-pub returns-then-not-is_empty-clause-answers : goal.returns-then-not-is_empty-clause-answers
-returns-then-not-is_empty-clause-answers g c = c.close_read.ensures.answers
-
-pub returns-then-not-is_empty-clause-carries : goal.returns-then-not-is_empty-clause-carries
-returns-then-not-is_empty-clause-carries g c = c.close_read.ensures.carries
-
-pub returns-then-not-is_empty-clause-spends : goal.returns-then-not-is_empty-clause-spends
-returns-then-not-is_empty-clause-spends g c = c.close_read.ensures.spends
-
-pub returns-then-not-is_empty-clause-honest : goal.returns-then-not-is_empty-clause-honest
-returns-then-not-is_empty-clause-honest g c = c.close_read.ensures.honest
-
-pub returns-clause-answers : goal.returns-clause-answers
-returns-clause-answers g c = c.close_read-2.ensures.answers
-
-pub returns-clause-carries : goal.returns-clause-carries
-returns-clause-carries g c = c.close_read-2.ensures.carries
-
-pub returns-clause-spends : goal.returns-clause-spends
-returns-clause-spends g c = spends_after c.close_read-2.result (g.K.Keeper.state c.args.keeper.now) _ _ c.requires.unspent c.close_read-2.ensures.spends
-
-pub returns-clause-honest : goal.returns-clause-honest
-returns-clause-honest g c honest = c.in_ok-finish_known.ensures.honest (c.close_read-2.ensures.honest honest)
+pub returns : goal.returns
+returns g c = record {
+  comes = search rules;
+  answers = c.close_read-2.ensures.answers;
+  carries = c.close_read-2.ensures.carries;
+  spends = spends_after c.close_read-2.result (g.K.Keeper.state c.args.keeper.now) _ _ c.requires.unspent c.close_read-2.ensures.spends;
+  honest = λ honest. c.in_ok-finish_known.ensures.honest (c.close_read-2.ensures.honest honest);
+}
