@@ -16,6 +16,14 @@ abbrev pub Clauses : Result Reply Fault → Text → (Repo → Decision) → Sta
 Clauses r name act s s' before after =
     record { comes : after → Operates r name act s s'; answers : Answers r; carries : Carries r; spends : Spends r s s'; honest : after → before }
 
+-- those of one whose reply may have a length alone
+abbrev pub Uncarried : Result Reply Fault → Text → (Repo → Decision) → State → State → Type 0 → Type 0 → Type 0
+Uncarried r name act s s' before after =
+    record { comes : after → Operates r name act s s'; answers : Answers r; spends : Spends r s s'; honest : after → before }
+
+pub uncarried : (r : Result Reply Fault) (name : Text) (act : Repo → Decision) (s s' : State) (before after : Type 0) → Clauses r name act s s' before after → Uncarried r name act s s' before after
+uncarried r name act s s' before after h = record { comes = h.comes; answers = h.answers; spends = h.spends; honest = h.honest }
+
 -- what a read says that failed
 abbrev pub Failed : {A : Type 0} → A → Fault → State → State → Type 0 → Type 0 → Type 0
 Failed {A} v e s s' before after =

@@ -145,6 +145,13 @@ module _ (s : State) (name reference : Text) (there : has_repo s.world name ≡ 
       let nothing : reference_digest r.0 reference ≡ None = sym (none ∙ ap (λ o. option_and_then (λ r. reference_digest r reference) o) r.1) in
       told s s' name (λ r. read_manifest r reference) r.0 r.1 a _ e unspent stays (ap (λ o. found_manifest (option_and_then (manifest_of_digest r.0) o)) nothing)
 
+  pub sizes_unnamed : (s' : State) → None ≡ option_and_then (λ r. reference_digest r reference) (repo_at s.world name) → s' ≡ s → (a : Answer) → a ≡ refused ManifestUnknown
+      → Done a name (λ r. size_manifest r reference) s s'
+  sizes_unnamed s' none stays a e =
+      let r = there_is (repo_at s.world name) there in
+      let nothing : reference_digest r.0 reference ≡ None = sym (none ∙ ap (λ o. option_and_then (λ r. reference_digest r reference) o) r.1) in
+      told s s' name (λ r. size_manifest r reference) r.0 r.1 a _ e unspent stays (ap (λ o. found_manifest_size (option_and_then (manifest_of_digest r.0) o)) nothing)
+
 -- the reply by its parts
 pub shows_manifest : (a : Answer) (digest type : Text) (kind : Kind) (body : Content) → a ≡ record (bare_answer OK) { digest = Some digest; content_type = Some type; body = body }
     → type ≡ media_type_of kind → a ≡ manifest_reply digest kind body
