@@ -45,6 +45,10 @@ unsupported true true e = absurd (cc)
 unsupported true false e = absurd (cc)
 unsupported false m e = refl
 
+pub supported : (v m : Bool) → (cond v (cond m Matches Differs) Unsupported ≡ Unsupported → ⊥) → v ≡ true
+supported true m h = refl
+supported false m h = absurd (h refl)
+
 pub and_false : (b : Bool) → (b && false) ≡ false
 and_false true = refl
 and_false false = refl
@@ -52,6 +56,13 @@ and_false false = refl
 -- a text that is no digest
 pub undigested : (text : Text) → is_digest text ≡ false → None ≡ verifiable_in text
 undigested text invalid = sym (ap (λ b. cond (b && is_verified text) (Some text) None) invalid)
+
+-- one that can be
+pub verifiable : (o : Option Text) (d text : Text) → o ≡ Some d → o ≡ digest_in text → is_verified d ≡ true → Some d ≡ verifiable_in text
+verifiable o d text is e v =
+    let found = digest_found o d text is e in
+    let can : (is_digest text && is_verified text) ≡ true = ap (λ b. b && is_verified text) found.1 ∙ ap is_verified (sym found.0) ∙ v in
+    ap Some found.0 ∙ sym (ap (λ b. cond b (Some text) None) can)
 
 -- a digest of which the verdict is that it cannot be
 pub unverifiable : (o : Option Text) (d text : Text) → o ≡ Some d → o ≡ digest_in text → is_verified d ≡ false → None ≡ verifiable_in text
