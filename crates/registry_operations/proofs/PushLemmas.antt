@@ -105,6 +105,14 @@ module _ (s : State) (name digest : Text) (content_type : Option Text) (body : T
       told s s name (λ r. push_checked r name digest content_type body (verdict_of digest body)) r.0 r.1 a _ e unspent refl
       (ap (push_checked r.0 name digest content_type body) (sym is ∙ found))
 
+  -- bytes of another digest
+  pub differs : (v : Verdict) → v ≡ verdict_of digest body → v ≡ Differs
+      → (a : Answer) → a ≡ refused DigestMismatch → Done a name (λ r. push_checked r name digest content_type body (verdict_of digest body)) s s
+  differs v is found a e =
+      let r = there_is (repo_at s.world name) there in
+      told s s name (λ r. push_checked r name digest content_type body (verdict_of digest body)) r.0 r.1 a _ e unspent refl
+      (ap (push_checked r.0 name digest content_type body) (sym is ∙ found))
+
 -- ---- the whole push, by its steps
 
 read_is : (r : Repo) (name reference : Text) (content_type : Option Text) (body : Text) (read : Result ManifestShown ManifestFault)

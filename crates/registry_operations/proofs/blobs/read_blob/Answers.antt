@@ -44,8 +44,8 @@ returns-in-Some-2 g c = record {
       reads _ _ c.args.name.now c.requires.unspent there c.args.text.now _ found.1 (search rules) (Some c.in-Some-2.bytes.items)
       (sym (ap bytes_in c.in-Some-2.is) ∙ found.0 ∙ search rules)
       (c.found.ensures ∙ ap {B = Answer} (λ d. record (bare_answer OK) { digest = Some d; content_type = Some (codes "application/octet-stream"); body = sent c.in-Some-2.bytes.items }) (search rules)));
-  answers = search rules;
-  carries = search rules;
+  answers = ap course_of_answer c.found.ensures;
+  carries = ap (λ (a : Answer). is_sent a.body) c.found.ensures;
   spends = c.in_ok-blob.ensures.spends;
   honest = c.in_ok-blob.ensures.honest;
 }

@@ -38,7 +38,7 @@ returns-in-Some-2 g c = record {
       let read = digest_found c.in_ok-digest.field-0 c.in-Some.digest c.args.text.now c.in-Some.is c.in_ok-digest.ensures in
       sizes _ _ c.args.name.now c.requires.unspent there c.args.text.now _ found.1 (search rules) (Some c.in-Some-2.size) (sym c.in-Some-2.is ∙ found.0 ∙ search rules)
       (c.found.ensures ∙ ap {B = Answer} (λ d. record (bare_answer OK) { digest = Some d; content_type = Some (codes "application/octet-stream"); body = unsent c.in-Some-2.size }) (search rules)));
-  answers = search rules;
+  answers = ap course_of_answer c.found.ensures;
   spends = c.in_ok-blob_size.ensures.spends;
   honest = c.in_ok-blob_size.ensures.honest;
 }

@@ -33,8 +33,8 @@ returns g c = record {
       (text_in c.filter_in-wanted.result) c.filter_in-wanted.ensures (entries_shown c.in_ok-manifests.manifests) found.0
       (referrers_shown c.in_ok-referrers.referrers.items) c.in_ok-referrers.ensures _
       (c.in_ok-referrers_reply.ensures ∙ ap {A = List Referrer} {B = Answer} (λ x. referrers_reply (text_in c.filter_in-wanted.result) (referrers_shown x)) c.deref.ensures.value));
-  answers = search rules;
-  carries = search rules;
+  answers = ap course_of_answer c.in_ok-referrers_reply.ensures;
+  carries = ap (λ (a : Answer). is_sent a.body) c.in_ok-referrers_reply.ensures;
   spends = c.in_ok-manifests.ensures.spends;
   honest = c.in_ok-manifests.ensures.honest;
 }

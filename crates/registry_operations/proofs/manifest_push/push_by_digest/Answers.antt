@@ -1,8 +1,10 @@
-use Rattle.std.proofs.Common.{rules, ap}
+use Rattle.std.proofs.Common.{◌∙◌, ap, sym, subst}
 use Rattle.registry_model.specs.Answer.{Answer}
 use Rattle.registry_model.specs.Doing.{course_of_answer}
 use Rattle.registry_model.specs.Heads.{is_sent}
-use Rattle.registry_operations.proofs.PushLemmas.{unverified}
+use Rattle.registry_operations.specs.Operating.{Operates}
+use Rattle.registry_operations.specs.Push.{push_checked}
+use Rattle.registry_operations.proofs.PushLemmas.{unverified, differs}
 use Rattle.registry_model.specs.Ask.{text_in}
 use Rattle.registry_operations.proofs.manifest_push.push_by_digest.Goals as goal
 
@@ -17,7 +19,7 @@ returns-in-Unsupported g c = record {
 
 pub returns-in-Differs : goal.returns-in-Differs
 returns-in-Differs g c = record {
-  comes = search rules;
+  comes = λ honest. differs _ c.args.name.now c.args.digest (text_in c.args.content_type) c.args.body.now (c.requires.there honest) c.requires.unspent _ c.verifies.ensures c.in-Differs.is _ c.refusal-in-Differs.ensures;
   answers = ap course_of_answer c.refusal-in-Differs.ensures;
   carries = ap (λ (a : Answer). is_sent a.body) c.refusal-in-Differs.ensures;
   spends = (c.requires.unspent, c.requires.unspent);
@@ -26,7 +28,9 @@ returns-in-Differs g c = record {
 
 pub returns-in-Matches : goal.returns-in-Matches
 returns-in-Matches g c = record {
-  comes = search rules;
+  comes = λ honest. (
+      subst (λ v. Operates c.push_under.result c.args.name.now (λ r. push_checked r c.args.name.now c.args.digest (text_in c.args.content_type) c.args.body.now v) (g.K.Keeper.state c.args.keeper.now) (g.K.Keeper.state c.push_under.new.keeper))
+      (sym c.in-Matches.is ∙ c.verifies.ensures) (c.push_under.ensures.comes honest));
   answers = c.push_under.ensures.answers;
   carries = c.push_under.ensures.carries;
   spends = c.push_under.ensures.spends;

@@ -50,8 +50,8 @@ returns-in-Some-2 g c = record {
       reads _ c.args.name.now c.args.reference.now there c.requires.unspent _ _ c.in-Some.digest (sym c.in-Some.is ∙ named.0) named.1 found.1
       (Some (c.in-Some-2.kind, c.in-Some-2.bytes.items)) (sym (ap manifest_shown c.in-Some-2.is) ∙ found.0) _
       (shows_manifest _ c.in-Some.digest _ c.in-Some-2.kind (sent c.in-Some-2.bytes.items) c.found.ensures c.media_type.ensures));
-  answers = search rules;
-  carries = search rules;
+  answers = ap course_of_answer c.found.ensures;
+  carries = ap (λ (a : Answer). is_sent a.body) c.found.ensures;
   spends = (c.requires.unspent, c.in_ok-manifest.ensures.spends.1);
   honest = λ honest. c.in_ok-digest.ensures.honest (c.in_ok-manifest.ensures.honest honest);
 }

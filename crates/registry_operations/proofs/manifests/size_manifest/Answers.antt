@@ -41,7 +41,7 @@ returns-in-Some-2 g c = record {
       sizes _ c.args.name.now c.args.reference.now there c.requires.unspent _ _ c.in-Some.digest (sym c.in-Some.is ∙ named.0) named.1 found.1
       (Some (c.in-Some-2.kind, c.in-Some-2.size)) (sym c.in-Some-2.is ∙ found.0) _
       (shows_manifest _ c.in-Some.digest _ c.in-Some-2.kind (unsent c.in-Some-2.size) c.found.ensures c.media_type.ensures));
-  answers = search rules;
+  answers = ap course_of_answer c.found.ensures;
   spends = (c.requires.unspent, c.in_ok-manifest_size.ensures.spends.1);
   honest = λ honest. c.in_ok-digest.ensures.honest (c.in_ok-manifest_size.ensures.honest honest);
 }
