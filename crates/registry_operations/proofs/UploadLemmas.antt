@@ -10,14 +10,14 @@ use Rattle.oci_names.specs.SessionNumber.{session_number_of}
 use Rattle.registry_model.specs.declared.range.RangeVerdict.{RangeVerdict}
 use Rattle.registry_model.specs.declared.range.RangeVerdict.TheVariants.{Fits, Malformed, OutOfOrder, Unequal}
 use Rattle.registry_model.specs.declared.refusal.Refusal.TheVariants.{ContentTooLarge, QuotaExceeded, UploadUnknown}
-use Rattle.registry_model.specs.declared.reply.Status.TheVariants.{Accepted}
+use Rattle.registry_model.specs.declared.reply.Status.TheVariants.{NoContent, Accepted}
 use Rattle.registry_model.specs.World.{Repo, World, repo_at, has_repo}
 use Rattle.registry_model.specs.Limits.{largest_blob}
 use Rattle.registry_model.specs.Answer.{Answer, refused}
 use Rattle.registry_model.specs.Heads.{is_sent}
 use Rattle.registry_model.specs.Range.{range_verdict}
 use Rattle.registry_model.specs.Decision.{Decision, refuses, tells, makes, within_quota}
-use Rattle.registry_model.specs.Sessions.{Session, session_numbered, session_named, session_reply, range_checked, appended, append_to, append_chunk}
+use Rattle.registry_model.specs.Sessions.{read_session, show_session, Session, session_numbered, session_named, session_reply, range_checked, appended, append_to, append_chunk}
 use Rattle.registry_model.specs.Lookups.{session_size_at, bytes_or_none}
 use Rattle.registry_operations.specs.Quota.{grows_over, grows_over_at}
 use Rattle.registry_operations.specs.Uploads.{upload_at, chunk_refusal, bytes_so_far, append_more}
@@ -194,3 +194,18 @@ patch_unknown s s' name reference range body there none a is unspent stays =
     let here = there_is (repo_at s.world name) there in
     told s s' name (λ r. append_chunk r name reference range body) here.0 here.1 a (refused UploadUnknown) is unspent stays
     (ap (append_to here.0 name range body) (unnamed s.world name reference here.0 here.1 none))
+
+-- ---- how far a session is
+
+module _ (s s' : State) (name reference : Text) (unspent : s.spent ≡ false) (stays : s' ≡ s) (a : Answer) where
+  pub status_unknown : has_repo s.world name ≡ true → None ≡ upload_at s.world name reference → a ≡ refused UploadUnknown → Done a name (λ r. read_session r name reference) s s'
+  status_unknown there none is =
+      let here = there_is (repo_at s.world name) there in
+      told s s' name (λ r. read_session r name reference) here.0 here.1 a (refused UploadUnknown) is unspent stays
+      (ap (show_session name) (unnamed s.world name reference here.0 here.1 none))
+
+  pub status_of : (u : Upload) → Some u ≡ upload_at s.world name reference → a ≡ session_reply NoContent name u.number u.size → Done a name (λ r. read_session r name reference) s s'
+  status_of u e is =
+      let f = found_session s.world name u.number u.size (upload_is s.world name reference u e).1 in
+      told s s' name (λ r. read_session r name reference) f.repo f.at a (session_reply NoContent name u.number u.size) is unspent stays
+      (ap (show_session name) (named s.world name reference u f e) ∙ ap (λ n. tells (session_reply NoContent name u.number n)) f.long)
