@@ -33,7 +33,9 @@ keep_manifest r name digest tag body m =
 abbrev pub kept_answer : Text → Option Text → Result (String Global) Refusal → Answer
 kept_answer digest subject (Err e) = refused e
 kept_answer digest subject (Ok location) = record (bare_answer Created) {
-  location = Some (string_bytes location); digest = Some digest; subject = subject;
+  location = Some (string_bytes location);
+  digest = Some digest;
+  subject = subject;
 }
 
 -- what comes of it in the repository of the name

@@ -63,7 +63,9 @@ pub fn created_blob(location: String, digest: Digest) -> Reply
 /// The reply of a manifest that was kept and is fetched at the location. Takes no memory.
 pub fn created_manifest(location: String, digest: Digest, subject: Option<Digest>) -> Reply
     ensures { answer_of result ≡ record (bare_answer Created) {
-      location = Some (string_bytes location); digest = Some digest; subject = subject;
+      location = Some (string_bytes location);
+      digest = Some digest;
+      subject = subject;
     } }
 {
     Reply {
@@ -77,7 +79,9 @@ pub fn created_manifest(location: String, digest: Digest, subject: Option<Digest
 /// The reply that has what is kept under the digest, or its length.
 pub fn found(digest: Digest, content_type: &'static str, body: Body) -> Reply
     ensures { answer_of result ≡ record (bare_answer OK) {
-      digest = Some digest; content_type = Some content_type.now; body = content_of body;
+      digest = Some digest;
+      content_type = Some content_type.now;
+      body = content_of body;
     } }
 {
     Reply {

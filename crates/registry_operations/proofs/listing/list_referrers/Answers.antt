@@ -1,4 +1,4 @@
-use Rattle.std.proofs.Common.{rules, ◌∙◌, ap, List, refl}
+use Rattle.std.proofs.Common.{◌∙◌, ap, List, refl}
 use Rattle.oci_manifest.specs.declared.referrers.Referrer.{Referrer}
 use Rattle.oci_manifest.specs.Referrers.{referrers_shown}
 use Rattle.registry_model.specs.Answer.{Answer}

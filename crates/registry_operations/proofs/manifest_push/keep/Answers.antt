@@ -1,4 +1,4 @@
-use Rattle.std.proofs.Common.{◌∙◌, ap, refl, Some, string_bytes}
+use Rattle.std.proofs.Common.{◌∙◌, ap, refl, Some}
 use Rattle.oci_manifest.specs.Manifest.{shown}
 use Rattle.registry_model.specs.declared.reply.Status.TheVariants.{Created}
 use Rattle.registry_model.specs.Answer.{Answer, bare_answer}

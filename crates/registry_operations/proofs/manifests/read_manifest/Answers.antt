@@ -1,4 +1,4 @@
-use Rattle.std.proofs.Common.{rules, ◌∙◌, sym, ap, None, Some}
+use Rattle.std.proofs.Common.{◌∙◌, sym, ap, None, Some}
 use Rattle.registry_model.specs.Keeping.{manifest_shown}
 use Rattle.registry_model.specs.Answer.{sent, Answer}
 use Rattle.registry_model.specs.Doing.{course_of_answer}

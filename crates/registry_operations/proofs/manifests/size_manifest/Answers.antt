@@ -1,6 +1,5 @@
-use Rattle.std.proofs.Common.{ap, rules, ◌∙◌, sym, None, Some}
+use Rattle.std.proofs.Common.{ap, ◌∙◌, sym, None, Some}
 use Rattle.registry_model.specs.Answer.{unsent}
-use Rattle.registry_model.specs.Answer.{Answer}
 use Rattle.registry_model.specs.Doing.{course_of_answer}
 use Rattle.registry_operations.proofs.FailedCalls.{uncarried, read_failed, later_read_failed}
 use Rattle.registry_operations.proofs.DigestLemmas.{not_found}
