@@ -1,48 +1,64 @@
 //! The subcommands, each with the options that it takes.
 ghost use Rattle.std.specs.Prelude.{◌≡◌, IfOk, codes};
+ghost use Rattle.clap.specs.Words.{App, Rule, with_rule};
+ghost use Rattle.clap.specs.Simple.{new_shape};
 ghost use Rattle.command_line.specs.CommandLine as spec;
-ghost use Rattle.command_line.specs.CommandLine.{IsSub};
+ghost use Rattle.command_line.specs.CommandLine.{HasRule, IsApp, IsSub};
 
 use crate::arguments::{
     address, at_once, buffer, connections, database, flag, grants, idle, level, name, name_if,
     orders, quota, repos, token, token_file,
 };
-use clap::Command;
+use clap::{Arg, Command};
 use std::alloc::{AllocError, Global};
+
+/// The command with one more argument. A chain of these has one `?`, and not one for each argument, since
+/// each `?` of a function makes it dearer to prove.
+fn with<'a>(
+    command: Result<Command<'a>, AllocError>,
+    arg: Arg<'a>,
+) -> Result<Command<'a>, AllocError>
+    ensures { (app : App) (rule : Rule) → IfOk command.entry (IsApp app) → HasRule rule arg.entry
+        → IfOk result (IsApp (with_rule app rule)) }
+{
+    command?.arg(arg)
+}
+
+/// A command that has no argument yet.
+fn bare<'a>(alloc: Global, word: &'a str, about: &'a str) -> Result<Command<'a>, AllocError>
+    ensures { IfOk result (IsSub (new_shape word.entry.now)) }
+{
+    Ok(Command::new(alloc, word).about(about))
+}
 
 pub(crate) fn stdio<'a>(alloc: Global) -> Result<Command<'a>, AllocError>
     ensures { IfOk result (IsSub spec.stdio) }
 {
-    Command::new(alloc, "stdio")
-        .about("Serve standard input as one connection")
-        .arg(database(alloc))?
-        .arg(flag(alloc, "memory", "Keep everything in memory"))?
-        .arg(repos(alloc))?
-        .arg(grants(alloc))
+    let command = bare(alloc, "stdio", "Serve standard input as one connection");
+    let command = with(command, database(alloc));
+    let command = with(command, flag(alloc, "memory", "Keep everything in memory"));
+    with(with(command, repos(alloc)), grants(alloc))
 }
 
 /// One that serves connections within limits.
 fn serving<'a>(alloc: Global) -> Result<Command<'a>, AllocError>
     ensures { IfOk result (IsSub spec.serving_within) }
 {
-    Command::new(alloc, "serve")
-        .about("Serve connections")
-        .arg(database(alloc).required(true))?
-        .arg(address(alloc))?
-        .arg(connections(alloc))?
-        .arg(at_once(alloc))?
-        .arg(buffer(alloc))?
-        .arg(idle(alloc))
+    let command = over_database(alloc, "serve", "Serve connections");
+    let command = with(command, address(alloc));
+    let command = with(command, connections(alloc));
+    let command = with(command, at_once(alloc));
+    with(with(command, buffer(alloc)), idle(alloc))
 }
 
 pub(crate) fn serve<'a>(alloc: Global) -> Result<Command<'a>, AllocError>
     ensures { IfOk result (IsSub spec.serve) }
 {
+    let command = with(serving(alloc), orders(alloc, "Take orders at this socket"));
+    let saying = "Say each request on standard error";
+    let command = with(command, flag(alloc, "log", saying));
     let stopping = "End when the other end of standard input is closed";
-    serving(alloc)?
-        .arg(orders(alloc, "Take orders at this socket"))?
-        .arg(flag(alloc, "log", "Say each request on standard error"))?
-        .arg(flag(alloc, "stop-at-eof", stopping))
+    with(command, flag(alloc, "stop-at-eof", stopping))
 }
 
 /// One over a database that no server holds.
@@ -53,18 +69,14 @@ pub(crate) fn over_database<'a>(
 ) -> Result<Command<'a>, AllocError>
     ensures { IfOk result (IsSub (spec.over_database word.entry.now)) }
 {
-    Command::new(alloc, word)
-        .about(about)
-        .arg(database(alloc).required(true))
+    with(bare(alloc, word, about), database(alloc).required(true))
 }
 
 pub(crate) fn stop<'a>(alloc: Global) -> Result<Command<'a>, AllocError>
     ensures { IfOk result (IsSub spec.stop) }
 {
-    Command::new(alloc, "stop").about("End a server").arg(orders(
-        alloc,
-        "The socket at which it takes orders",
-    ).required(true))
+    let orders = orders(alloc, "The socket at which it takes orders");
+    with(bare(alloc, "stop", "End a server"), orders.required(true))
 }
 
 /// A subcommand that orders something, of a database or of the server that holds it.
@@ -75,10 +87,11 @@ pub(crate) fn ordering<'a>(
 ) -> Result<Command<'a>, AllocError>
     ensures { IfOk result (IsSub (spec.ordering word.entry.now)) }
 {
-    Command::new(alloc, word)
-        .about(about)
-        .arg(database(alloc))?
-        .arg(orders(alloc, "The socket of a server that holds it"))
+    let command = with(bare(alloc, word, about), database(alloc));
+    with(
+        command,
+        orders(alloc, "The socket of a server that holds it"),
+    )
 }
 
 /// One over a repository.
@@ -89,7 +102,7 @@ pub(crate) fn over_repo<'a>(
 ) -> Result<Command<'a>, AllocError>
     ensures { IfOk result (IsSub (spec.over_repo word.entry.now)) }
 {
-    ordering(alloc, word, about)?.arg(name(alloc))
+    with(ordering(alloc, word, about), name(alloc))
 }
 
 /// One that takes away what no manifest names, or lists it.
@@ -98,7 +111,8 @@ pub(crate) fn prune<'a>(alloc: Global) -> Result<Command<'a>, AllocError>
 {
     let about =
         "Take away the blobs of a repository that none of its manifests names; clear then frees their bytes";
-    over_repo(alloc, "prune", about)?.arg(flag(alloc, "dry-run", "List them, and take none away"))
+    let listing = flag(alloc, "dry-run", "List them, and take none away");
+    with(over_repo(alloc, "prune", about), listing)
 }
 
 /// One that lists something.
@@ -109,7 +123,10 @@ pub(crate) fn listing<'a>(
 ) -> Result<Command<'a>, AllocError>
     ensures { IfOk result (IsSub (spec.listing word.entry.now)) }
 {
-    ordering(alloc, word, about)?.arg(flag(alloc, "json", "As one JSON array"))
+    with(
+        ordering(alloc, word, about),
+        flag(alloc, "json", "As one JSON array"),
+    )
 }
 
 /// One that lists something of a repository.
@@ -120,7 +137,10 @@ pub(crate) fn listing_of_repo<'a>(
 ) -> Result<Command<'a>, AllocError>
     ensures { IfOk result (IsSub (spec.listing_of_repo word.entry.now)) }
 {
-    over_repo(alloc, word, about)?.arg(flag(alloc, "json", "As one JSON array"))
+    with(
+        over_repo(alloc, word, about),
+        flag(alloc, "json", "As one JSON array"),
+    )
 }
 
 /// One that sets the repository's quota.
@@ -131,24 +151,22 @@ pub(crate) fn over_quota<'a>(
 ) -> Result<Command<'a>, AllocError>
     ensures { IfOk result (IsSub (spec.over_quota word.entry.now)) }
 {
-    over_repo(alloc, word, about)?.arg(quota(alloc))
+    with(over_repo(alloc, word, about), quota(alloc))
 }
 
 /// One that takes a token, on the command line or from elsewhere.
 fn over_token<'a>(alloc: Global, word: &'a str, about: &'a str) -> Result<Command<'a>, AllocError>
     ensures { IfOk result (IsSub (spec.over_token word.entry.now)) }
 {
-    ordering(alloc, word, about)?
-        .arg(token(alloc))?
-        .arg(token_file(alloc))
+    let command = with(ordering(alloc, word, about), token(alloc));
+    with(command, token_file(alloc))
 }
 
 pub(crate) fn grant<'a>(alloc: Global) -> Result<Command<'a>, AllocError>
     ensures { IfOk result (IsSub spec.grant) }
 {
-    over_token(alloc, "grant", "Give a token a level on a repository")?
-        .arg(name(alloc))?
-        .arg(level(alloc))
+    let command = over_token(alloc, "grant", "Give a token a level on a repository");
+    with(with(command, name(alloc)), level(alloc))
 }
 
 /// One that takes a level away, or all of a token's levels.
@@ -156,16 +174,16 @@ pub(crate) fn revoke<'a>(alloc: Global) -> Result<Command<'a>, AllocError>
     ensures { IfOk result (IsSub spec.revoke) }
 {
     let about = "Take a token's level on a repository away; without --name, all its levels";
-    over_token(alloc, "revoke", about)?.arg(name_if(alloc))
+    with(over_token(alloc, "revoke", about), name_if(alloc))
 }
 
 /// One that lists the levels of one token or of all, on one repository or on all.
 pub(crate) fn listing_of_grants<'a>(alloc: Global) -> Result<Command<'a>, AllocError>
     ensures { IfOk result (IsSub spec.listing_of_grants) }
 {
+    let command = over_token(alloc, "grants", "List the levels of tokens on repositories");
+    let command = with(command, name_if(alloc));
     let showing = "Show tokens whole, and not their first four characters";
-    over_token(alloc, "grants", "List the levels of tokens on repositories")?
-        .arg(name_if(alloc))?
-        .arg(flag(alloc, "show-tokens", showing))?
-        .arg(flag(alloc, "json", "As one JSON array"))
+    let command = with(command, flag(alloc, "show-tokens", showing));
+    with(command, flag(alloc, "json", "As one JSON array"))
 }

@@ -1,4 +1,4 @@
 use Rattle.command_line.proofs.grammar.command.Goals as goal
 
 pub returns : goal.returns
-returns c = c.with_other_commands.ensures (c.in_ok-with_lists.ensures (c.in_ok-command-2.ensures (c.in_ok-command.ensures c.in_ok-program.ensures)))
+returns c = c.with_other_commands.ensures (c.with_lists.ensures (c.with_repo_commands-command.ensures (c.with_serving-command.ensures c.program.ensures)))

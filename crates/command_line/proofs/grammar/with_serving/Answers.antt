@@ -4,5 +4,5 @@ use Rattle.command_line.proofs.grammar.with_serving.Goals as goal
 
 pub returns : goal.returns
 returns c is =
-    let one = c.in_ok-command.ensures spec.program spec.serve is c.serve.ensures refl in
+    let one = c.with.ensures spec.program spec.serve is c.serve.ensures refl in
     c.with-2.ensures _ spec.stdio one c.stdio.ensures refl
