@@ -8,7 +8,7 @@ use std::fmt;
 use std::io::Write;
 
 /// Why the program ends with another status than 0.
-#[derive(Clone, Copy, Debug, PartialEq, Eq)]
+#[derive(Clone, Copy)]
 pub enum Failure {
     NoRepo,
     NoGrant,

@@ -3,7 +3,7 @@
 use oci_names::{RepoName, Token};
 
 /// What is listed of a repository.
-#[derive(Clone, Copy, Debug, PartialEq, Eq)]
+#[derive(Clone, Copy)]
 pub enum Held {
     /// Its tags, and the digests that they name.
     Tags,
@@ -14,7 +14,7 @@ pub enum Held {
 }
 
 /// How much of a token a list shows.
-#[derive(Clone, Copy, Debug, PartialEq, Eq)]
+#[derive(Clone, Copy)]
 pub enum Shown {
     /// Its first four characters.
     Beginning,
@@ -41,7 +41,7 @@ pub enum Listing {
 }
 
 /// How a list is written.
-#[derive(Clone, Copy, Debug, PartialEq, Eq)]
+#[derive(Clone, Copy)]
 pub enum Form {
     /// A line for each item.
     Lines,

@@ -35,11 +35,11 @@ fn wanted(word: &str, matches: &ArgMatches) -> Option<Cause> {
 pub fn told_of<'a>(word: &'a str, matches: &ArgMatches, failure: Failure) -> Told<'a>
     ensures { (words : List Text) → IsOfWords failure → IsToldOfWords words result }
 {
-    if failure != Failure::InvalidOptions {
-        return Told::Failed(failure);
-    }
-    match wanted(word, matches) {
-        Some(cause) => Told::Options { word, cause },
-        None => Told::Failed(failure),
+    match failure {
+        Failure::InvalidOptions => match wanted(word, matches) {
+            Some(cause) => Told::Options { word, cause },
+            None => Told::Failed(failure),
+        },
+        _ => Told::Failed(failure),
     }
 }
