@@ -1,5 +1,6 @@
 //! The options, each with its word, the values that it takes and its help.
 ghost use Rattle.std.specs.Prelude.{◌≡◌, codes};
+ghost use Rattle.clap.specs.Words.{Rule};
 ghost use Rattle.command_line.specs.CommandLine as spec;
 ghost use Rattle.command_line.specs.CommandLine.{HasRule};
 
@@ -26,6 +27,13 @@ fn option<'a>(alloc: Global, word: &'a str, value: &'a str, help: &'a str) -> Ar
         .value_name(value)
         .action(ArgAction::Set)
         .help(help)
+}
+
+/// The option, with a number from the least to the most.
+fn within<'a>(option: Arg<'a>, least: u64, most: u64) -> Arg<'a>
+    ensures { (rule : Rule) → HasRule rule option.entry → HasRule (spec.within least most rule) result }
+{
+    option.value_parser(ValueParser::unsigned(least, most))
 }
 
 /// An option that is given or not.
@@ -83,17 +91,15 @@ pub(crate) fn quota<'a>(alloc: Global) -> Arg<'a>
     ensures { HasRule spec.quota result }
 {
     let help = "The most bytes that the repository may use";
-    option(alloc, "quota", "BYTES", help)
-        .required(true)
-        .value_parser(ValueParser::unsigned(0, LARGEST_QUOTA))
+    let quota = option(alloc, "quota", "BYTES", help).required(true);
+    within(quota, 0, LARGEST_QUOTA)
 }
 
 pub(crate) fn level<'a>(alloc: Global) -> Arg<'a>
     ensures { HasRule spec.level result }
 {
-    option(alloc, "level", "LEVEL", "1 pull, 2 push, 3 delete")
-        .required(true)
-        .value_parser(ValueParser::unsigned(1, 3))
+    let level = option(alloc, "level", "LEVEL", "1 pull, 2 push, 3 delete");
+    within(level.required(true), 1, 3)
 }
 
 pub(crate) fn repos<'a>(alloc: Global) -> Arg<'a>
@@ -119,9 +125,9 @@ pub(crate) fn address<'a>(alloc: Global) -> Arg<'a>
 pub(crate) fn connections<'a>(alloc: Global) -> Arg<'a>
     ensures { HasRule spec.connections result }
 {
-    option(alloc, "connections", "N", "End after so many connections")
-        .value_parser(ValueParser::unsigned(0, MOST_CONNECTIONS))
-        .default_value("9223372036854775807")
+    let help = "End after so many connections";
+    let most = "9223372036854775807";
+    number(alloc, "connections", "N", help, 0, MOST_CONNECTIONS, most)
 }
 
 /// An option with a number, which has a default.
@@ -137,13 +143,7 @@ fn number<'a>(
     ensures { HasRule (spec.with_default default.entry.now (spec.within least most
         (spec.option word.entry.now))) result }
 {
-    Arg::new(alloc, word)
-        .long(word)
-        .value_name(value)
-        .action(ArgAction::Set)
-        .help(help)
-        .value_parser(ValueParser::unsigned(least, most))
-        .default_value(default)
+    within(option(alloc, word, value, help), least, most).default_value(default)
 }
 
 pub(crate) fn at_once<'a>(alloc: Global) -> Arg<'a>
