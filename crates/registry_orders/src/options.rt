@@ -102,7 +102,10 @@ fn split_repos<'a>(alloc: Global, texts: &[&'a str]) -> Result<Vec<(&'a str, Quo
 {
     let mut repos = Vec::new(alloc);
     for text in texts {
-        repos.push(split_repo(text).ok_or(Failure::InvalidOptions)?)?;
+        match split_repo(text) {
+            Some(repo) => repos.push(repo)?,
+            None => return Err(Failure::InvalidOptions),
+        }
     }
     Ok(repos)
 }
@@ -117,7 +120,10 @@ fn split_grants<'a>(
 {
     let mut grants = Vec::new(alloc);
     for text in texts {
-        grants.push(split_grant(text).ok_or(Failure::InvalidOptions)?)?;
+        match split_grant(text) {
+            Some(grant) => grants.push(grant)?,
+            None => return Err(Failure::InvalidOptions),
+        }
     }
     Ok(grants)
 }

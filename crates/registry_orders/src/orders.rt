@@ -170,12 +170,13 @@ fn token_in(alloc: Global, matches: &ArgMatches) -> Result<Token, Failure>
     ensures found { IfOk result (HasToken (rows_of (found_of matches.now))) }
     ensures refused { IfErr result IsOfWords }
 {
-    let text = text_given(matches, "token").ok_or(Failure::InvalidOptions)?;
-    let file = text_given(matches, "token-file");
-    if file.is_some() || text == "-" {
-        return Err(Failure::InvalidOptions);
+    match (
+        text_given(matches, "token"),
+        text_given(matches, "token-file"),
+    ) {
+        (Some(text), None) if text != "-" => token_of(alloc, text),
+        _ => Err(Failure::InvalidOptions),
     }
-    token_of(alloc, text)
 }
 
 /// The same; none where no token is given.

@@ -81,8 +81,10 @@ fn serve_task<'a>(matches: &ArgMatches<'a>) -> Result<Task<'a>, Failure>
     ensures read { IfOk result (IsTaskIn (codes "serve") (rows_of (found_of matches.now))) }
     ensures refused { IfErr result IsOfWords }
 {
-    let path = text_given(matches, "db").ok_or(Failure::InvalidOptions)?;
-    let address = text_given(matches, "listen").ok_or(Failure::InvalidOptions)?;
+    let places = (text_given(matches, "db"), text_given(matches, "listen"));
+    let (Some(path), Some(address)) = places else {
+        return Err(Failure::InvalidOptions);
+    };
     let connections = number_given(matches, "connections")?;
     let limits = limits_given(matches)?;
     let beside = beside_given(matches, limits.at_once)?;
@@ -126,10 +128,9 @@ fn database_task<'a>(word: &str, matches: &ArgMatches<'a>) -> Result<Task<'a>, F
     ensures read { IfOk result (IsTaskIn word.now (rows_of (found_of matches.now))) }
     ensures refused { IfErr result IsOfWords }
 {
-    let path = text_given(matches, "db").ok_or(Failure::InvalidOptions)?;
-    match word {
-        "check" => Ok(Task::Check { path }),
-        "migrate" => Ok(Task::Migration { path }),
+    match (text_given(matches, "db"), word) {
+        (Some(path), "check") => Ok(Task::Check { path }),
+        (Some(path), "migrate") => Ok(Task::Migration { path }),
         _ => Err(Failure::InvalidOptions),
     }
 }
@@ -138,8 +139,10 @@ fn stop_task<'a>(matches: &ArgMatches<'a>) -> Result<Task<'a>, Failure>
     ensures read { IfOk result (IsTaskIn (codes "stop") (rows_of (found_of matches.now))) }
     ensures refused { IfErr result IsOfWords }
 {
-    let path = text_given(matches, "orders").ok_or(Failure::InvalidOptions)?;
-    Ok(Task::Stop { path })
+    match text_given(matches, "orders") {
+        Some(path) => Ok(Task::Stop { path }),
+        None => Err(Failure::InvalidOptions),
+    }
 }
 
 /// The task of a subcommand, by its word and its options.

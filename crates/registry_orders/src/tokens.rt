@@ -38,17 +38,14 @@ pub fn token_source<'a>(matches: &ArgMatches<'a>) -> Result<Option<TokenSource<'
     ensures found { IfOk result (λ source. IfSome source (IsTokenFrom (rows_of (found_of matches.now)))) }
     ensures refused { IfErr result IsOfWords }
 {
-    let file = text_given(matches, "token-file");
-    let Some(text) = text_given(matches, "token") else {
-        let path = file.ok_or(Failure::InvalidOptions)?;
-        return Ok(Some(TokenSource::File(path)));
-    };
-    if file.is_some() {
-        return Err(Failure::InvalidOptions);
-    }
-    match text {
-        "-" => Ok(Some(TokenSource::Input)),
-        _ => Ok(None),
+    match (
+        text_given(matches, "token"),
+        text_given(matches, "token-file"),
+    ) {
+        (None, Some(path)) => Ok(Some(TokenSource::File(path))),
+        (Some("-"), None) => Ok(Some(TokenSource::Input)),
+        (Some(_), None) => Ok(None),
+        _ => Err(Failure::InvalidOptions),
     }
 }
 
