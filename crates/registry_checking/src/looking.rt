@@ -168,8 +168,8 @@ fn look_at_repo<K: Keeper, W: Watch>(
 }
 
 /// Notes what is wrong in a registry, repository by repository in byte order of their names: first blobs,
-/// then manifests, then tags. Every blob and manifest is read, one at a time; nothing changes. Where the storage
-/// fails, the last that is noted is the blob or manifest which cannot be read, if it was one.
+/// then manifests, then tags. Every blob and manifest is read, one at a time; nothing changes. Where the
+/// storage fails, the last that is noted is the blob or manifest which cannot be read, if it was one.
 pub fn look<K: Keeper, W: Watch>(
     alloc: Global,
     watch: &W,

@@ -1,5 +1,5 @@
--- An upload session that ends with the bytes that it has, where a keeper knows without reading them what their
--- digest is.
+-- An upload session that ends with the bytes that it has, where a keeper knows without reading them what
+-- their digest is.
 use Rattle.std.specs.Prelude.{◌≡◌, ℕ, Bool, true, false, Result, Ok, Err, ⊤}
 use Rattle.std.specs.Option.{option_map_or}
 use Rattle.oci_names.specs.Text.{Text}

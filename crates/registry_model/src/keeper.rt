@@ -18,10 +18,10 @@ use std::alloc::Global;
 /// What a read finds, or that it is not there.
 pub type Found<T> = Result<Option<T>, Fault>;
 
-/// What keeps a registry's world. After `Fault::Memory` nothing has changed; after `Fault::Storage` the keeper
-/// is spent, and answers `Storage` alone. A read leaves the world as it is, and finds nothing in a repository
-/// that is not there. A write makes its one change and leaves every other repository, session, grant and
-/// number; what it asks for, a read tells.
+/// What keeps a registry's world. After `Fault::Memory` nothing has changed; after `Fault::Storage` the
+/// keeper is spent, and answers `Storage` alone. A read leaves the world as it is, and finds nothing in a
+/// repository that is not there. A write makes its one change and leaves every other repository, session,
+/// grant and number; what it asks for, a read tells.
 pub trait Keeper {
     // The world that it keeps, and whether it is spent.
     ghost state: { Self → State };
@@ -98,7 +98,7 @@ pub trait Keeper {
         ensures spends { Spends result (state self.old) (state self.new) }
         ensures honest { is_honest self.new → is_honest self.old };
 
-    /// The first `n` tags, or all, behind `last` in byte order, and whether more follow a page of one or more.
+    /// The first `n` tags, or all, behind `last` in byte order, and whether more follow, unless `n` is 0.
     fn tags_after(
         &mut self,
         alloc: Global,
@@ -112,7 +112,7 @@ pub trait Keeper {
         ensures spends { Spends result (state self.old) (state self.new) }
         ensures honest { is_honest self.new → is_honest self.old };
 
-    /// The digests and bytes of the manifests whose subject is the digest, in byte order of their own digests.
+    /// Digests and bytes of the manifests whose subject is the digest, in byte order of their own digests.
     fn manifests_of_subject(
         &mut self,
         alloc: Global,
@@ -277,8 +277,8 @@ pub trait Keeper {
         ensures spends { Spends result (state self.old) (state self.new) }
         ensures honest { is_honest self.new → is_honest self.old };
 
-    /// Adds a manifest under a digest that its bytes match, and sets the tag to it, if one is given. `manifest`
-    /// is what the bytes read as; they are at most 4,194,304. A digest that is there keeps its bytes.
+    /// Adds a manifest under a digest that its bytes match, and sets the tag to it, if one is given; of at
+    /// most 4,194,304 bytes, which read as `manifest`. A digest that is there keeps its bytes.
     fn put_manifest(
         &mut self,
         repo: &RepoName,

@@ -1,6 +1,6 @@
-//! Rows of schema 1 moved to the tables of schema 2, inside a transaction, one after the other, and the version
-//! raised: the rows of both schemas stand for the same world. After a fault, want of memory or a storage
-//! failure, nothing is committed, and the caller gives the transaction up.
+//! Rows of schema 1 moved to the tables of schema 2, inside a transaction, one after the other, and the
+//! version raised: the rows of both schemas stand for the same world. After a fault, want of memory or a
+//! storage failure, nothing is committed, and the caller gives the transaction up.
 #![tactic(auto)]
 
 mod blobs;

@@ -6,4 +6,5 @@ use Rattle.oci_names.specs.Digest.{sha256_digest}
 
 -- there is such a content, and the digest is that of its bytes by sha256
 abbrev pub has_sha256_digest : Option Text → Text → Bool
-has_sha256_digest content digest = option_map_or (λ bytes. bytes_eq digest (sha256_digest bytes)) content false
+has_sha256_digest content digest =
+    option_map_or (λ bytes. bytes_eq digest (sha256_digest bytes)) content false
