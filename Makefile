@@ -17,10 +17,10 @@ DEMO := stdio --memory --repo team/app=1000 --grant t1=team/app=3
 help:
 	@echo 'make demo            a push and a pull of the blob `abc`, then a manifest and its referrers (3 min, 2 GB;'
 	@echo '                     at once after make build)'
-	@echo 'make build           proves the program and all below it; leaves build/registry (one to two hours of a'
-	@echo '                     processor, on all there are; up to 12 GB)'
+	@echo 'make build           proves the program and all below it; leaves build/registry (an hour and a quarter of a'
+	@echo '                     processor, on all there are; up to 14 GB)'
 	@echo 'make test            the merge gate: proofs, edits, tests, all of them from nothing the first time'
-	@echo '                     (four hours of a processor, on four at most; up to 16 GB)'
+	@echo '                     (three hours of a processor, on four at most; up to 16 GB)'
 	@echo 'make try ARGS=".."   runs the program unproved, for a first look: make try ARGS="--help" (3 min, 2 GB)'
 	@echo 'make check CRATE=x   proves one crate over what earlier checks kept (seconds after an edit)'
 	@echo 'make edits CRATE=x   tries the must-fail edits of one crate (20 to 60 s each)'
@@ -46,13 +46,13 @@ help:
 demo:
 	@echo '$$ registry $(DEMO) < demo/requests.http' >&2
 	@if [ -x build/registry ]; then build/registry $(DEMO) < demo/requests.http; else \
-	  echo 'This run is not proved yet: `make build` proves it (one to two hours of a processor, on all there are; up to 12 GB).' >&2; \
+	  echo 'This run is not proved yet: `make build` proves it (an hour and a quarter of a processor, on all there are; up to 14 GB).' >&2; \
 	  cd crates/registry_cli && rt try -- $(DEMO) < ../../demo/requests.http; fi
 	@echo
 
 # Proves the program and everything below it, and leaves the executable as build/registry.
 build:
-	@echo 'Proves some 1,400 functions: an hour and a half of a processor, on all there are side by side, and up to 14 GB of memory.' >&2
+	@echo 'Proves some 1,400 functions: an hour and a quarter of a processor, on all there are side by side, and up to 14 GB of memory.' >&2
 	check/build.sh $(all_below_registry_cli)
 
 # The program unproved: a command, or for SECONDS_OF_TRY a server. Name files by whole paths.
