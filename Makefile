@@ -1,11 +1,6 @@
 # What a fresh checkout is asked for. `rt` is the command of the Rattle kit (see the README); `make help` says
 # what each target is for.
 
-# The crates, and those of them that each stands on, as crates.txt has them.
-CRATES := $(shell sed -n 's/^\([a-z0-9_]*\)[^:]*:.*/\1/p' crates.txt)
-$(foreach crate,$(CRATES),$(eval below_$(crate) := $(filter $(CRATES),$(shell sed -n 's/^$(crate)[^:]*://p' crates.txt))))
-# crates.txt has each crate after those below it.
-$(foreach crate,$(CRATES),$(eval all_below_$(crate) := $(sort $(foreach below,$(below_$(crate)),$(below) $(all_below_$(below))))))
 PROCESSORS := $(shell nproc)
 # The first run: a registry in memory, with one repository and one token.
 DEMO := stdio --memory --repo team/app=1000 --grant t1=team/app=3
@@ -53,7 +48,7 @@ demo:
 # Proves the program and everything below it, and leaves the executable as build/registry.
 build:
 	@echo 'Proves some 1,400 functions: an hour and a quarter of a processor, on all there are side by side, and up to 14 GB of memory.' >&2
-	check/build.sh $(all_below_registry_cli)
+	python3 check/build.py
 
 # The program unproved: a command, or for SECONDS_OF_TRY a server. Name files by whole paths.
 SECONDS_OF_TRY = 600
@@ -67,9 +62,10 @@ edits:
 	rt must-fail $(CRATE)
 
 # The merge gate. A check for each processor, four at most: by itself rt waits until more memory is free than
-# its checks take.
+# its checks take. What it leaves is build/registry, too.
 test:
 	RT_JOBS=$$(( $(PROCESSORS) < 4 ? $(PROCESSORS) : 4 )) rt ci
+	@python3 check/build.py --of-gate
 
 # A server's database file, looked at by another program: needs curl and sqlite3 beside python3.
 check-file: build/registry

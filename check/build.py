@@ -1,0 +1,191 @@
+#!/usr/bin/env python3
+"""Proves the program and all that it stands on, and leaves it as build/registry.
+
+Each library is checked once, by `rattle build`, over what those below it state, and the program last, by the
+run that compiles it. Crates that do not stand on each other are proved side by side, one a processor, those with
+the most behind them first; where processors are left over a check gets more than one. What was proved stays in
+build/proved, each crate by a sum of its files, of the kit and of the crates below it: after an edit, that crate
+and those above it are proved again. It tries no must-fail edit and runs no test: `make test` does.
+"""
+import concurrent.futures
+import contextlib
+import glob
+import hashlib
+import os
+import re
+import shutil
+import subprocess
+import sys
+import time
+
+TOP = os.path.dirname(os.path.dirname(os.path.abspath(__file__)))
+KIT = os.path.dirname(os.path.dirname(os.path.realpath(shutil.which("rt") or "rt")))
+PROVED = f"{TOP}/build/proved"
+PROGRAM = "registry_cli"
+# the bytes of memory that a check is given room for; most take less, and the program runs alone
+ROOM = 2_500_000_000
+
+
+class Crate:
+    """One line of crates.txt: what it names of the kit, and its crates, which come on earlier lines."""
+
+    def __init__(self, name, named, crates):
+        self.name = name
+        self.of_kit = [it for it in named if it not in crates]
+        self.below = [crates[it] for it in named if it in crates]
+        self.is_program = os.path.exists(f"{TOP}/crates/{name}/src/main.rt")
+        self.behind = 0
+        self.sum = None
+
+    def files(self):
+        folder = f"{TOP}/crates/{self.name}"
+        found = glob.glob(f"{folder}/**", recursive=True)
+        parts = tuple(f"{folder}/{part}/" for part in ("src", "specs", "proofs"))
+        return sorted(it for it in found if it.startswith(parts) and os.path.isfile(it))
+
+    def add_up(self, kit):
+        """Its sum: of all that a check of the crate reads, and of the kit. Those below it have theirs."""
+        every = hashlib.sha256(repr((kit, self.name, self.of_kit, [it.sum for it in self.below])).encode())
+        for file in self.files():
+            with open(file, "rb") as it:
+                every.update(repr((file.removeprefix(TOP), it.read())).encode())
+        self.sum = every.hexdigest()
+
+    def made(self):
+        return f"{TOP}/build/registry" if self.is_program else f"{PROVED}/{self.name}.rlib"
+
+    def is_proved(self):
+        try:
+            with open(f"{PROVED}/{self.name}.sum", encoding="ascii") as it:
+                return it.read() == self.sum and os.path.exists(self.made())
+        except FileNotFoundError:
+            return False
+
+    def keep(self):
+        with open(f"{PROVED}/{self.name}.sum", "w", encoding="ascii") as it:
+            it.write(self.sum)
+
+    def forget(self):
+        with contextlib.suppress(FileNotFoundError):
+            os.remove(f"{PROVED}/{self.name}.sum")
+
+    def length(self):
+        """Lines of code: about what a check takes goes by it."""
+        return 100 + sum(open(it, "rb").read().count(b"\n") for it in self.files() if it.endswith(".rt"))
+
+    def check(self, jobs):
+        """The command that proves the crate and writes what it makes."""
+        words = [f"{KIT}/bin/rattle", "build", "--crate-name", self.name]
+        words += ["src/main.rt" if self.is_program else "src/lib.rt"]
+        for name in self.of_kit:
+            words += ["--extern", f"{name}={KIT}/rlibs/{name}.rlib"]
+        for crate in self.below:
+            words += ["--extern", f"{crate.name}={crate.made()}"]
+        words += ["-L", f"dependency={KIT}/rlibs", "-L", f"dependency={PROVED}"]
+        words += ["--antt-project", f"{KIT}/rattle/logic/antt-project.json", "--logic-built", f"{KIT}/logic_built"]
+        words += ["--links", f"{self.name}=", "--jobs", str(jobs)]
+        if self.is_program:
+            return [*words, "--toolchain", f"{KIT}/toolchain", "--backend", "llvm", "-o", f"{PROVED}/{self.name}.o"]
+        return [*words, "--statements", "-o", self.made()]
+
+    def link(self):
+        words = [f"{KIT}/bin/rattle-link", "--target", "x86_64-unknown-linux-gnu", "--toolchain", f"{KIT}/toolchain"]
+        return [*words, "-o", self.made(), f"{PROVED}/{self.name}.o", f"{KIT}/c/libos_c.a", f"{KIT}/c/liblibc_c.a"]
+
+
+def crates_below(program):
+    """The crates that the program needs, itself last."""
+    crates = {}
+    with open(f"{TOP}/crates.txt", encoding="utf-8") as lines:
+        for line in lines:
+            name, _, named = line.partition(":")
+            if re.fullmatch(r"\w+", name):
+                crates[name] = Crate(name, ["std", *named.split()], crates)
+    needed = [crates[program]]
+    for crate in needed:
+        needed += [it for it in crate.below if it not in needed]
+    return [it for it in crates.values() if it in needed]
+
+
+def weigh(crates):
+    """Gives each crate the length of the longest row of crates that wait for it, its own with it."""
+    for crate in reversed(crates):
+        crate.behind += crate.length()
+        for below in crate.below:
+            below.behind = max(below.behind, crate.behind)
+
+
+def prove(crate, jobs):
+    """Whether the crate is proved; what the check says stands in build/proved."""
+    begun = time.monotonic()
+    # (one that is stopped behind its check is checked again, whatever the files are then)
+    crate.forget()
+    with open(f"{PROVED}/{crate.name}.log", "w", encoding="utf-8") as log:
+        for words in [crate.check(jobs)] + [crate.link()] * crate.is_program:
+            how = {"cwd": f"{TOP}/crates/{crate.name}", "stdin": subprocess.DEVNULL}
+            if subprocess.run(words, stdout=log, stderr=subprocess.STDOUT, check=False, **how).returncode:
+                return False
+    crate.keep()
+    print(f"{crate.name} proved, {time.monotonic() - begun:.0f} s", flush=True)
+    return True
+
+
+def at_once():
+    """How many checks run side by side: one a processor, where memory holds them."""
+    with open("/proc/meminfo", encoding="ascii") as it:
+        free = int(re.search(r"MemAvailable: +(\d+)", it.read())[1]) * 1024
+    return max(1, min(len(os.sched_getaffinity(0)), free // ROOM))
+
+
+def prove_all(crates):
+    """Proves them side by side, and returns the names of those that failed."""
+    most, done, failed = at_once(), set(), []
+    left, running = sorted(crates, key=lambda it: -it.behind), {}
+    with concurrent.futures.ThreadPoolExecutor(most) as pool:
+        while running or left and not failed:
+            ready = [it for it in left if not failed and all(below not in crates or below in done for below in it.below)]
+            for at, crate in enumerate(ready[: most - len(running)]):
+                # (those that are ready share the processors that are left, where they are fewer)
+                idle = most - sum(jobs for _, jobs in running.values())
+                jobs = max(1, idle // (len(ready) - at))
+                left.remove(crate)
+                running[pool.submit(prove, crate, jobs)] = crate, jobs
+            for it in concurrent.futures.wait(running, return_when=concurrent.futures.FIRST_COMPLETED).done:
+                crate, _ = running.pop(it)
+                done.add(crate)
+                failed += [] if it.result() else [crate.name]
+    return failed
+
+
+def take_from_gate(crates):
+    """Takes the executable of a merge gate that has passed, where no file is newer: it is as proved."""
+    program, made = crates[-1], f"{TOP}/crates/{PROGRAM}/out/{PROGRAM}"
+    if os.path.exists(made) and all(os.path.getmtime(it) < os.path.getmtime(made) for at in crates for it in at.files()):
+        program.forget()
+        shutil.copy(made, f"{PROVED}/{PROGRAM}")
+        os.replace(f"{PROVED}/{PROGRAM}", program.made())
+        program.keep()
+
+
+def main():
+    os.makedirs(PROVED, exist_ok=True)
+    kit = subprocess.run(["rt", "version"], capture_output=True, text=True, check=True).stdout
+    crates = crates_below(PROGRAM)
+    weigh(crates)
+    for crate in crates:
+        crate.add_up(kit)
+    if sys.argv[1:] == ["--of-gate"]:
+        return take_from_gate(crates)
+    wanted = [] if crates[-1].is_proved() else [it for it in crates if not it.is_proved()]
+    failed = prove_all(wanted)
+    for name in failed:
+        with open(f"{PROVED}/{name}.log", encoding="utf-8", errors="replace") as it:
+            print(it.read(), end="", file=sys.stderr)
+        print(f"{name} NOT PROVED", file=sys.stderr)
+    if not failed:
+        print(f"build/registry: {len(wanted)} of {len(crates)} crates were proved in this run")
+    return len(failed)
+
+
+if __name__ == "__main__":
+    sys.exit(main())
