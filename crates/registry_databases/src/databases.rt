@@ -1,9 +1,8 @@
 //! Registries that lie in database files.
 ghost use Rattle.registry_orders.specs.Failures.{IsOfOpening};
 
-use crate::beginning::begin;
-use crate::looking::cause_at;
 use crate::progress::{Progress, show_looked_at};
+use database_files::{begin, cause_at};
 use registry_checking::Watch;
 use registry_model::Keeper;
 use registry_opening::Opener;
