@@ -1,11 +1,12 @@
 #!/usr/bin/env python3
 """Proves the program and all that it stands on, and leaves it as build/registry.
 
-Each library is checked once, by `rattle build`, over what those below it state, and the program last, by the
-run that compiles it. Crates that do not stand on each other are proved side by side, one a processor, those with
-the most behind them first; where processors are left over a check gets more than one. What was proved stays in
-build/proved, each crate by a sum of its files, of the kit and of the crates below it: after an edit, that crate
-and those above it are proved again. It tries no must-fail edit and runs no test: `make test` does.
+Each library is checked once, by `rattle build`, over what those below it state, and the program last, by the run
+that compiles it. Crates that do not stand on each other are proved side by side, one a processor, those with the
+most behind them first; where processors rest a check gets more than one. What was proved stays in build/proved,
+each crate by a sum of its files, of the kit and of the crates below it: after an edit, that crate and those above
+it are proved again. No must-fail edit is tried and no test is run: `make test` does that, and behind it
+`build.py --of-gate` takes the executable that it left.
 """
 import concurrent.futures
 import contextlib
@@ -18,7 +19,8 @@ import subprocess
 import sys
 import time
 
-TOP = os.path.dirname(os.path.dirname(os.path.abspath(__file__)))
+from executables import TOP
+
 KIT = os.path.dirname(os.path.dirname(os.path.realpath(shutil.which("rt") or "rt")))
 PROVED = f"{TOP}/build/proved"
 PROGRAM = "registry_cli"
@@ -33,6 +35,7 @@ class Crate:
         self.name = name
         self.of_kit = [it for it in named if it not in crates]
         self.below = [crates[it] for it in named if it in crates]
+        self.all_below = {*self.below}.union(*(it.all_below for it in self.below))
         self.is_program = os.path.exists(f"{TOP}/crates/{name}/src/main.rt")
         self.behind = 0
         self.sum = None
@@ -140,16 +143,19 @@ def at_once():
 
 def prove_all(crates):
     """Proves them side by side, and returns the names of those that failed."""
-    most, done, failed = at_once(), set(), []
-    left, running = sorted(crates, key=lambda it: -it.behind), {}
+    most, failed, running = at_once(), [], {}
+    done = {below for it in crates for below in it.all_below}.difference(crates)
+    left = sorted(crates, key=lambda it: -it.behind)
     with concurrent.futures.ThreadPoolExecutor(most) as pool:
         while running or left and not failed:
-            ready = [it for it in left if not failed and all(below not in crates or below in done for below in it.below)]
+            ready = [it for it in left if not failed and done.issuperset(it.below)]
             for at, crate in enumerate(ready[: most - len(running)]):
-                # (those that are ready share the processors that are left, where they are fewer)
-                idle = most - sum(jobs for _, jobs in running.values())
-                jobs = max(1, idle // (len(ready) - at))
                 left.remove(crate)
+                # (those that are ready share the processors that rest)
+                jobs = max(1, (most - sum(jobs for _, jobs in running.values())) // (len(ready) - at))
+                if all(crate in it.all_below for it in left):
+                    # (all others wait for it, so processors will rest soon)
+                    jobs = max(min(2, most), jobs)
                 running[pool.submit(prove, crate, jobs)] = crate, jobs
             for it in concurrent.futures.wait(running, return_when=concurrent.futures.FIRST_COMPLETED).done:
                 crate, _ = running.pop(it)
@@ -169,6 +175,9 @@ def take_from_gate(crates):
 
 
 def main():
+    if sys.argv[1:] not in ([], ["--of-gate"]):
+        print(__doc__, file=sys.stderr)
+        return 2
     os.makedirs(PROVED, exist_ok=True)
     kit = subprocess.run(["rt", "version"], capture_output=True, text=True, check=True).stdout
     crates = crates_below(PROGRAM)
@@ -183,9 +192,13 @@ def main():
         with open(f"{PROVED}/{name}.log", encoding="utf-8", errors="replace") as it:
             print(it.read(), end="", file=sys.stderr)
         print(f"{name} NOT PROVED", file=sys.stderr)
+    if wanted and not failed:
+        # (the program's verdict)
+        with open(f"{PROVED}/{PROGRAM}.log", encoding="utf-8") as it:
+            print(*(line for line in it if line.startswith("logic=")), sep="", end="")
     if not failed:
         print(f"build/registry: {len(wanted)} of {len(crates)} crates were proved in this run")
-    return len(failed)
+    return 1 if failed else 0
 
 
 if __name__ == "__main__":

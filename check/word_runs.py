@@ -86,6 +86,17 @@ class Run:
         while text not in self.has_said(1) and self.process.poll() is None and time.monotonic() < ends:
             time.sleep(0.002)
 
+    def is_waiting(self):
+        """Whether it sleeps until something happens."""
+        with open(f"/proc/{self.process.pid}/stat", encoding="ascii", errors="replace") as it:
+            return it.read().rpartition(")")[2].split()[0] == "S"
+
+    def wait_till_it_waits(self):
+        """Until it has nothing to do before something happens, or has ended."""
+        ends = time.monotonic() + SECONDS
+        while not self.is_waiting() and self.process.poll() is None and time.monotonic() < ends:
+            time.sleep(0.002)
+
     def on_screen(self):
         """What was shown on the terminal, the ends of lines as the program wrote them."""
         had = b""

@@ -132,6 +132,8 @@ class Stage:
         return self.server.end()._replace(left=None)
 
     def freeze(self, *_):
+        # (where it waits, and not on its way there: what comes is then taken together, and in no two rounds)
+        self.server.wait_till_it_waits()
         self.server.process.send_signal(signal.SIGSTOP)
         # (the signal is sent before it is heeded: until then the server goes on)
         os.waitid(os.P_PID, self.server.process.pid, os.WSTOPPED)
