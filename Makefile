@@ -12,8 +12,8 @@ DEMO := stdio --memory --repo team/app=1000 --grant t1=team/app=3
 help:
 	@echo 'make demo            a push and a pull of the blob `abc`, then a manifest and its referrers (3 min, 2 GB;'
 	@echo '                     at once after make build)'
-	@echo 'make build           proves the program and all below it; leaves build/registry (an hour and a quarter of a'
-	@echo '                     processor, on all there are; up to 14 GB)'
+	@echo 'make build           proves the program and all below it; leaves build/registry (one to two hours of a'
+	@echo '                     processor, on all there are; up to 8 GB, and 4 GB of disk; then what has changed)'
 	@echo 'make test            the merge gate: proofs, edits, tests, all of them from nothing the first time'
 	@echo '                     (three hours of a processor, on four at most; up to 16 GB)'
 	@echo 'make try ARGS=".."   runs the program unproved, for a first look: make try ARGS="--help" (3 min, 2 GB)'
@@ -41,13 +41,13 @@ help:
 demo:
 	@echo '$$ registry $(DEMO) < demo/requests.http' >&2
 	@if [ -x build/registry ]; then build/registry $(DEMO) < demo/requests.http; else \
-	  echo 'This run is not proved yet: `make build` proves it (an hour and a quarter of a processor, on all there are; up to 14 GB).' >&2; \
+	  echo 'This run is not proved yet: `make build` proves it (one to two hours of a processor, on all there are; up to 8 GB).' >&2; \
 	  cd crates/registry_cli && rt try -- $(DEMO) < ../../demo/requests.http; fi
 	@echo
 
 # Proves the program and everything below it, and leaves the executable as build/registry.
 build:
-	@echo 'Proves some 1,400 functions: an hour and a quarter of a processor, on all there are side by side, and up to 14 GB of memory.' >&2
+	@echo 'Proves some 1,400 functions, from nothing the first time: one to two hours of a processor, on all there are side by side, and up to 8 GB of memory.' >&2
 	python3 check/build.py
 
 # The program unproved: a command, or for SECONDS_OF_TRY a server. Name files by whole paths.
@@ -64,8 +64,8 @@ edits:
 # The merge gate. A check for each processor, four at most: by itself rt waits until more memory is free than
 # its checks take. What it leaves is build/registry, too.
 test:
-	RT_JOBS=$$(( $(PROCESSORS) < 4 ? $(PROCESSORS) : 4 )) rt ci
-	@python3 check/build.py --of-gate
+	@sum=$$(python3 check/build.py --sum) && \
+	  RT_JOBS=$$(( $(PROCESSORS) < 4 ? $(PROCESSORS) : 4 )) rt ci && python3 check/build.py --of-gate $$sum
 
 # A server's database file, looked at by another program: needs curl and sqlite3 beside python3.
 check-file: build/registry

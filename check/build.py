@@ -5,8 +5,8 @@ Each library is checked once, by `rattle build`, over what those below it state,
 that compiles it. Crates that do not stand on each other are proved side by side, one a processor, those with the
 most behind them first; where processors rest a check gets more than one. What was proved stays in build/proved,
 each crate by a sum of its files, of the kit and of the crates below it: after an edit, that crate and those above
-it are proved again. No must-fail edit is tried and no test is run: `make test` does that, and behind it
-`build.py --of-gate` takes the executable that it left.
+it are proved again. No must-fail edit is tried and no test is run: `make test` does that. What `build.py --sum` says
+before a gate, `build.py --of-gate SUM` is given behind it, and takes the executable that it left.
 """
 import concurrent.futures
 import contextlib
@@ -164,18 +164,17 @@ def prove_all(crates):
     return failed
 
 
-def take_from_gate(crates):
-    """Takes the executable of a merge gate that has passed, where no file is newer: it is as proved."""
-    program, made = crates[-1], f"{TOP}/crates/{PROGRAM}/out/{PROGRAM}"
-    if os.path.exists(made) and all(os.path.getmtime(it) < os.path.getmtime(made) for at in crates for it in at.files()):
-        program.forget()
-        shutil.copy(made, f"{PROVED}/{PROGRAM}")
-        os.replace(f"{PROVED}/{PROGRAM}", program.made())
-        program.keep()
+def take_from_gate(program):
+    """Takes the executable that a merge gate left."""
+    program.forget()
+    shutil.copy(f"{TOP}/crates/{PROGRAM}/out/{PROGRAM}", f"{PROVED}/{PROGRAM}")
+    os.replace(f"{PROVED}/{PROGRAM}", program.made())
+    program.keep()
 
 
 def main():
-    if sys.argv[1:] not in ([], ["--of-gate"]):
+    asked, *more = sys.argv[1:] or ["build"]
+    if asked not in ("build", "--sum", "--of-gate") or len(more) != (asked == "--of-gate"):
         print(__doc__, file=sys.stderr)
         return 2
     os.makedirs(PROVED, exist_ok=True)
@@ -184,8 +183,12 @@ def main():
     weigh(crates)
     for crate in crates:
         crate.add_up(kit)
-    if sys.argv[1:] == ["--of-gate"]:
-        return take_from_gate(crates)
+    if asked == "--sum":
+        print(crates[-1].sum)
+        return 0
+    if asked == "--of-gate":
+        # (what was edited beside the gate is not what it proved)
+        return take_from_gate(crates[-1]) if more == [crates[-1].sum] else 0
     wanted = [] if crates[-1].is_proved() else [it for it in crates if not it.is_proved()]
     failed = prove_all(wanted)
     for name in failed:
