@@ -94,7 +94,7 @@ impl<F: Supposed> Opener<Store<FileStore<FileFrom<F>>>> for Databases<'_, F> {
     fn migrate(&self, path: &str) -> Result<(), Failure> {
         begin(self.rt, path);
         let mut progress = Progress::new(self.rt.stderr());
-        match migrate(self.rt, path, &mut progress) {
+        match migrate(self.rt, path, F::new(), &mut progress) {
             Ok(moved) => {
                 if let Some(moved) = moved {
                     progress.finish(moved);
