@@ -46,13 +46,13 @@ class Crate:
         parts = tuple(f"{folder}/{part}/" for part in ("src", "specs", "proofs"))
         return sorted(it for it in found if it.startswith(parts) and os.path.isfile(it))
 
-    def add_up(self, kit):
-        """Its sum: of all that a check of the crate reads, and of the kit. Those below it have theirs."""
+    def added_up(self, kit):
+        """A sum of all that a check of the crate reads, and of the kit. Those below it have theirs."""
         every = hashlib.sha256(repr((kit, self.name, self.of_kit, [it.sum for it in self.below])).encode())
         for file in self.files():
             with open(file, "rb") as it:
                 every.update(repr((file.removeprefix(TOP), it.read())).encode())
-        self.sum = every.hexdigest()
+        return every.hexdigest()
 
     def made(self):
         return f"{TOP}/build/registry" if self.is_program else f"{PROVED}/{self.name}.rlib"
@@ -119,7 +119,7 @@ def weigh(crates):
             below.behind = max(below.behind, crate.behind)
 
 
-def prove(crate, jobs):
+def prove(crate, jobs, kit):
     """Whether the crate is proved; what the check says stands in build/proved."""
     begun = time.monotonic()
     # (one that is stopped behind its check is checked again, whatever the files are then)
@@ -129,6 +129,9 @@ def prove(crate, jobs):
             how = {"cwd": f"{TOP}/crates/{crate.name}", "stdin": subprocess.DEVNULL}
             if subprocess.run(words, stdout=log, stderr=subprocess.STDOUT, check=False, **how).returncode:
                 return False
+        if crate.added_up(kit) != crate.sum:
+            log.write("its files were changed as it was checked: once more\n")
+            return False
     crate.keep()
     print(f"{crate.name} proved, {time.monotonic() - begun:.0f} s", flush=True)
     return True
@@ -141,7 +144,7 @@ def at_once():
     return max(1, min(len(os.sched_getaffinity(0)), free // ROOM))
 
 
-def prove_all(crates):
+def prove_all(crates, kit):
     """Proves them side by side, and returns the names of those that failed."""
     most, failed, running = at_once(), [], {}
     done = {below for it in crates for below in it.all_below}.difference(crates)
@@ -156,12 +159,21 @@ def prove_all(crates):
                 if all(crate in it.all_below for it in left):
                     # (all others wait for it, so processors will rest soon)
                     jobs = max(min(2, most), jobs)
-                running[pool.submit(prove, crate, jobs)] = crate, jobs
+                running[pool.submit(prove, crate, jobs, kit)] = crate, jobs
             for it in concurrent.futures.wait(running, return_when=concurrent.futures.FIRST_COMPLETED).done:
                 crate, _ = running.pop(it)
                 done.add(crate)
                 failed += [] if it.result() else [crate.name]
     return failed
+
+
+def wanting(crates):
+    """Those that are to be proved: none where the program is, else each that is not or stands on one that is not."""
+    wanted = []
+    for crate in [] if crates[-1].is_proved() else crates:
+        if not crate.is_proved() or crate.all_below.intersection(wanted):
+            wanted.append(crate)
+    return wanted
 
 
 def take_from_gate(program):
@@ -182,15 +194,14 @@ def main():
     crates = crates_below(PROGRAM)
     weigh(crates)
     for crate in crates:
-        crate.add_up(kit)
+        crate.sum = crate.added_up(kit)
     if asked == "--sum":
         print(crates[-1].sum)
         return 0
     if asked == "--of-gate":
         # (what was edited beside the gate is not what it proved)
         return take_from_gate(crates[-1]) if more == [crates[-1].sum] else 0
-    wanted = [] if crates[-1].is_proved() else [it for it in crates if not it.is_proved()]
-    failed = prove_all(wanted)
+    failed = prove_all(wanted := wanting(crates), kit)
     for name in failed:
         with open(f"{PROVED}/{name}.log", encoding="utf-8", errors="replace") as it:
             print(it.read(), end="", file=sys.stderr)
