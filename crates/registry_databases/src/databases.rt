@@ -8,9 +8,10 @@ use registry_model::Keeper;
 use registry_opening::Opener;
 use registry_orders::{Cause, Failure};
 use registry_store::{OpenFault, Store, Written};
-use sqlite::{Connection, FileFrom, FileStore, Unknown};
+use sqlite::{Alter, Connection, FileFrom, FileStore, Unknown};
 use sqlite_disk::Disk;
 use std::marker::PhantomData;
+use store_opening::let_go;
 use store_upgrade::migrate;
 
 /// Files of which the same is supposed each time that they are opened.
@@ -40,17 +41,19 @@ impl<'a, F: Supposed> Databases<'a, F> {
     }
 }
 
-/// Copies the log of a database into its file, and closes both.
-fn close_files<D: Disk + Drop>(conn: Connection<FileStore<D>>) {
-    let _ = conn.close();
+/// What a registry lies in, and whether its storage has failed.
+fn taken_apart<S: Alter>(kept: Store<S>) -> (bool, Connection<S>) {
+    (kept.spent(), kept.into_connection())
 }
 
-/// The same for a registry in it, unless its storage has failed, where the log stays as it is.
+/// Closes the file of a registry, into which the log is copied first, unless its storage has failed. That files
+/// are what a store asks for is proved anew at each call, so there is one.
 fn close_store<D: Disk + Drop>(kept: Store<FileStore<D>>) {
-    let spent = kept.spent();
-    let conn = kept.into_connection();
-    if !spent {
-        close_files(conn);
+    let (spent, conn) = taken_apart(kept);
+    if spent {
+        let_go(conn);
+    } else {
+        let _ = conn.close();
     }
 }
 

@@ -5,27 +5,23 @@ ghost use Rattle.registry_server.specs.Showing.{connected};
 ghost use Rattle.registry_server.specs.Lives.{NoneSilent};
 ghost use Rattle.registry_loop.specs.Together.{LeadsBeside, bounds_of, most_silence};
 
+use crate::doors::{Doors, LISTENER};
 use crate::gathering::Gathering;
 use crate::log::Log;
 use crate::peer::Peer;
 use crate::peers::{forget, is_any_ready, leaves, note};
-use crate::stopping::{is_end, watch};
+use crate::stopping::is_end;
 use mio::net::TcpListener;
-use mio::{Events, Interest, Poll, Token};
+use mio::{Events, Poll, Token};
 use order_callers::Callers;
 use registry_model::Keeper;
 use registry_orders::Limits;
 use registry_server::{Bounds, Connections, Turn};
 use registry_service::Service;
-use std::alloc::Global;
+use std::alloc::{AllocError, Global};
 use std::io::Write;
-use std::os::fd::RawFd;
-use std::os::unix::net::UnixListener;
 use std::time::{Clock, Duration};
 use std::{io, net};
-
-/// The listener's token; the others are below it (`stopping`, `callers`), first the numbers of connections.
-const LISTENER: Token = Token(usize::MAX);
 
 /// How many bytes are read at once.
 const ROOM: usize = 65_536;
@@ -35,16 +31,6 @@ pub(crate) const EVENTS: usize = 256;
 
 /// How many seconds it is waited at most, so that silence is noticed.
 const WAIT: u64 = 1;
-
-/// Where connections are taken, and where orders are, if they are; and what is watched beside them, if
-/// anything: a descriptor that is never read, as that of standard input. Where nobody holds its other end any
-/// more, the server stops. The system refuses to watch a file or the null device, which have no other end.
-#[derive(Drop)]
-pub struct Doors {
-    pub listener: net::TcpListener,
-    pub orders: Option<UnixListener>,
-    pub watched: Option<RawFd>,
-}
 
 /// A listener, and the sockets that were taken there; and those who give orders.
 #[derive(Drop)]
@@ -83,6 +69,12 @@ fn bounds_for(at_once: usize, buffer: u64) -> Bounds
     }
 }
 
+/// Room for what happens, and for what is read at once.
+fn rooms(alloc: Global) -> Result<(Events, Vec<u8>), AllocError> {
+    let events = Events::with_capacity(alloc, EVENTS)?;
+    Ok((events, vec![in alloc; 0; ROOM]?))
+}
+
 impl<'a, T: Clock, E: Write> Crowd<'a, T, E> {
     /// Nobody but those who come to the listener, of whom so many are taken. An error is that of the system,
     /// also where it refuses to watch what is to be watched, or want of memory.
@@ -95,23 +87,13 @@ impl<'a, T: Clock, E: Write> Crowd<'a, T, E> {
         limits: Limits,
         connections: u64,
     ) -> io::Result<Crowd<'a, T, E>> {
-        let Doors {
-            listener,
-            orders,
-            watched,
-        } = doors;
-        listener.set_nonblocking(true)?;
-        let mut listener = TcpListener::from_std(listener);
-        let poll = Poll::new(net)?;
-        poll.registry()
-            .register(&mut listener, LISTENER, Interest::READABLE)?;
-        watch(poll.registry(), watched)?;
-        let callers = Callers::new(alloc, poll.registry(), orders)?;
+        let (events, room) = rooms(alloc)?;
+        let (poll, listener, callers) = doors.open(alloc, net)?;
         Ok(Crowd {
             clock,
             log,
             poll,
-            events: Events::with_capacity(alloc, EVENTS)?,
+            events,
             listener,
             limits,
             left: connections,
@@ -121,7 +103,7 @@ impl<'a, T: Clock, E: Write> Crowd<'a, T, E> {
             callers,
             ended: false,
             stops: None,
-            room: vec![in alloc; 0; ROOM]?,
+            room,
             now: Duration::ZERO,
         })
     }

@@ -6,6 +6,7 @@
 #![tactic(auto)]
 
 pub mod crowd;
+pub mod doors;
 pub mod gathering;
 pub mod limit;
 pub mod log;
@@ -14,6 +15,7 @@ mod peers;
 mod stopping;
 mod taking;
 
-pub use crowd::{Crowd, Doors};
+pub use crowd::Crowd;
+pub use doors::Doors;
 pub use gathering::Gathering;
 pub use log::Log;

@@ -50,19 +50,24 @@ pub record Segments : Type 0 where
   pub before_third : Text
   pub before_second : Text
 
+-- the forms of blobs and of their uploads
+abbrev pub blob_form_by : Segments → Form
+blob_form_by s =
+    if bytes_eq s.third (codes "blobs") && bytes_eq s.second (codes "uploads")
+    then (if bytes_eq s.last [] then uploads (name_in s.before_third)
+    else session (name_in s.before_third) s.last)
+    else (if bytes_eq s.second (codes "blobs") && bytes_eq s.last (codes "uploads")
+    then uploads (name_in s.before_second)
+    else (if bytes_eq s.second (codes "blobs") then blob (name_in s.before_second) s.last
+    else no_form))
+
 -- by the last three segments of what follows "/v2"; the first line that fits decides
 abbrev pub form_by : Segments → Form
 form_by s =
     if bytes_eq s.second (codes "tags") && bytes_eq s.last (codes "list") then tags (name_in s.before_second)
     else (if bytes_eq s.second (codes "manifests") then manifest (name_in s.before_second) s.last
     else (if bytes_eq s.second (codes "referrers") then referrers (name_in s.before_second) s.last
-    else (if bytes_eq s.third (codes "blobs") && bytes_eq s.second (codes "uploads")
-    then (if bytes_eq s.last [] then uploads (name_in s.before_third)
-    else session (name_in s.before_third) s.last)
-    else (if bytes_eq s.second (codes "blobs") && bytes_eq s.last (codes "uploads")
-    then uploads (name_in s.before_second)
-    else (if bytes_eq s.second (codes "blobs") then blob (name_in s.before_second) s.last
-    else no_form)))))
+    else blob_form_by s))
 
 abbrev pub segments_of : Text → Segments
 segments_of path =

@@ -1,5 +1,5 @@
 ghost use Rattle.std.specs.Prelude.{◌≡◌};
-ghost use Rattle.registry_model.specs.Form.{form_of, form_at, form_in_version, form_behind, form_by, last_segment, path_before, name_in};
+ghost use Rattle.registry_model.specs.Form.{form_of, form_at, form_in_version, form_behind, form_by, blob_form_by, last_segment, path_before, name_in};
 
 /// The form of a request's path (OCI Distribution Specification 1.1, Endpoints), with the texts of
 /// its name and of its digest, reference or session number as they stand there; each may be empty.
@@ -69,6 +69,25 @@ fn route_by<'a>(
             digest: last,
         };
     }
+    blob_route_by(third, second, last, before_third, before_second)
+}
+
+/// The same of blobs and of their uploads.
+fn blob_route_by<'a>(
+    third: &str,
+    second: &str,
+    last: &'a str,
+    before_third: &'a str,
+    before_second: &'a str,
+) -> Route<'a>
+    ensures { form_of result ≡ blob_form_by (record {
+      third = third.now;
+      second = second.now;
+      last = last.now;
+      before_third = before_third.now;
+      before_second = before_second.now;
+    }) }
+{
     if third == "blobs" && second == "uploads" {
         if last.is_empty() {
             return Route::Uploads {

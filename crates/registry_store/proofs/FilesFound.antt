@@ -26,7 +26,7 @@ found_ours image s were opens live it = were s.now (live opens.is_open).0 (found
 pub told_of : {C E : Type 0} (P : C → Type 0) (r : Result C E) (conn : C) → r ≡ Ok conn → IfOk r P → P conn
 told_of P r conn same h = subst (λ x. IfOk x P) same h
 
-idle : (s : State) → Opens s → IsIdle s
+pub idle : (s : State) → Opens s → IsIdle s
 idle s it = record { is_open = it.is_open; autocommit = it.autocommit; committed = it.clean }
 
 -- a connection that an open gave may be taken up

@@ -17,9 +17,10 @@ ghost use Rattle.registry_store.specs.Opening.{IsOurs, OpensOn};
 use crate::origin::{Origin, Ours};
 use crate::written::Written;
 use sqlite::{Alter, Connection, Error, FileFrom, FileStore, MemStore};
+use sqlite_disk::Disk;
 use std::alloc::Global;
 use std::marker::{Model, PhantomData};
-use store_opening::{OpenFault, fault_in_opening, take_up};
+use store_opening::{OpenFault, fault_in_opening, let_go, take_up};
 use store_usages::KnownUsages;
 
 /// Keeps a registry's world in the tables of a database, and knows besides what some of its repositories
@@ -68,7 +69,7 @@ impl Store<MemStore> {
     }
 }
 
-impl<S: Alter + Drop, O: Origin> Store<S, O> {
+impl<S: Alter, O: Origin> Store<S, O> {
     /// The registry in the tables of a database, whatever it is: they are made where there are none. Where
     /// its origin is `Ours`, that it is so is for the caller to know; of any other nothing is promised of the
     /// store that comes of it, but what is said here. A refusal hands the connection back, with the tables
@@ -152,25 +153,29 @@ impl<S: Alter + Drop, O: Origin> Store<S, O> {
     }
 }
 
-impl<S: Alter + Drop> Store<S> {
-    /// As `adopt`, but a refusal closes the connection.
-    fn adopt_or_close(alloc: Global, conn: Connection<S>) -> Result<Store<S>, OpenFault>
-        requires ours { HasCleanDisk (state S.Store conn)
-            → IsIdle (state S.Store conn) × IsOurs (state S.Store conn).now }
+impl<D: Disk + Drop> Store<FileStore<D>> {
+    /// As `adopt`, but a refusal closes the files.
+    fn adopt_or_close(
+        alloc: Global,
+        conn: Connection<FileStore<D>>,
+    ) -> Result<Store<FileStore<D>>, OpenFault>
+        requires ours { HasCleanDisk (file_state conn) → IsIdle (file_state conn) × IsOurs (file_state conn).now }
         ensures made { IfOk result
-            (λ s. HasCleanDisk (state S.Store s.conn) → IsEmptyWith no_schema (state S.Store conn).now
-            → world_in (state S.Store s.conn) ≡ no_world) }
+            (λ s. HasCleanDisk (file_state s.conn) → IsEmptyWith no_schema (file_state conn).now
+            → world_in (file_state s.conn) ≡ no_world) }
         ensures found { IfOk result
-            (λ s. HasCleanDisk (state S.Store s.conn) → IsIdle (state S.Store conn)
-            → HoldsRegistry (state S.Store conn).now
-            → (state S.Store s.conn).now ≡ (state S.Store conn).now) }
+            (λ s. HasCleanDisk (file_state s.conn) → IsIdle (file_state conn) → HoldsRegistry (file_state conn).now
+            → (file_state s.conn).now ≡ (file_state conn).now) }
         ensures unspent { IfOk result (λ s. s.spent ≡ false) }
-        ensures survives { IfOk result (λ s. Survives (state S.Store conn) (state S.Store s.conn) (λ _. ⊤)) }
+        ensures survives { IfOk result (λ s. Survives (file_state conn) (file_state s.conn) (λ _. ⊤)) }
         ensures another { IfErr result NamesNotTwo }
     {
         match Store::adopt(alloc, conn) {
             Ok(opened) => Ok(opened),
-            Err((fault, _)) => Err(fault),
+            Err((fault, conn)) => {
+                let_go(conn);
+                Err(fault)
+            }
         }
     }
 }

@@ -4,9 +4,11 @@ ghost use Rattle.store_upgrade.specs.Migrating.{NamesNeither};
 
 use crate::migration::migrate_open;
 use crate::rewrite::MovedRows;
-use sqlite::{Connection, Start};
+use sqlite::{Connection, FileStore, Start};
+use sqlite_disk::Disk;
+use std::alloc::Global;
 use store_moves::Watch;
-use store_opening::{OpenFault, fault_in_opening};
+use store_opening::{OpenFault, fault_in_opening, let_go};
 
 /// `migrate_open` over the database file at the path, its log beside it, which is opened and closed again. A
 /// file that is no database is `Storage`; so is one that was taken over and could not be closed. What is
@@ -19,13 +21,28 @@ pub fn migrate<F: Start, W: Watch>(
 ) -> Result<Option<MovedRows>, OpenFault>
     ensures another { IfErr result NamesNeither }
 {
-    let mut conn = match Connection::open_from(rt, path, false, start) {
-        Ok(conn) => conn,
-        Err((error, _)) => return Err(fault_in_opening(error)),
-    };
-    let moved = migrate_open(rt.alloc(), &mut conn, watch)?;
-    match conn.close() {
-        Ok(()) => Ok(moved),
-        Err(error) => Err(fault_in_opening(error)),
+    match Connection::open_from(rt, path, false, start) {
+        Ok(conn) => migrate_files(rt.alloc(), conn, watch),
+        Err((error, _)) => Err(fault_in_opening(error)),
+    }
+}
+
+/// `migrate_open` over the files of a database, which are closed again.
+fn migrate_files<D: Disk + Drop, W: Watch>(
+    alloc: Global,
+    mut conn: Connection<FileStore<D>>,
+    watch: &mut W,
+) -> Result<Option<MovedRows>, OpenFault>
+    ensures another { IfErr result NamesNeither }
+{
+    match migrate_open(alloc, &mut conn, watch) {
+        Ok(moved) => match conn.close() {
+            Ok(()) => Ok(moved),
+            Err(error) => Err(fault_in_opening(error)),
+        },
+        Err(fault) => {
+            let_go(conn);
+            Err(fault)
+        }
     }
 }

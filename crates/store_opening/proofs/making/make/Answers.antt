@@ -1,6 +1,7 @@
 use Rattle.std.proofs.Common.{arith}
 use Rattle.sqlite.specs.State.{HasCleanDisk}
 use Rattle.sqlite.specs.Held.{state}
+use Rattle.sqlite.proofs.StateLemmas.{survives_then}
 use Rattle.store_opening.proofs.FreshTables.{then_new}
 use Rattle.store_schema.proofs.Selects.{commit_then}
 use Rattle.store_opening.proofs.OpeningLemmas.{on_ok}
@@ -25,3 +26,9 @@ pub returns-in-Ok-clause-beside : goal.returns-in-Ok-clause-beside
 returns-in-Ok-clause-beside g c clean =
     let mid : HasCleanDisk (state g.S.Store c.make_tables.new.tx.conn.now) = omega (arith, c.add_version.ensures.survives.clean) in
     c.add_version.ensures.beside clean (state g.S.Store c.args.tx.now.conn.now).now (c.in-Ok.ensures.comes mid)
+
+-- (searched for, it takes nine seconds)
+pub returns-in-Ok-clause-survives : goal.returns-in-Ok-clause-survives
+returns-in-Ok-clause-survives g c =
+    survives_then (state g.S.Store c.args.tx.now.conn.now) (state g.S.Store c.make_tables.new.tx.conn.now) (state g.S.Store c.add_version.new.tx.conn.now)
+    (λ _. ⊥) (λ _. ⊥) (λ _. ⊥) (λ _ _ none. none) (λ _ _ none. none) c.make_tables.ensures.survives c.add_version.ensures.survives
