@@ -1,2 +1,2 @@
-pub mod TokenOrders
+pub mod EndedTasks
 pub mod TogetherLemmas

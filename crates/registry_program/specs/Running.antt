@@ -51,6 +51,10 @@ abbrev pub LacksToken : Task → ℕ → Streams → Type 0
 LacksToken (task.TokenOrder place source order) status e = LacksTokenOf source status e
 LacksToken _ status e = ⊥
 
+-- a task is done, and then the status is not 2; or it wants a token, and there is none
+abbrev pub EndsTask : (Text → Opened) → Task → ℕ → Streams → Type 0
+EndsTask at task status e = ((status ≢ 2) × RunsTask at task status e) ⊎ LacksToken task status e
+
 -- what words come to: the task that they spell is done, and then the status is not 2; or it wants a token,
 -- and there is none; or they are not read
 abbrev pub RunsWords : (Text → Opened) → List Text → ℕ → Streams → Type 0
@@ -62,6 +66,10 @@ RunsWords at words status e =
 abbrev pub IsByInput : Task → Type 0
 IsByInput (task.TokenOrder place Input order) = ⊤
 IsByInput _ = ⊥
+
+-- nothing was read or written, but for the line that the task takes
+abbrev pub IsSparedBy : Task → Streams → Type 0
+IsSparedBy task e = IsUntouched e ⊎ (IsByInput task × IsSilent (output_of e))
 
 abbrev pub TakesLine : List Text → Type 0
 TakesLine words = (task : Task) × IsTask words task × IsByInput task

@@ -3,7 +3,7 @@ ghost use Rattle.registry_tasks.specs.Stored.{Over, OverAt};
 ghost use Rattle.registry_tasks.specs.Sockets.{ServesAddress};
 ghost use Rattle.registry_tasks.specs.Program.{streams};
 ghost use Rattle.registry_program.specs.Together.{serves_within};
-ghost use Rattle.registry_program.specs.Running.{RunsServer, RunsWords, IsSparedFor};
+ghost use Rattle.registry_program.specs.Running.{RunsServer, RunsWords, IsSparedFor, EndsTask, IsSparedBy};
 ghost use Rattle.registry_orders.specs.Outputs.{output};
 
 use crate::gathering::serve_together;
@@ -137,6 +137,56 @@ fn run_server<
     }
 }
 
+/// Does a task, and gives the exit status. With status 1 or 2 nothing was read or written, but for the line of
+/// standard input that the task takes for a token.
+fn run_task<
+    T: AllocGlobal + Clock + Files + Net<Listener = TcpListener, Stream = TcpStream>,
+    K: Keeper + Drop,
+    O: Opener<K>,
+    R: Read,
+    W: Write,
+    E: Write,
+>(rt: &T, opener: &O, task: Task, reader: &mut R, out: &mut W, err: &mut E) -> u8
+    ensures runs { EndsTask (OverAt K.is_honest K.state (O.opens opener.now)) task.entry result
+        (streams (R.remaining reader.old) (R.remaining reader.new)
+        (W.contents out.old) (W.contents out.new)) }
+    ensures refused { 0 < result → result < 3
+        → IsSparedBy task.entry
+        (streams (R.remaining reader.old) (R.remaining reader.new)
+        (W.contents out.old) (W.contents out.new)) }
+    ensures status { result ≤ 4 }
+{
+    let alloc = rt.alloc();
+    match task {
+        Task::Memory(setup) => serve_memory(alloc, &setup, reader, out, err),
+        Task::Stored { path } => run_stored(alloc, opener, path, reader, out, err),
+        Task::Server {
+            path,
+            address,
+            connections,
+            limits,
+            beside,
+        } => {
+            let serving = Serving {
+                address,
+                connections,
+                limits,
+                beside,
+            };
+            run_server(rt, opener, path, serving, out, err)
+        }
+        Task::Order { place, order } => run_order_at(rt, alloc, opener, place, &order, out, err),
+        Task::TokenOrder {
+            place,
+            source,
+            order,
+        } => run_token_order(rt, alloc, opener, place, source, order, reader, out, err),
+        Task::Check { path } => run_check(alloc, opener, path, out, err),
+        Task::Migration { path } => run_migration::<K, O, E>(opener, path, err),
+        Task::Stop { path } => send_stop(rt, alloc, path, out, err),
+    }
+}
+
 /// Does what the words behind the program's name say, with these ends for standard input, output
 /// and error, and an opener of databases, and gives the exit status: 0 done, 1 a refused command, 2
 /// the command line, 3 storage, schema or memory, 4 a socket, reading or writing failed. What is wrong
@@ -164,38 +214,7 @@ pub fn run_words<
 {
     let alloc = rt.alloc();
     match read_words(alloc, words) {
-        Ok(Task::Memory(setup)) => serve_memory(alloc, &setup, reader, out, err),
-        Ok(Task::Stored { path }) => run_stored(alloc, opener, path, reader, out, err),
-        Ok(
-            Task::Server {
-                path,
-                address,
-                connections,
-                limits,
-                beside,
-            },
-        ) => {
-            let serving = Serving {
-                address,
-                connections,
-                limits,
-                beside,
-            };
-            run_server(rt, opener, path, serving, out, err)
-        }
-        Ok(Task::Order { place, order }) => {
-            run_order_at(rt, alloc, opener, place, &order, out, err)
-        }
-        Ok(
-            Task::TokenOrder {
-                place,
-                source,
-                order,
-            },
-        ) => run_token_order(rt, alloc, opener, place, source, order, reader, out, err),
-        Ok(Task::Check { path }) => run_check(alloc, opener, path, out, err),
-        Ok(Task::Migration { path }) => run_migration::<K, O, E>(opener, path, err),
-        Ok(Task::Stop { path }) => send_stop(rt, alloc, path, out, err),
+        Ok(task) => run_task(rt, opener, task, reader, out, err),
         Err(Told::Failed(failure)) => say(err, failure),
         Err(Told::Options { word, cause }) => {
             say_at(err, Failure::InvalidOptions, word, Some(cause))

@@ -1,35 +1,18 @@
 use Rattle.std.proofs.Common.{inl, inr, map, refl, arith}
 use Rattle.registry_orders.specs.declared.failure.Failure.TheVariants.{InvalidOptions}
-use Rattle.registry_orders.specs.declared.tasks.Task.TheVariants.{Memory}
 use Rattle.registry_tasks.specs.Stored.{OverAt}
-use Rattle.registry_tasks.proofs.ExitStatuses.{memory_read, untouched_memory, untouched_telling}
-use Rattle.registry_program.proofs.TokenOrders.{order_runs, order_spares}
+use Rattle.registry_tasks.proofs.ExitStatuses.{untouched_telling}
+use Rattle.registry_program.proofs.EndedTasks.{task_runs, task_spares}
 use Rattle.registry_program.proofs.program.run_words.Goals as goal
 
-pub returns-in-Ok-Memory-clause-runs : goal.returns-in-Ok-Memory-clause-runs
-returns-in-Ok-Memory-clause-runs g c =
-    let setup = c.in-Ok-Memory.setup in
-    let read = rw c.in-Ok-Memory.field-0-is at c.in-Ok-Memory.ensures.read in
-    let serves = c.serve_memory.ensures.serves in
-    inl (Memory setup, read, memory_read setup c.serve_memory.result _ serves, serves)
+pub returns-in-Ok-clause-runs : goal.returns-in-Ok-clause-runs
+returns-in-Ok-clause-runs g c =
+    task_runs (OverAt g.K.Keeper.is_honest g.K.Keeper.state (g.O.Opener.opens c.args.opener.now)) (map g.S.AsStr.text c.args.words.now)
+    c.in-Ok.task _ _ c.in-Ok.ensures.read c.run_task.ensures.runs
 
-pub returns-in-Ok-Memory-clause-refused : goal.returns-in-Ok-Memory-clause-refused
-returns-in-Ok-Memory-clause-refused g c more less =
-    inl (untouched_memory c.in-Ok-Memory.setup c.serve_memory.result _ c.serve_memory.ensures.serves more (omega arith))
-
-pub returns-in-Ok-TokenOrder-clause-runs : goal.returns-in-Ok-TokenOrder-clause-runs
-returns-in-Ok-TokenOrder-clause-runs g c =
-    let read = rw c.in-Ok-TokenOrder.field-0-is at c.in-Ok-TokenOrder.ensures.read in
-    let found = c.in-Ok-TokenOrder in
-    order_runs (OverAt g.K.Keeper.is_honest g.K.Keeper.state (g.O.Opener.opens c.args.opener.now)) (map g.S.AsStr.text c.args.words.now)
-    found.place found.source found.order _ _ read c.run_token_order.ensures.runs
-
-pub returns-in-Ok-TokenOrder-clause-refused : goal.returns-in-Ok-TokenOrder-clause-refused
-returns-in-Ok-TokenOrder-clause-refused g c more less =
-    let read = rw c.in-Ok-TokenOrder.field-0-is at c.in-Ok-TokenOrder.ensures.read in
-    let found = c.in-Ok-TokenOrder in
-    order_spares (OverAt g.K.Keeper.is_honest g.K.Keeper.state (g.O.Opener.opens c.args.opener.now)) (map g.S.AsStr.text c.args.words.now)
-    found.place found.source found.order _ _ read c.run_token_order.ensures.runs (c.run_token_order.ensures.silent more (omega arith))
+pub returns-in-Ok-clause-refused : goal.returns-in-Ok-clause-refused
+returns-in-Ok-clause-refused g c more less =
+    task_spares (map g.S.AsStr.text c.args.words.now) c.in-Ok.task _ c.in-Ok.ensures.read (c.run_task.ensures.refused more less)
 
 pub returns-in-Err-Options-clause-runs : goal.returns-in-Err-Options-clause-runs
 returns-in-Err-Options-clause-runs g c = inr (inr (inl (InvalidOptions, tt, (c.say_at.ensures, record { left = refl; held = refl }))))
