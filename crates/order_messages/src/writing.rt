@@ -1,9 +1,11 @@
 //! The line that spells an order.
-ghost use Rattle.std.specs.Prelude.{◌≡◌, ◌<◌, IfOk, string_bytes};
-ghost use Rattle.order_messages.specs.Lines.{line_of, digit_of, form_word, held_word, shown_word, or_any};
+ghost use Rattle.std.specs.Prelude.{◌≡◌, ◌<◌, ◌∷◌, [], decimal, IfOk, string_bytes};
+ghost use Rattle.std.specs.List.{join_with_byte};
+ghost use Rattle.std.specs.Fmt.{WritesOnOk};
+ghost use Rattle.order_messages.specs.Lines.{line_of, digit_of, form_word, held_word, shown_word, or_any, space};
 
 use oci_names::{RepoName, Token};
-use registry_model::Level;
+use registry_model::{Level, Quota};
 use registry_orders::{Change, Form, Held, Listing, Order, Shown};
 use std::alloc::{AllocError, Global};
 use std::fmt;
@@ -104,6 +106,27 @@ impl<'a> fmt::Display for ListLine<'a> {
     }
 }
 
+/// Two words.
+fn two_words<W: fmt::Write>(f: &mut fmt::Formatter<W>, first: &str, second: &str) -> fmt::Result
+    ensures { WritesOnOk W.write_str_gives f.old result
+        (join_with_byte space (first.now ∷ second.now ∷ [])) f.new }
+{
+    write!(f, "{first} {second}")
+}
+
+/// The words of a change of a repository's quota.
+fn quota_words<W: fmt::Write>(
+    f: &mut fmt::Formatter<W>,
+    word: &str,
+    name: &RepoName,
+    quota: Quota,
+) -> fmt::Result
+    ensures { WritesOnOk W.write_str_gives f.old result
+        (join_with_byte space (word.now ∷ name.now ∷ decimal quota.bytes ∷ [])) f.new }
+{
+    write!(f, "{word} {} {}", name.as_str(), quota.bytes)
+}
+
 /// The words of a change.
 #[derive(Drop)]
 struct ChangeLine<'a>(&'a Change);
@@ -117,13 +140,11 @@ impl<'a> fmt::Display for ChangeLine<'a> {
 
     fn fmt<W: fmt::Write>(&self, f: &mut fmt::Formatter<W>) -> fmt::Result {
         match self.0 {
-            Change::AddRepo { name, quota } => write!(f, "repo {} {}", name.as_str(), quota.bytes),
-            Change::SetQuota { name, quota } => {
-                write!(f, "quota {} {}", name.as_str(), quota.bytes)
-            }
-            Change::DropRepo { name } => write!(f, "drop {}", name.as_str()),
-            Change::DropSessions { name } => write!(f, "sessions {}", name.as_str()),
-            Change::Prune { name } => write!(f, "prune {}", name.as_str()),
+            Change::AddRepo { name, quota } => quota_words(f, "repo", name, *quota),
+            Change::SetQuota { name, quota } => quota_words(f, "quota", name, *quota),
+            Change::DropRepo { name } => two_words(f, "drop", name.as_str()),
+            Change::DropSessions { name } => two_words(f, "sessions", name.as_str()),
+            Change::Prune { name } => two_words(f, "prune", name.as_str()),
             Change::Grant { token, name, level } => {
                 let digit = digit_of(*level);
                 write!(f, "grant {} {digit} {}", name.as_str(), token.as_str())
@@ -131,7 +152,7 @@ impl<'a> fmt::Display for ChangeLine<'a> {
             Change::Revoke { token, name } => {
                 write!(f, "revoke {} {}", name.as_str(), token.as_str())
             }
-            Change::RevokeAll { token } => write!(f, "revoke {}", token.as_str()),
+            Change::RevokeAll { token } => two_words(f, "revoke", token.as_str()),
             Change::Clear => f.write_str("clear"),
         }
     }

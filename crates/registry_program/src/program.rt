@@ -2,6 +2,7 @@ ghost use Rattle.std.specs.Prelude.{◌≡◌, ◌<◌, ◌≤◌, map};
 ghost use Rattle.registry_tasks.specs.Stored.{Over, OverAt};
 ghost use Rattle.registry_tasks.specs.Sockets.{ServesAddress};
 ghost use Rattle.registry_tasks.specs.Program.{streams};
+ghost use Rattle.registry_loop.specs.Together.{ServesTogether};
 ghost use Rattle.registry_program.specs.Together.{serves_within};
 ghost use Rattle.registry_program.specs.Running.{RunsServer, RunsWords, IsSparedFor, EndsTask, IsSparedBy};
 ghost use Rattle.registry_orders.specs.Outputs.{output};
@@ -42,9 +43,42 @@ struct Serving<'a> {
     beside: Beside<'a>,
 }
 
-/// Serves so many connections that are taken at a listener, one after the other or together. A server that is
-/// to end with standard input fails at once where that is a file, the null device or closed: nobody holds
-/// another end of these.
+/// Serves so many connections that are taken at a listener, together. A server that is to end with standard input
+/// fails at once where that is a file, the null device or closed: nobody holds another end of these.
+fn serve_many<T: Clock + Net, K: Keeper + Drop, O: Opener<K>, W: Write, E: Write>(
+    rt: &T,
+    alloc: Global,
+    opener: &O,
+    path: &str,
+    kept: K,
+    listeners: Listeners,
+    serving: Serving,
+    out: &mut W,
+    err: &mut E,
+) -> Result<(), Failure>
+    requires opened { K.is_honest kept → O.opens opener.now path.now (K.state kept) }
+    ensures { ServesAddress (ServesTogether serving.entry.limits.at_once)
+        (Over K.is_honest K.state (O.opens opener.now path.now))
+        result (output (W.contents out.old) (W.contents out.new)) }
+{
+    let (limits, connections) = (serving.limits, serving.connections);
+    let at_once = limits.at_once as usize;
+    let log = Log::new(err, serving.beside.log);
+    let doors = Doors {
+        listener: listeners.connections,
+        orders: listeners.orders,
+        watched: serving.beside.stop_at_eof.then_some(STANDARD_INPUT),
+    };
+    match Crowd::new(alloc, rt, rt, log, doors, limits, connections) {
+        Ok(mut crowd) => serve_together(alloc, opener, path, kept, &mut crowd, at_once, out),
+        Err(error) => match error.kind() {
+            io::ErrorKind::OutOfMemory => Err(Failure::OutOfMemory),
+            _ => Err(Failure::ConnectionFailure),
+        },
+    }
+}
+
+/// Serves so many connections that are taken at a listener, one after the other or together.
 fn serve_taken<T: Clock + Net, K: Keeper + Drop, O: Opener<K>, W: Write, E: Write>(
     rt: &T,
     alloc: Global,
@@ -61,25 +95,19 @@ fn serve_taken<T: Clock + Net, K: Keeper + Drop, O: Opener<K>, W: Write, E: Writ
         (Over K.is_honest K.state (O.opens opener.now path.now))
         result (output (W.contents out.old) (W.contents out.new)) }
 {
-    let (limits, connections) = (serving.limits, serving.connections);
-    let mut listener = listeners.connections;
-    if limits.at_once == 1 {
-        return serve(alloc, opener, path, kept, &mut listener, connections, out);
+    if serving.limits.at_once == 1 {
+        let mut listener = listeners.connections;
+        return serve(
+            alloc,
+            opener,
+            path,
+            kept,
+            &mut listener,
+            serving.connections,
+            out,
+        );
     }
-    let at_once = limits.at_once as usize;
-    let log = Log::new(err, serving.beside.log);
-    let doors = Doors {
-        listener,
-        orders: listeners.orders,
-        watched: serving.beside.stop_at_eof.then_some(STANDARD_INPUT),
-    };
-    match Crowd::new(alloc, rt, rt, log, doors, limits, connections) {
-        Ok(mut crowd) => serve_together(alloc, opener, path, kept, &mut crowd, at_once, out),
-        Err(error) => match error.kind() {
-            io::ErrorKind::OutOfMemory => Err(Failure::OutOfMemory),
-            _ => Err(Failure::ConnectionFailure),
-        },
-    }
+    serve_many(rt, alloc, opener, path, kept, listeners, serving, out, err)
 }
 
 /// Says what is served, and serves so many connections that are taken there.
