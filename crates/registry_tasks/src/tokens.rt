@@ -4,7 +4,7 @@ ghost use Rattle.registry_orders.specs.Failures.{IsOfWords};
 ghost use Rattle.registry_orders.specs.Outputs.{IsSilent, output};
 ghost use Rattle.registry_tasks.specs.Stored.{OverAt};
 ghost use Rattle.registry_tasks.specs.Program.{streams};
-ghost use Rattle.registry_tasks.specs.Opened.{RunsByInput, RunsByFile, RunsTokenOrder};
+ghost use Rattle.registry_tasks.specs.Opened.{RunsAt, RunsByInput, RunsByFile, RunsTokenOrder};
 ghost use Rattle.registry_tasks.specs.Opened.{IsWithoutToken, LacksTokenOf};
 
 use crate::opened::run_order_at;
@@ -12,7 +12,7 @@ use oci_names::Token;
 use registry_model::Keeper;
 use registry_opening::Opener;
 use registry_orders::cause::say_at;
-use registry_orders::{Cause, Failure, Place, TokenOrder, TokenSource, read_token};
+use registry_orders::{Cause, Failure, Order, Place, TokenOrder, TokenSource, read_token};
 use std::alloc::Global;
 use std::fs;
 use std::io::{ErrorKind, Read, Write};
@@ -65,6 +65,26 @@ fn token_in_file<T: Files>(rt: &T, alloc: Global, path: &str) -> Result<Token, N
     }
 }
 
+/// Carries out an order that has its token, at its place.
+fn run_whole_order<T: Net, K: Keeper + Drop, O: Opener<K>, W: Write, E: Write>(
+    rt: &T,
+    alloc: Global,
+    opener: &O,
+    place: Place,
+    order: Order,
+    out: &mut W,
+    err: &mut E,
+) -> u8
+    ensures runs { RunsAt (OverAt K.is_honest K.state (O.opens opener.now)) place.entry order result
+        (output (W.contents out.old) (W.contents out.new)) }
+    ensures silent { 0 < result → result < 4
+        → IsSilent (output (W.contents out.old) (W.contents out.new)) }
+    ensures status { result ≤ 4 }
+    ensures read { result ≢ 2 }
+{
+    run_order_at(rt, alloc, opener, place, &order, out, err)
+}
+
 /// Carries out an order, the token of which is the first line of standard input.
 fn run_by_input<T: Net, K: Keeper + Drop, O: Opener<K>, R: Read, W: Write, E: Write>(
     rt: &T,
@@ -86,10 +106,7 @@ fn run_by_input<T: Net, K: Keeper + Drop, O: Opener<K>, R: Read, W: Write, E: Wr
     ensures status { result ≤ 4 }
 {
     match read_token(alloc, reader) {
-        Ok(token) => {
-            let order = order.with(token);
-            run_order_at(rt, alloc, opener, place, &order, out, err)
-        }
+        Ok(token) => run_whole_order(rt, alloc, opener, place, order.with(token), out, err),
         Err(failure) => say_at(err, failure, "standard input", no_token(failure).cause),
     }
 }
@@ -114,10 +131,7 @@ fn run_by_file<T: Files + Net, K: Keeper + Drop, O: Opener<K>, W: Write, E: Writ
     ensures status { result ≤ 4 }
 {
     match token_in_file(rt, alloc, file) {
-        Ok(token) => {
-            let order = order.with(token);
-            run_order_at(rt, alloc, opener, place, &order, out, err)
-        }
+        Ok(token) => run_whole_order(rt, alloc, opener, place, order.with(token), out, err),
         Err(none) => say_at(err, none.failure, file, none.cause),
     }
 }
