@@ -147,9 +147,15 @@ fn encodes_sha512(encoded: &[u8], bytes: &[u8]) -> bool
 
 /// A digest (OCI Image Specification 1.1, Descriptors, Digests). Those of sha256 and sha512 have the
 /// form of their algorithm; one of any other algorithm need only fit the grammar.
-#[derive(Clone, Debug, Drop)]
+#[derive(Clone, Debug)]
 pub struct Digest {
     text: String,
+}
+
+impl Drop for Digest {
+    fn drop(self) {
+        let Digest { text: _ } = self;
+    }
 }
 
 impl Model for Digest {

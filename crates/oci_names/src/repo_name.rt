@@ -67,9 +67,15 @@ fn is_name(text: &str) -> bool
 
 /// A repository name (OCI Distribution Specification 1.1, Pulling manifests): words of `[a-z0-9]`
 /// joined by `.`, `_`, `__`, `/` or dashes, at most 255 bytes in all (profile).
-#[derive(Clone, Debug, Drop)]
+#[derive(Clone, Debug)]
 pub struct RepoName {
     text: String,
+}
+
+impl Drop for RepoName {
+    fn drop(self) {
+        let RepoName { text: _ } = self;
+    }
 }
 
 impl Model for RepoName {

@@ -49,9 +49,15 @@ fn is_tag_text(text: &str) -> bool
 
 /// A tag (OCI Distribution Specification 1.1, Pulling manifests):
 /// `[a-zA-Z0-9_][a-zA-Z0-9._-]{0,127}`.
-#[derive(Clone, Debug, Drop)]
+#[derive(Clone, Debug)]
 pub struct Tag {
     text: String,
+}
+
+impl Drop for Tag {
+    fn drop(self) {
+        let Tag { text: _ } = self;
+    }
 }
 
 impl Model for Tag {

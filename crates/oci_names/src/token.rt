@@ -62,9 +62,15 @@ fn is_token_text(text: &str) -> bool
 }
 
 /// A bearer token (RFC 6750, section 2.1, `b64token`) of at most 200 bytes (profile).
-#[derive(Clone, Debug, Drop)]
+#[derive(Clone, Debug)]
 pub struct Token {
     text: String,
+}
+
+impl Drop for Token {
+    fn drop(self) {
+        let Token { text: _ } = self;
+    }
 }
 
 impl Model for Token {

@@ -1,5 +1,5 @@
-ghost use Rattle.std.specs.Prelude.{◌≡◌};
-ghost use Rattle.registry_model.specs.Answer.{answer_of, busy_answer, failed_answer, refused, code_of, bare_answer};
+ghost use Rattle.std.specs.Prelude.{◌≡◌, Some, string_bytes};
+ghost use Rattle.registry_model.specs.Answer.{answer_of, busy_answer, failed_answer, refused, code_of, bare_answer, content_of};
 
 use crate::Refusal;
 use oci_names::Digest;
@@ -48,15 +48,24 @@ impl Status {
 }
 
 /// A reply's body: a constant text, bytes of its own, or what HEAD leaves of a body, its length.
-#[derive(Drop)]
 pub enum Body {
     Constant(&'static str),
     Owned(Vec<u8>),
     Unsent(u64),
 }
 
+// (written out, here and below, so that where one is dropped it is by a call)
+impl Drop for Body {
+    fn drop(self) {
+        match self {
+            Body::Constant(_) => {}
+            Body::Owned(_) => {}
+            Body::Unsent(_) => {}
+        }
+    }
+}
+
 /// A reply: its status, the fields that it carries, and its body.
-#[derive(Drop)]
 pub struct Reply {
     pub status: Status,
     pub location: Option<String>,
@@ -69,6 +78,24 @@ pub struct Reply {
     pub challenge: Option<&'static str>,
     pub content_type: Option<&'static str>,
     pub body: Body,
+}
+
+impl Drop for Reply {
+    fn drop(self) {
+        let Reply {
+            status: _,
+            location: _,
+            range: _,
+            digest: _,
+            subject: _,
+            filters: _,
+            link: _,
+            allow: _,
+            challenge: _,
+            content_type: _,
+            body: _,
+        } = self;
+    }
 }
 
 impl Reply {
@@ -101,12 +128,10 @@ impl Reply {
             Refusal::TokenRequired => Some("Bearer realm=\"registry\""),
             _ => None,
         };
-        Reply {
-            challenge,
-            content_type: Some("application/json"),
-            body: Body::Constant(refusal.body()),
-            ..Reply::bare(refusal.status())
-        }
+        let reply = Reply::bare(refusal.status());
+        let mut reply = reply.with_content("application/json", Body::Constant(refusal.body()));
+        reply.challenge = challenge;
+        reply
     }
 
     /// The reply where memory is wanting; nothing has changed.
@@ -121,5 +146,35 @@ impl Reply {
         ensures { answer_of result ≡ failed_answer }
     {
         Reply::bare(Status::InternalServerError)
+    }
+    /// The reply, and that what it has is at this place.
+    pub fn with_location(self, location: String) -> Reply
+        ensures { answer_of result ≡ record (answer_of self) { location = Some (string_bytes location) } }
+    {
+        let mut reply = self;
+        reply.location = Some(location);
+        reply
+    }
+
+    /// The reply, and the digest of what it has.
+    pub fn with_digest(self, digest: Digest) -> Reply
+        ensures { answer_of result ≡ record (answer_of self) { digest = Some digest } }
+    {
+        let mut reply = self;
+        reply.digest = Some(digest);
+        reply
+    }
+
+    /// The reply with another body, and of what type it is.
+    pub fn with_content(self, content_type: &'static str, body: Body) -> Reply
+        ensures { answer_of result ≡ record (answer_of self) {
+          content_type = Some content_type.now;
+          body = content_of body;
+        } }
+    {
+        let mut reply = self;
+        reply.content_type = Some(content_type);
+        reply.body = body;
+        reply
     }
 }

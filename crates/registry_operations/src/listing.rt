@@ -81,12 +81,10 @@ fn tags_reply(
 {
     let text = tags_text(alloc, name, tags)?;
     let link = next_page(alloc, name, n, tags, more)?;
-    Ok(Reply {
-        link,
-        content_type: Some("application/json"),
-        body: Body::Owned(text.into_bytes()),
-        ..Reply::bare(Status::OK)
-    })
+    let body = Body::Owned(text.into_bytes());
+    let mut reply = Reply::bare(Status::OK).with_content("application/json", body);
+    reply.link = link;
+    Ok(reply)
 }
 
 /// The tags of a repository that is there behind `last` in byte order, at most `n` of them.
@@ -219,12 +217,10 @@ fn referrers_reply(
         None => None,
         Some(_) => Some("artifactType"),
     };
-    Ok(Reply {
-        filters,
-        content_type: Some(Kind::Index.media_type()),
-        body: Body::Owned(text.into_bytes()),
-        ..Reply::bare(Status::OK)
-    })
+    let body = Body::Owned(text.into_bytes());
+    let mut reply = Reply::bare(Status::OK).with_content(Kind::Index.media_type(), body);
+    reply.filters = filters;
+    Ok(reply)
 }
 
 /// The manifests of a repository that is there whose subject is the digest, there or not, of the

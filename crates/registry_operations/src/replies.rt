@@ -53,11 +53,7 @@ pub fn created_blob(location: String, digest: Digest) -> Reply
         answer_of result ≡ created_blob name digest }
     ensures carries { is_sent (answer_of result).body ≡ true }
 {
-    Reply {
-        location: Some(location),
-        digest: Some(digest),
-        ..Reply::bare(Status::Created)
-    }
+    Reply::bare(Status::Created).with_location(location).with_digest(digest)
 }
 
 /// The reply of a manifest that was kept and is fetched at the location. Takes no memory.
@@ -68,12 +64,9 @@ pub fn created_manifest(location: String, digest: Digest, subject: Option<Digest
       subject = subject;
     } }
 {
-    Reply {
-        location: Some(location),
-        digest: Some(digest),
-        subject,
-        ..Reply::bare(Status::Created)
-    }
+    let mut reply = Reply::bare(Status::Created).with_location(location).with_digest(digest);
+    reply.subject = subject;
+    reply
 }
 
 /// The reply that has what is kept under the digest, or its length.
@@ -84,12 +77,7 @@ pub fn found(digest: Digest, content_type: &'static str, body: Body) -> Reply
       body = content_of body;
     } }
 {
-    Reply {
-        digest: Some(digest),
-        content_type: Some(content_type),
-        body,
-        ..Reply::bare(Status::OK)
-    }
+    Reply::bare(Status::OK).with_digest(digest).with_content(content_type, body)
 }
 
 /// Where an upload session goes on.
@@ -127,11 +115,9 @@ fn tell_session(
 {
     let location = session_location(alloc, name.as_str(), number)?;
     let range = session_range(alloc, size)?;
-    Ok(Reply {
-        location: Some(location),
-        range: Some(range),
-        ..reply
-    })
+    let mut reply = reply.with_location(location);
+    reply.range = Some(range);
+    Ok(reply)
 }
 
 /// The reply that says where an upload session goes on, and how far it is (OCI Distribution

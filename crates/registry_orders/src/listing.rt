@@ -23,7 +23,6 @@ pub enum Shown {
 }
 
 /// What is listed.
-#[derive(Drop)]
 pub enum Listing {
     /// The names of the repositories.
     Repos,
@@ -38,6 +37,21 @@ pub enum Listing {
         token: Option<Token>,
         shown: Shown,
     },
+}
+
+// (written out, so that where one is dropped it is by a call)
+impl Drop for Listing {
+    fn drop(self) {
+        match self {
+            Listing::Repos => {}
+            Listing::InRepo { name: _, what: _ } => {}
+            Listing::Grants {
+                name: _,
+                token: _,
+                shown: _,
+            } => {}
+        }
+    }
 }
 
 /// How a list is written.

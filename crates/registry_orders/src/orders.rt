@@ -16,7 +16,6 @@ use registry_model::{AdminCommand, Level, Quota};
 use std::alloc::Global;
 
 /// A change to a registry over a database that the administrator orders (profile).
-#[derive(Drop)]
 pub enum Change {
     /// Makes an empty repository.
     AddRepo {
@@ -59,8 +58,28 @@ pub enum Change {
     Clear,
 }
 
+// (written out, here and below, so that where one is dropped it is by a call)
+impl Drop for Change {
+    fn drop(self) {
+        match self {
+            Change::AddRepo { name: _, quota: _ } => {}
+            Change::SetQuota { name: _, quota: _ } => {}
+            Change::DropRepo { name: _ } => {}
+            Change::DropSessions { name: _ } => {}
+            Change::Prune { name: _ } => {}
+            Change::Grant {
+                token: _,
+                name: _,
+                level: _,
+            } => {}
+            Change::Revoke { token: _, name: _ } => {}
+            Change::RevokeAll { token: _ } => {}
+            Change::Clear => {}
+        }
+    }
+}
+
 /// What the administrator orders of a registry over a database.
-#[derive(Drop)]
 pub enum Order {
     Change(Change),
     /// Asks what each repository holds and may hold.
@@ -69,8 +88,17 @@ pub enum Order {
     List { listing: Listing, form: Form },
 }
 
+impl Drop for Order {
+    fn drop(self) {
+        match self {
+            Order::Change(_) => {}
+            Order::Usage => {}
+            Order::List { listing: _, form: _ } => {}
+        }
+    }
+}
+
 /// An order but for its token.
-#[derive(Drop)]
 pub enum TokenOrder {
     /// Gives a token a level on a repository.
     Grant {
@@ -89,6 +117,21 @@ pub enum TokenOrder {
         shown: Shown,
         form: Form,
     },
+}
+
+impl Drop for TokenOrder {
+    fn drop(self) {
+        match self {
+            TokenOrder::Grant { name: _, level: _ } => {}
+            TokenOrder::Revoke { name: _ } => {}
+            TokenOrder::RevokeAll => {}
+            TokenOrder::Grants {
+                name: _,
+                shown: _,
+                form: _,
+            } => {}
+        }
+    }
 }
 
 impl TokenOrder {

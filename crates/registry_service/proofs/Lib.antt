@@ -1,3 +1,4 @@
 pub mod JudgingLemmas
 pub mod DoingLemmas
 pub mod RunLemmas
+pub mod ServingLemmas

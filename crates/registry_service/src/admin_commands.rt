@@ -1,6 +1,8 @@
-ghost use Rattle.std.specs.Prelude.{◌≡◌};
-ghost use Rattle.registry_service.specs.AdminCommands.{fault_of};
+ghost use Rattle.std.specs.Prelude.{◌≡◌, true, false};
+ghost use Rattle.registry_service.specs.AdminCommands.{fault_of, is_carried_out, refusal_as};
+ghost use Rattle.registry_model.specs.Command.{carried_out};
 ghost use Rattle.registry_model.specs.Doing.{CarriesOut, SpendsAs, course_of_result};
+ghost use Rattle.registry_model.specs.Keeping.{Reads, Writes, Spends};
 
 use oci_names::Fault;
 use registry_model::{AdminCommand, AdminFault, Keeper};
@@ -17,6 +19,67 @@ fn given_up(fault: Fault) -> AdminFault
     }
 }
 
+/// Whether a command is carried out, and not refused: what it is about is there, or is not where it makes
+/// it.
+fn is_carried_out<K: Keeper>(keeper: &mut K, command: &AdminCommand) -> Result<bool, Fault>
+    ensures found { K.is_honest keeper.new →
+        Reads result (is_carried_out (K.state keeper.old).world command.now)
+        (K.state keeper.old) (K.state keeper.new) }
+    ensures spends { Spends result (K.state keeper.old) (K.state keeper.new) }
+    ensures honest { K.is_honest keeper.new → K.is_honest keeper.old }
+{
+    match command {
+        AdminCommand::AddRepo { name, .. } => Ok(!keeper.has_repo(name)?),
+        AdminCommand::SetQuota { name, .. } => keeper.has_repo(name),
+        AdminCommand::DropRepo { name } => keeper.has_repo(name),
+        AdminCommand::Grant { name, .. } => keeper.has_repo(name),
+        AdminCommand::Revoke { token, name } => Ok(keeper.level(token, name)?.is_some()),
+        AdminCommand::RevokeAll { token } => keeper.known(token),
+        AdminCommand::DropSessions { name } => keeper.has_repo(name),
+        AdminCommand::Prune { name } => keeper.has_repo(name),
+        AdminCommand::Clear if keeper.spent() => Err(Fault::Storage),
+        AdminCommand::Clear => Ok(true),
+    }
+}
+
+/// Why a command is refused that is.
+fn refusal_as(command: &AdminCommand) -> AdminFault
+    ensures { result ≡ refusal_as command.now }
+{
+    match command {
+        AdminCommand::AddRepo { .. } => AdminFault::RepoThere,
+        AdminCommand::Revoke { .. } | AdminCommand::RevokeAll { .. } => AdminFault::NoGrant,
+        _ => AdminFault::NoRepo,
+    }
+}
+
+/// Carries out a command that is not refused.
+fn carry_out<K: Keeper>(
+    alloc: Global,
+    keeper: &mut K,
+    command: &AdminCommand,
+) -> Result<(), Fault>
+    requires { K.is_honest keeper.old → (K.state keeper.old).spent ≡ false
+        → is_carried_out (K.state keeper.old).world command.now ≡ true }
+    ensures made { K.is_honest keeper.new →
+        Writes result (carried_out (K.state keeper.old).world command.now)
+        (K.state keeper.old) (K.state keeper.new) }
+    ensures spends { Spends result (K.state keeper.old) (K.state keeper.new) }
+    ensures honest { K.is_honest keeper.new → K.is_honest keeper.old }
+{
+    match command {
+        AdminCommand::AddRepo { name, quota } => keeper.set_repo(name, *quota),
+        AdminCommand::SetQuota { name, quota } => keeper.set_repo(name, *quota),
+        AdminCommand::DropRepo { name } => keeper.drop_repo(name),
+        AdminCommand::Grant { token, name, level } => keeper.grant(token, name, *level),
+        AdminCommand::Revoke { token, name } => keeper.revoke(token, name),
+        AdminCommand::RevokeAll { token } => keeper.revoke_all(token),
+        AdminCommand::DropSessions { name } => keeper.drop_sessions(name),
+        AdminCommand::Prune { name } => prune(alloc, keeper, name),
+        AdminCommand::Clear => keeper.clear(),
+    }
+}
+
 /// Carries out a command, or refuses it.
 pub fn apply_command<K: Keeper>(
     alloc: Global,
@@ -28,42 +91,8 @@ pub fn apply_command<K: Keeper>(
     ensures spends { SpendsAs (course_of_result result) (K.state keeper.old) (K.state keeper.new) }
     ensures honest { K.is_honest keeper.new → K.is_honest keeper.old }
 {
-    match command {
-        AdminCommand::AddRepo { name, quota } => match keeper.has_repo(name).map_err(given_up)? {
-            true => Err(AdminFault::RepoThere),
-            false => keeper.set_repo(name, *quota).map_err(given_up),
-        },
-        AdminCommand::SetQuota { name, quota } => match keeper.has_repo(name).map_err(given_up)? {
-            true => keeper.set_repo(name, *quota).map_err(given_up),
-            false => Err(AdminFault::NoRepo),
-        },
-        AdminCommand::DropRepo { name } => match keeper.has_repo(name).map_err(given_up)? {
-            true => keeper.drop_repo(name).map_err(given_up),
-            false => Err(AdminFault::NoRepo),
-        },
-        AdminCommand::Grant { token, name, level } => match keeper
-            .has_repo(name)
-            .map_err(given_up)?
-        {
-            true => keeper.grant(token, name, *level).map_err(given_up),
-            false => Err(AdminFault::NoRepo),
-        },
-        AdminCommand::Revoke { token, name } => match keeper.level(token, name).map_err(given_up)? {
-            Some(_) => keeper.revoke(token, name).map_err(given_up),
-            None => Err(AdminFault::NoGrant),
-        },
-        AdminCommand::RevokeAll { token } => match keeper.known(token).map_err(given_up)? {
-            true => keeper.revoke_all(token).map_err(given_up),
-            false => Err(AdminFault::NoGrant),
-        },
-        AdminCommand::DropSessions { name } => match keeper.has_repo(name).map_err(given_up)? {
-            true => keeper.drop_sessions(name).map_err(given_up),
-            false => Err(AdminFault::NoRepo),
-        },
-        AdminCommand::Prune { name } => match keeper.has_repo(name).map_err(given_up)? {
-            true => prune(alloc, keeper, name).map_err(given_up),
-            false => Err(AdminFault::NoRepo),
-        },
-        AdminCommand::Clear => keeper.clear().map_err(given_up),
+    if !is_carried_out(keeper, command).map_err(given_up)? {
+        return Err(refusal_as(command));
     }
+    carry_out(alloc, keeper, command).map_err(given_up)
 }

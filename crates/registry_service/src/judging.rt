@@ -1,15 +1,16 @@
-ghost use Rattle.std.specs.Prelude.{◌≡◌, true, false, None, IsOkAnd};
+ghost use Rattle.std.specs.Prelude.{◌≡◌, true, false, Ok, None, IsOkAnd, MatchResult};
 ghost use Rattle.registry_model.specs.Heads.{is_head, is_sent, is_sizing};
 ghost use Rattle.registry_model.specs.declared.refusal.Refusal.TheVariants.{TokenRequired};
 ghost use Rattle.registry_model.specs.World.{repo_at};
 ghost use Rattle.registry_model.specs.Form.{form_of};
 ghost use Rattle.registry_model.specs.Answer.{answer_of, refused};
-ghost use Rattle.registry_model.specs.Ask.{ask_of};
-ghost use Rattle.registry_model.specs.Operation.{valid_name};
-ghost use Rattle.registry_model.specs.Judging.{operate, not_allowed, at_base, decide, reply_to, after_request};
+ghost use Rattle.registry_model.specs.Ask.{ask_of, text_in};
+ghost use Rattle.registry_model.specs.Operation.{addressed, valid_name};
+ghost use Rattle.registry_model.specs.Judging.{operate, not_allowed, at_base, decide, served, reply_to, after_request};
 ghost use Rattle.registry_model.specs.Keeping.{Spends, WritesBy};
-ghost use Rattle.registry_operations.specs.Operating.{ComesOn, IsUnspent, Answers, Carries, OperatesWith};
+ghost use Rattle.registry_operations.specs.Operating.{ComesOn, HasRepo, IsUnspent, Answers, Carries, OperatesWith};
 ghost use Rattle.registry_service.specs.Operations.{shown_operation};
+ghost use Rattle.registry_service.specs.Serving.{beside, name_at, token_in};
 
 use crate::operation::{Operation, allowed_methods, allows, find_operation};
 use oci_names::{Fault, NameFault, RepoName, Token};
@@ -23,8 +24,8 @@ use registry_operations::session_close::close_session;
 use registry_operations::uploads::{append_chunk, open_session, read_session};
 use std::alloc::Global;
 
-/// The reply to an operation that the token may do.
-fn operate<K: Keeper>(
+/// The reply to an operation in a repository that is there.
+fn operate_there<K: Keeper>(
     keeper: &mut K,
     alloc: Global,
     token: &Token,
@@ -32,6 +33,8 @@ fn operate<K: Keeper>(
     operation: Operation,
     body: &[u8],
 ) -> Result<Reply, Fault>
+    requires unspent { IsUnspent (K.state keeper.old) }
+    requires there { K.is_honest keeper.old → HasRepo (K.state keeper.old) name.now }
     ensures comes { K.is_honest keeper.new → OperatesWith result name.now
         (λ w r. operate (w.grants token.now) (repo_at w) r name.now (shown_operation operation.entry)
         body.now) (K.state keeper.old) (K.state keeper.new) }
@@ -40,9 +43,6 @@ fn operate<K: Keeper>(
     ensures spends { Spends result (K.state keeper.old) (K.state keeper.new) }
     ensures honest { K.is_honest keeper.new → K.is_honest keeper.old }
 {
-    if !keeper.has_repo(name)? {
-        return Ok(Reply::refusal(Refusal::AccessDenied));
-    }
     match operation {
         Operation::ReadBlob(digest) => read_blob(keeper, alloc, name, digest),
         Operation::SizeBlob(digest) => size_blob(keeper, alloc, name, digest),
@@ -76,15 +76,37 @@ fn operate<K: Keeper>(
     }
 }
 
+/// The reply to an operation that the token may do.
+fn operate<K: Keeper>(
+    keeper: &mut K,
+    alloc: Global,
+    token: &Token,
+    name: &RepoName,
+    operation: Operation,
+    body: &[u8],
+) -> Result<Reply, Fault>
+    ensures comes { K.is_honest keeper.new → OperatesWith result name.now
+        (λ w r. operate (w.grants token.now) (repo_at w) r name.now (shown_operation operation.entry)
+        body.now) (K.state keeper.old) (K.state keeper.new) }
+    ensures answers { Answers result }
+    ensures carries { is_sizing (shown_operation operation.entry) ≡ false → Carries result }
+    ensures spends { Spends result (K.state keeper.old) (K.state keeper.new) }
+    ensures honest { K.is_honest keeper.new → K.is_honest keeper.old }
+{
+    if !keeper.has_repo(name)? {
+        return Ok(Reply::refusal(Refusal::AccessDenied));
+    }
+    operate_there(keeper, alloc, token, name, operation, body)
+}
+
 /// The refusal that names the methods which the form has.
 fn not_allowed(route: &Route) -> Reply
     ensures refusal { answer_of result ≡ (not_allowed (form_of route.now)).reply }
     ensures carries { is_sent (answer_of result).body ≡ true }
 {
-    Reply {
-        allow: Some(allowed_methods(route)),
-        ..Reply::refusal(Refusal::MethodNotAllowed)
-    }
+    let mut reply = Reply::refusal(Refusal::MethodNotAllowed);
+    reply.allow = Some(allowed_methods(route));
+    reply
 }
 
 /// The reply to a request of a known token, by the name, the method and the level.
@@ -127,12 +149,75 @@ fn base_reply(method: Verb) -> Reply
     ensures carries { is_sent (answer_of result).body ≡ true }
 {
     match method {
-        Verb::Get | Verb::Head => Reply {
-            content_type: Some("application/json"),
-            body: Body::Constant("{}"),
-            ..Reply::bare(Status::OK)
-        },
+        Verb::Get | Verb::Head => {
+            Reply::bare(Status::OK).with_content("application/json", Body::Constant("{}"))
+        }
         _ => not_allowed(&Route::Base),
+    }
+}
+
+/// The name of the repository that a path leads to.
+fn name_at<'a>(route: &Route<'a>) -> Option<&'a str>
+    ensures { text_in result ≡ name_at (form_of route.now) }
+{
+    match route {
+        Route::NoForm => None,
+        Route::Base => None,
+        Route::Blob { name, .. } => Some(name),
+        Route::Uploads { name } => Some(name),
+        Route::Session { name, .. } => Some(name),
+        Route::Manifest { name, .. } => Some(name),
+        Route::Tags { name } => Some(name),
+        Route::Referrers { name, .. } => Some(name),
+    }
+}
+
+/// The reply to a known token where the path leads to no repository.
+fn reply_beside(route: &Route, method: Verb) -> Reply
+    ensures told { answer_of result ≡ (beside (form_of route.now) method).reply }
+    ensures carries { is_sent (answer_of result).body ≡ true }
+{
+    match route {
+        Route::Base => base_reply(method),
+        _ => Reply::refusal(Refusal::NoEndpoint),
+    }
+}
+
+/// The reply to a request of a known token.
+fn serve<K: Keeper>(
+    keeper: &mut K,
+    alloc: Global,
+    token: &Token,
+    request: &Request,
+) -> Result<Reply, Fault>
+    requires { IsUnspent (K.state keeper.old) }
+    ensures comes { K.is_honest keeper.new → ComesOn result (addressed (form_of request.now.route))
+        (served ((K.state keeper.old).world.grants token.now) (repo_at (K.state keeper.old).world)
+        (ask_of request.now)) (K.state keeper.old) (K.state keeper.new) }
+    ensures answers { Answers result }
+    ensures carries { is_head request.now.method ≡ false → Carries result }
+    ensures spends { Spends result (K.state keeper.old) (K.state keeper.new) }
+    ensures honest { K.is_honest keeper.new → K.is_honest keeper.old }
+{
+    match name_at(&request.route) {
+        Some(name) => decide(keeper, alloc, token, name, request),
+        None => Ok(reply_beside(&request.route, request.method)),
+    }
+}
+
+/// The token that a request names, if its text is one.
+fn find_token(alloc: Global, text: Option<&str>) -> Result<Option<Token>, Fault>
+    ensures none { text.entry ≡ None → result ≡ Ok None }
+    ensures found { MatchResult result (λ token. token ≡ token_in (text_in text.entry))
+        (λ fault. fault ≡ Fault.Memory) }
+{
+    let Some(text) = text else {
+        return Ok(None);
+    };
+    match Token::parse(alloc, text) {
+        Ok(token) => Ok(Some(token)),
+        Err(NameFault::Memory) => Err(Fault::Memory),
+        Err(_) => Ok(None),
     }
 }
 
@@ -152,27 +237,11 @@ pub fn judge<K: Keeper>(keeper: &mut K, alloc: Global, request: &Request) -> Res
     if keeper.spent() {
         return Err(Fault::Storage);
     }
-    let Some(text) = request.token else {
+    let Some(token) = find_token(alloc, request.token)? else {
         return Ok(Reply::refusal(Refusal::TokenRequired));
-    };
-    let token = match Token::parse(alloc, text) {
-        Ok(token) => token,
-        Err(fault) => match fault {
-            NameFault::Memory => return Err(Fault::Memory),
-            _ => return Ok(Reply::refusal(Refusal::TokenRequired)),
-        },
     };
     if !keeper.known(&token)? {
         return Ok(Reply::refusal(Refusal::TokenRequired));
     }
-    match request.route {
-        Route::NoForm => Ok(Reply::refusal(Refusal::NoEndpoint)),
-        Route::Base => Ok(base_reply(request.method)),
-        Route::Blob { name, .. } => decide(keeper, alloc, &token, name, request),
-        Route::Uploads { name } => decide(keeper, alloc, &token, name, request),
-        Route::Session { name, .. } => decide(keeper, alloc, &token, name, request),
-        Route::Manifest { name, .. } => decide(keeper, alloc, &token, name, request),
-        Route::Tags { name } => decide(keeper, alloc, &token, name, request),
-        Route::Referrers { name, .. } => decide(keeper, alloc, &token, name, request),
-    }
+    serve(keeper, alloc, &token, request)
 }
