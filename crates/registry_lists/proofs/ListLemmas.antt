@@ -16,8 +16,8 @@ use Rattle.registry_model.specs.TagPage.{page_behind}
 use Rattle.registry_model.specs.Lookups.{usages_of, no_page, blob_digests_at}
 use Rattle.registry_model.specs.Pruning.{names_in, is_among}
 use Rattle.registry_model.specs.Keeping.{State}
-use Rattle.registry_operations.specs.Pruning.{unnamed_of, unnamed_at}
-use Rattle.registry_operations.proofs.PruningLemmas.{found_each}
+use Rattle.manifest_operations.specs.Pruning.{unnamed_of, unnamed_at}
+use Rattle.manifest_operations.proofs.PruningLemmas.{found_each}
 use Rattle.registry_service.specs.Tags.{tags_at}
 use Rattle.registry_orders.specs.declared.listing.Held.{Held}
 use Rattle.registry_orders.specs.declared.listing.Held.TheVariants.{Tags, Blobs, Unnamed}

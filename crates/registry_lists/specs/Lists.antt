@@ -6,7 +6,7 @@ use Rattle.oci_names.specs.Text.{Text}
 use Rattle.registry_model.specs.World.{Repo, World}
 use Rattle.registry_model.specs.TagPage.{tags_behind}
 use Rattle.registry_model.specs.Pruning.{names_in, is_among}
-use Rattle.registry_operations.specs.Pruning.{unnamed_of}
+use Rattle.manifest_operations.specs.Pruning.{unnamed_of}
 use Rattle.registry_orders.specs.declared.listing.Held.{Held}
 use Rattle.registry_orders.specs.declared.listing.Held.TheVariants.{Tags, Blobs, Unnamed}
 use Rattle.list_texts.specs.Items.{ItemShown, repo_item, tag_item, blob_item, unnamed_item}

@@ -9,7 +9,7 @@ use Rattle.registry_model.specs.World.{World, repo_at}
 use Rattle.registry_model.specs.Lookups.{tag_at, blob_size_at, manifest_digests_at}
 use Rattle.registry_model.specs.Pruning.{is_among}
 use Rattle.registry_model.specs.Keeping.{State}
-use Rattle.registry_operations.specs.Pruning.{names_at}
+use Rattle.manifest_operations.specs.Pruning.{names_at}
 use Rattle.registry_orders.specs.declared.listing.Held.{Held}
 use Rattle.list_texts.specs.declared.items.Item.{Item}
 use Rattle.list_texts.specs.Items.{ItemShown, items_shown, tag_item, blob_item}

@@ -13,7 +13,7 @@ use Rattle.registry_model.specs.Decision.{Decision, refuses, in_repo}
 use Rattle.registry_model.specs.Operation.{Operation, valid_name, operation_of, needed_level, rank, rank_of}
 use Rattle.registry_model.specs.Judging.{operate, allows, granted, decide}
 use Rattle.registry_model.specs.Keeping.{State}
-use Rattle.registry_operations.specs.Operating.{Comes, ComesOn, Operates}
+use Rattle.operation_parts.specs.Operating.{Comes, ComesOn, Operates}
 
 -- an operation whose keeper's state was the same before
 pub same_start : (r : Result Reply Fault) (name : Text) (act : State → Repo → Decision) (s t s' : State) → t ≡ s → Operates r name (act t) t s' → Operates r name (act s) s s'

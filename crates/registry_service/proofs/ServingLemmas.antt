@@ -12,7 +12,7 @@ use Rattle.registry_model.specs.Ask.{Ask}
 use Rattle.registry_model.specs.Operation.{valid_name, addressed}
 use Rattle.registry_model.specs.Judging.{at_base, decide, served_on, served}
 use Rattle.registry_model.specs.Keeping.{State}
-use Rattle.registry_operations.specs.Operating.{ComesOn}
+use Rattle.operation_parts.specs.Operating.{ComesOn}
 use Rattle.registry_service.specs.Serving.{beside, name_at}
 
 at_base_none : (v : Verb) → (at_base v).change ≡ None

@@ -6,7 +6,7 @@ ghost use Rattle.registry_model.specs.Keeping.{Reads, Writes, Spends};
 
 use oci_names::Fault;
 use registry_model::{AdminCommand, AdminFault, Keeper};
-use registry_operations::prune;
+use manifest_operations::prune;
 use std::alloc::Global;
 
 /// The fault of a command whose keeper gave up.

@@ -7,14 +7,14 @@ ghost use Rattle.registry_model.specs.Doing.{Does, SpendsAs, CarriesOut, course_
 ghost use Rattle.registry_model.specs.Keeping.{Reads, ReadsBy, ReadsSo, Spends, usages_shown, digests_shown};
 ghost use Rattle.registry_model.specs.Lookups.{AreLevelsOn, usages_of, tag_at, blob_digests_at, blob_size_at, manifest_digests_at};
 ghost use Rattle.registry_model.specs.World.{has_repo};
-ghost use Rattle.registry_operations.specs.Pruning.{names_at, unnamed_at};
+ghost use Rattle.manifest_operations.specs.Pruning.{names_at, unnamed_at};
 ghost use Rattle.registry_service.specs.Tags.{tags_shown, tags_at};
 
 use crate::admin_commands::apply_command;
 use crate::judging::judge;
 use oci_names::{Digest, Fault, RepoName, Tag, Token};
 use registry_model::{AdminCommand, AdminFault, Keeper, Level, Reply, Request, Usage};
-use registry_operations::{names_at, unnamed};
+use manifest_operations::{names_at, unnamed};
 use std::alloc::Global;
 use std::marker::Model;
 

@@ -1,0 +1,4 @@
+pub mod BlobLemmas
+pub mod UploadLemmas
+pub mod SessionCloseLemmas
+pub mod MountLemmas

@@ -1,0 +1,159 @@
+ghost use Rattle.std.specs.Prelude.{◌≡◌, ◌≤◌, true, length};
+ghost use Rattle.oci_names.specs.Digest.{matches};
+ghost use Rattle.registry_model.specs.Limits.{largest_blob};
+ghost use Rattle.registry_model.specs.Decision.{within_quota};
+ghost use Rattle.registry_model.specs.Blobs.{created_blob, with_blob, read_blob, size_blob, delete_blob, push_blob};
+ghost use Rattle.registry_model.specs.Keeping.{Spends};
+ghost use Rattle.operation_parts.specs.Operating.{Operates, IsUnspent, HasRepo, Answers, Carries};
+
+use operation_parts::digests::read_digest;
+use operation_parts::quota::blob_goes_over;
+use operation_parts::replies::{blob_location, created_blob, found};
+use oci_names::{Digest, Fault, RepoName, Verdict};
+use registry_model::{Body, Keeper, LARGEST_BLOB, Refusal, Reply, Status};
+use std::alloc::Global;
+
+/// GET of a blob in a repository that is there.
+pub fn read_blob<K: Keeper>(
+    keeper: &mut K,
+    alloc: Global,
+    name: &RepoName,
+    text: &str,
+) -> Result<Reply, Fault>
+    requires unspent { IsUnspent (K.state keeper.old) }
+    requires there { K.is_honest keeper.old → HasRepo (K.state keeper.old) name.now }
+    ensures comes { K.is_honest keeper.new →
+        Operates result name.now (λ r. read_blob r text.now) (K.state keeper.old) (K.state keeper.new) }
+    ensures answers { Answers result }
+    ensures carries { Carries result }
+    ensures spends { Spends result (K.state keeper.old) (K.state keeper.new) }
+    ensures honest { K.is_honest keeper.new → K.is_honest keeper.old }
+{
+    let Some(digest) = read_digest(alloc, text)? else {
+        return Ok(Reply::refusal(Refusal::BlobUnknown));
+    };
+    match keeper.blob(alloc, name, &digest)? {
+        None => Ok(Reply::refusal(Refusal::BlobUnknown)),
+        Some(bytes) => Ok(found(digest, "application/octet-stream", Body::Owned(bytes))),
+    }
+}
+
+/// HEAD of a blob in a repository that is there: its length, and none of its bytes.
+pub fn size_blob<K: Keeper>(
+    keeper: &mut K,
+    alloc: Global,
+    name: &RepoName,
+    text: &str,
+) -> Result<Reply, Fault>
+    requires unspent { IsUnspent (K.state keeper.old) }
+    requires there { K.is_honest keeper.old → HasRepo (K.state keeper.old) name.now }
+    ensures comes { K.is_honest keeper.new →
+        Operates result name.now (λ r. size_blob r text.now) (K.state keeper.old) (K.state keeper.new) }
+    ensures answers { Answers result }
+    ensures spends { Spends result (K.state keeper.old) (K.state keeper.new) }
+    ensures honest { K.is_honest keeper.new → K.is_honest keeper.old }
+{
+    let Some(digest) = read_digest(alloc, text)? else {
+        return Ok(Reply::refusal(Refusal::BlobUnknown));
+    };
+    match keeper.blob_size(name, &digest)? {
+        None => Ok(Reply::refusal(Refusal::BlobUnknown)),
+        Some(size) => Ok(found(digest, "application/octet-stream", Body::Unsent(size))),
+    }
+}
+
+/// DELETE of a blob in a repository that is there; a manifest that names it stays.
+pub fn delete_blob<K: Keeper>(
+    keeper: &mut K,
+    alloc: Global,
+    name: &RepoName,
+    text: &str,
+) -> Result<Reply, Fault>
+    requires unspent { IsUnspent (K.state keeper.old) }
+    requires there { K.is_honest keeper.old → HasRepo (K.state keeper.old) name.now }
+    ensures comes { K.is_honest keeper.new →
+        Operates result name.now (λ r. delete_blob r text.now) (K.state keeper.old) (K.state keeper.new) }
+    ensures answers { Answers result }
+    ensures carries { Carries result }
+    ensures spends { Spends result (K.state keeper.old) (K.state keeper.new) }
+    ensures honest { K.is_honest keeper.new → K.is_honest keeper.old }
+{
+    let Some(digest) = read_digest(alloc, text)? else {
+        return Ok(Reply::refusal(Refusal::BlobUnknown));
+    };
+    if keeper.blob_size(name, &digest)?.is_none() {
+        return Ok(Reply::refusal(Refusal::BlobUnknown));
+    }
+    keeper.delete_blob(name, &digest)?;
+    Ok(Reply::bare(Status::Accepted))
+}
+
+/// Adds a blob within the quota of a repository that is there. The reply's memory is taken before the
+/// write.
+fn add_blob<K: Keeper>(
+    keeper: &mut K,
+    alloc: Global,
+    name: &RepoName,
+    digest: Digest,
+    body: &[u8],
+) -> Result<Reply, Fault>
+    requires unspent { IsUnspent (K.state keeper.old) }
+    requires there { K.is_honest keeper.old → HasRepo (K.state keeper.old) name.now }
+    requires matching { matches digest body.now ≡ true }
+    requires fits { length body.now ≤ largest_blob }
+    ensures comes { K.is_honest keeper.new → Operates result name.now
+        (λ r. within_quota r (with_blob r digest body.now) (created_blob name.now digest))
+        (K.state keeper.old) (K.state keeper.new) }
+    ensures answers { Answers result }
+    ensures carries { Carries result }
+    ensures spends { Spends result (K.state keeper.old) (K.state keeper.new) }
+    ensures honest { K.is_honest keeper.new → K.is_honest keeper.old }
+{
+    if blob_goes_over(keeper, name, &digest, body.len() as u64, 0)? {
+        return Ok(Reply::refusal(Refusal::QuotaExceeded));
+    }
+    let Ok(location) = blob_location(alloc, name, &digest) else {
+        return Err(Fault::Memory);
+    };
+    keeper.put_blob(name, &digest, body)?;
+    Ok(created_blob(location, digest))
+}
+
+/// The push of a whole blob to a repository that is there. The body is hashed once.
+pub fn push_blob<K: Keeper>(
+    keeper: &mut K,
+    alloc: Global,
+    name: &RepoName,
+    text: &str,
+    body: &[u8],
+) -> Result<Reply, Fault>
+    requires unspent { IsUnspent (K.state keeper.old) }
+    requires there { K.is_honest keeper.old → HasRepo (K.state keeper.old) name.now }
+    ensures comes { K.is_honest keeper.new → Operates result name.now
+        (λ r. push_blob r name.now text.now body.now) (K.state keeper.old) (K.state keeper.new) }
+    ensures answers { Answers result }
+    ensures carries { Carries result }
+    ensures spends { Spends result (K.state keeper.old) (K.state keeper.new) }
+    ensures honest { K.is_honest keeper.new → K.is_honest keeper.old }
+{
+    let Some(digest) = read_digest(alloc, text)? else {
+        return Ok(Reply::refusal(Refusal::InvalidDigest));
+    };
+    match digest.verifies(body) {
+        Verdict::Unsupported => Ok(Reply::refusal(Refusal::InvalidDigest)),
+        Verdict::Differs => {
+            if body.len() as u64 > LARGEST_BLOB {
+                Ok(Reply::refusal(Refusal::ContentTooLarge))
+            } else {
+                Ok(Reply::refusal(Refusal::DigestMismatch))
+            }
+        }
+        Verdict::Matches => {
+            if body.len() as u64 > LARGEST_BLOB {
+                Ok(Reply::refusal(Refusal::ContentTooLarge))
+            } else {
+                add_blob(keeper, alloc, name, digest, body)
+            }
+        }
+    }
+}

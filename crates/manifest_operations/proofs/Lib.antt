@@ -1,0 +1,4 @@
+pub mod ManifestLemmas
+pub mod PushLemmas
+pub mod ListingLemmas
+pub mod PruningLemmas

@@ -1,0 +1,68 @@
+use Rattle.std.proofs.Common.{◌∙◌, ap, refl, Some}
+use Rattle.oci_manifest.specs.Manifest.{shown}
+use Rattle.registry_model.specs.declared.reply.Status.TheVariants.{Created}
+use Rattle.registry_model.specs.Answer.{Answer, bare_answer}
+use Rattle.registry_model.specs.Ask.{text_in}
+use Rattle.manifest_operations.specs.Push.{has_needs_at}
+use Rattle.manifest_operations.proofs.PushLemmas.{needs_more, goes_past, keeps_it}
+use Rattle.manifest_operations.proofs.manifest_push.keep.Goals as goal
+
+pub returns-then-not-branch : goal.returns-then-not-branch
+returns-then-not-branch g c = record {
+  comes = λ honest. (
+      let s = g.K.Keeper.state c.args.keeper.now in
+      let found = c.in_ok-has_needs.ensures.found honest in
+      let there = c.requires.there (c.in_ok-has_needs.ensures.honest honest) in
+      needs_more s c.args.name.now c.args.digest.now (text_in c.args.tag) c.args.body.now (shown c.args.manifest.now) there c.requires.unspent _ found.1
+      _ (found.0 ∙ ap (has_needs_at s.world c.args.name.now) c.deref.ensures.value) c.if-not-branch.true _ refl);
+  spends = c.in_ok-has_needs.ensures.spends;
+  honest = c.in_ok-has_needs.ensures.honest;
+}
+
+pub returns-then-branch : goal.returns-then-branch
+returns-then-branch g c = record {
+  comes = λ honest. (
+      let s = g.K.Keeper.state c.args.keeper.now in
+      let first = c.in_ok-manifest_goes_over.ensures.honest honest in
+      let found = c.in_ok-has_needs.ensures.found first in
+      let asked = c.in_ok-manifest_goes_over.ensures.found honest in
+      let there = c.requires.there (c.in_ok-has_needs.ensures.honest first) in
+      goes_past s c.args.name.now c.args.digest.now (text_in c.args.tag) c.args.body.now (shown c.args.manifest.now) there c.requires.unspent _ _ found.1 asked.1
+      _ (found.0 ∙ ap (has_needs_at s.world c.args.name.now) c.deref.ensures.value) c.if-not-branch.false _ asked.0 c.if-branch.true _ refl);
+  spends = (c.requires.unspent, c.in_ok-manifest_goes_over.ensures.spends.1);
+  honest = λ honest. c.in_ok-has_needs.ensures.honest (c.in_ok-manifest_goes_over.ensures.honest honest);
+}
+
+pub returns : goal.returns
+returns g c = record {
+  comes = λ honest. (
+      let s = g.K.Keeper.state c.args.keeper.now in
+      let second = c.in_ok-put_manifest.ensures.honest honest in
+      let first = c.in_ok-manifest_goes_over.ensures.honest second in
+      let found = c.in_ok-has_needs.ensures.found first in
+      let asked = c.in_ok-manifest_goes_over.ensures.found second in
+      let there = c.requires.there (c.in_ok-has_needs.ensures.honest first) in
+      keeps_it s c.args.name.now c.args.digest.now (text_in c.args.tag) c.args.body.now (shown c.args.manifest.now) there c.requires.unspent _ _ found.1 asked.1
+      _ (found.0 ∙ ap (has_needs_at s.world c.args.name.now) c.deref.ensures.value) c.if-not-branch.false _ asked.0 c.if-branch.false _ (c.in_ok-put_manifest.ensures.made honest) _
+      (ap {B = Answer} (λ l. record (bare_answer Created) { location = Some l; digest = Some c.args.digest.now; subject = c.args.manifest.now.subject }) c.in-Ok.ensures));
+  spends = (c.requires.unspent, c.in_ok-put_manifest.ensures.spends.1);
+  honest = λ honest. c.in_ok-has_needs.ensures.honest (c.in_ok-manifest_goes_over.ensures.honest (c.in_ok-put_manifest.ensures.honest honest));
+}
+
+pub returns-in_default : goal.returns-in_default
+returns-in_default g c =
+    let between = c.in_ok-manifest_goes_over.ensures.honest in
+    record {
+      comes = λ honest. (c.in_ok-manifest_goes_over.ensures.found honest).1 ∙ (c.in_ok-has_needs.ensures.found (between honest)).1;
+      spends = (c.requires.unspent, c.in_ok-manifest_goes_over.ensures.spends.1);
+      honest = λ honest. c.in_ok-has_needs.ensures.honest (between honest);
+    }
+
+pub put_manifest-requires-clause-matching : goal.put_manifest-requires-clause-matching
+put_manifest-requires-clause-matching g c = c.requires.matching
+
+pub put_manifest-requires-clause-reads : goal.put_manifest-requires-clause-reads
+put_manifest-requires-clause-reads g c = c.requires.reads
+
+pub put_manifest-requires-clause-fits : goal.put_manifest-requires-clause-fits
+put_manifest-requires-clause-fits g c = c.requires.fits

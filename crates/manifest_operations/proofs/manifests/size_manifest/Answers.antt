@@ -1,0 +1,52 @@
+use Rattle.std.proofs.Common.{ap, ◌∙◌, sym, None, Some}
+use Rattle.registry_model.specs.Answer.{unsent}
+use Rattle.registry_model.specs.Doing.{course_of_answer}
+use Rattle.operation_parts.proofs.FailedCalls.{uncarried, read_failed, later_read_failed}
+use Rattle.operation_parts.proofs.DigestLemmas.{not_found}
+use Rattle.manifest_operations.proofs.ManifestLemmas.{sizes, sizes_unnamed, shows_manifest}
+use Rattle.manifest_operations.proofs.manifests.size_manifest.Goals as goal
+
+pub returns-in_default : goal.returns-in_default
+returns-in_default g c = record {
+  comes = λ honest. (
+      let named = c.in_ok-digest.ensures.found honest in
+      sizes_unnamed _ c.args.name.now c.args.reference.now (c.requires.there (c.in_ok-digest.ensures.honest honest)) c.requires.unspent _ (not_found c.in_ok-digest.field-0 c.in_default.not-Some ∙ named.0) named.1 _ c.refusal.ensures);
+  answers = ap course_of_answer c.refusal.ensures;
+  spends = c.in_ok-digest.ensures.spends;
+  honest = c.in_ok-digest.ensures.honest;
+}
+
+pub returns-in-None : goal.returns-in-None
+returns-in-None g c = record {
+  comes = λ honest. (
+      let first = c.in_ok-manifest_size.ensures.honest honest in
+      let named = c.in_ok-digest.ensures.found first in
+      let found = c.in_ok-manifest_size.ensures.found honest in
+      let there = c.requires.there (c.in_ok-digest.ensures.honest first) in
+      sizes _ c.args.name.now c.args.reference.now there c.requires.unspent _ _ c.in-Some.digest (sym c.in-Some.is ∙ named.0) named.1 found.1
+      None (sym c.in-None.is ∙ found.0) _ c.refusal-in-None.ensures);
+  answers = ap course_of_answer c.refusal-in-None.ensures;
+  spends = (c.requires.unspent, c.in_ok-manifest_size.ensures.spends.1);
+  honest = λ honest. c.in_ok-digest.ensures.honest (c.in_ok-manifest_size.ensures.honest honest);
+}
+
+pub returns-in-Some-2 : goal.returns-in-Some-2
+returns-in-Some-2 g c = record {
+  comes = λ honest. (
+      let first = c.in_ok-manifest_size.ensures.honest honest in
+      let named = c.in_ok-digest.ensures.found first in
+      let found = c.in_ok-manifest_size.ensures.found honest in
+      let there = c.requires.there (c.in_ok-digest.ensures.honest first) in
+      sizes _ c.args.name.now c.args.reference.now there c.requires.unspent _ _ c.in-Some.digest (sym c.in-Some.is ∙ named.0) named.1 found.1
+      (Some (c.in-Some-2.kind, c.in-Some-2.size)) (sym c.in-Some-2.is ∙ found.0) _
+      (shows_manifest _ c.in-Some.digest _ c.in-Some-2.kind (unsent c.in-Some-2.size) c.found.ensures c.media_type.ensures));
+  answers = ap course_of_answer c.found.ensures;
+  spends = (c.requires.unspent, c.in_ok-manifest_size.ensures.spends.1);
+  honest = λ honest. c.in_ok-digest.ensures.honest (c.in_ok-manifest_size.ensures.honest honest);
+}
+
+pub returns-in_err-digest : goal.returns-in_err-digest
+returns-in_err-digest g c = uncarried _ _ _ _ _ _ _ (read_failed _ c.from_residual.result c.in_err-digest.field-0.0 _ _ _ _ _ _ c.from_residual.ensures c.in_err-digest.ensures)
+
+pub returns-in_err-manifest_size : goal.returns-in_err-manifest_size
+returns-in_err-manifest_size g c = uncarried _ _ _ _ _ _ _ (later_read_failed _ c.from_residual-in_err-manifest_size.result c.in_err-manifest_size.field-0.0 _ _ _ _ _ _ _ _ c.from_residual-in_err-manifest_size.ensures (λ between. (c.in_ok-digest.ensures.found between).1) c.in_ok-digest.ensures.honest c.requires.unspent c.in_err-manifest_size.ensures)

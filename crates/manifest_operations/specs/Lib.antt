@@ -1,0 +1,3 @@
+pub mod Push
+pub mod Listing
+pub mod Pruning

@@ -1,0 +1,244 @@
+//! PUT of a manifest, by tag and by digest (OCI Distribution Specification 1.1, Pushing Manifests,
+//! Pushing Manifests with Subject).
+
+ghost use Rattle.std.specs.Prelude.{◌≡◌, ◌≤◌, true, Some, Ok, length};
+ghost use Rattle.oci_names.specs.Digest.{matches, sha256_digest, verdict_of};
+ghost use Rattle.oci_manifest.specs.Manifest.{shown, manifest_in};
+ghost use Rattle.registry_model.specs.Limits.{largest_manifest};
+ghost use Rattle.registry_model.specs.Ask.{text_in};
+ghost use Rattle.registry_model.specs.Keeping.{Spends};
+ghost use Rattle.registry_model.specs.Manifests.{push_manifest};
+ghost use Rattle.operation_parts.specs.Operating.{Operates, IsUnspent, HasRepo, Answers, Carries};
+ghost use Rattle.manifest_operations.specs.Push.{has_needs_at, keep_manifest, Keeps, push_under, push_checked};
+ghost use Rattle.operation_parts.specs.Finding.{Finds};
+
+use crate::content_type::content_type_fits;
+use operation_parts::quota::manifest_goes_over;
+use operation_parts::replies::{created_manifest, manifest_location};
+use oci_documents::read_manifest;
+use oci_manifest::{Manifest, ManifestFault};
+use oci_names::{Digest, Fault, NameFault, Reference, RepoName, Tag, Verdict};
+use registry_model::{Keeper, LARGEST_MANIFEST, Refusal, Reply};
+use std::alloc::Global;
+
+/// Whether every needed blob is in the repository. Reads no blob.
+fn has_needs<K: Keeper>(keeper: &mut K, name: &RepoName, needs: &[Digest]) -> Result<bool, Fault>
+    requires unspent { IsUnspent (K.state keeper.old) }
+    ensures found { K.is_honest keeper.new →
+        Finds result (λ w. has_needs_at w name.now needs.now) (K.state keeper.old) (K.state keeper.new) }
+    ensures spends { Spends result (K.state keeper.old) (K.state keeper.new) }
+    ensures honest { K.is_honest keeper.new → K.is_honest keeper.old }
+{
+    for digest in needs {
+        if keeper.blob_size(name, digest)?.is_none() {
+            return Ok(false);
+        }
+    }
+    Ok(true)
+}
+
+/// Keeps a manifest that was read, and sets the tag to it, if one is given: where it is fetched, or
+/// why it is refused. The reply's memory is taken before the write.
+fn keep<K: Keeper>(
+    keeper: &mut K,
+    alloc: Global,
+    name: &RepoName,
+    digest: &Digest,
+    tag: Option<&Tag>,
+    body: &[u8],
+    manifest: &Manifest,
+) -> Result<Result<String, Refusal>, Fault>
+    requires unspent { IsUnspent (K.state keeper.old) }
+    requires there { K.is_honest keeper.old → HasRepo (K.state keeper.old) name.now }
+    requires matching { matches digest.now body.now ≡ true }
+    requires reads { manifest_in body.now ≡ Ok (shown manifest.now) }
+    requires fits { length body.now ≤ largest_manifest }
+    ensures comes { K.is_honest keeper.new → Keeps result name.now
+        digest.now (text_in tag.entry) body.now (shown manifest.now)
+        (K.state keeper.old) (K.state keeper.new) }
+    ensures spends { Spends result (K.state keeper.old) (K.state keeper.new) }
+    ensures honest { K.is_honest keeper.new → K.is_honest keeper.old }
+{
+    if !has_needs(keeper, name, &manifest.needs)? {
+        return Ok(Err(Refusal::ManifestBlobUnknown));
+    }
+    if manifest_goes_over(keeper, name, digest, body.len() as u64)? {
+        return Ok(Err(Refusal::QuotaExceeded));
+    }
+    let Ok(location) = manifest_location(alloc, name, digest) else {
+        return Err(Fault::Memory);
+    };
+    keeper.put_manifest(name, digest, body, manifest, tag)?;
+    Ok(Ok(location))
+}
+
+fn subject_of(manifest: Manifest) -> Option<Digest>
+    ensures { result ≡ (shown manifest).subject }
+{
+    let Manifest { subject, .. } = manifest;
+    subject
+}
+
+/// The same, and the reply. What a manifest owns is dear to drop at each end, so it has one here.
+fn keep_manifest<K: Keeper>(
+    keeper: &mut K,
+    alloc: Global,
+    name: &RepoName,
+    digest: Digest,
+    tag: Option<&Tag>,
+    body: &[u8],
+    manifest: Manifest,
+) -> Result<Reply, Fault>
+    requires unspent { IsUnspent (K.state keeper.old) }
+    requires there { K.is_honest keeper.old → HasRepo (K.state keeper.old) name.now }
+    requires matching { matches digest body.now ≡ true }
+    requires reads { manifest_in body.now ≡ Ok (shown manifest) }
+    requires fits { length body.now ≤ largest_manifest }
+    ensures comes { K.is_honest keeper.new → Operates result name.now
+        (λ r. keep_manifest r name.now digest (text_in tag.entry) body.now (shown manifest))
+        (K.state keeper.old) (K.state keeper.new) }
+    ensures answers { Answers result }
+    ensures carries { Carries result }
+    ensures spends { Spends result (K.state keeper.old) (K.state keeper.new) }
+    ensures honest { K.is_honest keeper.new → K.is_honest keeper.old }
+{
+    let kept = keep(keeper, alloc, name, &digest, tag, body, &manifest);
+    let subject = subject_of(manifest);
+    match kept {
+        Err(fault) => Err(fault),
+        Ok(Err(refusal)) => Ok(Reply::refusal(refusal)),
+        Ok(Ok(location)) => Ok(created_manifest(location, digest, subject)),
+    }
+}
+
+/// The push of bytes that match the digest.
+fn push_under<K: Keeper>(
+    keeper: &mut K,
+    alloc: Global,
+    name: &RepoName,
+    digest: Digest,
+    tag: Option<&Tag>,
+    content_type: Option<&[u8]>,
+    body: &[u8],
+) -> Result<Reply, Fault>
+    requires unspent { IsUnspent (K.state keeper.old) }
+    requires there { K.is_honest keeper.old → HasRepo (K.state keeper.old) name.now }
+    requires matching { matches digest body.now ≡ true }
+    requires fits { length body.now ≤ largest_manifest }
+    ensures comes { K.is_honest keeper.new → Operates result name.now
+        (λ r. push_under r name.now digest (text_in tag.entry) (text_in content_type.entry) body.now
+        (manifest_in body.now)) (K.state keeper.old) (K.state keeper.new) }
+    ensures answers { Answers result }
+    ensures carries { Carries result }
+    ensures spends { Spends result (K.state keeper.old) (K.state keeper.new) }
+    ensures honest { K.is_honest keeper.new → K.is_honest keeper.old }
+{
+    let manifest = match read_manifest(alloc, body) {
+        Ok(manifest) => manifest,
+        Err(fault) => match fault {
+            ManifestFault::Memory => return Err(Fault::Memory),
+            _ => return Ok(Reply::refusal(Refusal::InvalidManifest)),
+        },
+    };
+    if !content_type_fits(content_type, manifest.kind) {
+        return Ok(Reply::refusal(Refusal::InvalidManifest));
+    }
+    keep_manifest(keeper, alloc, name, digest, tag, body, manifest)
+}
+
+/// The push by tag: under the bytes' sha256 digest.
+fn push_by_tag<K: Keeper>(
+    keeper: &mut K,
+    alloc: Global,
+    name: &RepoName,
+    tag: &Tag,
+    content_type: Option<&[u8]>,
+    body: &[u8],
+) -> Result<Reply, Fault>
+    requires unspent { IsUnspent (K.state keeper.old) }
+    requires there { K.is_honest keeper.old → HasRepo (K.state keeper.old) name.now }
+    requires fits { length body.now ≤ largest_manifest }
+    ensures comes { K.is_honest keeper.new → Operates result name.now
+        (λ r. push_under r name.now (sha256_digest body.now) (Some tag.now) (text_in content_type.entry)
+        body.now (manifest_in body.now)) (K.state keeper.old) (K.state keeper.new) }
+    ensures answers { Answers result }
+    ensures carries { Carries result }
+    ensures spends { Spends result (K.state keeper.old) (K.state keeper.new) }
+    ensures honest { K.is_honest keeper.new → K.is_honest keeper.old }
+{
+    let Ok(digest) = Digest::of_sha256(alloc, body) else {
+        return Err(Fault::Memory);
+    };
+    push_under(keeper, alloc, name, digest, Some(tag), content_type, body)
+}
+
+/// The push by digest: under that digest, if it is that of the bytes.
+fn push_by_digest<K: Keeper>(
+    keeper: &mut K,
+    alloc: Global,
+    name: &RepoName,
+    digest: Digest,
+    content_type: Option<&[u8]>,
+    body: &[u8],
+) -> Result<Reply, Fault>
+    requires unspent { IsUnspent (K.state keeper.old) }
+    requires there { K.is_honest keeper.old → HasRepo (K.state keeper.old) name.now }
+    requires fits { length body.now ≤ largest_manifest }
+    ensures comes { K.is_honest keeper.new → Operates result name.now
+        (λ r. push_checked r name.now digest (text_in content_type.entry) body.now
+        (verdict_of digest body.now)) (K.state keeper.old) (K.state keeper.new) }
+    ensures answers { Answers result }
+    ensures carries { Carries result }
+    ensures spends { Spends result (K.state keeper.old) (K.state keeper.new) }
+    ensures honest { K.is_honest keeper.new → K.is_honest keeper.old }
+{
+    match digest.verifies(body) {
+        Verdict::Unsupported => Ok(Reply::refusal(Refusal::InvalidDigest)),
+        Verdict::Differs => Ok(Reply::refusal(Refusal::DigestMismatch)),
+        Verdict::Matches => push_under(keeper, alloc, name, digest, None, content_type, body),
+    }
+}
+
+/// PUT of a manifest in a repository that is there: its bytes are kept as they came, under the digest
+/// by which they are pushed, or under their sha256 digest where that is a tag. The body is hashed
+/// once.
+pub fn push_manifest<K: Keeper>(
+    keeper: &mut K,
+    alloc: Global,
+    name: &RepoName,
+    reference: &str,
+    content_type: Option<&[u8]>,
+    body: &[u8],
+) -> Result<Reply, Fault>
+    requires unspent { IsUnspent (K.state keeper.old) }
+    requires there { K.is_honest keeper.old → HasRepo (K.state keeper.old) name.now }
+    ensures comes { K.is_honest keeper.new → Operates result name.now
+        (λ r. push_manifest r name.now reference.now (text_in content_type.entry) body.now)
+        (K.state keeper.old) (K.state keeper.new) }
+    ensures answers { Answers result }
+    ensures carries { Carries result }
+    ensures spends { Spends result (K.state keeper.old) (K.state keeper.new) }
+    ensures honest { K.is_honest keeper.new → K.is_honest keeper.old }
+{
+    let reference = match Reference::parse(alloc, reference) {
+        Ok(reference) => reference,
+        Err(fault) => match fault {
+            NameFault::Memory => return Err(Fault::Memory),
+            _ => return Ok(Reply::refusal(Refusal::InvalidReference)),
+        },
+    };
+    if body.len() as u64 > LARGEST_MANIFEST {
+        return Ok(Reply::refusal(Refusal::ContentTooLarge));
+    }
+    match reference {
+        Reference::Tag(tag) => push_by_tag(keeper, alloc, name, &tag, content_type, body),
+        Reference::Digest(digest) => push_by_digest(
+            keeper,
+            alloc,
+            name,
+            digest,
+            content_type,
+            body,
+        ),
+    }
+}

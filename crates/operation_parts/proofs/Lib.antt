@@ -1,0 +1,4 @@
+pub mod RepoOutcomes
+pub mod FailedCalls
+pub mod DigestLemmas
+pub mod QuotaLemmas

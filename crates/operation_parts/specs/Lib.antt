@@ -1,0 +1,4 @@
+pub mod Operating
+pub mod Digests
+pub mod Quota
+pub mod Finding

@@ -1,0 +1,7 @@
+//! What operations on blobs and on manifests share: what they ask of their keeper and come to (`Operates`),
+//! digests that requests name, the quota, and replies that carry texts of their own.
+#![tactic(auto)]
+
+pub mod digests;
+pub mod quota;
+pub mod replies;

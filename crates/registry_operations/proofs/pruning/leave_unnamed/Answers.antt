@@ -1,7 +1,0 @@
-use Rattle.std.proofs.Common.{rules, not}
-use Rattle.std.proofs.lemmas.Fn.{filter_same}
-use Rattle.registry_operations.specs.Pruning.{has}
-use Rattle.registry_operations.proofs.pruning.leave_unnamed.Goals as goal
-
-pub returns : goal.returns
-returns c = filter_same _ (λ digest. not (has c.args.named.now digest)) _ (λ x b f' k. search rules) _ _ c.retain.ensures.filtered

@@ -1,6 +1,0 @@
-use Rattle.std.proofs.Common.{sym}
-use Rattle.registry_operations.proofs.PruningLemmas.{pruned_at}
-use Rattle.registry_operations.proofs.pruning.unnamed_blobs_are_pruned.Goals as goal
-
-pub returns : goal.returns
-returns c = λ w name. sym (pruned_at w name)
