@@ -24,6 +24,9 @@ from executables import TOP
 KIT = os.path.dirname(os.path.dirname(os.path.realpath(shutil.which("rt") or "rt")))
 PROVED = f"{TOP}/build/proved"
 PROGRAM = "registry_cli"
+# what a check of each crate took in one build; only which takes longer than which counts
+with open(f"{TOP}/check/seconds.txt", encoding="ascii") as it:
+    SECONDS = {name: int(seconds) for name, seconds in (line.split() for line in it if not line.startswith("#"))}
 # the bytes of memory that a check is given room for; most take less, and the program runs alone
 ROOM = 2_500_000_000
 
@@ -73,9 +76,9 @@ class Crate:
             os.remove(f"{PROVED}/{self.name}.sum")
 
     def length(self):
-        """What a check takes, in lines of code: 300 to read what is below, half as much again over the database."""
+        """The seconds that a check takes: those of check/seconds.txt, or by its lines of code."""
         lines = sum(open(it, "rb").read().count(b"\n") for it in self.files() if it.endswith(".rt"))
-        return 300 + lines * (3 if "sqlite" in self.of_kit else 2) // 2
+        return SECONDS.get(self.name, 40 + lines // 11)
 
     def check(self, jobs):
         """The command that proves the crate and writes what it makes."""

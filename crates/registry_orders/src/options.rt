@@ -10,25 +10,48 @@ use registry_model::{Level, Quota};
 use std::alloc::Global;
 
 /// A repository that a registry begins with.
-#[derive(Drop)]
 pub struct RepoOption {
     pub name: RepoName,
     pub quota: Quota,
 }
 
+// (written out, here and below, so that where one is dropped it is by a call)
+impl Drop for RepoOption {
+    fn drop(self) {
+        let RepoOption { name: _, quota: _ } = self;
+    }
+}
+
 /// A grant that a registry begins with.
-#[derive(Drop)]
 pub struct GrantOption {
     pub token: Token,
     pub name: RepoName,
     pub level: Level,
 }
 
+impl Drop for GrantOption {
+    fn drop(self) {
+        let GrantOption {
+            token: _,
+            name: _,
+            level: _,
+        } = self;
+    }
+}
+
 /// What a registry over memory begins with: repositories, then grants, each in the order given.
-#[derive(Drop)]
 pub struct Setup {
     pub repos: Vec<RepoOption>,
     pub grants: Vec<GrantOption>,
+}
+
+impl Drop for Setup {
+    fn drop(self) {
+        let Setup {
+            repos: _,
+            grants: _,
+        } = self;
+    }
 }
 
 /// The number that decimal digits write; leading zeros are allowed.

@@ -6,3 +6,4 @@ pub mod SessionRows
 pub mod Both
 pub mod BothTexts
 pub mod BothKnown
+pub mod Read

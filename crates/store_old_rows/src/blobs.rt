@@ -11,7 +11,8 @@ ghost use Rattle.store_old_rows.specs.Clauses.{FindsOld, ChangesNothingOld, Keep
 ghost use Rattle.store_migration.specs.Listed.{key_of};
 ghost use Rattle.store_old_rows.specs.Shown.{key_shown, shown};
 
-use crate::keys::{Key, keys_in};
+use crate::first_bytes::first_bytes;
+use crate::keys::{Key, keys_of};
 use oci_names::Fault;
 use sqlite::{Alter, Error, Row, Transaction, params};
 use std::alloc::Global;
@@ -29,19 +30,6 @@ fn key_rows<S: Alter>(tx: &mut Transaction<'_, S>) -> Result<Vec<Row>, Error>
     tx.query_all("SELECT repo, digest FROM registry_blobs", &[])
 }
 
-fn select_keys<S: Alter>(alloc: Global, tx: &mut Transaction<'_, S>) -> Result<Vec<Key>, Error>
-    ensures found { FindsOld S.Store tx.old.conn.now tx.new.conn.now result
-        (λ old keys. IsPermutation (map key_of old.blobs) (map key_shown keys.items)) }
-    ensures same { ChangesNothingOld S.Store tx.old.conn.now tx.new.conn.now result }
-    ensures kept { KeepsOld S.Store tx.old.conn.now tx.new.conn.now }
-    ensures same_reference { tx.new.conn.ghost_name ≡ tx.old.conn.ghost_name }
-    ensures survives { LastsUncommitted S.Store tx.old.conn.now tx.new.conn.now }
-{
-    let rows = key_rows(tx)?;
-    let keys = keys_in(alloc, &rows)?;
-    Ok(keys)
-}
-
 /// The key of each row, in any order. Nothing changes.
 pub fn blob_keys<S: Alter>(alloc: Global, tx: &mut Transaction<'_, S>) -> Result<Vec<Key>, Fault>
     ensures found { FindsOld S.Store tx.old.conn.now tx.new.conn.now result
@@ -51,10 +39,7 @@ pub fn blob_keys<S: Alter>(alloc: Global, tx: &mut Transaction<'_, S>) -> Result
     ensures same_reference { tx.new.conn.ghost_name ≡ tx.old.conn.ghost_name }
     ensures survives { LastsUncommitted S.Store tx.old.conn.now tx.new.conn.now }
 {
-    match select_keys(alloc, tx) {
-        Ok(keys) => Ok(keys),
-        Err(error) => Err(fault_of(error)),
-    }
+    keys_of(alloc, key_rows(tx))
 }
 
 /// The bytes under the key: one row, or none.
@@ -77,28 +62,6 @@ fn byte_rows<S: Alter>(
     )
 }
 
-fn select_bytes<S: Alter>(
-    tx: &mut Transaction<'_, S>,
-    repo: &str,
-    digest: &str,
-) -> Result<Option<Vec<u8>>, Error>
-    ensures found { FindsOld S.Store tx.old.conn.now tx.new.conn.now result
-        (λ old o. shown o ≡ option_map (λ r. bytes_at r 4) (find (has_key repo.now digest.now) old.blobs)) }
-    ensures same { ChangesNothingOld S.Store tx.old.conn.now tx.new.conn.now result }
-    ensures kept { KeepsOld S.Store tx.old.conn.now tx.new.conn.now }
-    ensures same_reference { tx.new.conn.ghost_name ≡ tx.old.conn.ghost_name }
-    ensures survives { LastsUncommitted S.Store tx.old.conn.now tx.new.conn.now }
-{
-    let rows = byte_rows(tx, repo, digest)?;
-    match rows.first() {
-        Some(row) => {
-            let bytes: Vec<u8> = row.get(0)?;
-            Ok(Some(bytes))
-        }
-        None => Ok(None),
-    }
-}
-
 /// The bytes of a blob, if its row is there. Nothing changes.
 pub fn blob_bytes<S: Alter>(
     tx: &mut Transaction<'_, S>,
@@ -112,10 +75,7 @@ pub fn blob_bytes<S: Alter>(
     ensures same_reference { tx.new.conn.ghost_name ≡ tx.old.conn.ghost_name }
     ensures survives { LastsUncommitted S.Store tx.old.conn.now tx.new.conn.now }
 {
-    match select_bytes(tx, repo, digest) {
-        Ok(found) => Ok(found),
-        Err(error) => Err(fault_of(error)),
-    }
+    first_bytes(byte_rows(tx, repo, digest))
 }
 
 /// Takes the row of a blob out, where it is there.

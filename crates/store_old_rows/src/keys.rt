@@ -1,10 +1,12 @@
 //! By what the rows of the old tables are known.
-ghost use Rattle.std.specs.Prelude.{◌≡◌, map, string_bytes, IfOk};
+ghost use Rattle.std.specs.Prelude.{◌≡◌, map, string_bytes, IfOk, IsOkAnd};
 ghost use Rattle.store_schema.specs.Rows.{bytes_at, natural_at};
 ghost use Rattle.store_old_rows.specs.Shown.{key_shown, session_shown, two_texts, text_and_number};
 
+use oci_names::Fault;
 use sqlite::{Error, Row};
 use std::alloc::Global;
+use store_contents::fault_of;
 
 /// Of a blob or a manifest.
 #[derive(Drop)]
@@ -31,7 +33,7 @@ fn key_in(row: &Row) -> Result<Key, Error>
 }
 
 /// The keys that the rows show first, in their order.
-pub(crate) fn keys_in(alloc: Global, rows: &[Row]) -> Result<Vec<Key>, Error>
+fn keys_in(alloc: Global, rows: &[Row]) -> Result<Vec<Key>, Error>
     ensures { IfOk result (λ keys. map key_shown keys.items ≡ map two_texts rows.now) }
 {
     let mut keys = Vec::new(alloc);
@@ -40,6 +42,21 @@ pub(crate) fn keys_in(alloc: Global, rows: &[Row]) -> Result<Vec<Key>, Error>
         keys.push(key)?;
     }
     Ok(keys)
+}
+
+/// The same of rows that were asked for.
+pub(crate) fn keys_of(alloc: Global, rows: Result<Vec<Row>, Error>) -> Result<Vec<Key>, Fault>
+    ensures { IfOk result (λ keys. IsOkAnd rows
+        (λ found. map key_shown keys.items ≡ map two_texts found.items)) }
+{
+    let keys = match rows {
+        Ok(rows) => keys_in(alloc, &rows),
+        Err(error) => Err(error),
+    };
+    match keys {
+        Ok(keys) => Ok(keys),
+        Err(error) => Err(fault_of(error)),
+    }
 }
 
 /// The key of an upload session that the row shows first.
@@ -53,7 +70,7 @@ fn session_key_in(row: &Row) -> Result<SessionKey, Error>
 }
 
 /// The keys of upload sessions that the rows show first, in their order.
-pub(crate) fn session_keys_in(alloc: Global, rows: &[Row]) -> Result<Vec<SessionKey>, Error>
+fn session_keys_in(alloc: Global, rows: &[Row]) -> Result<Vec<SessionKey>, Error>
     ensures { IfOk result (λ keys. map session_shown keys.items ≡ map text_and_number rows.now) }
 {
     let mut keys = Vec::new(alloc);
@@ -62,4 +79,22 @@ pub(crate) fn session_keys_in(alloc: Global, rows: &[Row]) -> Result<Vec<Session
         keys.push(key)?;
     }
     Ok(keys)
+}
+
+/// The same of rows that were asked for.
+pub(crate) fn session_keys_of(
+    alloc: Global,
+    rows: Result<Vec<Row>, Error>,
+) -> Result<Vec<SessionKey>, Fault>
+    ensures { IfOk result (λ keys. IsOkAnd rows
+        (λ found. map session_shown keys.items ≡ map text_and_number found.items)) }
+{
+    let keys = match rows {
+        Ok(rows) => session_keys_in(alloc, &rows),
+        Err(error) => Err(error),
+    };
+    match keys {
+        Ok(keys) => Ok(keys),
+        Err(error) => Err(fault_of(error)),
+    }
 }

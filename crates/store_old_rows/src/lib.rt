@@ -3,6 +3,7 @@
 #![tactic(auto)]
 
 pub mod blobs;
+mod first_bytes;
 pub mod keys;
 pub mod manifests;
 pub mod sessions;

@@ -11,7 +11,8 @@ ghost use Rattle.store_old_rows.specs.Clauses.{FindsOld, ChangesNothingOld, Keep
 ghost use Rattle.store_migration.specs.Listed.{session_of};
 ghost use Rattle.store_old_rows.specs.Shown.{session_shown, shown};
 
-use crate::keys::{SessionKey, session_keys_in};
+use crate::first_bytes::first_bytes;
+use crate::keys::{SessionKey, session_keys_of};
 use oci_names::Fault;
 use sqlite::{Alter, Error, Row, Transaction, params};
 use std::alloc::Global;
@@ -29,22 +30,6 @@ fn key_rows<S: Alter>(tx: &mut Transaction<'_, S>) -> Result<Vec<Row>, Error>
     tx.query_all("SELECT repo, number FROM registry_sessions", &[])
 }
 
-fn select_keys<S: Alter>(
-    alloc: Global,
-    tx: &mut Transaction<'_, S>,
-) -> Result<Vec<SessionKey>, Error>
-    ensures found { FindsOld S.Store tx.old.conn.now tx.new.conn.now result
-        (λ old keys. IsPermutation (map session_of old.sessions) (map session_shown keys.items)) }
-    ensures same { ChangesNothingOld S.Store tx.old.conn.now tx.new.conn.now result }
-    ensures kept { KeepsOld S.Store tx.old.conn.now tx.new.conn.now }
-    ensures same_reference { tx.new.conn.ghost_name ≡ tx.old.conn.ghost_name }
-    ensures survives { LastsUncommitted S.Store tx.old.conn.now tx.new.conn.now }
-{
-    let rows = key_rows(tx)?;
-    let keys = session_keys_in(alloc, &rows)?;
-    Ok(keys)
-}
-
 /// The key of each row, in any order. Nothing changes.
 pub fn session_keys<S: Alter>(
     alloc: Global,
@@ -57,10 +42,7 @@ pub fn session_keys<S: Alter>(
     ensures same_reference { tx.new.conn.ghost_name ≡ tx.old.conn.ghost_name }
     ensures survives { LastsUncommitted S.Store tx.old.conn.now tx.new.conn.now }
 {
-    match select_keys(alloc, tx) {
-        Ok(keys) => Ok(keys),
-        Err(error) => Err(fault_of(error)),
-    }
+    session_keys_of(alloc, key_rows(tx))
 }
 
 /// The bytes under the key: one row, or none.
@@ -84,29 +66,6 @@ fn byte_rows<S: Alter>(
     )
 }
 
-fn select_bytes<S: Alter>(
-    tx: &mut Transaction<'_, S>,
-    repo: &str,
-    number: u64,
-) -> Result<Option<Vec<u8>>, Error>
-    requires fits { number < 2 ^ 63 }
-    ensures found { FindsOld S.Store tx.old.conn.now tx.new.conn.now result
-        (λ old o. shown o ≡ option_map (λ r. bytes_at r 4) (find (of_session repo.now number) old.sessions)) }
-    ensures same { ChangesNothingOld S.Store tx.old.conn.now tx.new.conn.now result }
-    ensures kept { KeepsOld S.Store tx.old.conn.now tx.new.conn.now }
-    ensures same_reference { tx.new.conn.ghost_name ≡ tx.old.conn.ghost_name }
-    ensures survives { LastsUncommitted S.Store tx.old.conn.now tx.new.conn.now }
-{
-    let rows = byte_rows(tx, repo, number)?;
-    match rows.first() {
-        Some(row) => {
-            let bytes: Vec<u8> = row.get(0)?;
-            Ok(Some(bytes))
-        }
-        None => Ok(None),
-    }
-}
-
 /// The bytes of an upload session, if its row is there. Nothing changes.
 pub fn session_bytes<S: Alter>(
     tx: &mut Transaction<'_, S>,
@@ -121,10 +80,7 @@ pub fn session_bytes<S: Alter>(
     ensures same_reference { tx.new.conn.ghost_name ≡ tx.old.conn.ghost_name }
     ensures survives { LastsUncommitted S.Store tx.old.conn.now tx.new.conn.now }
 {
-    match select_bytes(tx, repo, number) {
-        Ok(found) => Ok(found),
-        Err(error) => Err(fault_of(error)),
-    }
+    first_bytes(byte_rows(tx, repo, number))
 }
 
 /// Takes the row of an upload session out, where it is there.

@@ -1,31 +1,23 @@
+use Rattle.std.proofs.Common.{◌∙◌, [], ◌∷◌}
+use Rattle.sqlite.specs.Order.{column}
+use Rattle.store_schema.specs.Rows.{bytes_at}
+use Rattle.store_old_rows.proofs.Read.{read_of, same_of, first_shown}
 use Rattle.store_old_rows.proofs.blobs.blob_bytes.Goals as goal
 
-pub returns-in-Ok-clause-found : goal.returns-in-Ok-clause-found
-returns-in-Ok-clause-found g c clean is olds = c.in-Ok.ensures.found clean is olds
+pub returns-clause-found : goal.returns-clause-found
+returns-clause-found g c clean is olds =
+    read_of c.byte_rows.result c.first_bytes.result _ _ _
+    (λ o rows reads row. reads ∙ first_shown (λ r. column r 4 ∷ []) (λ r. bytes_at r 4) (λ r. bytes_at r 0) _ rows.items (λ r i. bytes_at r 4) row)
+    c.first_bytes.ensures (c.byte_rows.ensures.shown clean is olds)
 
-pub returns-in-Ok-clause-same : goal.returns-in-Ok-clause-same
-returns-in-Ok-clause-same g c clean is olds = c.in-Ok.ensures.same clean is olds
+pub returns-clause-same : goal.returns-clause-same
+returns-clause-same g c clean is olds = same_of c.byte_rows.result c.first_bytes.result _ _ c.first_bytes.ensures (c.byte_rows.ensures.same clean is olds)
 
-pub returns-in-Ok-clause-kept : goal.returns-in-Ok-clause-kept
-returns-in-Ok-clause-kept g c = c.select_bytes.ensures.kept
+pub returns-clause-kept : goal.returns-clause-kept
+returns-clause-kept g c = c.byte_rows.ensures.kept
 
-pub returns-in-Ok-clause-same_reference : goal.returns-in-Ok-clause-same_reference
-returns-in-Ok-clause-same_reference g c = c.select_bytes.ensures.same_reference
+pub returns-clause-same_reference : goal.returns-clause-same_reference
+returns-clause-same_reference g c = c.byte_rows.ensures.same_reference
 
-pub returns-in-Ok-clause-survives : goal.returns-in-Ok-clause-survives
-returns-in-Ok-clause-survives g c = c.select_bytes.ensures.survives
-
-pub returns-in-Err-clause-found : goal.returns-in-Err-clause-found
-returns-in-Err-clause-found g c clean is olds = tt
-
-pub returns-in-Err-clause-same : goal.returns-in-Err-clause-same
-returns-in-Err-clause-same g c clean is olds = tt
-
-pub returns-in-Err-clause-kept : goal.returns-in-Err-clause-kept
-returns-in-Err-clause-kept g c = c.select_bytes.ensures.kept
-
-pub returns-in-Err-clause-same_reference : goal.returns-in-Err-clause-same_reference
-returns-in-Err-clause-same_reference g c = c.select_bytes.ensures.same_reference
-
-pub returns-in-Err-clause-survives : goal.returns-in-Err-clause-survives
-returns-in-Err-clause-survives g c = c.select_bytes.ensures.survives
+pub returns-clause-survives : goal.returns-clause-survives
+returns-clause-survives g c = c.byte_rows.ensures.survives

@@ -1,31 +1,25 @@
+use Rattle.std.proofs.Common.{[], ◌∷◌, map}
+use Rattle.sqlite.specs.Order.{column}
+use Rattle.store_statements.proofs.Selected.{permutation_read}
+use Rattle.store_migration.specs.Listed.{key_of}
+use Rattle.store_old_rows.specs.Shown.{key_shown, two_texts}
+use Rattle.store_old_rows.proofs.Read.{read_of, same_of}
 use Rattle.store_old_rows.proofs.blobs.blob_keys.Goals as goal
 
-pub returns-in-Ok-clause-found : goal.returns-in-Ok-clause-found
-returns-in-Ok-clause-found g c clean is olds = c.in-Ok.ensures.found clean is olds
+pub returns-clause-found : goal.returns-clause-found
+returns-clause-found g c clean is olds =
+    read_of c.key_rows.result c.keys_of.result _ _ _
+    (λ keys rows reads shown. permutation_read (λ r. column r 1 ∷ column r 2 ∷ []) key_of two_texts _ rows.items (map key_shown keys.items) (λ r i. key_of r) shown reads)
+    c.keys_of.ensures (c.key_rows.ensures.shown clean is olds)
 
-pub returns-in-Ok-clause-same : goal.returns-in-Ok-clause-same
-returns-in-Ok-clause-same g c clean is olds = c.in-Ok.ensures.same clean is olds
+pub returns-clause-same : goal.returns-clause-same
+returns-clause-same g c clean is olds = same_of c.key_rows.result c.keys_of.result _ _ c.keys_of.ensures (c.key_rows.ensures.same clean is olds)
 
-pub returns-in-Ok-clause-kept : goal.returns-in-Ok-clause-kept
-returns-in-Ok-clause-kept g c = c.select_keys.ensures.kept
+pub returns-clause-kept : goal.returns-clause-kept
+returns-clause-kept g c = c.key_rows.ensures.kept
 
-pub returns-in-Ok-clause-same_reference : goal.returns-in-Ok-clause-same_reference
-returns-in-Ok-clause-same_reference g c = c.select_keys.ensures.same_reference
+pub returns-clause-same_reference : goal.returns-clause-same_reference
+returns-clause-same_reference g c = c.key_rows.ensures.same_reference
 
-pub returns-in-Ok-clause-survives : goal.returns-in-Ok-clause-survives
-returns-in-Ok-clause-survives g c = c.select_keys.ensures.survives
-
-pub returns-in-Err-clause-found : goal.returns-in-Err-clause-found
-returns-in-Err-clause-found g c clean is olds = tt
-
-pub returns-in-Err-clause-same : goal.returns-in-Err-clause-same
-returns-in-Err-clause-same g c clean is olds = tt
-
-pub returns-in-Err-clause-kept : goal.returns-in-Err-clause-kept
-returns-in-Err-clause-kept g c = c.select_keys.ensures.kept
-
-pub returns-in-Err-clause-same_reference : goal.returns-in-Err-clause-same_reference
-returns-in-Err-clause-same_reference g c = c.select_keys.ensures.same_reference
-
-pub returns-in-Err-clause-survives : goal.returns-in-Err-clause-survives
-returns-in-Err-clause-survives g c = c.select_keys.ensures.survives
+pub returns-clause-survives : goal.returns-clause-survives
+returns-clause-survives g c = c.key_rows.ensures.survives
