@@ -6,10 +6,10 @@ ghost use Rattle.registry_model.specs.Blobs.{created_blob, with_blob, read_blob,
 ghost use Rattle.registry_model.specs.Keeping.{Spends};
 ghost use Rattle.operation_parts.specs.Operating.{Operates, IsUnspent, HasRepo, Answers, Carries};
 
+use oci_names::{Digest, Fault, RepoName, Verdict};
 use operation_parts::digests::read_digest;
 use operation_parts::quota::blob_goes_over;
 use operation_parts::replies::{blob_location, created_blob, found};
-use oci_names::{Digest, Fault, RepoName, Verdict};
 use registry_model::{Body, Keeper, LARGEST_BLOB, Refusal, Reply, Status};
 use std::alloc::Global;
 

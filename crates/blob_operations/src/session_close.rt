@@ -10,11 +10,11 @@ ghost use Rattle.registry_model.specs.Sessions.{last_range_verdict};
 ghost use Rattle.operation_parts.specs.Operating.{Operates, IsUnspent, HasRepo, Answers, Carries};
 ghost use Rattle.blob_operations.specs.Uploads.{bytes_so_far, finish_with, IsOpen};
 
+use crate::uploads::{Upload, chunk_refusal, find_upload};
+use oci_names::{Digest, Fault, RepoName};
 use operation_parts::digests::{has_digest, verifiable_digest};
 use operation_parts::quota::blob_goes_over;
 use operation_parts::replies::{blob_location, created_blob};
-use crate::uploads::{Upload, chunk_refusal, find_upload};
-use oci_names::{Digest, Fault, RepoName};
 use registry_model::{Keeper, LARGEST_BLOB, RangeVerdict, Refusal, Reply, range_fits};
 use std::alloc::Global;
 

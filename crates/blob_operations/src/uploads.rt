@@ -11,9 +11,9 @@ ghost use Rattle.operation_parts.specs.Operating.{Operates, IsUnspent, HasRepo, 
 ghost use Rattle.blob_operations.specs.Uploads.{upload_at, next_number_at, chunk_refusal, append_more, IsOpen};
 ghost use Rattle.operation_parts.specs.Finding.{Finds};
 
+use oci_names::{Fault, RepoName, session_number};
 use operation_parts::quota::goes_over;
 use operation_parts::replies::{out_of_order, session_reply};
-use oci_names::{Fault, RepoName, session_number};
 use registry_model::{
     Keeper, LARGEST_BLOB, LARGEST_SESSION_NUMBER, MOST_SESSIONS, RangeVerdict, Refusal, Reply,
     Status, range_fits,

@@ -4,6 +4,7 @@ ghost use Rattle.clap.specs.Words.{App, Shape};
 ghost use Rattle.command_line.specs.CommandLine as spec;
 ghost use Rattle.command_line.specs.CommandLine.{IsApp, IsSub};
 
+use crate::results::both;
 use crate::subcommands::{
     grant, listing, listing_of_grants, listing_of_repo, ordering, over_database, over_quota,
     over_repo, prune, revoke, serve, stdio, stop,
@@ -20,7 +21,8 @@ fn with<'a>(
     ensures { (app : App) (sub : Shape) → IfOk command.entry (IsApp app) → IfOk made.entry (IsSub sub)
         → sub.is_plain ≡ true → IfOk result (IsApp (spec.with_subcommands (sub ∷ []) app)) }
 {
-    command?.subcommand(made?)
+    let (command, made) = both(command, made)?;
+    command.subcommand(made)
 }
 
 fn with_repo_commands<'a>(
@@ -77,30 +79,19 @@ fn with_other_commands<'a>(
 fn program<'a>(alloc: Global) -> Result<Command<'a>, AllocError>
     ensures { IfOk result (IsApp spec.program) }
 {
-    let command = Command::new(alloc, "registry").bin_name("registry")?;
-    Ok(
-        command
-            .about("An OCI artifact registry")
-            .version("0.1.0")
-            .no_binary_name(true)
-            .subcommand_required(true),
-    )
-}
-
-fn with_serving<'a>(
-    alloc: Global,
-    command: Result<Command<'a>, AllocError>,
-) -> Result<Command<'a>, AllocError>
-    ensures { IfOk command.entry (IsApp spec.program) → IfOk result (IsApp spec.serving) }
-{
-    with(with(command, serve(alloc)), stdio(alloc))
+    Command::new(alloc, "registry")
+        .about("An OCI artifact registry")
+        .version("0.1.0")
+        .no_binary_name(true)
+        .subcommand_required(true)
+        .bin_name("registry")
 }
 
 /// The command line of the program, with all its subcommands. The error is want of memory.
 pub fn command<'a>(alloc: Global) -> Result<Command<'a>, AllocError>
     ensures { IfOk result (IsApp spec.registry) }
 {
-    let command = with_serving(alloc, program(alloc));
+    let command = with(with(program(alloc), serve(alloc)), stdio(alloc));
     let command = with_repo_commands(alloc, command);
     with_other_commands(alloc, with_lists(alloc, command))
 }

@@ -6,6 +6,7 @@
 
 pub mod arguments;
 pub mod grammar;
+mod results;
 pub mod subcommands;
 
 pub use grammar::command;

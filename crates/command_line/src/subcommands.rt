@@ -1,16 +1,24 @@
 //! The subcommands, each with the options that it takes.
-ghost use Rattle.std.specs.Prelude.{◌≡◌, IfOk, codes};
+ghost use Rattle.std.specs.Prelude.{◌≡◌, IfOk};
 ghost use Rattle.clap.specs.Words.{App, Rule, with_rule};
 ghost use Rattle.clap.specs.Simple.{new_shape};
 ghost use Rattle.command_line.specs.CommandLine as spec;
 ghost use Rattle.command_line.specs.CommandLine.{HasRule, IsApp, IsSub};
 
 use crate::arguments::{
-    address, at_once, buffer, connections, database, flag, grants, idle, level, name, name_if,
-    orders, quota, repos, token, token_file,
+    address, database, flag, level, name, name_if, number, option, orders, quota, repeated,
 };
 use clap::{Arg, Command};
 use std::alloc::{AllocError, Global};
+
+/// The most connections that can be asked for.
+const MOST_CONNECTIONS: u64 = 9_223_372_036_854_775_807;
+
+/// The fewest bytes that may be given for requests and replies in hand: the largest of each.
+const LEAST_BUFFER: u64 = 134_217_728;
+
+/// The most, which is the largest quota too.
+const MOST_BUFFER: u64 = 9_223_372_036_854_775_807;
 
 /// The command with one more argument. A chain of these has one `?`, and not one for each argument, since
 /// each `?` of a function makes it dearer to prove.
@@ -37,7 +45,10 @@ pub(crate) fn stdio<'a>(alloc: Global) -> Result<Command<'a>, AllocError>
     let command = bare(alloc, "stdio", "Serve standard input as one connection");
     let command = with(command, database(alloc));
     let command = with(command, flag(alloc, "memory", "Keep everything in memory"));
-    with(with(command, repos(alloc)), grants(alloc))
+    let help = "Make a repository with a quota in bytes";
+    let command = with(command, repeated(alloc, "repo", "NAME=QUOTA", help));
+    let help = "Give a token a level on a repository: 1 pull, 2 push, 3 delete";
+    with(command, repeated(alloc, "grant", "TOKEN=NAME=LEVEL", help))
 }
 
 /// One that serves connections within limits.
@@ -46,9 +57,27 @@ fn serving<'a>(alloc: Global) -> Result<Command<'a>, AllocError>
 {
     let command = over_database(alloc, "serve", "Serve connections");
     let command = with(command, address(alloc));
-    let command = with(command, connections(alloc));
-    let command = with(command, at_once(alloc));
-    with(with(command, buffer(alloc)), idle(alloc))
+    let help = "End after so many connections";
+    let most = "9223372036854775807";
+    let connections = number(alloc, "connections", "N", help, 0, MOST_CONNECTIONS, most);
+    let command = with(command, connections);
+    let help = "Serve so many at once; 1: one after the other";
+    let at_once = number(alloc, "at-once", "N", help, 1, 65_536, "256");
+    let command = with(command, at_once);
+    let help = "About how many bytes of requests and replies may be in hand";
+    let buffer = number(
+        alloc,
+        "buffer",
+        "BYTES",
+        help,
+        LEAST_BUFFER,
+        MOST_BUFFER,
+        "536870912",
+    );
+    let command = with(command, buffer);
+    let help = "Close one that says and takes nothing for so long";
+    let idle = number(alloc, "idle", "SECONDS", help, 1, 86_400, "60");
+    with(command, idle)
 }
 
 pub(crate) fn serve<'a>(alloc: Global) -> Result<Command<'a>, AllocError>
@@ -158,8 +187,12 @@ pub(crate) fn over_quota<'a>(
 fn over_token<'a>(alloc: Global, word: &'a str, about: &'a str) -> Result<Command<'a>, AllocError>
     ensures { IfOk result (IsSub (spec.over_token word.entry.now)) }
 {
-    let command = with(ordering(alloc, word, about), token(alloc));
-    with(command, token_file(alloc))
+    let command = ordering(alloc, word, about);
+    let help =
+        "The token, or - for a line of standard input; another that begins with - as --token=-x";
+    let command = with(command, option(alloc, "token", "TOKEN", help));
+    let help = "A file, the first line of which is the token";
+    with(command, option(alloc, "token-file", "PATH", help))
 }
 
 pub(crate) fn grant<'a>(alloc: Global) -> Result<Command<'a>, AllocError>

@@ -11,10 +11,10 @@ ghost use Rattle.oci_manifest.specs.Referrers.{referrer_shown, referrers_shown};
 ghost use Rattle.operation_parts.specs.Operating.{Operates, IsUnspent, HasRepo, Answers, Carries};
 ghost use Rattle.manifest_operations.specs.Listing.{lets_through, added_by, wanted_of};
 
-use operation_parts::digests::read_digest;
 use oci_documents::{read_manifest, referrers_text, tags_text};
 use oci_manifest::{Kind, Manifest, ManifestFault, Referrer};
 use oci_names::{Digest, Fault, RepoName, Tag};
+use operation_parts::digests::read_digest;
 use registry_model::numbers::number;
 use registry_model::{Body, Keeper, Refusal, Reply, Status, page_link};
 use std::alloc::Global;

@@ -13,11 +13,11 @@ ghost use Rattle.manifest_operations.specs.Push.{has_needs_at, keep_manifest, Ke
 ghost use Rattle.operation_parts.specs.Finding.{Finds};
 
 use crate::content_type::content_type_fits;
-use operation_parts::quota::manifest_goes_over;
-use operation_parts::replies::{created_manifest, manifest_location};
 use oci_documents::read_manifest;
 use oci_manifest::{Manifest, ManifestFault};
 use oci_names::{Digest, Fault, NameFault, Reference, RepoName, Tag, Verdict};
+use operation_parts::quota::manifest_goes_over;
+use operation_parts::replies::{created_manifest, manifest_location};
 use registry_model::{Keeper, LARGEST_MANIFEST, Refusal, Reply};
 use std::alloc::Global;
 

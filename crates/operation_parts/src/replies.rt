@@ -53,7 +53,9 @@ pub fn created_blob(location: String, digest: Digest) -> Reply
         answer_of result ≡ created_blob name digest }
     ensures carries { is_sent (answer_of result).body ≡ true }
 {
-    Reply::bare(Status::Created).with_location(location).with_digest(digest)
+    Reply::bare(Status::Created)
+        .with_location(location)
+        .with_digest(digest)
 }
 
 /// The reply of a manifest that was kept and is fetched at the location. Takes no memory.
@@ -64,7 +66,9 @@ pub fn created_manifest(location: String, digest: Digest, subject: Option<Digest
       subject = subject;
     } }
 {
-    let mut reply = Reply::bare(Status::Created).with_location(location).with_digest(digest);
+    let mut reply = Reply::bare(Status::Created)
+        .with_location(location)
+        .with_digest(digest);
     reply.subject = subject;
     reply
 }
@@ -77,7 +81,9 @@ pub fn found(digest: Digest, content_type: &'static str, body: Body) -> Reply
       body = content_of body;
     } }
 {
-    Reply::bare(Status::OK).with_digest(digest).with_content(content_type, body)
+    Reply::bare(Status::OK)
+        .with_digest(digest)
+        .with_content(content_type, body)
 }
 
 /// Where an upload session goes on.

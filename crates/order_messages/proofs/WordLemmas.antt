@@ -1,6 +1,5 @@
 -- How many words an order has, and the words of a list by their places.
-use Rattle.std.proofs.Common.{◌≡◌, ◌<◌, ◌≤◌, List, [], ◌∷◌, map, length, get_or, arith, refl, sym, subst, ap, ◌∙◌, IfErr, ◌⊎◌, inl, inr, Bor}
-use Rattle.std.specs.Prelude.{Result}
+use Rattle.std.proofs.Common.{◌≡◌, ◌<◌, ◌≤◌, List, [], ◌∷◌, map, length, get_or, arith, refl, sym, subst, ap, ◌∙◌, ◌⊎◌, inl, inr, Bor}
 use Rattle.std.proofs.lemmas.List.{length-map}
 use Rattle.oci_names.specs.Text.{Text}
 use Rattle.registry_orders.specs.declared.listing.Listing.{Listing}
@@ -10,20 +9,50 @@ use Rattle.registry_orders.specs.declared.orders.Change.{Change}
 use Rattle.registry_orders.specs.declared.orders.Change.TheVariants.{AddRepo, SetQuota, DropRepo, DropSessions, Prune, Grant, Revoke, RevokeAll, Clear}
 use Rattle.registry_orders.specs.declared.orders.Order.{Order}
 use Rattle.registry_orders.specs.declared.orders.Order.TheVariants as order
-use Rattle.order_messages.specs.declared.reading.Unread.{Unread}
 use Rattle.order_messages.specs.Lines.{words_of, AreWordsOfNone}
-use Rattle.order_messages.specs.Reading.{AreUnread}
 
--- six words, each at its place
+-- so many words, each at its place
+one_words : (xs : List (Bor Text)) (d : Bor Text) → length xs ≡ 1
+    → map (λ word. word.now) xs ≡ (get_or xs 0 d).now ∷ []
+one_words (t ∷ []) d one = refl
+one_words xs d one = absurd (omega arith)
+
+two_words : (xs : List (Bor Text)) (d : Bor Text) → length xs ≡ 2
+    → map (λ word. word.now) xs ≡ (get_or xs 0 d).now ∷ (get_or xs 1 d).now ∷ []
+two_words (t ∷ u ∷ []) d two = refl
+two_words xs d two = absurd (omega arith)
+
+three_words : (xs : List (Bor Text)) (d : Bor Text) → length xs ≡ 3
+    → map (λ word. word.now) xs ≡ (get_or xs 0 d).now ∷ (get_or xs 1 d).now ∷ (get_or xs 2 d).now ∷ []
+three_words (t ∷ u ∷ v ∷ []) d three = refl
+three_words xs d three = absurd (omega arith)
+
+four_words : (xs : List (Bor Text)) (d : Bor Text) → length xs ≡ 4
+    → map (λ word. word.now) xs ≡ (get_or xs 0 d).now ∷ (get_or xs 1 d).now ∷ (get_or xs 2 d).now ∷ (get_or xs 3 d).now ∷ []
+four_words (t ∷ u ∷ v ∷ x ∷ []) d four = refl
+four_words xs d four = absurd (omega arith)
+
 six_words : (xs : List (Bor Text)) (d : Bor Text) → length xs ≡ 6
     → map (λ word. word.now) xs ≡ (get_or xs 0 d).now ∷ (get_or xs 1 d).now ∷ (get_or xs 2 d).now ∷ (get_or xs 3 d).now ∷ (get_or xs 4 d).now ∷ (get_or xs 5 d).now ∷ []
 six_words (t ∷ u ∷ v ∷ x ∷ y ∷ z ∷ []) d six = refl
 six_words xs d six = absurd (omega arith)
 
-pub unread_six : (r : Result Order Unread) (xs : List (Bor Text)) (d : Bor Text) → length xs ≡ 6
-    → IfErr r (AreUnread ((get_or xs 0 d).now ∷ (get_or xs 1 d).now ∷ (get_or xs 2 d).now ∷ (get_or xs 3 d).now ∷ (get_or xs 4 d).now ∷ (get_or xs 5 d).now ∷ []))
-    → IfErr r (AreUnread (map (λ word. word.now) xs))
-unread_six r xs d six h = subst (λ words. IfErr r (AreUnread words)) (sym (six_words xs d six)) h
+-- what is known of the words at their places is known of the list
+module _ (P : List Text → Type 0) (xs : List (Bor Text)) (d : Bor Text) where
+  pub of_one : length xs ≡ 1 → P ((get_or xs 0 d).now ∷ []) → P (map (λ word. word.now) xs)
+  of_one one h = subst P (sym (one_words xs d one)) h
+
+  pub of_two : length xs ≡ 2 → P ((get_or xs 0 d).now ∷ (get_or xs 1 d).now ∷ []) → P (map (λ word. word.now) xs)
+  of_two two h = subst P (sym (two_words xs d two)) h
+
+  pub of_three : length xs ≡ 3 → P ((get_or xs 0 d).now ∷ (get_or xs 1 d).now ∷ (get_or xs 2 d).now ∷ []) → P (map (λ word. word.now) xs)
+  of_three three h = subst P (sym (three_words xs d three)) h
+
+  pub of_four : length xs ≡ 4 → P ((get_or xs 0 d).now ∷ (get_or xs 1 d).now ∷ (get_or xs 2 d).now ∷ (get_or xs 3 d).now ∷ []) → P (map (λ word. word.now) xs)
+  of_four four h = subst P (sym (four_words xs d four)) h
+
+  pub of_six : length xs ≡ 6 → P ((get_or xs 0 d).now ∷ (get_or xs 1 d).now ∷ (get_or xs 2 d).now ∷ (get_or xs 3 d).now ∷ (get_or xs 4 d).now ∷ (get_or xs 5 d).now ∷ []) → P (map (λ word. word.now) xs)
+  of_six six h = subst P (sym (six_words xs d six)) h
 
 -- an order has one word to four, or six
 abbrev Count : Order → Type 0

@@ -1,5 +1,5 @@
 -- What a turn comes to, from its parts.
-use Rattle.std.proofs.Common.{◌≡◌, ℕ, ◌<◌, ◌≤◌, ◌⊎◌, ◌==◌, inl, inr, Bool, true, false, [], ◌∷◌, ◌++◌, length, take, drop, Some, refl, sym, ap, ◌∙◌, subst, append-nil, append_assoc, arith}
+use Rattle.std.proofs.Common.{◌≡◌, ℕ, ◌<◌, ◌≤◌, ◌⊎◌, ◌==◌, inl, inr, Bool, true, false, [], ◌∷◌, ◌++◌, length, take, drop, Some, refl, sym, ap, ◌∙◌, subst, append-nil, append_assoc, length-append, arith}
 use Rattle.std.proofs.lemmas.Bool.Decides.{nat_tests}
 use Rattle.std.proofs.lemmas.List.{drop-append-le}
 use Rattle.std.specs.Bool.{MatchBool}
@@ -37,6 +37,9 @@ use Rattle.registry_conversation.proofs.HoldingLemmas.{holds_on, before_there, r
 
 pub going_on : (gone : ℕ) (out out' text : Text) → gone ≤ length out → out' ≡ out ++ text → drop gone out' ≡ drop gone out ++ text
 going_on gone out out' text within e = ap (drop gone) e ∙ drop-append-le gone out text within
+
+pub is_longer : (out out' text : Text) → out' ≡ out ++ text → length out ≤ length out'
+is_longer out out' text e = let same = ap length e in omega (arith, length-append out text)
 
 pub refusal_on : (e : End) (r : FramingRefusal) (gone : ℕ) (out out' : Text) → gone ≤ length out → SendsRefusal e r (Some out) (Some out')
     → SendsRefusal e r (Some (drop gone out)) (Some (drop gone out'))

@@ -37,6 +37,11 @@ slice_take xs u e n le = take_take n (e - u) (drop u xs) le
 pub slice_len : (xs : Text) (i j : ℕ) → j ≤ length xs → length (slice_range xs i j) ≡ j - i
 slice_len xs i j within = omega (arith, length-take (j - i) (drop i xs), length-drop i xs)
 
+-- a part to whose end n bytes came
+pub slice_few : (xs ys : Text) (u e n most : ℕ) → e ≤ length xs → e + n ≤ length ys → n ≤ most
+    → length (slice_range ys u (e + n)) ≤ length (slice_range xs u e) + most
+slice_few xs ys u e n most within fits few = omega (arith, slice_len xs u e within, slice_len ys u (e + n) fits, few)
+
 pub slice_drop : (xs : Text) (u e n : ℕ) → u + n ≤ e → slice_range xs (u + n) e ≡ drop n (slice_range xs u e)
 slice_drop xs u e n le =
     let parts : e - u ≡ n + (e - (u + n)) = omega arith in

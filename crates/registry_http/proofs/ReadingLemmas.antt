@@ -1,14 +1,14 @@
 -- What reads add to the buffer.
-use Rattle.std.proofs.Common.{◌≡◌, ◌<◌, ◌⊎◌, ◌==◌, inl, inr, Bool, true, false, [], ◌∷◌, ◌++◌, length, Option, refl, sym, ap, subst, ◌∙◌, append_assoc, arith}
+use Rattle.std.proofs.Common.{◌≡◌, ℕ, ◌+◌, ◌*◌, ◌<◌, ◌≤◌, ◌⊎◌, ◌==◌, inl, inr, Bool, true, false, [], ◌∷◌, ◌++◌, length, drop, Option, refl, sym, ap, subst, ◌∙◌, append_assoc, append-nil, length-drop, arith}
 use Rattle.std.proofs.lemmas.Bool.Decides.{nat_tests}
-use Rattle.std.proofs.KnownBytes.{Consumes-trans}
+use Rattle.std.proofs.KnownBytes.{Consumes-nil, Consumes-trans}
 use Rattle.oci_names.specs.Text.{Text}
 use Rattle.registry_http.specs.declared.ending.Stop.{Stop}
 use Rattle.registry_http.specs.declared.ending.Stop.TheVariants.{Between, AtEnd, Broken, Refuse}
 use Rattle.registry_http.specs.declared.head.Parsed.TheVariants.{NotYet}
 use Rattle.registry_http.specs.Refusals.{stop_at_head}
 use Rattle.registry_http.specs.Spelling.{HeadIsCut}
-use Rattle.registry_http.specs.Reading.{Pulls, Leaves, Parses, FillStops, HeadStops}
+use Rattle.registry_http.specs.Reading.{Pulls, Leaves, Parses, FillStops, UntilStops, HeadStops}
 
 -- the bytes so far, where nothing more is read
 pub leaves : {old new : Text} {l l' : Option Text} (P : Text → Type 0) → Pulls old new l l' → P new → Leaves old l l' P
@@ -27,12 +27,33 @@ leaves-on {old} {new} {l} {l'} {l''} P Q p q f = record {
   here = subst Q (ap (λ x. x ++ q.bytes) p.grown ∙ append_assoc old p.bytes q.bytes) (f q.bytes q.here);
 }
 
+pub pulls-none : (a : Text) (l : Option Text) → Pulls a a l l
+pulls-none a l = record { bytes = []; grown = sym (append-nil a); taken = Consumes-nil l }
+
 pub pulls-on : {a b c : Text} {l l' l'' : Option Text} → Pulls a b l l' → Pulls b c l' l'' → Pulls a c l l''
 pulls-on {a} {l = l} {l' = l'} {l'' = l''} p q = record {
   bytes = p.bytes ++ q.bytes;
   grown = q.grown ∙ ap (λ x. x ++ q.bytes) p.grown ∙ append_assoc a p.bytes q.bytes;
   taken = Consumes-trans l l' l'' p.bytes q.bytes p.taken q.taken;
 }
+
+-- there are not so many bytes, and a read gave none
+pub until_stops : (stop : Stop) (need : ℕ) (a b : Text) (l l' l'' : Option Text) → Pulls a b l l' → FillStops stop b l' l''
+    → length b < need → UntilStops need stop a l l''
+until_stops stop need a b l l' l'' p s short = by_stop stop s
+  where
+    on : Leaves b l' l'' (λ y. y ≡ b) → Leaves a l l'' (λ y. length y < need)
+    on q = leaves-on (λ y. y ≡ b) (λ y. length y < need) p q (λ more same. subst (λ y. length y < need) (sym same) short)
+
+    by_stop : (stop : Stop) → FillStops stop b l' l'' → UntilStops need stop a l l''
+    by_stop Between s = absurd s
+    by_stop AtEnd s = (on s.0, s.1)
+    by_stop Broken s = on s
+    by_stop (Refuse r) s = s
+
+-- what is let go weighs nothing
+pub lighter : (reads n : ℕ) (b c : Text) → c ≡ drop n b → reads * 1048576 + length c ≤ reads * 1048576 + length b
+lighter reads n b c e = let k = ap length e ∙ length-drop n b in omega (arith, k)
 
 -- ---- where no whole head is unread
 

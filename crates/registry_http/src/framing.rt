@@ -1,7 +1,8 @@
-ghost use Rattle.std.specs.Prelude.{◌≡◌, length, map, All};
+ghost use Rattle.std.specs.Prelude.{◌≡◌, length, map, All, codes};
 ghost use Rattle.httparse.specs.Spans.{header_bytes, IsHeaderWithin};
 ghost use Rattle.registry_model.specs.Ask.{text_in};
-ghost use Rattle.registry_http.specs.Framing.{framing_by, length_of, length_if, coding_by, IsSmall};
+ghost use Rattle.registry_http.specs.Fields.{values};
+ghost use Rattle.registry_http.specs.Framing.{framing_by, body_in, length_of, length_if, coding_by, IsSmall};
 
 use crate::ending::FramingRefusal;
 use crate::fields::{same_name, values_of};
@@ -76,6 +77,25 @@ fn coding_of(version: u8, codings: usize, first: Option<&[u8]>, lengths: usize) 
     }
 }
 
+/// How the body is framed by the fields that say so, or refused (RFC 9112, section 6).
+fn body_framing(head: &[u8], fields: &[HeaderSpan], version: u8) -> Framing
+    requires { All (IsHeaderWithin (length head.now)) fields.now }
+    ensures value { result ≡ body_in version
+        (values (codes "transfer-encoding") (map (header_bytes head.now) fields.now))
+        (values (codes "content-length") (map (header_bytes head.now) fields.now)) }
+    ensures small { IsSmall result }
+{
+    let lengths = values_of(head, fields, b"content-length");
+    let codings = values_of(head, fields, b"transfer-encoding");
+    if codings.count > 0 {
+        return coding_of(version, codings.count, codings.first, lengths.count);
+    }
+    if lengths.count > 1 {
+        return Framing::Refused(FramingRefusal::InvalidContentLength);
+    }
+    length_if_any(lengths.first)
+}
+
 /// How the body is framed by the version, the target and the fields of a head: the first refusal
 /// that holds, or the body's length (RFC 9112, sections 3.2 and 6).
 pub fn framing_of(head: &[u8], fields: &[HeaderSpan], version: u8, target: &[u8]) -> Framing
@@ -91,13 +111,5 @@ pub fn framing_of(head: &[u8], fields: &[HeaderSpan], version: u8, target: &[u8]
     if target.first() != Some(&b'/') {
         return Framing::Refused(FramingRefusal::TargetForm);
     }
-    let lengths = values_of(head, fields, b"content-length");
-    let codings = values_of(head, fields, b"transfer-encoding");
-    if codings.count > 0 {
-        return coding_of(version, codings.count, codings.first, lengths.count);
-    }
-    if lengths.count > 1 {
-        return Framing::Refused(FramingRefusal::InvalidContentLength);
-    }
-    length_if_any(lengths.first)
+    body_framing(head, fields, version)
 }

@@ -10,7 +10,6 @@ use std::alloc::{AllocError, Global};
 use std::borrow::CowStr;
 
 /// The values of the keys that a registry reads, decoded.
-#[derive(Drop)]
 pub struct Values<'a> {
     digest: Option<CowStr<'a, Global>>,
     mount: Option<CowStr<'a, Global>>,
@@ -18,6 +17,20 @@ pub struct Values<'a> {
     n: Option<CowStr<'a, Global>>,
     last: Option<CowStr<'a, Global>>,
     artifact_type: Option<CowStr<'a, Global>>,
+}
+
+// (written out, so that where one is dropped it is by a call)
+impl Drop for Values<'_> {
+    fn drop(self) {
+        let Values {
+            digest: _,
+            mount: _,
+            from: _,
+            n: _,
+            last: _,
+            artifact_type: _,
+        } = self;
+    }
 }
 
 /// The text, borrowed or not.
@@ -64,18 +77,35 @@ fn value_of<'a>(
     Ok(None)
 }
 
+/// The values of two keys.
+fn values_of<'a>(
+    alloc: Global,
+    query: &'a [u8],
+    one: &str,
+    other: &str,
+) -> Result<(Option<CowStr<'a, Global>>, Option<CowStr<'a, Global>>), AllocError>
+    ensures { IfOk result (λ values. (cow_text values.0 ≡ value_at one.now query.now)
+        × (cow_text values.1 ≡ value_at other.now query.now)) }
+{
+    let one = value_of(alloc, query, one)?;
+    Ok((one, value_of(alloc, query, other)?))
+}
+
 impl<'a> Values<'a> {
     /// Reads a query: of each key the first pair counts.
     pub fn of(alloc: Global, query: &'a [u8]) -> Result<Values<'a>, AllocError>
         ensures { IfOk result (λ values. keys_shown values ≡ keys_in query.now) }
     {
+        let (digest, mount) = values_of(alloc, query, "digest", "mount")?;
+        let (from, n) = values_of(alloc, query, "from", "n")?;
+        let (last, artifact_type) = values_of(alloc, query, "last", "artifactType")?;
         Ok(Values {
-            digest: value_of(alloc, query, "digest")?,
-            mount: value_of(alloc, query, "mount")?,
-            from: value_of(alloc, query, "from")?,
-            n: value_of(alloc, query, "n")?,
-            last: value_of(alloc, query, "last")?,
-            artifact_type: value_of(alloc, query, "artifactType")?,
+            digest,
+            mount,
+            from,
+            n,
+            last,
+            artifact_type,
         })
     }
 

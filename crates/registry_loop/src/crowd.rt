@@ -1,5 +1,5 @@
 //! Many sockets by readiness, in one thread.
-ghost use Rattle.std.specs.Prelude.{◌≡◌, OnOk};
+ghost use Rattle.std.specs.Prelude.{◌≡◌, true, false, IfOk, OnOk};
 ghost use Rattle.registry_server.specs.Events.{Carries, Leads};
 ghost use Rattle.registry_server.specs.Showing.{connected};
 ghost use Rattle.registry_server.specs.Lives.{NoneSilent};
@@ -335,6 +335,34 @@ impl<'a, T: Clock, E: Write> Crowd<'a, T, E> {
         self.dismiss_silent(connections);
         Ok(())
     }
+
+    /// Serves in rounds until all have come and gone; or the service is spent: then everybody goes, and the
+    /// answer is `false`.
+    fn serve_rounds<K: Keeper>(
+        &mut self,
+        alloc: Global,
+        connections: &mut Connections,
+        service: &mut Service<K>,
+        at_once: usize,
+    ) -> io::Result<bool>
+        ensures honest { K.is_honest service.new → K.is_honest service.old }
+        ensures leads { K.is_honest service.new → Leads (connected connections.old) (K.state service.old)
+            (connected connections.new) (K.state service.new) }
+        ensures spent { IfOk result (λ over. over ≡ false → (K.state service.new).spent ≡ true) }
+    {
+        for _ in 0..u64::MAX {
+            if service.spent() {
+                self.leave(connections);
+                return Ok(false);
+            }
+            if self.left == 0 && self.peers.is_empty() {
+                self.callers.leave(self.now);
+                return Ok(true);
+            }
+            self.serve_round(alloc, connections, service, at_once)?;
+        }
+        Ok(true)
+    }
 }
 
 impl<'a, T: Clock, E: Write> Gathering for Crowd<'a, T, E> {
@@ -347,17 +375,6 @@ impl<'a, T: Clock, E: Write> Gathering for Crowd<'a, T, E> {
         at_once: usize,
     ) -> io::Result<bool> {
         let mut connections = Connections::new(alloc, bounds_for(at_once, self.limits.buffer));
-        for _ in 0..u64::MAX {
-            if service.spent() {
-                self.leave(&mut connections);
-                return Ok(false);
-            }
-            if self.left == 0 && self.peers.is_empty() {
-                self.callers.leave(self.now);
-                return Ok(true);
-            }
-            self.serve_round(alloc, &mut connections, service, at_once)?;
-        }
-        Ok(true)
+        self.serve_rounds(alloc, &mut connections, service, at_once)
     }
 }

@@ -52,7 +52,7 @@ fn micros(time: Duration) -> u64 {
 }
 
 /// What is known of a request.
-#[derive(Drop)]
+#[derive(Clone, Copy)]
 struct Said<'a> {
     number: Option<u64>,
     request: &'a str,
@@ -93,11 +93,14 @@ fn why_text(alloc: Global, said: &Said) -> Result<String, AllocError> {
     }
 }
 
-fn line_of<T: Clock>(alloc: Global, clock: &T, said: &Said) -> Result<String, AllocError> {
-    let time = time_text(alloc, clock)?;
-    let time = time.as_str();
-    let number = number_text(alloc, said.number)?;
-    let number = number.as_str();
+/// The line of a request, with the texts of what may not be known of it.
+fn line_with(
+    alloc: Global,
+    said: &Said,
+    time: &str,
+    number: &str,
+    why: &str,
+) -> Result<String, AllocError> {
     let request = if said.request.is_empty() {
         "- -"
     } else {
@@ -107,9 +110,14 @@ fn line_of<T: Clock>(alloc: Global, clock: &T, said: &Said) -> Result<String, Al
     let came = said.came;
     let went = said.went;
     let micros = said.micros;
-    let why = why_text(alloc, said)?;
-    let why = why.as_str();
     format!(in alloc; "{time} {number} {request} {status} {came} {went} {micros}{why}\n")
+}
+
+fn line_of<T: Clock>(alloc: Global, clock: &T, said: &Said) -> Result<String, AllocError> {
+    let time = time_text(alloc, clock)?;
+    let number = number_text(alloc, said.number)?;
+    let why = why_text(alloc, said)?;
+    line_with(alloc, said, time.as_str(), number.as_str(), why.as_str())
 }
 
 impl<'a, E: Write> Log<'a, E> {
@@ -118,15 +126,19 @@ impl<'a, E: Write> Log<'a, E> {
         Log { err, all }
     }
 
+    /// Whether a line is to be said.
+    fn is_told(&self, said: &Said) -> bool {
+        self.all || said.limit.is_some() || failed(said.status).is_some()
+    }
+
     /// Says a line, if it is to be said and can be.
     fn say<T: Clock>(&mut self, alloc: Global, clock: &T, said: &Said) {
-        if !self.all && said.limit.is_none() && failed(said.status).is_none() {
-            return;
+        if self.is_told(said) {
+            let _ = match line_of(alloc, clock, said) {
+                Ok(line) => self.err.write_all(line.as_bytes()),
+                Err(_) => self.err.write_all(OUT_OF_MEMORY),
+            };
         }
-        let _ = match line_of(alloc, clock, said) {
-            Ok(line) => self.err.write_all(line.as_bytes()),
-            Err(_) => self.err.write_all(OUT_OF_MEMORY),
-        };
     }
 
     /// Says what a turn came to that began at a moment of the clock, if a reply came of it.

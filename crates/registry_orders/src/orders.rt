@@ -58,7 +58,6 @@ pub enum Change {
     Clear,
 }
 
-// (written out, here and below, so that where one is dropped it is by a call)
 impl Drop for Change {
     fn drop(self) {
         match self {
@@ -93,7 +92,10 @@ impl Drop for Order {
         match self {
             Order::Change(_) => {}
             Order::Usage => {}
-            Order::List { listing: _, form: _ } => {}
+            Order::List {
+                listing: _,
+                form: _,
+            } => {}
         }
     }
 }

@@ -4,9 +4,9 @@ ghost use Rattle.registry_model.specs.Command.{carried_out};
 ghost use Rattle.registry_model.specs.Doing.{CarriesOut, SpendsAs, course_of_result};
 ghost use Rattle.registry_model.specs.Keeping.{Reads, Writes, Spends};
 
+use manifest_operations::prune;
 use oci_names::Fault;
 use registry_model::{AdminCommand, AdminFault, Keeper};
-use manifest_operations::prune;
 use std::alloc::Global;
 
 /// The fault of a command whose keeper gave up.
@@ -54,11 +54,7 @@ fn refusal_as(command: &AdminCommand) -> AdminFault
 }
 
 /// Carries out a command that is not refused.
-fn carry_out<K: Keeper>(
-    alloc: Global,
-    keeper: &mut K,
-    command: &AdminCommand,
-) -> Result<(), Fault>
+fn carry_out<K: Keeper>(alloc: Global, keeper: &mut K, command: &AdminCommand) -> Result<(), Fault>
     requires { K.is_honest keeper.old → (K.state keeper.old).spent ≡ false
         → is_carried_out (K.state keeper.old).world command.now ≡ true }
     ensures made { K.is_honest keeper.new →

@@ -13,15 +13,15 @@ ghost use Rattle.registry_service.specs.Operations.{shown_operation};
 ghost use Rattle.registry_service.specs.Serving.{beside, name_at, token_in};
 
 use crate::operation::{Operation, allowed_methods, allows, find_operation};
-use oci_names::{Fault, NameFault, RepoName, Token};
-use registry_model::{Body, Keeper, Refusal, Reply, Request, Route, Status, Verb};
 use blob_operations::blobs::{delete_blob, push_blob, read_blob, size_blob};
-use manifest_operations::listing::{list_referrers, list_tags};
-use manifest_operations::manifest_push::push_manifest;
-use manifest_operations::manifests::{delete_manifest, read_manifest, size_manifest};
 use blob_operations::mounting::mount_blob;
 use blob_operations::session_close::close_session;
 use blob_operations::uploads::{append_chunk, open_session, read_session};
+use manifest_operations::listing::{list_referrers, list_tags};
+use manifest_operations::manifest_push::push_manifest;
+use manifest_operations::manifests::{delete_manifest, read_manifest, size_manifest};
+use oci_names::{Fault, NameFault, RepoName, Token};
+use registry_model::{Body, Keeper, Refusal, Reply, Request, Route, Status, Verb};
 use std::alloc::Global;
 
 /// The reply to an operation in a repository that is there.

@@ -2,3 +2,4 @@ pub mod KeeperStates
 pub mod KeeperAnswers
 pub mod KnownAnswers
 pub mod FilesFound
+pub mod Followed

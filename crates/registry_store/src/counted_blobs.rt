@@ -4,11 +4,11 @@ ghost use Rattle.oci_names.specs.Digest.{matches};
 ghost use Rattle.registry_model.specs.Limits.{largest_blob};
 ghost use Rattle.registry_model.specs.World.{has_repo};
 ghost use Rattle.registry_model.specs.Lookups.{put_blob, mount, delete_blob};
-ghost use Rattle.registry_model.specs.Pruning.{delete_blobs};
 ghost use Rattle.store_statements.specs.Between.{MakesWorld, StaysOnMemory};
 ghost use Rattle.store_statements.specs.Clauses.{Lasts, WorldHas};
 ghost use Rattle.store_usages.specs.Usages.{IsKnown, StaysKnown};
 
+use crate::following::follow_made;
 use oci_names::{Digest, Fault, RepoName};
 use sqlite::{Alter, Connection};
 use std::alloc::Global;
@@ -37,13 +37,9 @@ pub(crate) fn put_blob<S: Alter>(
     let Ok(change) = or_untold(put_change(conn, repo, digest, bytes)) else {
         return Err(Fault::Storage);
     };
-    match store_writes::put_blob(alloc, conn, repo, digest, bytes) {
-        Ok(()) => {
-            known.follow(repo, change);
-            Ok(())
-        }
-        Err(fault) => Err(fault),
-    }
+    let made = store_writes::put_blob(alloc, conn, repo, digest, bytes);
+    follow_made(known, repo, change, &made);
+    made
 }
 
 /// Adds a blob that another repository has, or the same one.
@@ -65,13 +61,9 @@ pub(crate) fn mount<S: Alter>(
     let Ok(change) = or_untold(mount_change(conn, from, to, digest)) else {
         return Err(Fault::Storage);
     };
-    match store_writes::mount(conn, from, to, digest) {
-        Ok(()) => {
-            known.follow(to, change);
-            Ok(())
-        }
-        Err(fault) => Err(fault),
-    }
+    let made = store_writes::mount(conn, from, to, digest);
+    follow_made(known, to, change, &made);
+    made
 }
 
 /// Takes a blob away, and forgets what was known of its repository.
@@ -89,21 +81,4 @@ pub(crate) fn delete_blob<S: Alter>(
 {
     known.forget(repo);
     store_writes::delete_blob(conn, repo, digest)
-}
-
-/// Takes blobs away, all or none, and forgets what was known of their repository.
-pub(crate) fn delete_blobs<S: Alter>(
-    conn: &mut Connection<S>,
-    known: &mut KnownUsages,
-    name: &RepoName,
-    digests: &[Digest],
-) -> Result<(), Fault>
-    ensures made { MakesWorld S.Store conn.old conn.new result (λ w. delete_blobs w name.now digests.now) }
-    ensures memory { StaysOnMemory S.Store conn.old conn.new result }
-    ensures survives { Lasts S.Store conn.old conn.new }
-    ensures known { IsKnown S.Store conn.old known.old
-        → StaysKnown S.Store conn.old conn.new known.new result }
-{
-    known.forget(name);
-    store_writes::delete_blobs(conn, name, digests)
 }

@@ -1,15 +1,16 @@
-//! Manifests and tags that come and go, with what is known of usages.
+//! Manifests that come, with what is known of usages.
 ghost use Rattle.std.specs.Prelude.{◌≡◌, ◌≤◌, true, length, Ok};
 ghost use Rattle.oci_names.specs.Digest.{matches};
 ghost use Rattle.oci_manifest.specs.Manifest.{shown, manifest_in};
 ghost use Rattle.registry_model.specs.Ask.{text_in};
 ghost use Rattle.registry_model.specs.Limits.{largest_manifest};
 ghost use Rattle.registry_model.specs.World.{has_repo};
-ghost use Rattle.registry_model.specs.Lookups.{put_manifest, delete_manifest, delete_tag};
+ghost use Rattle.registry_model.specs.Lookups.{put_manifest};
 ghost use Rattle.store_statements.specs.Between.{MakesWorld, StaysOnMemory};
 ghost use Rattle.store_statements.specs.Clauses.{Lasts, WorldHas};
 ghost use Rattle.store_usages.specs.Usages.{IsKnown, StaysKnown};
 
+use crate::following::follow_made;
 use oci_manifest::Manifest;
 use oci_names::{Digest, Fault, RepoName, Tag};
 use sqlite::{Alter, Connection};
@@ -43,45 +44,7 @@ pub(crate) fn put_manifest<S: Alter>(
     let Ok(change) = or_untold(manifest_change(alloc, conn, repo, digest, bytes, tag)) else {
         return Err(Fault::Storage);
     };
-    match store_writes::put_manifest(alloc, conn, repo, digest, bytes, manifest, tag) {
-        Ok(()) => {
-            known.follow(repo, change);
-            Ok(())
-        }
-        Err(fault) => Err(fault),
-    }
-}
-
-/// Takes a manifest away, with each tag that names it, and forgets what was known of its repository.
-pub(crate) fn delete_manifest<S: Alter>(
-    conn: &mut Connection<S>,
-    known: &mut KnownUsages,
-    repo: &RepoName,
-    digest: &Digest,
-) -> Result<(), Fault>
-    ensures made { MakesWorld S.Store conn.old conn.new result (λ w. delete_manifest w repo.now digest.now) }
-    ensures memory { StaysOnMemory S.Store conn.old conn.new result }
-    ensures survives { Lasts S.Store conn.old conn.new }
-    ensures known { IsKnown S.Store conn.old known.old
-        → StaysKnown S.Store conn.old conn.new known.new result }
-{
-    known.forget(repo);
-    store_writes::delete_manifest(conn, repo, digest)
-}
-
-/// Takes a tag away, and forgets what was known of its repository.
-pub(crate) fn delete_tag<S: Alter>(
-    conn: &mut Connection<S>,
-    known: &mut KnownUsages,
-    repo: &RepoName,
-    tag: &Tag,
-) -> Result<(), Fault>
-    ensures made { MakesWorld S.Store conn.old conn.new result (λ w. delete_tag w repo.now tag.now) }
-    ensures memory { StaysOnMemory S.Store conn.old conn.new result }
-    ensures survives { Lasts S.Store conn.old conn.new }
-    ensures known { IsKnown S.Store conn.old known.old
-        → StaysKnown S.Store conn.old conn.new known.new result }
-{
-    known.forget(repo);
-    store_writes::delete_tag(conn, repo, tag)
+    let made = store_writes::put_manifest(alloc, conn, repo, digest, bytes, manifest, tag);
+    follow_made(known, repo, change, &made);
+    made
 }

@@ -1,82 +1,22 @@
-//! Upload sessions that come and go, with what is known of usages.
-ghost use Rattle.std.specs.Prelude.{◌≡◌, ◌≤◌, ◌<◌, ◌+◌, true, length, is_some, IfOk};
+//! Upload sessions that end, with what is known of usages.
+ghost use Rattle.std.specs.Prelude.{◌≡◌, ◌≤◌, true, length, is_some, IfOk};
 ghost use Rattle.sqlite.specs.State.{HasCleanDisk};
 ghost use Rattle.sqlite.specs.Held.{state};
 ghost use Rattle.oci_names.specs.Digest.{matches};
 ghost use Rattle.registry_model.specs.Limits.{largest_blob};
-ghost use Rattle.registry_model.specs.World.{has_repo};
-ghost use Rattle.registry_model.specs.Lookups.{session_at, last_number_at, open_session, append, finish};
+ghost use Rattle.registry_model.specs.Lookups.{session_at, finish};
 ghost use Rattle.registry_model.specs.Closing.{session_matches, finish_as_is};
-ghost use Rattle.registry_model.specs.Command.{drop_sessions};
-ghost use Rattle.store_statements.specs.Held.{IsSettled, SettlesOn, world_in};
+ghost use Rattle.store_statements.specs.Held.{IsSettled};
 ghost use Rattle.store_statements.specs.Between.{MakesWorld, StaysOnMemory};
 ghost use Rattle.store_statements.specs.Clauses.{Lasts, WorldHas};
 ghost use Rattle.store_session_writes.specs.Whole.{DoneWhereSo};
 ghost use Rattle.store_usages.specs.Usages.{IsKnown, StaysKnown};
 
+use crate::following::{follow_done, follow_made};
 use oci_names::{Digest, Fault, RepoName};
 use sqlite::{Alter, Connection};
 use std::alloc::Global;
-use store_usages::{Change, KnownUsages, NO_CHANGE, finish_change, known_finish_change, or_untold};
-
-/// Opens an empty session under the number behind the repository's last, and answers it.
-pub(crate) fn open_session<S: Alter>(
-    conn: &mut Connection<S>,
-    known: &mut KnownUsages,
-    repo: &RepoName,
-) -> Result<u64, Fault>
-    ensures made { HasCleanDisk (state S.Store conn.new) → IsSettled (state S.Store conn.old)
-        → IfOk result
-        (λ n. (n ≡ last_number_at (world_in (state S.Store conn.old)) repo.now + 1) × SettlesOn
-        (state S.Store conn.new) (open_session (world_in (state S.Store conn.old)) repo.now)) }
-    ensures memory { StaysOnMemory S.Store conn.old conn.new result }
-    ensures survives { Lasts S.Store conn.old conn.new }
-    ensures known { IsKnown S.Store conn.old known.old
-        → WorldHas S.Store conn.old (λ w. has_repo w repo.now ≡ true)
-        → StaysKnown S.Store conn.old conn.new known.new result }
-{
-    match store_session_writes::open_session(conn, repo) {
-        Ok(number) => {
-            let opened = Change {
-                opened: 1,
-                ..NO_CHANGE
-            };
-            known.follow(repo, Some(opened));
-            Ok(number)
-        }
-        Err(fault) => Err(fault),
-    }
-}
-
-/// Puts bytes behind those of an open session; none that it has are touched.
-pub(crate) fn append<S: Alter>(
-    alloc: Global,
-    conn: &mut Connection<S>,
-    known: &mut KnownUsages,
-    repo: &RepoName,
-    number: u64,
-    bytes: &[u8],
-) -> Result<(), Fault>
-    ensures made { WorldHas S.Store conn.old (λ w. is_some (session_at w repo.now number) ≡ true)
-        → MakesWorld S.Store conn.old conn.new result (λ w. append w repo.now number bytes.now) }
-    ensures memory { StaysOnMemory S.Store conn.old conn.new result }
-    ensures survives { Lasts S.Store conn.old conn.new }
-    ensures known { IsKnown S.Store conn.old known.old
-        → WorldHas S.Store conn.old (λ w. is_some (session_at w repo.now number) ≡ true)
-        → StaysKnown S.Store conn.old conn.new known.new result }
-{
-    match store_session_writes::append(alloc, conn, repo, number, bytes) {
-        Ok(()) => {
-            let longer = Change {
-                added: bytes.len() as u64,
-                ..NO_CHANGE
-            };
-            known.follow(repo, Some(longer));
-            Ok(())
-        }
-        Err(fault) => Err(fault),
-    }
-}
+use store_usages::{KnownUsages, finish_change, known_finish_change, or_untold};
 
 /// Ends an open session and puts its whole bytes in as a blob; a digest that is there keeps its bytes.
 pub(crate) fn finish<S: Alter>(
@@ -102,13 +42,9 @@ pub(crate) fn finish<S: Alter>(
     let Ok(change) = or_untold(finish_change(conn, repo, number, digest, bytes)) else {
         return Err(Fault::Storage);
     };
-    match store_session_writes::finish(alloc, conn, repo, number, digest, bytes) {
-        Ok(()) => {
-            known.follow(repo, change);
-            Ok(())
-        }
-        Err(fault) => Err(fault),
-    }
+    let made = store_session_writes::finish(alloc, conn, repo, number, digest, bytes);
+    follow_made(known, repo, change, &made);
+    made
 }
 
 /// Ends an open session whose bytes are known to match the digest, and they are a blob; a digest that is
@@ -134,28 +70,7 @@ pub(crate) fn finish_known<S: Alter>(
     let Ok(change) = or_untold(known_finish_change(conn, repo, number, digest)) else {
         return Err(Fault::Storage);
     };
-    match store_session_writes::finish_known(alloc, conn, repo, number, digest) {
-        Ok(true) => {
-            known.follow(repo, change);
-            Ok(true)
-        }
-        Ok(false) => Ok(false),
-        Err(fault) => Err(fault),
-    }
-}
-
-/// Ends every open session of a repository, and forgets what was known of it.
-pub(crate) fn drop_sessions<S: Alter>(
-    conn: &mut Connection<S>,
-    known: &mut KnownUsages,
-    repo: &RepoName,
-) -> Result<(), Fault>
-    ensures made { MakesWorld S.Store conn.old conn.new result (λ w. drop_sessions w repo.now) }
-    ensures memory { StaysOnMemory S.Store conn.old conn.new result }
-    ensures survives { Lasts S.Store conn.old conn.new }
-    ensures known { IsKnown S.Store conn.old known.old
-        → StaysKnown S.Store conn.old conn.new known.new result }
-{
-    known.forget(repo);
-    store_session_writes::drop_sessions(conn, repo)
+    let done = store_session_writes::finish_known(alloc, conn, repo, number, digest);
+    follow_done(known, repo, change, &done);
+    done
 }

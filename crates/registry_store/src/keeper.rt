@@ -1,4 +1,5 @@
 //! The store as a keeper: each call asks the tables, and what is said of rows is said of the world.
+//! What is known of a repository's usage follows a write, or is forgotten.
 ghost use Rattle.std.specs.Prelude.{◌≡◌, ℤ, None, OnOk, if◌then◌else◌};
 ghost use Rattle.sqlite.specs.Held.{state};
 ghost use Rattle.registry_model.specs.Keeping.{Writes, Spends};
@@ -7,14 +8,16 @@ ghost use Rattle.store_writes.specs.Naming.{is_named};
 ghost use Rattle.registry_store.specs.Kept.{IsHonest, shown};
 
 use crate::fault_noting::note_fault;
+use crate::following::follow_made;
 use crate::origin::Origin;
 use crate::store::Store;
-use crate::{counted_blobs, counted_manifests, counted_repos, counted_sessions};
+use crate::{counted_blobs, counted_manifests, counted_sessions};
 use oci_manifest::{Kind, Manifest};
 use oci_names::{Digest, Fault, RepoName, Tag, Token};
 use registry_model::{Keeper, Level, Quota, Usage};
 use sqlite::Alter;
 use std::alloc::Global;
+use store_usages::{Change, NO_CHANGE};
 
 /// Asks the tables, unless the storage has failed, and notes where it fails now.
 macro_rules! unless_spent {
@@ -181,23 +184,38 @@ impl<S: Alter, O: Origin> Keeper for Store<S, O> {
     }
 
     fn open_session(&mut self, repo: &RepoName) -> Result<u64, Fault> {
+        let one_more = Change {
+            opened: 1,
+            ..NO_CHANGE
+        };
         unless_spent!(
             self,
-            counted_sessions::open_session(&mut self.conn, &mut self.known, repo)
+            {
+                let opened = store_session_writes::open_session(&mut self.conn, repo);
+                follow_made(&mut self.known, repo, Some(one_more), &opened);
+                opened
+            }
         )
     }
 
     fn append(&mut self, repo: &RepoName, number: u64, bytes: &[u8]) -> Result<(), Fault> {
+        let longer = Change {
+            added: bytes.len() as u64,
+            ..NO_CHANGE
+        };
         unless_spent!(
             self,
-            counted_sessions::append(
-                self.alloc,
-                &mut self.conn,
-                &mut self.known,
-                repo,
-                number,
-                bytes
-            )
+            {
+                let made = store_session_writes::append(
+                    self.alloc,
+                    &mut self.conn,
+                    repo,
+                    number,
+                    bytes
+                );
+                follow_made(&mut self.known, repo, Some(longer), &made);
+                made
+            }
         )
     }
 
@@ -281,35 +299,50 @@ impl<S: Alter, O: Origin> Keeper for Store<S, O> {
     fn delete_blobs(&mut self, repo: &RepoName, digests: &[Digest]) -> Result<(), Fault> {
         unless_spent!(
             self,
-            counted_blobs::delete_blobs(&mut self.conn, &mut self.known, repo, digests)
+            {
+                self.known.forget(repo);
+                store_writes::delete_blobs(&mut self.conn, repo, digests)
+            }
         )
     }
 
     fn delete_manifest(&mut self, repo: &RepoName, digest: &Digest) -> Result<(), Fault> {
         unless_spent!(
             self,
-            counted_manifests::delete_manifest(&mut self.conn, &mut self.known, repo, digest)
+            {
+                self.known.forget(repo);
+                store_writes::delete_manifest(&mut self.conn, repo, digest)
+            }
         )
     }
 
     fn delete_tag(&mut self, repo: &RepoName, tag: &Tag) -> Result<(), Fault> {
         unless_spent!(
             self,
-            counted_manifests::delete_tag(&mut self.conn, &mut self.known, repo, tag)
+            {
+                self.known.forget(repo);
+                store_writes::delete_tag(&mut self.conn, repo, tag)
+            }
         )
     }
 
     fn set_repo(&mut self, name: &RepoName, quota: Quota) -> Result<(), Fault> {
         unless_spent!(
             self,
-            counted_repos::set_repo(&mut self.conn, &mut self.known, name, quota)
+            {
+                self.known.forget(name);
+                store_writes::set_repo(&mut self.conn, name, quota)
+            }
         )
     }
 
     fn drop_repo(&mut self, name: &RepoName) -> Result<(), Fault> {
         unless_spent!(
             self,
-            counted_repos::drop_repo(&mut self.conn, &mut self.known, name)
+            {
+                self.known.forget(name);
+                store_writes::drop_repo(&mut self.conn, name)
+            }
         )
     }
 
@@ -331,7 +364,10 @@ impl<S: Alter, O: Origin> Keeper for Store<S, O> {
     fn drop_sessions(&mut self, name: &RepoName) -> Result<(), Fault> {
         unless_spent!(
             self,
-            counted_sessions::drop_sessions(&mut self.conn, &mut self.known, name)
+            {
+                self.known.forget(name);
+                store_session_writes::drop_sessions(&mut self.conn, name)
+            }
         )
     }
 

@@ -3,9 +3,9 @@
 
 mod counted_blobs;
 mod counted_manifests;
-mod counted_repos;
 mod counted_sessions;
 mod fault_noting;
+mod following;
 mod keeper;
 mod origin;
 mod store;

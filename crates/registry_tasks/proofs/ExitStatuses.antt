@@ -1,6 +1,6 @@
 -- What exit statuses say of what was read and written, and of why the program ended.
 use Rattle.std.proofs.Common.{arith, ◌≡◌, ◌⊎◌, ◌∙◌, ◌<◌, ◌≤◌, ◌≢◌, ℕ, Bool, true, false, List, [], ◌∷◌, Result, Ok, Err, inl, inr, refl, ap, sym, subst}
-use Rattle.std.specs.Prelude.{MatchResult, if◌then◌else◌}
+use Rattle.std.specs.Prelude.{MatchResult, ⊤, if◌then◌else◌}
 use Rattle.std.specs.Io.KnownBytes.{Appends}
 use Rattle.oci_names.specs.Text.{Text}
 use Rattle.registry_http.specs.declared.ending.End.{End}
@@ -8,16 +8,19 @@ use Rattle.registry_http.specs.declared.ending.End.TheVariants as ending
 use Rattle.registry_model.specs.World.{World, no_world, has_repo}
 use Rattle.registry_model.specs.Command.{set_repo, grant}
 use Rattle.registry_model.specs.Keeping.{State}
+use Rattle.registry_model.specs.Doing.{keeps}
+use Rattle.registry_maps.specs.declared.map_keeper.MapKeeper.{MapKeeper}
+use Rattle.registry_maps.specs.Maps.{world_of, state_of}
 use Rattle.registry_orders.specs.declared.failure.Failure.{Failure}
 use Rattle.registry_orders.specs.declared.failure.Failure.TheVariants as failure
 use Rattle.registry_orders.specs.declared.options.Setup.{Setup}
 use Rattle.registry_orders.specs.declared.options.RepoOption.{RepoOption}
 use Rattle.registry_orders.specs.declared.options.GrantOption.{GrantOption}
 use Rattle.registry_orders.specs.Failures.{status_of, IsOfConnection, IsOfOpening, IsOfServing}
-use Rattle.registry_orders.specs.Setting.{with_repos, with_levels, levels_if, world_by, SetsUp}
+use Rattle.registry_orders.specs.Setting.{with_repos, with_levels, levels_if, world_by, world_from, SetsUp}
 use Rattle.registry_tasks.specs.Checking.{IsOfCheck}
 use Rattle.registry_tasks.specs.Failures.{status_after}
-use Rattle.registry_tasks.specs.Program.{Streams, GivesUp, IsUntouched, ServesFrom, ServesMemory, Tells}
+use Rattle.registry_tasks.specs.Program.{Streams, GivesUp, IsUntouched, ServesFrom, ServesMemory, ServesSetUp, ServesStored, Tells}
 
 pub served : (setup : Setup) (w : World) (status : ℕ) (e : Streams) → world_by setup ≡ Ok w → ServesFrom w status e → ServesMemory setup status e
 served setup w status e m s = inr (subst (λ r. MatchResult r (λ w. ServesFrom w status e) (λ f. GivesUp f status e)) (sym m) s)
@@ -38,6 +41,20 @@ stopped setup (failure.Schema n) s status e m spent g = refused setup (failure.S
 stopped setup failure.NotARegistry s status e m spent g = refused setup failure.NotARegistry status e m g
 stopped setup failure.Damaged s status e m spent g = refused setup failure.Damaged status e m g
 stopped setup failure.ConnectionFailure s status e m spent g = refused setup failure.ConnectionFailure status e m g
+
+-- maps that began with nothing were set up
+pub set_up_served : (setup : Setup) (status : ℕ) (e : Streams) (first : State) → first ≡ keeps no_world
+    → ServesSetUp {K = MapKeeper} (λ k. ⊤) (λ k. state_of k.repos k.grants) first setup status e → ServesMemory setup status e
+set_up_served setup status e first empty s =
+    go (world_of s.middle.repos s.middle.grants) (world_of s.last.repos s.last.grants) s.begun (s.says tt).0 (s.says tt).1
+  where
+    go : (w w' : World) (begun : Result (Unit {0}) Failure) → SetsUp (world_from first.world setup) begun (keeps w)
+        → MatchResult begun (λ v. ServesStored status e (keeps w) (keeps w')) (λ f. GivesUp f status e) → ServesMemory setup status e
+    go w w' (Ok v) made serves =
+        served setup w status e (subst (λ (x : State). world_from x.world setup ≡ Ok w) empty made)
+        (record { end = serves.0; last = keeps w'; ends = serves.1; serves = serves.2 })
+    go w w' (Err f) made g =
+        stopped setup f (keeps w) status e (subst (λ (x : State). SetsUp (world_from x.world setup) (Err f) (keeps w)) empty made) refl g
 
 -- a failed connection is told by 3 or 4
 pub connection_status : (f : Failure) → IsOfConnection f → 3 ≤ status_of f

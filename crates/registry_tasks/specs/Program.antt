@@ -1,5 +1,5 @@
 -- What the program does, by its exit status.
-use Rattle.std.specs.Prelude.{◌≡◌, ℕ, false, ◌⊎◌, Option, MatchResult}
+use Rattle.std.specs.Prelude.{◌≡◌, ℕ, false, ◌⊎◌, Option, Result, MatchResult}
 use Rattle.std.specs.Io.KnownBytes.{Appends}
 use Rattle.oci_names.specs.Text.{Text}
 use Rattle.registry_model.specs.World.{World}
@@ -11,7 +11,7 @@ use Rattle.registry_orders.specs.declared.failure.Failure.{Failure}
 use Rattle.registry_orders.specs.declared.failure.Failure.TheVariants.{OutOfMemory, ConnectionFailure}
 use Rattle.registry_orders.specs.declared.options.Setup.{Setup}
 use Rattle.registry_orders.specs.Failures.{status_of}
-use Rattle.registry_orders.specs.Setting.{world_by}
+use Rattle.registry_orders.specs.Setting.{world_by, world_from, SetsUp}
 use Rattle.registry_tasks.specs.Failures.{status_after}
 
 -- the bytes that standard input had left before and after, and those that standard output held, where they
@@ -63,6 +63,16 @@ ServesMemory setup status e =
 abbrev pub ServesStored : ℕ → Streams → State → State → Type 0
 ServesStored status e s s' =
     (end : End) × (status ≡ status_after end s'.spent) × Serves end (traffic_of e s s')
+
+-- A registry over a keeper of the type K was set up from this state on, or why not; and then one connection
+-- was served: as far as the storage has returned what was written.
+pub record ServesSetUp {K : Type 0} (is_honest : K → Type 0) (state : K → State) (first : State)
+    (setup : Setup) (status : ℕ) (e : Streams) : Type 0 where
+  pub begun : Result (Unit {0}) Failure
+  pub middle : K
+  pub last : K
+  pub says : is_honest last → SetsUp (world_from first.world setup) begun (state middle)
+      × MatchResult begun (λ v. ServesStored status e (state middle) (state last)) (λ f. GivesUp f status e)
 
 -- help, the version or what is wrong with the words was told, on standard output only with status 0; or
 -- writing it there failed; or memory was wanting

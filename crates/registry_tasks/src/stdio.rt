@@ -2,7 +2,7 @@ ghost use Rattle.std.specs.Prelude.{◌≡◌, ◌<◌, ◌≤◌, IfErr};
 ghost use Rattle.registry_orders.specs.Failures.{IsOfConnection};
 ghost use Rattle.registry_orders.specs.Setting.{with_repos, with_levels, world_from, SetsUp};
 ghost use Rattle.registry_tasks.specs.Failures.{ended_as};
-ghost use Rattle.registry_tasks.specs.Program.{streams, ServesMemory, ServesStored};
+ghost use Rattle.registry_tasks.specs.Program.{streams, ServesMemory, ServesSetUp, ServesStored};
 
 use order_carrying::Ended;
 use registry_connection::serve_connection;
@@ -119,6 +119,26 @@ pub fn serve_stdio<R: Read, W: Write, E: Write, K: Keeper>(
     }
 }
 
+/// Sets a registry up, and serves one connection over it.
+fn serve_set_up<R: Read, W: Write, E: Write, K: Keeper + Drop>(
+    alloc: Global,
+    keeper: K,
+    setup: &Setup,
+    reader: &mut R,
+    out: &mut W,
+    err: &mut E,
+) -> u8
+    ensures { ServesSetUp K.is_honest K.state (K.state keeper) setup.now result
+        (streams (R.remaining reader.old) (R.remaining reader.new)
+        (W.contents out.old) (W.contents out.new)) }
+{
+    let mut service = Service::new(keeper);
+    match set_up(alloc, &mut service, setup) {
+        Ok(()) => serve_stdio(alloc, &mut service, reader, out, err),
+        Err(failure) => say(err, failure),
+    }
+}
+
 /// Serves one connection over a registry in memory that begins with this setup, and says on standard
 /// error what failed. The status is that of `serve_stdio`; or that of the command that was refused, 1,
 /// or of want of memory, 3, and then nothing was read or written.
@@ -133,11 +153,8 @@ pub fn serve_memory<R: Read, W: Write, E: Write>(
         (streams (R.remaining reader.old) (R.remaining reader.new)
         (W.contents out.old) (W.contents out.new)) }
 {
-    let mut service = Service::new(MapKeeper::new(alloc));
-    match set_up(alloc, &mut service, setup) {
-        Ok(()) => serve_stdio(alloc, &mut service, reader, out, err),
-        Err(failure) => say(err, failure),
-    }
+    // That maps are a keeper is proved anew at each call that is generic in one, so there is one such call.
+    serve_set_up(alloc, MapKeeper::new(alloc), setup, reader, out, err)
 }
 
 /// Serves one connection over a keeper, as `serve_stdio` does, and hands the keeper back.

@@ -1,5 +1,5 @@
 -- A content is put in.
-use Rattle.std.proofs.Common.{◌≡◌, ◌≢◌, inl, inr, ℕ, ℤ, pos, List, [], ◌∷◌, ◌++◌, Bool, true, false, cond, None, Some, Ok, length, refl, sym, ap, subst, ◌∙◌}
+use Rattle.std.proofs.Common.{◌≡◌, ◌≢◌, inl, inr, ℕ, ℤ, pos, List, [], ◌∷◌, ◌++◌, Bool, true, false, cond, None, Some, Ok, Err, Result, IfOk, length, refl, sym, ap, subst, ◌∙◌}
 use Rattle.std.specs.Prelude.{find, option_map}
 use Rattle.std.specs.List.{AllByRecursion}
 use Rattle.sqlite.specs.declared.types.Value.TheVariants.{Null, Int, Text, Blob}
@@ -21,7 +21,8 @@ use Rattle.store_schema.proofs.Ids.{rowid_test, rowid_is, find_id, int_eq_is, no
 use Rattle.store_schema.proofs.Writes.{either, inserts, adds_row, AddsRow, keeps_others}
 use Rattle.sqlite_rules.specs.Edit.{id_in}
 use Rattle.store_contents.specs.Texts.{add_text, add_terms}
-use Rattle.store_contents.specs.Contents.{HoldsContents, KnowsContents, IsContentRow, AreContentRows, AreApart, Adds, content_rows, has_bytes, bytes_in, sha256_text}
+use Rattle.store_contents.specs.Contents.{HoldsContents, KnowsContents, IsContentRow, AreContentRows, AreApart, Adds, FindsOrAdds, content_rows, has_bytes, bytes_in, sha256_text}
+use Rattle.store_contents.specs.declared.content_id.ContentId.{ContentId}
 
 abbrev pub content_columns : List ℕ → List ℕ → Row
 content_columns sha256 bytes = Null ∷ Text sha256 ∷ Int (pos (length bytes)) ∷ Blob bytes ∷ []
@@ -87,3 +88,9 @@ added old new sha256 bytes n is hashed nowhere h = (
     between i true e =
         let same : new.last_rowid ≡ i = int_eq_is new.last_rowid i (sym (rowid_test i new.last_rowid (Int new.last_rowid) refl) ∙ e) in
         find_middle (has_rowid i) row p.before p.after (inl (ap (find (has_rowid i)) (sym p.olds_are) ∙ subst (λ j. find (has_rowid j) (content_rows old.now) ≡ None) same free))
+
+-- ---- a call that found nothing, and then one that adds
+
+pub or_adds : {E : Type 0} (old mid new : Database) (bytes : List ℕ) (r : Result ContentId E) → mid ≡ old → IfOk r (λ it. Adds mid new it.id bytes) → IfOk r (λ it. FindsOrAdds old new it.id bytes)
+or_adds old mid new bytes (Ok it) e h = inr (subst (λ (d : Database). Adds d new it.id bytes) e h)
+or_adds old mid new bytes (Err x) e h = tt

@@ -1,9 +1,12 @@
 -- How a content is looked for: by the digest, and then by its bytes.
-use Rattle.std.specs.Prelude.{◌&&◌, ℕ, ℤ, Bool, false, List, [], ◌∷◌, bytes_eq, Option, Some, None}
+use Rattle.std.specs.Prelude.{◌≡◌, ◌&&◌, ℕ, ℤ, Bool, false, List, [], ◌∷◌, bytes_eq, Option, Some, None}
 use Rattle.std.specs.Ordering.{is_eq}
 use Rattle.sqlite.specs.declared.types.Value.{Value}
 use Rattle.sqlite.specs.declared.types.Value.TheVariants.{Int, Blob}
 use Rattle.sqlite.specs.Order.{Row, column, value_cmp}
+use Rattle.sqlite.specs.Held.{Held}
+use Rattle.sqlite.specs.Given.{Advances}
+use Rattle.sqlite_trees.specs.declared.store.Store.{Ghosts}
 use Rattle.sqlite.specs.declared.error.Error.{Error}
 use Rattle.sqlite.specs.declared.error.Error.TheVariants.{SqliteFailure}
 use Rattle.sqlite.specs.declared.error.ErrorCode.TheVariants.{OutOfMemory}
@@ -25,6 +28,15 @@ is_blob bytes _ = false
 abbrev pub blob_of : Value → Option (List ℕ)
 blob_of (Blob b) = Some b
 blob_of _ = None
+
+-- the bytes in the next row of an answer, where there is one
+abbrev pub next_bytes : Option Row → Option (List ℕ)
+next_bytes None = None
+next_bytes (Some row) = blob_of (column row 0)
+
+-- a query goes on by one row, which has these bytes
+abbrev pub GivesBytes : {S : Type 0} → Ghosts S → Held S → Held S → Option (List ℕ) → Type 0
+GivesBytes g old new bytes = (next : Option Row) × Advances g old new next × (bytes ≡ next_bytes next)
 
 -- of a row that a search shows
 abbrev pub shows_bytes : List ℕ → Row → Bool

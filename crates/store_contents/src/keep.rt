@@ -61,10 +61,7 @@ pub fn find_or_add_hashed<S: Alter>(
 {
     match find(tx, sha256, bytes) {
         Ok(Some(id)) => Ok(ContentId::new(id)),
-        Ok(None) => match add(tx, sha256, bytes) {
-            Ok(id) => Ok(ContentId::new(id)),
-            Err(error) => Err(fault_of(error)),
-        },
+        Ok(None) => add(tx, sha256, bytes),
         Err(error) => Err(fault_of(error)),
     }
 }

@@ -6,13 +6,13 @@ ghost use Rattle.sqlite.specs.Held.{state};
 ghost use Rattle.sqlite.specs.Order.{column};
 ghost use Rattle.sqlite.specs.Tree.{has_rowid};
 ghost use Rattle.store_contents.specs.Contents.{HoldsContents, content_rows, bytes_in};
-ghost use Rattle.store_contents.specs.Search.{blob_of};
+ghost use Rattle.store_contents.specs.Search.{blob_of, GivesBytes};
 
 use crate::content_id::ContentId;
 use crate::fault::fault_of;
 use oci_names::Fault;
 use sqlite::types::ValueRef;
-use sqlite::{Alter, Connection, Error, ErrorCode, Row, Transaction, params};
+use sqlite::{Alter, Connection, Error, ErrorCode, Row, Rows, Transaction, params};
 use std::alloc::Global;
 
 /// The bytes under the id: one row, or none.
@@ -87,6 +87,42 @@ pub fn bytes_of<S: Alter>(
     }
 }
 
+/// The bytes that the row shows.
+fn copied(alloc: Global, row: &Row) -> Result<Option<Vec<u8>>, Error>
+    ensures { IfOk result (λ o. option_map (λ bytes. bytes.items) o ≡ blob_of (column row.now 0)) }
+{
+    match row.get_ref(0) {
+        Ok(ValueRef::Blob(bytes)) => match Vec::from_slice(alloc, bytes) {
+            Ok(copy) => Ok(Some(copy)),
+            Err(_) => Err(Error::SqliteFailure(ErrorCode::OutOfMemory)),
+        },
+        _ => Ok(None),
+    }
+}
+
+/// The bytes that the first row shows, or `None` where there is no row.
+fn first_copied<S: Alter>(alloc: Global, rows: &mut Rows<'_, S>) -> Result<Option<Vec<u8>>, Error>
+    ensures found { HasCleanDisk (state S.Store rows.new.conn.now)
+        → IfOk result
+        (λ o. GivesBytes S.Store rows.old.conn.now rows.new.conn.now
+        (option_map (λ bytes. bytes.items) o)) }
+    ensures same { HasCleanDisk (state S.Store rows.new.conn.now)
+        → OnOk result (IsUnchanged (state S.Store rows.old.conn.now) (state S.Store rows.new.conn.now)) }
+    ensures failed { HasCleanDisk (state S.Store rows.new.conn.now)
+        → IfErr result
+        (λ _. IsUnchanged (state S.Store rows.old.conn.now) (state S.Store rows.new.conn.now) ⊎ IsRolledBack
+        (state S.Store rows.old.conn.now) (state S.Store rows.new.conn.now)) }
+    ensures same_reference { rows.new.conn.ghost_name ≡ rows.old.conn.ghost_name }
+    ensures mode { rows.old.conn.now.in_transaction ≡ false → rows.new.conn.now.in_transaction ≡ false }
+    ensures survives { Survives (state S.Store rows.old.conn.now) (state S.Store rows.new.conn.now) (λ _. ⊥) }
+{
+    rows.advance()?;
+    match rows.get() {
+        Some(row) => copied(alloc, row),
+        None => Ok(None),
+    }
+}
+
 /// The bytes are copied once, from where the database has them.
 fn peek<S: Alter>(
     alloc: Global,
@@ -111,24 +147,7 @@ fn peek<S: Alter>(
         "SELECT bytes FROM registry_contents WHERE id = ?1",
         params![id],
     )?;
-    rows.advance()?;
-    match rows.get() {
-        Some(row) => copied(alloc, row),
-        None => Ok(None),
-    }
-}
-
-/// The bytes that the row shows.
-fn copied(alloc: Global, row: &Row) -> Result<Option<Vec<u8>>, Error>
-    ensures { IfOk result (λ o. option_map (λ bytes. bytes.items) o ≡ blob_of (column row.now 0)) }
-{
-    match row.get_ref(0) {
-        Ok(ValueRef::Blob(bytes)) => match Vec::from_slice(alloc, bytes) {
-            Ok(copy) => Ok(Some(copy)),
-            Err(_) => Err(Error::SqliteFailure(ErrorCode::OutOfMemory)),
-        },
-        _ => Ok(None),
-    }
+    first_copied(alloc, &mut rows)
 }
 
 /// The bytes of the content over a connection, outside a transaction too, or `None` where there is no such

@@ -14,8 +14,7 @@ pub returns-in-None-clause-comes : goal.returns-in-None-clause-comes
 returns-in-None-clause-comes g c honest =
     let s = g.K.Keeper.state c.args.keeper.now in
     let q = ask_of c.args.request.now in
-    let k = on_none (s.world.grants c.args.token.now) (repo_at s.world) q q.form (sym c.name_at.ensures ∙ ap text_in c.in-None.is) in
-    (
+    let k = on_none (s.world.grants c.args.token.now) (repo_at s.world) q q.form (sym c.name_at.ensures ∙ ap text_in c.in-None.is) in (
       c.reply_beside.ensures.told ∙ ap (λ d. d.reply) (sym k.0),
       (λ i. record { world = s.world; spent = c.requires i })
           ∙ ap (λ o. record { world = changed s.world (addressed q.form) o; spent = false }) (sym (ap (λ d. d.change) k.0 ∙ k.1)),

@@ -1,4 +1,6 @@
-use Rattle.std.proofs.Common.{sym, ◌∙◌}
+use Rattle.std.proofs.Common.{◌≡◌, ◌⊎◌, [], ◌++◌, subst, sym, ◌∙◌}
+use Rattle.oci_names.specs.Text.{Text}
+use Rattle.registry_http.specs.Spelling.{HeadIsCut, HeadIsUnreadable}
 use Rattle.registry_conversation.specs.Showing.{shown}
 use Rattle.registry_conversation.proofs.SteppingLemmas.{held_at_head, empty_from, some_from, nothing_came, head_cut, head_never}
 use Rattle.registry_conversation.proofs.conversation.Conversation.begin.Goals as goal
@@ -13,9 +15,11 @@ pub returns-else-none-clause-acts : goal.returns-else-none-clause-acts
 returns-else-none-clause-acts g c = λ honest at_head b said x.
     let old = shown c.args.self.now in
     head_cut c.wait-else-none.result b said old _ _ x (held_at_head old b said at_head x) c.wait-else-none.ensures
-    (λ none. some_from _ _ c.is_empty-none.ensures c.if-none.false (c.behind-unread.ensures ∙ none)) (rw c.behind.ensures at c.in-NotYet.ensures)
+    (λ none. some_from _ _ c.is_empty-none.ensures c.if-none.false (c.behind-unread.ensures ∙ none))
+    (subst (λ (y : Text). (y ≡ []) ⊎ HeadIsCut y) c.behind.ensures c.in-NotYet.ensures)
 
 pub returns-in-Never-clause-acts : goal.returns-in-Never-clause-acts
 returns-in-Never-clause-acts g c = λ honest at_head b said x.
     let old = shown c.args.self.now in
-    head_never c.refuse.result b said old _ _ x (held_at_head old b said at_head x) c.refuse.ensures (λ tail. rw c.behind.ensures at (c.in-Never.ensures tail))
+    head_never c.refuse.result b said old _ _ x (held_at_head old b said at_head x) c.refuse.ensures
+    (λ tail. subst (λ (y : Text). HeadIsUnreadable (y ++ tail)) c.behind.ensures (c.in-Never.ensures tail))

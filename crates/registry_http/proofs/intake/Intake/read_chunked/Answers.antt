@@ -1,3 +1,5 @@
+use Rattle.std.proofs.Common.{◌∙◌, le_trans}
+use Rattle.registry_http.proofs.ReadingLemmas.{lighter}
 use Rattle.registry_http.proofs.TrailerLemmas.{chunks_end, trailer_ends, trailer_fits, chunked_read}
 use Rattle.registry_http.proofs.intake.Intake.read_chunked.Goals as goal
 
@@ -15,3 +17,12 @@ returns-in-Ok-read_trailer-clause-cases g c =
 pub returns-in-Err-read_trailer-clause-cases : goal.returns-in-Err-read_trailer-clause-cases
 returns-in-Err-read_trailer-clause-cases g c =
     trailer_ends c.in-Err-read_trailer.stop _ _ _ _ _ _ _ c.in-Ok.ensures.cases c.in-Err-read_trailer.ensures.cases
+
+pub returns-in-Ok-read_trailer-clause-headers : goal.returns-in-Ok-read_trailer-clause-headers
+returns-in-Ok-read_trailer-clause-headers g c = c.in-Ok-read_trailer.ensures.headers ∙ c.in-Ok.ensures.headers
+
+pub returns-in-Ok-read_trailer-clause-weight : goal.returns-in-Ok-read_trailer-clause-weight
+returns-in-Ok-read_trailer-clause-weight g c = le_trans (lighter _ _ _ _ c.skip.ensures.behind) (le_trans c.in-Ok-read_trailer.ensures.weight c.in-Ok.ensures.weight)
+
+pub returns-in-Err-read_trailer-clause-headers : goal.returns-in-Err-read_trailer-clause-headers
+returns-in-Err-read_trailer-clause-headers g c = c.in-Err-read_trailer.ensures.headers ∙ c.in-Ok.ensures.headers

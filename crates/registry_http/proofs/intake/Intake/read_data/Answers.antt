@@ -1,4 +1,4 @@
-use Rattle.std.proofs.Common.{refl}
+use Rattle.std.proofs.Common.{refl, ◌∙◌, le_trans}
 use Rattle.registry_http.specs.Chunks.{DataIsCut, DataIsRefused}
 use Rattle.registry_http.specs.declared.ending.FramingRefusal.TheVariants.{UnreadableChunk}
 use Rattle.registry_http.proofs.ReadingLemmas.{pulls-on}
@@ -40,3 +40,24 @@ returns-clause-cases g c =
       good_end c.args.size _ _ p.bytes p.grown c.in-Ok.ensures.enough (rw c.behind.ensures at c.if-behind-size-ne13.false) c.in-Ok-read_until.ensures.enough
           (rw c.behind-2.ensures at c.if-behind-size-ne10.false),
     )
+
+pub returns-in-Err-read_until-clause-taken : goal.returns-in-Err-read_until-clause-taken
+returns-in-Err-read_until-clause-taken g c = c.in-Err-read_until.ensures.taken ∙ c.in-Ok.ensures.taken
+
+pub returns-in-Err-read_until-clause-headers : goal.returns-in-Err-read_until-clause-headers
+returns-in-Err-read_until-clause-headers g c = c.in-Err-read_until.ensures.headers ∙ c.in-Ok.ensures.headers
+
+pub returns-then-behind-size-ne10-clause-taken : goal.returns-then-behind-size-ne10-clause-taken
+returns-then-behind-size-ne10-clause-taken g c = c.in-Ok-read_until.ensures.taken ∙ c.in-Ok.ensures.taken
+
+pub returns-then-behind-size-ne10-clause-headers : goal.returns-then-behind-size-ne10-clause-headers
+returns-then-behind-size-ne10-clause-headers g c = c.in-Ok-read_until.ensures.headers ∙ c.in-Ok.ensures.headers
+
+pub returns-clause-taken : goal.returns-clause-taken
+returns-clause-taken g c = c.in-Ok-read_until.ensures.taken ∙ c.in-Ok.ensures.taken
+
+pub returns-clause-headers : goal.returns-clause-headers
+returns-clause-headers g c = c.in-Ok-read_until.ensures.headers ∙ c.in-Ok.ensures.headers
+
+pub returns-clause-weight : goal.returns-clause-weight
+returns-clause-weight g c = le_trans c.in-Ok-read_until.ensures.weight c.in-Ok.ensures.weight

@@ -1,0 +1,44 @@
+use Rattle.std.proofs.Common.{◌<◌, length, refl, subst, ◌∙◌, le_refl, le_trans}
+use Rattle.oci_names.specs.Text.{Text}
+use Rattle.registry_http.proofs.ReadingLemmas.{pulls-none, pulls-on, until_stops}
+use Rattle.registry_http.proofs.intake.Intake.read_until.Goals as goal
+
+pub loop-need-init : goal.loop-need-init
+loop-need-init g c = record { pulls = pulls-none _ _; taken = refl; headers = refl; weight = le_refl _ }
+
+pub loop-need-preserved : goal.loop-need-preserved
+loop-need-preserved g c =
+    let so = c.loop-need.invariant in
+    let more = c.in_default.ensures in
+    record {
+      pulls = pulls-on so.pulls more.cases;
+      taken = more.taken ∙ so.taken;
+      headers = more.headers ∙ so.headers;
+      weight = le_trans more.weight so.weight;
+    }
+
+pub loop-need-smaller : goal.loop-need-smaller
+loop-need-smaller g c = c.in_default.ensures.fewer
+
+pub returns-then-need-here-clause-taken : goal.returns-then-need-here-clause-taken
+returns-then-need-here-clause-taken g c = c.loop-need.invariant.taken
+
+pub returns-then-need-here-clause-weight : goal.returns-then-need-here-clause-weight
+returns-then-need-here-clause-weight g c = c.loop-need.invariant.weight
+
+pub returns-then-need-here-clause-headers : goal.returns-then-need-here-clause-headers
+returns-then-need-here-clause-headers g c = c.loop-need.invariant.headers
+
+pub returns-then-need-here-clause-cases : goal.returns-then-need-here-clause-cases
+returns-then-need-here-clause-cases g c = c.loop-need.invariant.pulls
+
+pub returns-in-Err-clause-taken : goal.returns-in-Err-clause-taken
+returns-in-Err-clause-taken g c = c.in-Err.ensures.taken ∙ c.loop-need.invariant.taken
+
+pub returns-in-Err-clause-headers : goal.returns-in-Err-clause-headers
+returns-in-Err-clause-headers g c = c.in-Err.ensures.headers ∙ c.loop-need.invariant.headers
+
+pub returns-in-Err-clause-cases : goal.returns-in-Err-clause-cases
+returns-in-Err-clause-cases g c =
+    until_stops c.in-Err.stop c.args.need _ _ _ _ _ c.loop-need.invariant.pulls c.in-Err.ensures.cases
+    (subst (λ (b : Text). length b < c.args.need) c.behind-here.ensures c.if-need-here.false)

@@ -1,0 +1,154 @@
+-- What is known of usages behind a write, and what a write tells whose change was looked up before.
+use Rattle.std.proofs.Common.{◌≡◌, ◌≢◌, ◌+◌, ◌++◌, ℕ, arith, is_some, Bool, true, false, None, Some, Ok, Err, Result, OnOk, OnErr, sym, subst, refl}
+use Rattle.std.specs.Prelude.{Option, IfOk, IfSome}
+use Rattle.std.specs.FinMap.{get}
+use Rattle.sqlite_trees.specs.declared.store.Store.{Ghosts}
+use Rattle.sqlite.specs.State as sqlite
+use Rattle.sqlite.specs.State.{HasCleanDisk}
+use Rattle.sqlite.specs.Held.{Held, state}
+use Rattle.oci_names.specs.Text.{Text}
+use Rattle.oci_names.specs.declared.fault.Fault.{Fault}
+use Rattle.oci_names.specs.declared.fault.Fault.TheVariants.{Memory}
+use Rattle.registry_model.specs.World.{Repo, World, repo_at, has_repo, update_repo}
+use Rattle.registry_model.specs.Sessions.{opened, appended}
+use Rattle.registry_model.specs.Lookups.{append, bytes_or_none, last_number_at, open_session, session_at}
+use Rattle.store_reads.proofs.WorldReads.{no_session}
+use Rattle.store_statements.specs.Held.{IsSettled, StaysSettled, SettlesOn, is_storage, held, world_in}
+use Rattle.store_statements.specs.Between.{Stays, Tells, StaysOnMemory, MakesWorld}
+use Rattle.store_statements.specs.Clauses.{Lasts, WorldHas}
+use Rattle.store_statements.proofs.SettledAfter.{stays_then}
+use Rattle.store_statements.proofs.Transactions.{registry, survives_all}
+use Rattle.store_usages.specs.declared.usage_change.Change.{Change}
+use Rattle.store_usages.specs.declared.known_usages.KnownUsages.{KnownUsages}
+use Rattle.store_session_writes.specs.Whole.{DoneWhereSo}
+use Rattle.store_usages.specs.Usages.{known_at, Knows, IsKnown, StaysKnown, Sets, Foretells, IsNext, or_untold}
+use Rattle.store_usages.proofs.CleanBefore.{was_clean}
+use Rattle.store_usages.proofs.Foretold.{earlier, later, if_told, untold_settled, session_has_repo}
+use Rattle.store_usages.proofs.KnownWorlds.{follows, unfollowed, forgets}
+use Rattle.registry_store.proofs.KnownAnswers.{whether_then}
+use Rattle.registry_store.proofs.KeeperAnswers.{made}
+
+-- what is known, whether the write was made or not
+pub follows_made : {A : Type 0} (known knew : KnownUsages) (before after : sqlite.State) (name : Text) (f : Repo → Repo) (change : Option Change) (answer : Result A Fault)
+    → Knows known (world_in before) → has_repo (world_in before) name ≡ true → IfSome change (Foretells (world_in before) name f)
+    → OnOk answer (Sets known knew name (IsNext (known_at known name) change)) → OnErr answer (knew ≡ known) → is_storage answer ≡ false
+    → OnOk answer (SettlesOn after (update_repo (world_in before) name f (repo_at (world_in before) name))) → (answer ≡ Err Memory → StaysSettled before after) → Knows knew (world_in after)
+follows_made known knew before after name f change (Ok v) knows there told sets kept sound made stays = follows known knew after (world_in before) name f change knows there told sets made.1
+follows_made known knew before after name f change (Err fault) knows there told sets kept sound made stays =
+    subst (λ k. Knows k (world_in after)) (sym kept) (unfollowed known before after fault knows sound stays)
+
+-- behind a write to a repository of which nothing is known any more
+pub forgotten : {S A : Type 0} (g : Ghosts S) (old new : Held S) (known knew : KnownUsages) (name : Text) (f : World → World) (answer : Result A Fault) → Lasts g old new → Sets known knew name (λ _. ⊥)
+    → ((w : World) (q : Text) → q ≢ name → repo_at (f w) q ≡ repo_at w q) → MakesWorld g old new answer f → StaysOnMemory g old new answer → IsKnown g old known → StaysKnown g old new knew answer
+forgotten g old new known knew name f answer wrote sets beside made memory knows clean is sound =
+    forgets known knew (state g old) (state g new) name f answer (knows (was_clean (state g old) (state g new) wrote clean)) sets (beside (world_in (state g old))) sound (made clean is) (memory clean is)
+
+-- behind a session that was opened
+pub opened_known : {S : Type 0} (g : Ghosts S) (old new : Held S) (known knew : KnownUsages) (name : Text) (change : Change) (answer : Result ℕ Fault) → Lasts g old new
+    → ((w : World) → session_at w name (last_number_at w name + 1) ≡ None → Foretells w name opened change) → WorldHas g old (λ w. has_repo w name ≡ true)
+    → OnOk answer (Sets known knew name (IsNext (known_at known name) (Some change))) → OnErr answer (knew ≡ known)
+    → (HasCleanDisk (state g new) → IsSettled (state g old) → IfOk answer (λ n. (n ≡ last_number_at (world_in (state g old)) name + 1) × SettlesOn (state g new) (open_session (world_in (state g old)) name)))
+    → StaysOnMemory g old new answer → IsKnown g old known → StaysKnown g old new knew answer
+opened_known g old new known knew name change answer wrote foretold there sets kept opens memory knows clean is sound =
+    let w = world_in (state g old) in
+    let early : HasCleanDisk (state g old) = was_clean (state g old) (state g new) wrote clean in
+    let last = last_number_at w name in
+    let none : session_at w name (last + 1) ≡ None = no_session (held (state g old)) name (last + 1) last (registry (state g old) is) refl (omega arith) in
+    follows_made known knew (state g old) (state g new) name opened (Some change) answer (knows early) (there early) (foretold w none) sets kept sound
+    (made (λ n. n ≡ last + 1) (SettlesOn (state g new) (open_session w name)) answer (opens clean is)) (memory clean is)
+
+-- behind one that became longer
+pub longer_known : {S A : Type 0} (g : Ghosts S) (old new : Held S) (known knew : KnownUsages) (name : Text) (number : ℕ) (bytes : Text) (change : Change) (answer : Result A Fault) → Lasts g old new
+    → ((w : World) → is_some (session_at w name number) ≡ true → Foretells w name (λ r. appended r number (bytes_or_none (get r.sessions number) ++ bytes)) change)
+    → WorldHas g old (λ w. is_some (session_at w name number) ≡ true)
+    → OnOk answer (Sets known knew name (IsNext (known_at known name) (Some change))) → OnErr answer (knew ≡ known)
+    → (WorldHas g old (λ w. is_some (session_at w name number) ≡ true) → MakesWorld g old new answer (λ w. append w name number bytes))
+    → StaysOnMemory g old new answer → IsKnown g old known → StaysKnown g old new knew answer
+longer_known g old new known knew name number bytes change answer wrote foretold is_open sets kept makes memory knows clean is sound =
+    let w = world_in (state g old) in
+    let early : HasCleanDisk (state g old) = was_clean (state g old) (state g new) wrote clean in
+    follows_made known knew (state g old) (state g new) name (λ (r : Repo). appended r number (bytes_or_none (get r.sessions number) ++ bytes)) (Some change) answer (knows early)
+    (session_has_repo w name number (is_open early)) (foretold w (is_open early)) sets kept sound (makes is_open clean is) (memory clean is)
+
+not_done : ◌≡◌ {A = Result Bool Fault} (Ok false) (Ok true) → ⊥
+not_done e = absurd cc
+
+not_refused : (fault : Fault) → ◌≡◌ {A = Result Bool Fault} (Err fault) (Ok true) → ⊥
+not_refused fault e = absurd cc
+
+-- the same of a write that answers whether it was made
+follows_done : (known knew : KnownUsages) (before after : sqlite.State) (name : Text) (so : World → Bool) (f : World → Repo → Repo) (change : Option Change) (answer : Result Bool Fault)
+    → Knows known (world_in before) → (so (world_in before) ≡ true → has_repo (world_in before) name ≡ true) → IfSome change (Foretells (world_in before) name (f (world_in before)))
+    → (answer ≡ Ok true → Sets known knew name (IsNext (known_at known name) change)) → ((answer ≡ Ok true → ⊥) → knew ≡ known) → is_storage answer ≡ false
+    → IfOk answer (λ done. DoneWhereSo done before after so (λ w. update_repo w name (f w) (repo_at w name))) → (answer ≡ Err Memory → StaysSettled before after) → Knows knew (world_in after)
+follows_done known knew before after name so f change (Ok true) knows there told sets kept sound made stays =
+    follows known knew after (world_in before) name (f (world_in before)) change knows (there made.0) told (sets refl) made.1.1
+follows_done known knew before after name so f change (Ok false) knows there told sets kept sound made stays =
+    subst (λ k. Knows k (world_in after)) (sym (kept not_done)) (later (Knows known) before after made.1 knows)
+follows_done known knew before after name so f change (Err fault) knows there told sets kept sound made stays =
+    subst (λ k. Knows k (world_in after)) (sym (kept (not_refused fault))) (unfollowed known before after fault knows sound stays)
+
+-- a look-up before it changes nothing of that
+whether_before : (answer : Result Bool Fault) (old mid new : sqlite.State) (so : World → Bool) (f : World → World) → StaysSettled old mid
+    → IfOk answer (λ done. DoneWhereSo done mid new so f) → IfOk answer (λ done. DoneWhereSo done old new so f)
+whether_before (Ok done) old mid new so f stays made = whether_then done done old mid new so f refl stays made
+whether_before (Err fault) old mid new so f stays made = tt
+
+module _ {S : Type 0} (g : Ghosts S) (old mid new : Held S) (told : Result (Option Change) Fault) (change : Option Change) (is_told : Ok change ≡ or_untold told)
+    (looked : Lasts g old mid) (stays : Stays g old mid told) (wrote : Lasts g mid new) where
+  pub lasts : Lasts g old new
+  lasts = survives_all (state g old) (state g mid) (state g new) _ _ looked wrote
+
+  -- the look-up changed nothing
+  pub looked_up : HasCleanDisk (state g new) → IsSettled (state g old) → StaysSettled (state g old) (state g mid)
+  looked_up clean is = stays (was_clean (state g mid) (state g new) wrote clean) is (untold_settled told change is_told)
+
+  has_then : (P : World → Type 0) → WorldHas g old P → IsSettled (state g old) → WorldHas g mid P
+  has_then P has is clean =
+      later P (state g old) (state g mid) (stays clean is (untold_settled told change is_told)).1 (has (was_clean (state g old) (state g mid) looked clean))
+
+  module _ {A : Type 0} (answer : Result A Fault) where
+    -- the write made its change of what was there before
+    pub made_then : (P : World → Type 0) (f : World → World) → WorldHas g old P → (WorldHas g mid P → MakesWorld g mid new answer f) → MakesWorld g old new answer f
+    made_then P f has made clean is = by (looked_up clean is)
+      where
+        by : StaysSettled (state g old) (state g mid) → OnOk answer (SettlesOn (state g new) (f (world_in (state g old))))
+        by same = earlier (λ w. OnOk answer (SettlesOn (state g new) (f w))) (state g old) (state g mid) same.1 (made (has_then P has is) clean same.0)
+
+    pub memory_then : StaysOnMemory g mid new answer → StaysOnMemory g old new answer
+    memory_then memory clean is wanting = by (looked_up clean is)
+      where
+        by : StaysSettled (state g old) (state g mid) → StaysSettled (state g old) (state g new)
+        by same = stays_then (state g old) (state g mid) (state g new) same (memory clean same.0 wanting)
+
+    pub memory_where : (P : World → Type 0) → WorldHas g old P → (WorldHas g mid P → StaysOnMemory g mid new answer) → StaysOnMemory g old new answer
+    memory_where P has memory clean is wanting = memory_then (memory (has_then P has is)) clean is wanting
+
+    pub known_then : (known knew : KnownUsages) (name : Text) (f : World → Repo → Repo) → IsKnown g old known → WorldHas g old (λ w. has_repo w name ≡ true)
+        → Tells g old mid told (λ w change. IfSome change (Foretells w name (f w))) → OnOk answer (Sets known knew name (IsNext (known_at known name) change)) → OnErr answer (knew ≡ known)
+        → MakesWorld g old new answer (λ w. update_repo w name (f w) (repo_at w name)) → StaysOnMemory g old new answer → StaysKnown g old new knew answer
+    known_then known knew name f knows there tells sets kept made memory clean is sound = by (was_clean (state g mid) (state g new) wrote clean)
+      where
+        by : HasCleanDisk (state g mid) → Knows knew (world_in (state g new))
+        by then =
+            follows_made known knew (state g old) (state g new) name (f (world_in (state g old))) change answer (knows (was_clean (state g old) (state g mid) looked then))
+            (there (was_clean (state g old) (state g mid) looked then)) (if_told told change (Foretells (world_in (state g old)) name (f (world_in (state g old)))) is_told (tells then is)) sets kept sound (made clean is) (memory clean is)
+
+  module _ (answer : Result Bool Fault) where
+    pub done_then : (so : World → Bool) (f : World → World) → (HasCleanDisk (state g new) → IsSettled (state g mid) → IfOk answer (λ done. DoneWhereSo done (state g mid) (state g new) so f))
+        → HasCleanDisk (state g new) → IsSettled (state g old) → IfOk answer (λ done. DoneWhereSo done (state g old) (state g new) so f)
+    done_then so f made clean is = by (looked_up clean is)
+      where
+        by : StaysSettled (state g old) (state g mid) → IfOk answer (λ done. DoneWhereSo done (state g old) (state g new) so f)
+        by same = whether_before answer (state g old) (state g mid) (state g new) so f same (made clean same.0)
+
+    pub known_done : (known knew : KnownUsages) (name : Text) (so : World → Bool) (f : World → Repo → Repo) → ((w : World) → so w ≡ true → has_repo w name ≡ true) → IsKnown g old known
+        → Tells g old mid told (λ w change. IfSome change (Foretells w name (f w))) → (answer ≡ Ok true → Sets known knew name (IsNext (known_at known name) change)) → ((answer ≡ Ok true → ⊥) → knew ≡ known)
+        → (HasCleanDisk (state g new) → IsSettled (state g old) → IfOk answer (λ done. DoneWhereSo done (state g old) (state g new) so (λ w. update_repo w name (f w) (repo_at w name))))
+        → StaysOnMemory g old new answer → StaysKnown g old new knew answer
+    known_done known knew name so f there knows tells sets kept made memory clean is sound = by (was_clean (state g mid) (state g new) wrote clean)
+      where
+        by : HasCleanDisk (state g mid) → Knows knew (world_in (state g new))
+        by then =
+            follows_done known knew (state g old) (state g new) name so f change answer (knows (was_clean (state g old) (state g mid) looked then)) (there (world_in (state g old)))
+            (if_told told change (Foretells (world_in (state g old)) name (f (world_in (state g old)))) is_told (tells then is)) sets kept sound (made clean is) (memory clean is)

@@ -1,0 +1,40 @@
+//! What is known of usages follows what was written.
+ghost use Rattle.std.specs.Prelude.{◌≡◌, true, Ok, OnOk, OnErr};
+ghost use Rattle.store_usages.specs.Usages.{known_at, Sets, IsNext};
+
+use oci_names::{Fault, RepoName};
+use store_usages::{Change, KnownUsages};
+
+/// What is known of the repository follows the change, where the write was made.
+pub(crate) fn follow_made<T>(
+    known: &mut KnownUsages,
+    repo: &RepoName,
+    change: Option<Change>,
+    made: &Result<T, Fault>,
+)
+    ensures followed { OnOk made.now
+        (Sets known.old known.new repo.now (IsNext (known_at known.old repo.now) change)) }
+    ensures kept { OnErr made.now (known.new ≡ known.old) }
+{
+    match made {
+        Ok(_) => known.follow(repo, change),
+        Err(_) => {}
+    }
+}
+
+/// The same of a write that answers whether it was made.
+pub(crate) fn follow_done(
+    known: &mut KnownUsages,
+    repo: &RepoName,
+    change: Option<Change>,
+    done: &Result<bool, Fault>,
+)
+    ensures followed { done.now ≡ Ok true
+        → Sets known.old known.new repo.now (IsNext (known_at known.old repo.now) change) }
+    ensures kept { (done.now ≡ Ok true → ⊥) → known.new ≡ known.old }
+{
+    match done {
+        Ok(true) => known.follow(repo, change),
+        _ => {}
+    }
+}
