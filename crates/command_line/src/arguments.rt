@@ -5,8 +5,10 @@ ghost use Rattle.command_line.specs.CommandLine.{HasRule};
 
 use clap::builder::ValueParser;
 use clap::{Arg, ArgAction};
-use registry_model::LARGEST_QUOTA;
 use std::alloc::Global;
+
+/// The largest number that an option takes: also the largest quota, and the most connections.
+pub(crate) const MOST: u64 = 9_223_372_036_854_775_807;
 
 /// An option with one value.
 pub(crate) fn option<'a>(alloc: Global, word: &'a str, value: &'a str, help: &'a str) -> Arg<'a>
@@ -67,7 +69,7 @@ pub(crate) fn quota<'a>(alloc: Global) -> Arg<'a>
 {
     let help = "The most bytes that the repository may use";
     let quota = option(alloc, "quota", "BYTES", help).required(true);
-    within(quota, 0, LARGEST_QUOTA)
+    within(quota, 0, MOST)
 }
 
 pub(crate) fn level<'a>(alloc: Global) -> Arg<'a>

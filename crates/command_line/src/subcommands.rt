@@ -6,19 +6,13 @@ ghost use Rattle.command_line.specs.CommandLine as spec;
 ghost use Rattle.command_line.specs.CommandLine.{HasRule, IsApp, IsSub};
 
 use crate::arguments::{
-    address, database, flag, level, name, name_if, number, option, orders, quota, repeated,
+    MOST, address, database, flag, level, name, name_if, number, option, orders, quota, repeated,
 };
 use clap::{Arg, Command};
 use std::alloc::{AllocError, Global};
 
-/// The most connections that can be asked for.
-const MOST_CONNECTIONS: u64 = 9_223_372_036_854_775_807;
-
 /// The fewest bytes that may be given for requests and replies in hand: the largest of each.
 const LEAST_BUFFER: u64 = 134_217_728;
-
-/// The most, which is the largest quota too.
-const MOST_BUFFER: u64 = 9_223_372_036_854_775_807;
 
 /// The command with one more argument. A chain of these has one `?`, and not one for each argument, since
 /// each `?` of a function makes it dearer to prove.
@@ -59,7 +53,7 @@ fn serving<'a>(alloc: Global) -> Result<Command<'a>, AllocError>
     let command = with(command, address(alloc));
     let help = "End after so many connections";
     let most = "9223372036854775807";
-    let connections = number(alloc, "connections", "N", help, 0, MOST_CONNECTIONS, most);
+    let connections = number(alloc, "connections", "N", help, 0, MOST, most);
     let command = with(command, connections);
     let help = "Serve so many at once; 1: one after the other";
     let at_once = number(alloc, "at-once", "N", help, 1, 65_536, "256");
@@ -71,7 +65,7 @@ fn serving<'a>(alloc: Global) -> Result<Command<'a>, AllocError>
         "BYTES",
         help,
         LEAST_BUFFER,
-        MOST_BUFFER,
+        MOST,
         "536870912",
     );
     let command = with(command, buffer);
