@@ -1,5 +1,5 @@
 -- Where bytes lie in the room of a buffer.
-use Rattle.std.proofs.Common.{◌≡◌, ℕ, ◌+◌, ◌-◌, ◌≤◌, zero, suc, [], ◌∷◌, ◌++◌, length, take, drop, slice_range, refl, sym, ap, ◌∙◌, arith, length-take, length-drop}
+use Rattle.std.proofs.Common.{◌≡◌, ℕ, ◌+◌, ◌-◌, ◌≤◌, zero, suc, [], ◌∷◌, ◌++◌, length, take, drop, slice_range, refl, sym, ap, ◌∙◌, arith, length-append, length-take, length-drop}
 use Rattle.std.proofs.lemmas.List.{drop-take, drop-drop, drop-append-le, take_at, drop_at}
 use Rattle.std.proofs.Math.Seq.{take-add}
 use Rattle.oci_names.specs.Text.{Text}
@@ -100,3 +100,31 @@ module _ (xs ys zs : Text) (s p u e : ℕ) (started : s ≤ p) (placed : p ≤ u
   compact_behind =
       slice_as zs (p - s) ((p - s) + (e - u)) (omega arith) ∙ ap (drop (p - s)) all
       ∙ drop_at (take (p - s) ys) (take (e - u) (drop u ys)) (p - s) size ∙ others
+
+-- n bytes from `from` on were copied to the place `to`
+module _ (xs ys : Text) (from n to : ℕ) (down : to ≤ from) (within : from + n ≤ length xs)
+    (copied : ys ≡ (take to xs ++ take (from + n - from) (drop from xs)) ++ drop (to + (from + n - from)) xs) where
+  copied_part : ys ≡ (take to xs ++ take n (drop from xs)) ++ drop (to + n) xs
+  copied_part =
+      let part : from + n - from ≡ n = omega arith in
+      copied ∙ ap (λ k. (take to xs ++ take k (drop from xs)) ++ drop (to + k) xs) part
+
+  copied_len : length (take to xs ++ take n (drop from xs)) ≡ to + n
+  copied_len = omega (arith, length-append (take to xs) (take n (drop from xs)), length-take to xs, length-take n (drop from xs), length-drop from xs)
+
+  pub copied_front : take (to + n) ys ≡ take to xs ++ take n (drop from xs)
+  copied_front = ap (take (to + n)) copied_part ∙ take_at (take to xs ++ take n (drop from xs)) (drop (to + n) xs) (to + n) copied_len
+
+  pub copied_behind : drop (to + n) ys ≡ drop (to + n) xs
+  copied_behind = ap (drop (to + n)) copied_part ∙ drop_at (take to xs ++ take n (drop from xs)) (drop (to + n) xs) (to + n) copied_len
+
+-- nothing is moved where the bytes are at their place
+pub unmoved : (xs : Text) (from n to : ℕ) → to ≡ from → take (to + n) xs ≡ take to xs ++ take n (drop from xs)
+unmoved xs from n to same = take-add to n xs ∙ ap (λ k. take to xs ++ take n (drop k xs)) same
+
+-- the place goes on by n bytes
+pub passed_start : (s p n : ℕ) → s ≤ p → s ≤ p + n
+passed_start s p n le = omega (arith, le)
+
+pub passed_place : (p u n : ℕ) → p ≤ u → p + n ≤ u + n
+passed_place p u n le = omega (arith, le)

@@ -1,4 +1,5 @@
 pub mod CauseLemmas
+pub mod ExitLemmas
 pub mod FoundLemmas
 pub mod GivenLemmas
 pub mod OutputLemmas

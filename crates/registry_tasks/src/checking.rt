@@ -61,7 +61,6 @@ fn told<E: Write>(checked: Result<(), Failure>, err: &mut E) -> u8
 }
 
 /// Opens the registry at a path, reads all that it holds, and writes a line for each thing that is wrong.
-#[tactic(auto, using(crate::proofs::ExitStatuses::check_status, crate::proofs::ExitStatuses::opening_status))]
 pub fn run_check<K: Keeper + Drop, O: Opener<K>, W: Write, E: Write>(
     alloc: Global,
     opener: &O,

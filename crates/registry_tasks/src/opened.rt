@@ -38,7 +38,6 @@ pub(crate) fn end_at<K: Keeper + Drop, O: Opener<K>, E: Write>(
 }
 
 /// Opens the registry at a path, and carries an order out over it.
-#[tactic(auto, using(crate::proofs::ExitStatuses::opening_read))]
 fn run_order<K: Keeper + Drop, O: Opener<K>, W: Write, E: Write>(
     alloc: Global,
     opener: &O,
@@ -111,7 +110,6 @@ pub fn run_stored<K: Keeper + Drop, O: Opener<K>, R: Read, W: Write, E: Write>(
 }
 
 /// Takes over the registry of schema 1 at a path.
-#[tactic(auto, using(crate::proofs::ExitStatuses::opening_read))]
 pub fn run_migration<K: Keeper, O: Opener<K>, E: Write>(opener: &O, path: &str, err: &mut E) -> u8
     ensures runs { EndsMigration result }
     ensures status { result ≤ 4 }

@@ -97,7 +97,6 @@ fn ended(end: End, spent: bool) -> Result<(), Failure>
 /// Serves one connection over the service, and says on standard error what failed. The status is 0;
 /// 4 where reading or writing failed; 3 where the service is spent at the end. A connection that was
 /// cut or refused is no failure.
-#[tactic(auto, using(crate::proofs::ExitStatuses::connection_status))]
 pub fn serve_stdio<R: Read, W: Write, E: Write, K: Keeper>(
     alloc: Global,
     service: &mut Service<K>,

@@ -1,5 +1,5 @@
 -- Rows moved one after the other, as their keys are listed.
-use Rattle.std.proofs.Common.{◌≡◌, ◌∙◌, ◌<◌, ◌+◌, ◌++◌, ℕ, List, [], ◌∷◌, length, map, take, get_or, Ok, Err, Result, OnOk, refl, sym, ap, subst, inl, arith}
+use Rattle.std.proofs.Common.{◌≡◌, ◌∙◌, ◌<◌, ◌+◌, ◌++◌, ℕ, List, [], ◌∷◌, length, map, take, get_or, Ok, Err, Result, OnOk, refl, sym, ap, subst, arith}
 use Rattle.std.specs.Prelude.{string_bytes, IfOk}
 use Rattle.std.specs.List.Sorted.{IsPermutation}
 use Rattle.std.proofs.lemmas.List.{take_more, map-append, length-map}
@@ -20,6 +20,7 @@ use Rattle.store_old_rows.specs.declared.keys.SessionKey.{SessionKey}
 use Rattle.store_old_rows.specs.Olds.{old_of}
 use Rattle.store_old_rows.specs.Shown.{key_shown, session_shown}
 use Rattle.store_moves.specs.Moving.{IsUnderway, Moves}
+use Rattle.store_moves.proofs.Underway.{keeps_still, survives_still}
 
 -- ---- so far
 
@@ -31,8 +32,8 @@ pub record MovedSoFar (f : OldTables → OldTables) (first now : State) : Type 0
 pub none_moved : (f : OldTables → OldTables) (s : State) → f (old_of (held s)) ≡ old_of (held s) → MovedSoFar f s s
 none_moved f s same = record {
   moved = λ clean is under. (is, record { underway = under; world = refl; left = sym same });
-  kept = λ clean is under. record { was_open = λ open_now. open_now; committed = λ open_now. refl };
-  survives = record { clean = omega arith; shield = λ x. x; counts = omega arith; limit = refl; closes = λ clean open_now. inl open_now; crash = λ clean db may. inl may };
+  kept = λ clean is under. keeps_still s;
+  survives = survives_still s;
 }
 
 pub one_moved : (f g h : OldTables → OldTables) (first mid new : State) → ((old : OldTables) → g (f old) ≡ h old) → MovedSoFar f first mid

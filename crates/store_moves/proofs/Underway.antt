@@ -1,8 +1,8 @@
 -- Tables underway, after what leaves the old rows, and after what was only read.
-use Rattle.std.proofs.Common.{◌≡◌, true, None, Some, refl, sym, subst, Result, OnOk}
+use Rattle.std.proofs.Common.{◌≡◌, true, None, Some, refl, sym, subst, Result, OnOk, inl, arith}
 use Rattle.std.specs.Prelude.{Option, option_map, is_some, IsTrue}
 use Rattle.sqlite.specs.Effect.{Database}
-use Rattle.sqlite.specs.State.{State, IsUnchanged}
+use Rattle.sqlite.specs.State.{State, IsUnchanged, KeepsCommit, Survives}
 use Rattle.store_schema.specs.Rows.{HaveIds}
 use Rattle.store_world.specs.Tables.{Tables, Beside}
 use Rattle.store_statements.specs.Held.{IsReady, HoldsTables, held, tables_in}
@@ -27,6 +27,14 @@ underway_read old new under u = subst (λ (d : Database). IsUnderway (tables_in 
 
 pub moved_read : {A E : Type 0} (old mid new : State) (f : OldTables → OldTables) (r : Result A E) → IsUnchanged old mid → OnOk r (IsReady new × Moves f (held mid) (held new)) → OnOk r (IsReady new × Moves f (held old) (held new))
 moved_read old mid new f r u h = subst (λ (d : Database). OnOk r (IsReady new × Moves f (tables_in d) (held new))) u.0.now_is h
+
+-- ---- nothing was done
+
+pub keeps_still : (s : State) → KeepsCommit s s
+keeps_still s = record { was_open = λ open_now. open_now; committed = λ open_now. refl }
+
+pub survives_still : (s : State) → Survives s s (λ _. ⊥)
+survives_still s = record { clean = omega arith; shield = λ x. x; counts = omega arith; limit = refl; closes = λ clean open_now. inl open_now; crash = λ clean db may. inl may }
 
 -- ---- what is found of a row
 

@@ -1,6 +1,20 @@
 use Rattle.std.proofs.Common.{inr, refl}
 use Rattle.registry_orders.specs.declared.failure.Failure.TheVariants.{OutOfMemory}
+use Rattle.registry_tasks.proofs.StatusBounds.{status_at_most, sending_read}
 use Rattle.registry_tasks.proofs.sending.send_order.Goals as goal
 
-pub returns-in-Err-clause-sent : goal.returns-in-Err-clause-sent
-returns-in-Err-clause-sent g c = inr (OutOfMemory, tt, c.say.ensures, refl)
+pub returns-in-Ok : goal.returns-in-Ok
+returns-in-Ok g c = record {
+  sent = c.send_line.ensures.sent;
+  silent = c.send_line.ensures.silent;
+  status = c.send_line.ensures.status;
+  read = c.send_line.ensures.read;
+}
+
+pub returns-in-Err : goal.returns-in-Err
+returns-in-Err g c = record {
+  sent = inr (OutOfMemory, tt, c.say.ensures, refl);
+  silent = λ more less. refl;
+  status = status_at_most OutOfMemory c.say.result c.say.ensures;
+  read = sending_read OutOfMemory c.say.result tt c.say.ensures;
+}

@@ -1,4 +1,5 @@
 use Rattle.std.proofs.Common.{sym, subst}
+use Rattle.registry_tasks.proofs.ExitStatuses.{serving_of_opening}
 use Rattle.registry_tasks.proofs.SinceOpened.{Since, since_opened, since_served, since_resumed}
 use Rattle.registry_tasks.proofs.sockets.serve_each.Goals as goal
 
@@ -17,5 +18,11 @@ loop-preserved g c honest =
     (since_resumed k.is_honest k.state opens c.loop.service next c.loop.invariant c.in-Ok.ensures.resumed (c.serve_next.ensures.honest honest))
     c.in-Ok.ensures.fresh (c.in-Ok-serve_next.ensures.serves honest)
 
-pub returns-clause-served : goal.returns-clause-served
-returns-clause-served g c = record { last = c.loop.service; says = c.loop.invariant }
+pub returns-in-Err : goal.returns-in-Err
+returns-in-Err g c = record { served = tt; fails = serving_of_opening c.in-Err.failure c.in-Err.ensures.refused }
+
+pub returns-in-Err-serve_next : goal.returns-in-Err-serve_next
+returns-in-Err-serve_next g c = record { served = tt; fails = tt }
+
+pub returns : goal.returns
+returns g c = record { served = record { last = c.loop.service; says = c.loop.invariant }; fails = tt }

@@ -1,5 +1,5 @@
 use Rattle.std.proofs.Common.{◌∙◌, ◌+◌, ◌∷◌, drop, refl, ap, sym}
-use Rattle.std.proofs.lemmas.List.{at_drop_more}
+use Rattle.std.proofs.lemmas.List.{at_drop_more, at_drop_all}
 use Rattle.registry_orders.specs.declared.options.GrantOption.{GrantOption}
 use Rattle.registry_orders.specs.Setting.{with_levels}
 use Rattle.registry_orders.proofs.SettingLemmas.{level_given, level_told}
@@ -7,6 +7,9 @@ use Rattle.registry_tasks.proofs.stdio.give_levels.Goals as goal
 
 pub loop-grant-init : goal.loop-grant-init
 loop-grant-init g c = record { honest = λ h. h; so_far = λ h. refl }
+
+pub returns-in-Err-clause-honest : goal.returns-in-Err-clause-honest
+returns-in-Err-clause-honest g c honest = c.loop-grant.invariant.honest (c.admin.ensures.honest honest)
 
 pub returns-in-Err-clause-given : goal.returns-in-Err-clause-given
 returns-in-Err-clause-given g c honest =
@@ -28,4 +31,13 @@ loop-grant-preserved g c =
           ∙ at_drop_more (with_levels s.world) c.args.grants.now c.loop-grant.grant-index c.grant-item.result c.loop-grant-test.true
           ∙ ap (λ (o : GrantOption). with_levels s.world (o ∷ others)) (sym c.grant-item.is)
           ∙ level_given s (g.K.Keeper.state c.admin.new.self) c.grant-item.result others c.in-Ok.field-0 (rw c.in-Ok.is at (c.admin.ensures.does honest));
+    }
+
+pub returns : goal.returns
+returns g c =
+    let so_far = c.loop-grant.invariant in
+    let w = (g.K.Keeper.state c.loop-grant.service).world in
+    record {
+      honest = so_far.honest;
+      given = λ honest. so_far.so_far honest ∙ at_drop_all (with_levels w) c.args.grants.now c.loop-grant.grant-index c.loop-grant-test.false;
     }

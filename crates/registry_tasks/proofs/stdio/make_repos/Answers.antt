@@ -1,5 +1,5 @@
 use Rattle.std.proofs.Common.{◌∙◌, ◌+◌, ◌∷◌, drop, refl, ap, sym}
-use Rattle.std.proofs.lemmas.List.{at_drop_more}
+use Rattle.std.proofs.lemmas.List.{at_drop_more, at_drop_all}
 use Rattle.registry_orders.specs.declared.options.RepoOption.{RepoOption}
 use Rattle.registry_orders.specs.Setting.{with_repos}
 use Rattle.registry_orders.proofs.SettingLemmas.{repo_made, repo_told}
@@ -7,6 +7,9 @@ use Rattle.registry_tasks.proofs.stdio.make_repos.Goals as goal
 
 pub loop-repo-init : goal.loop-repo-init
 loop-repo-init g c = record { honest = λ h. h; so_far = λ h. refl }
+
+pub returns-in-Err-clause-honest : goal.returns-in-Err-clause-honest
+returns-in-Err-clause-honest g c honest = c.loop-repo.invariant.honest (c.admin.ensures.honest honest)
 
 pub returns-in-Err-clause-made : goal.returns-in-Err-clause-made
 returns-in-Err-clause-made g c honest =
@@ -28,4 +31,13 @@ loop-repo-preserved g c =
           ∙ at_drop_more (with_repos s.world) c.args.repos.now c.loop-repo.repo-index c.repo-item.result c.loop-repo-test.true
           ∙ ap (λ (o : RepoOption). with_repos s.world (o ∷ others)) (sym c.repo-item.is)
           ∙ repo_made s (g.K.Keeper.state c.admin.new.self) c.repo-item.result others c.in-Ok.field-0 (rw c.in-Ok.is at (c.admin.ensures.does honest));
+    }
+
+pub returns : goal.returns
+returns g c =
+    let so_far = c.loop-repo.invariant in
+    let w = (g.K.Keeper.state c.loop-repo.service).world in
+    record {
+      honest = so_far.honest;
+      made = λ honest. so_far.so_far honest ∙ at_drop_all (with_repos w) c.args.repos.now c.loop-repo.repo-index c.loop-repo-test.false;
     }

@@ -1,4 +1,5 @@
 use Rattle.std.proofs.Common.{◌∙◌, ◌<◌, ◌+◌, List, length, take, arith, refl, ap, ap₂, subst}
+use Rattle.std.proofs.lemmas.Result.{IfOk-from_err}
 use Rattle.std.proofs.lemmas.List.{take_all}
 use Rattle.sqlite.specs.Order.{Row}
 use Rattle.sqlite.specs.Held.{state}
@@ -26,14 +27,22 @@ loop-key-preserved g c =
       same_reference = c.move_blob.ensures.same_reference ∙ c.loop-key.invariant.same_reference;
     }
 
-pub returns-clause-moved : goal.returns-clause-moved
-returns-clause-moved g c clean is under =
-    let it = c.loop-key.invariant.moved.moved clean is under in
-    (it.0, subst (λ keys. Moves (without_listed_blobs keys) (held (state g.S.Store c.args.tx.now.conn.now)) (held (state g.S.Store c.loop-key.tx.conn.now))) (take_all c.loop-key.key-index c.args.keys.now (omega arith)) it.1)
+pub returns : goal.returns
+returns g c = record {
+  moved = λ clean is under.
+      let it = c.loop-key.invariant.moved.moved clean is under in
+      (it.0, subst (λ keys. Moves (without_listed_blobs keys) (held (state g.S.Store c.args.tx.now.conn.now)) (held (state g.S.Store c.loop-key.tx.conn.now))) (take_all c.loop-key.key-index c.args.keys.now (omega arith)) it.1);
+  counted = omega (arith, c.loop-key.invariant.done);
+  kept = c.loop-key.invariant.moved.kept;
+  same_reference = c.loop-key.invariant.same_reference;
+  survives = c.loop-key.invariant.moved.survives;
+}
 
-pub returns-in_err-move_blob-clause-kept : goal.returns-in_err-move_blob-clause-kept
-returns-in_err-move_blob-clause-kept g c =
-    stopped (without_listed_blobs (take c.loop-key.key-index c.args.keys.now)) (state g.S.Store c.args.tx.now.conn.now) (state g.S.Store c.loop-key.tx.conn.now) (state g.S.Store c.move_blob.new.tx.conn.now) c.loop-key.invariant.moved c.move_blob.ensures.kept c.move_blob.ensures.survives
-
-pub returns-in_err-move_blob-clause-survives : goal.returns-in_err-move_blob-clause-survives
-returns-in_err-move_blob-clause-survives g c = survives_both (state g.S.Store c.args.tx.now.conn.now) (state g.S.Store c.loop-key.tx.conn.now) (state g.S.Store c.move_blob.new.tx.conn.now) c.loop-key.invariant.moved.survives c.move_blob.ensures.survives
+pub returns-in_err-move_blob : goal.returns-in_err-move_blob
+returns-in_err-move_blob g c = record {
+  moved = λ clean is under. IfOk-from_err c.from_residual.result _ c.from_residual.ensures.0;
+  counted = IfOk-from_err c.from_residual.result _ c.from_residual.ensures.0;
+  kept = stopped (without_listed_blobs (take c.loop-key.key-index c.args.keys.now)) (state g.S.Store c.args.tx.now.conn.now) (state g.S.Store c.loop-key.tx.conn.now) (state g.S.Store c.move_blob.new.tx.conn.now) c.loop-key.invariant.moved c.move_blob.ensures.kept c.move_blob.ensures.survives;
+  same_reference = c.move_blob.ensures.same_reference ∙ c.loop-key.invariant.same_reference;
+  survives = survives_both (state g.S.Store c.args.tx.now.conn.now) (state g.S.Store c.loop-key.tx.conn.now) (state g.S.Store c.move_blob.new.tx.conn.now) c.loop-key.invariant.moved.survives c.move_blob.ensures.survives;
+}

@@ -1,4 +1,5 @@
-use Rattle.std.proofs.Common.{List, ap, arith}
+use Rattle.std.proofs.Common.{◌∙◌, List, ap, arith}
+use Rattle.std.proofs.lemmas.Result.{IfOk-from_err}
 use Rattle.sqlite.specs.Order.{Row}
 use Rattle.sqlite.specs.State.{HasCleanDisk}
 use Rattle.sqlite.specs.Held.{state}
@@ -12,32 +13,38 @@ use Rattle.store_moves.proofs.Underway.{ready_read, underway_read}
 use Rattle.store_moves.proofs.Listed.{all_moved, all_numbers_go, counted}
 use Rattle.store_moves.proofs.sessions.move_sessions.Goals as goal
 
-pub returns-clause-moved : goal.returns-clause-moved
-returns-clause-moved g c clean is under =
-    let old = state g.S.Store c.args.tx.now.conn.now in
-    let mid = state g.S.Store c.session_keys.new.tx.conn.now in
-    let early : HasCleanDisk mid = omega (arith, c.move_listed.ensures.survives.clean) in
-    let u = c.in_ok-keys.ensures.same early is under.olds in
-    let rows = (old_of (held old)).sessions in
-    all_moved c.move_listed.result (without_listed_sessions c.in_ok-keys.keys.items) without_sessions old mid (state g.S.Store c.move_listed.new.tx.conn.now) u
-    (ap (λ (left : List Row). record (old_of (held old)) { sessions = left }) (all_numbers_go c.in_ok-keys.keys.items rows (c.in_ok-keys.ensures.found early is under.olds)))
-    (rw c.deref.ensures.value at (c.move_listed.ensures.moved clean (ready_read old mid is u) (underway_read old mid under u)))
+pub returns : goal.returns
+returns g c = record {
+  moved = λ clean is under.
+      let old = state g.S.Store c.args.tx.now.conn.now in
+      let mid = state g.S.Store c.session_keys.new.tx.conn.now in
+      let early : HasCleanDisk mid = omega (arith, c.move_listed.ensures.survives.clean) in
+      let u = c.in_ok-keys.ensures.same early is under.olds in
+      let rows = (old_of (held old)).sessions in
+      all_moved c.move_listed.result (without_listed_sessions c.in_ok-keys.keys.items) without_sessions old mid (state g.S.Store c.move_listed.new.tx.conn.now) u
+      (ap (λ (left : List Row). record (old_of (held old)) { sessions = left }) (all_numbers_go c.in_ok-keys.keys.items rows (c.in_ok-keys.ensures.found early is under.olds)))
+      (rw c.deref.ensures.value at (c.move_listed.ensures.moved clean (ready_read old mid is u) (underway_read old mid under u)));
+  counted = λ clean is under.
+      let old = state g.S.Store c.args.tx.now.conn.now in
+      let mid = state g.S.Store c.session_keys.new.tx.conn.now in
+      let early : HasCleanDisk mid = omega (arith, c.move_listed.ensures.survives.clean) in
+      counted c.move_listed.result session_of session_shown (old_of (held old)).sessions c.in_ok-keys.keys.items (c.in_ok-keys.ensures.found early is under.olds)
+      (rw c.deref.ensures.value at c.move_listed.ensures.counted);
+  kept = λ clean is under.
+      let old = state g.S.Store c.args.tx.now.conn.now in
+      let mid = state g.S.Store c.session_keys.new.tx.conn.now in
+      let early : HasCleanDisk mid = omega (arith, c.move_listed.ensures.survives.clean) in
+      let u = c.in_ok-keys.ensures.same early is under.olds in
+      commit_then old mid (state g.S.Store c.move_listed.new.tx.conn.now) (c.session_keys.ensures.kept early is under.olds) (c.move_listed.ensures.kept clean (ready_read old mid is u) (underway_read old mid under u));
+  same_reference = c.move_listed.ensures.same_reference ∙ c.session_keys.ensures.same_reference;
+  survives = survives_both (state g.S.Store c.args.tx.now.conn.now) (state g.S.Store c.session_keys.new.tx.conn.now) (state g.S.Store c.move_listed.new.tx.conn.now) c.session_keys.ensures.survives c.move_listed.ensures.survives;
+}
 
-pub returns-clause-counted : goal.returns-clause-counted
-returns-clause-counted g c clean is under =
-    let old = state g.S.Store c.args.tx.now.conn.now in
-    let mid = state g.S.Store c.session_keys.new.tx.conn.now in
-    let early : HasCleanDisk mid = omega (arith, c.move_listed.ensures.survives.clean) in
-    counted c.move_listed.result session_of session_shown (old_of (held old)).sessions c.in_ok-keys.keys.items (c.in_ok-keys.ensures.found early is under.olds)
-    (rw c.deref.ensures.value at c.move_listed.ensures.counted)
-
-pub returns-clause-kept : goal.returns-clause-kept
-returns-clause-kept g c clean is under =
-    let old = state g.S.Store c.args.tx.now.conn.now in
-    let mid = state g.S.Store c.session_keys.new.tx.conn.now in
-    let early : HasCleanDisk mid = omega (arith, c.move_listed.ensures.survives.clean) in
-    let u = c.in_ok-keys.ensures.same early is under.olds in
-    commit_then old mid (state g.S.Store c.move_listed.new.tx.conn.now) (c.session_keys.ensures.kept early is under.olds) (c.move_listed.ensures.kept clean (ready_read old mid is u) (underway_read old mid under u))
-
-pub returns-clause-survives : goal.returns-clause-survives
-returns-clause-survives g c = survives_both (state g.S.Store c.args.tx.now.conn.now) (state g.S.Store c.session_keys.new.tx.conn.now) (state g.S.Store c.move_listed.new.tx.conn.now) c.session_keys.ensures.survives c.move_listed.ensures.survives
+pub returns-in_err-keys : goal.returns-in_err-keys
+returns-in_err-keys g c = record {
+  moved = λ clean is under. IfOk-from_err c.from_residual.result _ c.from_residual.ensures.0;
+  counted = λ clean is under. IfOk-from_err c.from_residual.result _ c.from_residual.ensures.0;
+  kept = λ clean is under. c.session_keys.ensures.kept clean is under.olds;
+  same_reference = c.session_keys.ensures.same_reference;
+  survives = c.session_keys.ensures.survives;
+}

@@ -5,13 +5,23 @@ use Rattle.registry_http.proofs.ReadingLemmas.{pulls-none, pulls-on}
 use Rattle.registry_http.proofs.TakingLemmas.{refused_from, fill_ends}
 use Rattle.registry_http.proofs.intake.Intake.read_line.Goals as goal
 
-pub returns-in-Never-clause-cases : goal.returns-in-Never-clause-cases
-returns-in-Never-clause-cases g c =
-    refused_from _ _ _ _ LineIsCut LineIsRefused UnreadableChunk c.loop-line.invariant.pulls (λ tail. (refl, rw c.behind.ensures at (c.in-Never.ensures tail)))
+pub returns-in-Never : goal.returns-in-Never
+returns-in-Never g c = record {
+  cases =
+      refused_from _ _ _ _ LineIsCut LineIsRefused UnreadableChunk c.loop-line.invariant.pulls (λ tail. (refl, rw c.behind.ensures at (c.in-Never.ensures tail)));
+  taken = c.loop-line.invariant.taken;
+  headers = c.loop-line.invariant.headers;
+  weight = tt;
+}
 
-pub returns-in-Err-clause-cases : goal.returns-in-Err-clause-cases
-returns-in-Err-clause-cases g c =
-    fill_ends c.in-Err.stop _ _ _ _ _ LineIsCut LineIsRefused c.loop-line.invariant.pulls c.in-Err.ensures.cases (rw c.behind.ensures at c.in-NotYet.ensures)
+pub returns-in-Err : goal.returns-in-Err
+returns-in-Err g c = record {
+  cases =
+      fill_ends c.in-Err.stop _ _ _ _ _ LineIsCut LineIsRefused c.loop-line.invariant.pulls c.in-Err.ensures.cases (rw c.behind.ensures at c.in-NotYet.ensures);
+  taken = c.in-Err.ensures.taken ∙ c.loop-line.invariant.taken;
+  headers = c.in-Err.ensures.headers ∙ c.loop-line.invariant.headers;
+  weight = tt;
+}
 
 pub loop-line-init : goal.loop-line-init
 loop-line-init g c = record { pulls = pulls-none _ _; taken = refl; headers = refl; weight = le_refl _ }
@@ -30,26 +40,10 @@ loop-line-preserved g c =
 pub loop-line-smaller : goal.loop-line-smaller
 loop-line-smaller g c = c.in_default.ensures.fewer
 
-pub returns-in-Whole-clause-taken : goal.returns-in-Whole-clause-taken
-returns-in-Whole-clause-taken g c = c.loop-line.invariant.taken
-
-pub returns-in-Whole-clause-weight : goal.returns-in-Whole-clause-weight
-returns-in-Whole-clause-weight g c = c.loop-line.invariant.weight
-
-pub returns-in-Whole-clause-headers : goal.returns-in-Whole-clause-headers
-returns-in-Whole-clause-headers g c = c.loop-line.invariant.headers
-
-pub returns-in-Whole-clause-cases : goal.returns-in-Whole-clause-cases
-returns-in-Whole-clause-cases g c = (c.loop-line.invariant.pulls, rw c.behind.ensures at c.in-Whole.ensures)
-
-pub returns-in-Never-clause-taken : goal.returns-in-Never-clause-taken
-returns-in-Never-clause-taken g c = c.loop-line.invariant.taken
-
-pub returns-in-Err-clause-taken : goal.returns-in-Err-clause-taken
-returns-in-Err-clause-taken g c = c.in-Err.ensures.taken ∙ c.loop-line.invariant.taken
-
-pub returns-in-Never-clause-headers : goal.returns-in-Never-clause-headers
-returns-in-Never-clause-headers g c = c.loop-line.invariant.headers
-
-pub returns-in-Err-clause-headers : goal.returns-in-Err-clause-headers
-returns-in-Err-clause-headers g c = c.in-Err.ensures.headers ∙ c.loop-line.invariant.headers
+pub returns-in-Whole : goal.returns-in-Whole
+returns-in-Whole g c = record {
+  cases = (c.loop-line.invariant.pulls, rw c.behind.ensures at c.in-Whole.ensures);
+  taken = c.loop-line.invariant.taken;
+  headers = c.loop-line.invariant.headers;
+  weight = c.loop-line.invariant.weight;
+}

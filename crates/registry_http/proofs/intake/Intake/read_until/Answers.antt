@@ -1,4 +1,4 @@
-use Rattle.std.proofs.Common.{◌<◌, length, refl, subst, ◌∙◌, le_refl, le_trans}
+use Rattle.std.proofs.Common.{◌<◌, ◌≤◌, length, refl, subst, ◌∙◌, le_refl, le_trans}
 use Rattle.oci_names.specs.Text.{Text}
 use Rattle.registry_http.proofs.ReadingLemmas.{pulls-none, pulls-on, until_stops}
 use Rattle.registry_http.proofs.intake.Intake.read_until.Goals as goal
@@ -20,25 +20,22 @@ loop-need-preserved g c =
 pub loop-need-smaller : goal.loop-need-smaller
 loop-need-smaller g c = c.in_default.ensures.fewer
 
-pub returns-then-need-here-clause-taken : goal.returns-then-need-here-clause-taken
-returns-then-need-here-clause-taken g c = c.loop-need.invariant.taken
+pub returns-then-need-here : goal.returns-then-need-here
+returns-then-need-here g c = record {
+  cases = c.loop-need.invariant.pulls;
+  enough = subst (λ (b : Text). c.args.need ≤ length b) c.behind-here.ensures c.if-need-here.true;
+  taken = c.loop-need.invariant.taken;
+  headers = c.loop-need.invariant.headers;
+  weight = c.loop-need.invariant.weight;
+}
 
-pub returns-then-need-here-clause-weight : goal.returns-then-need-here-clause-weight
-returns-then-need-here-clause-weight g c = c.loop-need.invariant.weight
-
-pub returns-then-need-here-clause-headers : goal.returns-then-need-here-clause-headers
-returns-then-need-here-clause-headers g c = c.loop-need.invariant.headers
-
-pub returns-then-need-here-clause-cases : goal.returns-then-need-here-clause-cases
-returns-then-need-here-clause-cases g c = c.loop-need.invariant.pulls
-
-pub returns-in-Err-clause-taken : goal.returns-in-Err-clause-taken
-returns-in-Err-clause-taken g c = c.in-Err.ensures.taken ∙ c.loop-need.invariant.taken
-
-pub returns-in-Err-clause-headers : goal.returns-in-Err-clause-headers
-returns-in-Err-clause-headers g c = c.in-Err.ensures.headers ∙ c.loop-need.invariant.headers
-
-pub returns-in-Err-clause-cases : goal.returns-in-Err-clause-cases
-returns-in-Err-clause-cases g c =
-    until_stops c.in-Err.stop c.args.need _ _ _ _ _ c.loop-need.invariant.pulls c.in-Err.ensures.cases
-    (subst (λ (b : Text). length b < c.args.need) c.behind-here.ensures c.if-need-here.false)
+pub returns-in-Err : goal.returns-in-Err
+returns-in-Err g c = record {
+  cases =
+      until_stops c.in-Err.stop c.args.need _ _ _ _ _ c.loop-need.invariant.pulls c.in-Err.ensures.cases
+      (subst (λ (b : Text). length b < c.args.need) c.behind-here.ensures c.if-need-here.false);
+  enough = tt;
+  taken = c.in-Err.ensures.taken ∙ c.loop-need.invariant.taken;
+  headers = c.in-Err.ensures.headers ∙ c.loop-need.invariant.headers;
+  weight = tt;
+}

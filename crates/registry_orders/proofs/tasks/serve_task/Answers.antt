@@ -1,0 +1,21 @@
+use Rattle.std.proofs.lemmas.Result.{IfOk-from_err}
+use Rattle.registry_orders.proofs.ExitLemmas.{words_failed}
+use Rattle.registry_orders.proofs.tasks.serve_task.Goals as goal
+
+pub returns-in_err-connections : goal.returns-in_err-connections
+returns-in_err-connections c = record {
+  read = IfOk-from_err c.from_residual.result _ c.from_residual.ensures.0;
+  refused = words_failed c.from_residual.result _ c.in_err-connections.ensures.refused c.from_residual.ensures.1;
+}
+
+pub returns-in_err-limits : goal.returns-in_err-limits
+returns-in_err-limits c = record {
+  read = IfOk-from_err c.from_residual-in_err-limits.result _ c.from_residual-in_err-limits.ensures.0;
+  refused = words_failed c.from_residual-in_err-limits.result _ c.in_err-limits.ensures.refused c.from_residual-in_err-limits.ensures.1;
+}
+
+pub returns-in_err-beside : goal.returns-in_err-beside
+returns-in_err-beside c = record {
+  read = IfOk-from_err c.from_residual-in_err-beside.result _ c.from_residual-in_err-beside.ensures.0;
+  refused = words_failed c.from_residual-in_err-beside.result _ c.in_err-beside.ensures.refused c.from_residual-in_err-beside.ensures.1;
+}

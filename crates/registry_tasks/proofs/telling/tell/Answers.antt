@@ -1,0 +1,23 @@
+use Rattle.std.proofs.Common.{inl, inr, refl}
+use Rattle.std.specs.String.{string_bytes}
+use Rattle.registry_tasks.proofs.telling.tell.Goals as goal
+
+pub returns-then-eq : goal.returns-then-eq
+returns-then-eq g c = record { tells = (refl, inl (inr c.say.ensures, refl)); wanting = λ out. c.say.ensures }
+
+pub returns-in_default : goal.returns-in_default
+returns-in_default g c = record {
+  tells = (refl, inl (inr c.say-in_default.ensures, refl));
+  wanting = λ out. c.say-in_default.ensures;
+}
+
+pub returns-then-use_stderr-clause-tells : goal.returns-then-use_stderr-clause-tells
+returns-then-use_stderr-clause-tells g c = (refl, inl (inl refl, refl))
+
+pub returns-in-Ok-write_all-clause-tells : goal.returns-in-Ok-write_all-clause-tells
+returns-in-Ok-write_all-clause-tells g c =
+    let told = rw c.as_bytes-else-use_stderr.ensures.value at c.in-Ok-write_all.ensures.bytes in
+    (refl, inr (inl (refl, string_bytes c.in-Ok.text, told)))
+
+pub returns-clause-tells : goal.returns-clause-tells
+returns-clause-tells g c = (refl, inr (inr c.say-in-Err.ensures))
