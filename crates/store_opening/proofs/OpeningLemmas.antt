@@ -1,5 +1,5 @@
 -- What an opening finds out of the schema and of the one row that names it.
-use Rattle.std.proofs.Common.{◌≡◌, ◌≢◌, ◌∙◌, ℕ, ℤ, zero, suc, Bool, true, false, List, [], ◌∷◌, Some, None, Ok, Err, Result, IfOk, IfErr, OnOk, OnErr, inl, inr, refl, sym, ap, subst}
+use Rattle.std.proofs.Common.{◌≡◌, ◌≢◌, ◌∙◌, ℕ, ℤ, zero, suc, Bool, true, false, true≢false, List, [], ◌∷◌, Some, None, Ok, Err, Result, IfOk, IfErr, IsErrAnd, OnOk, OnErr, inl, inr, refl, sym, ap, subst}
 use Rattle.std.specs.Prelude.{is_some, slice_get, map, codes, pos, ⊤}
 use Rattle.sqlite.specs.declared.types.Value.TheVariants.{Int}
 use Rattle.sqlite.specs.Order.{Row, column}
@@ -7,7 +7,8 @@ use Rattle.sqlite.specs.Table.{Table}
 use Rattle.sqlite.specs.Schema.{Schema}
 use Rattle.sqlite.specs.State.{State}
 use Rattle.sqlite_schema.specs.Names.{same_name}
-use Rattle.store_schema.specs.Schema.{version_table}
+use Rattle.store_schema.specs.Schema.{no_schema, version_table}
+use Rattle.store_schema.specs.Making.{IsEmptyWith}
 use Rattle.store_schema.specs.Layout.{Stands, placed}
 use Rattle.store_statements.specs.Held.{IsSettled, HoldsTables, held}
 use Rattle.store_world.specs.Registry.{IsOfSchemaTwo}
@@ -250,3 +251,28 @@ on_ok (Err e) P p = tt
 pub two_asked : (s : State) (found : Result ℤ OpenFault) → IfOk found (IsOfSchema s) → (r : Result ⊤ OpenFault) → OnOk r (found ≡ Ok (pos 2)) → OnOk r (IsOfSchema s (pos 2))
 two_asked s found of (Ok x) is = subst (λ f. IfOk f (IsOfSchema s)) is of
 two_asked s found of (Err e) is = tt
+
+-- the fault of a call is the function's own
+pub passed_on : {A : Type 0} (P : OpenFault → Type 0) (r : Result A OpenFault) (fault : OpenFault) → IsErrAnd r (λ e. e ≡ fault) → P fault → IfErr r P
+passed_on P (Ok v) fault is it = tt
+passed_on P (Err e) fault is it = subst P (sym is) it
+
+-- memory or the storage names no schema
+wanting_none : (k : OpenFault) → IsWanting k → IsUnnumbered k
+wanting_none k (inl is) = subst IsUnnumbered (sym is) tt
+wanting_none k (inr is) = subst IsUnnumbered (sym is) tt
+
+pub wanting_unnumbered : {A : Type 0} (r : Result A OpenFault) → IfErr r IsWanting → IfErr r IsUnnumbered
+wanting_unnumbered (Ok x) h = tt
+wanting_unnumbered (Err k) h = wanting_none k h
+
+-- ---- the table was seen, or was not
+
+pub never_both : (found has : Bool) → found ≡ has → has ≡ true → found ≡ false → ⊥
+never_both found has told there none = true≢false (sym there ∙ sym told ∙ none)
+
+pub never_neither : (found has : Bool) → found ≡ has → has ≡ false → found ≡ true → ⊥
+never_neither found has told none there = true≢false (sym there ∙ told ∙ none)
+
+pub bare_unmarked : (db : Database) → IsEmptyWith no_schema db → has_version_table db.schema ≡ false
+bare_unmarked db it = ap has_version_table it.schema_is

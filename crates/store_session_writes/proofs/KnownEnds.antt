@@ -25,12 +25,12 @@ use Rattle.store_statements.specs.ContentShown.{has_sha256_digest}
 use Rattle.store_statements.specs.Held.{IsReady, IsSettled, StaysSettled, Commits, SettlesOn, held, world_in}
 use Rattle.store_statements.specs.Steps.{Finished, BlobComes, sessions_without}
 use Rattle.store_statements.proofs.Transactions.{registry}
-use Rattle.store_transactions.specs.Steps.{LinkIsPut}
+use Rattle.store_statements.specs.StepsFrom.{LinkIsPut}
 use Rattle.store_session_writes.specs.Whole.{only_link, whole_link, if_digest, known_link, IsKnown, WholeEnds, DoneWhereSo}
-use Rattle.store_transactions.proofs.BlobLinks.{link_came}
-use Rattle.store_transactions.proofs.WritesAfterReads.{same_world}
+use Rattle.store_statements.proofs.BlobLinks.{link_came}
+use Rattle.store_statements.proofs.WritesAfterReads.{same_world}
 use Rattle.store_session_writes.proofs.SessionWrites.{finishes_there, finishes_new}
-use Rattle.store_transactions.proofs.WritesAfterReads.{none_found, some_found, same_held}
+use Rattle.store_statements.proofs.WritesAfterReads.{none_found, some_found, same_held}
 
 -- ---- what is known
 

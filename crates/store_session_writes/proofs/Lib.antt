@@ -1,3 +1,4 @@
+pub mod Fits
 pub mod StatementSequences
 pub mod BytesStored
 pub mod SessionWrites

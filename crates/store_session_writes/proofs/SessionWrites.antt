@@ -22,8 +22,9 @@ use Rattle.store_statements.specs.Shown.{blob_link, repo_row}
 use Rattle.store_statements.specs.Held.{IsSettled, StaysSettled, Commits, SettlesOn, held, world_in}
 use Rattle.store_statements.specs.Steps.{SessionOpened, Appended, Finished, sessions_without}
 use Rattle.store_statements.proofs.Transactions.{registry, makes}
-use Rattle.store_transactions.proofs.WritesAfterReads.{some_found, same_held}
-use Rattle.store_transactions.proofs.Alone.{commits_as}
+use Rattle.store_statements.proofs.WritesAfterReads.{some_found, same_held}
+use Rattle.store_statements.proofs.Alone.{commits_as}
+use borrow.Author.Tests.{eqb-true}
 
 -- a session that the world has is in the tables
 has_upload : (s : State) (name : Text) (number : ℕ) → IsSettled s → is_some (session_at (world_in s) name number) ≡ true → is_some (find (of_session name number) (held s).uploads) ≡ true
@@ -46,6 +47,9 @@ no_bytes (b ∷ bs) e = absurd (omega (arith, e))
 pub appends_nothing : (s : State) (name : Text) (number : ℕ) (bytes : Text) → IsSettled s → is_some (session_at (world_in s) name number) ≡ true → length bytes ≡ 0 → SettlesOn s (append (world_in s) name number bytes)
 appends_nothing s name number bytes settled there none =
     (settled, subst (λ more. world_in s ≡ append (world_in s) name number more) (sym (no_bytes bytes none)) (sym (append_nothing (held s) name number (has_upload s name number settled there))))
+
+pub is_zero : (n : ℕ) → (n == 0) ≡ true → n ≡ 0
+is_zero n e = eqb-true n 0 e
 
 pub more_than_none : (n : ℕ) → (n == 0) ≡ false → 0 < n
 more_than_none zero e = absurd cc

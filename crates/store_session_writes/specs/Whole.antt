@@ -16,7 +16,7 @@ use Rattle.store_statements.specs.Shown.{content_named}
 use Rattle.store_statements.specs.ContentShown.{has_sha256_digest}
 use Rattle.store_statements.specs.Held.{StaysSettled, SettlesOn, world_in}
 use Rattle.store_statements.specs.Steps.{sessions_without}
-use Rattle.store_transactions.specs.Steps.{LinkIsPut}
+use Rattle.store_statements.specs.StepsFrom.{LinkIsPut}
 
 -- the link to the one content, of so many bytes
 abbrev pub only_link : ℕ → List ContentId → Option BlobLink

@@ -8,16 +8,17 @@ ghost use Rattle.store_statements.specs.Between.{CommitsStep, Finds, GoesBack, M
 ghost use Rattle.store_statements.specs.Clauses.{KeepsInside, Lasts, LastsUncommitted, TablesHave};
 ghost use Rattle.store_statements.specs.Held.{IsSettled};
 ghost use Rattle.store_session_writes.specs.Whole.{known_link, WholeEnds, DoneWhereSo};
-ghost use Rattle.store_transactions.specs.Steps.{StepsFrom};
+ghost use Rattle.store_statements.specs.StepsFrom.{StepsFrom};
 
 use crate::session_changes::{take_session, take_session_alone};
 use crate::whole_sessions::find_known;
 use oci_names::{Digest, Fault, RepoName};
 use sqlite::{Alter, Connection, Transaction};
 use std::alloc::Global;
+use store_statements::alone;
 use store_statements::blobs::{BlobLink, add_blob_link, find_blob_link};
 use store_statements::numbers::LARGEST;
-use store_transactions::{alone, checked};
+use store_statements::telling::checked;
 
 /// Takes a session out, and puts a link to its content in that the repository has not.
 fn end_whole<S: Alter>(

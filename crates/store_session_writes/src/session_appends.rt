@@ -2,7 +2,7 @@
 ghost use Rattle.std.specs.Prelude.{◌≡◌, ◌<◌, ◌+◌, ◌^◌, true, length, find, is_some, None};
 ghost use Rattle.registry_model.specs.Lookups.{append, session_at};
 ghost use Rattle.store_world.specs.Keys.{has_start};
-ghost use Rattle.store_transactions.specs.Steps.{StepsFrom};
+ghost use Rattle.store_statements.specs.StepsFrom.{StepsFrom};
 ghost use Rattle.store_statements.specs.Between.{CommitsStep, GoesBack, MakesWorld, StaysOnMemory};
 ghost use Rattle.store_statements.specs.Clauses.{KeepsInside, Lasts, LastsUncommitted, TablesHave, WorldHas};
 ghost use Rattle.store_statements.specs.Steps.{PieceStored, Appended};
@@ -10,11 +10,12 @@ ghost use Rattle.store_statements.specs.Steps.{PieceStored, Appended};
 use oci_names::{Fault, RepoName};
 use sqlite::{Alter, Connection, Transaction};
 use std::alloc::Global;
+use store_statements::alone;
 use store_statements::contents::keep;
 use store_statements::numbers::{LARGEST, has_room};
 use store_statements::pieces::add_piece;
+use store_statements::telling::checked;
 use store_statements::uploads::{find_upload, set_size};
-use store_transactions::{alone, checked};
 
 /// Puts a piece in where none of the session begins. `start` is in bytes.
 fn store_piece<S: Alter>(

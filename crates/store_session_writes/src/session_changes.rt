@@ -5,7 +5,7 @@ ghost use Rattle.sqlite.specs.Held.{state};
 ghost use Rattle.registry_model.specs.Lookups.{open_session, last_number_at};
 ghost use Rattle.registry_model.specs.Command.{drop_sessions};
 ghost use Rattle.store_world.specs.Keys.{of_first, of_session};
-ghost use Rattle.store_transactions.specs.Steps.{StepsFrom};
+ghost use Rattle.store_statements.specs.StepsFrom.{StepsFrom};
 ghost use Rattle.store_statements.specs.Between.{CommitsStep, CommitsTables, GoesBack, MakesWorld, StaysOnMemory};
 ghost use Rattle.store_statements.specs.Clauses.{Changes, KeepsInside, Lasts, LastsUncommitted, TablesHave};
 ghost use Rattle.store_statements.specs.Held.{IsSettled, SettlesOn, world_in};
@@ -13,12 +13,13 @@ ghost use Rattle.store_statements.specs.Steps.{sessions_without, SessionOpened};
 
 use oci_names::{Fault, RepoName};
 use sqlite::{Alter, Connection, Transaction};
+use store_statements::alone;
 use store_statements::numbers::LARGEST;
 use store_statements::open_check::checked_fault;
 use store_statements::pieces::{take_pieces, take_pieces_of};
 use store_statements::repos::{find_repo, set_last};
+use store_statements::telling::checked;
 use store_statements::uploads::{add_upload, take_upload, take_uploads};
-use store_transactions::{alone, checked};
 
 /// Takes all sessions of the repository out, with their pieces.
 fn take_sessions<S: Alter>(tx: &mut Transaction<'_, S>, repo: &str) -> Result<(), Fault>

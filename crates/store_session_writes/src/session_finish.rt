@@ -4,7 +4,7 @@ ghost use Rattle.oci_names.specs.Digest.{matches};
 ghost use Rattle.registry_model.specs.Limits.{largest_blob};
 ghost use Rattle.registry_model.specs.Lookups.{finish, session_at};
 ghost use Rattle.store_world.specs.Keys.{has_key};
-ghost use Rattle.store_transactions.specs.Steps.{StepsFrom};
+ghost use Rattle.store_statements.specs.StepsFrom.{StepsFrom};
 ghost use Rattle.store_statements.specs.Between.{CommitsStep, GoesBack, MakesWorld, StaysOnMemory};
 ghost use Rattle.store_statements.specs.Clauses.{KeepsInside, Lasts, LastsUncommitted, TablesHave, WorldHas};
 ghost use Rattle.store_statements.specs.Steps.{Finished};
@@ -13,9 +13,11 @@ use crate::session_changes::{take_session, take_session_alone};
 use oci_names::{Digest, Fault, RepoName};
 use sqlite::{Alter, Connection, Transaction};
 use std::alloc::Global;
+use store_statements::alone;
+use store_statements::blob_storing::store_blob;
 use store_statements::blobs::find_blob_link;
 use store_statements::numbers::LARGEST;
-use store_transactions::{alone, checked, store_blob};
+use store_statements::telling::checked;
 
 /// Takes a session out, and puts a blob in that the repository has not.
 fn end_session<S: Alter>(

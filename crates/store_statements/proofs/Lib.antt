@@ -31,4 +31,10 @@ pub mod DigestReads
 pub mod Executed
 pub mod ReadRows
 pub mod Checks
+pub mod CleanBefore
+pub mod WritesAfterReads
+pub mod BlobLinks
+pub mod Alone
+pub mod Endings
+pub mod ChangesTold
 pub mod ReadInside

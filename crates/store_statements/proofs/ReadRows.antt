@@ -72,7 +72,7 @@ module _ {S : Type 0} (g : Ghosts S) (old mid new : Held S) (sql : List ℕ) (ro
   settled : (IsSettled (state g old) → IsPlain (understood (state g old).now.schema sql)) → Stays g old new r
   settled plain clean is unspent =
       let same = leaves_all sql row (state g old) (state g mid) rows (plain is) (ok (late clean)) in
-      settled_by r checks.told checks.memory clean is same (left_as_was (state g old) (state g mid) rows same (failed rows (plain is) (err (late clean)))) unspent
+      settled_by r checks.told (λ late e. (checks.memory late e).1) clean is same (left_as_was (state g old) (state g mid) rows same (failed rows (plain is) (err (late clean)))) unspent
 
   lasts : (C : Trees → Type 0) → Survives (state g old) (state g mid) C → Lasts g old new
   lasts C survives = survives_all (state g old) (state g mid) (state g new) _ _ survives checks.survives

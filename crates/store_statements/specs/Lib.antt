@@ -17,4 +17,6 @@ pub mod ContentShown
 pub mod TagPages
 pub mod Drops
 pub mod Told
+pub mod Ends
+pub mod StepsFrom
 pub mod FirstRows

@@ -1,5 +1,5 @@
 -- What is read of rows that a query showed, and what a caller is told of it.
-use Rattle.std.specs.Prelude.{◌≡◌, List, false, Result, Ok, Err, OnOk, IfOk, IsOk, Vec}
+use Rattle.std.specs.Prelude.{◌≡◌, List, false, Result, Ok, Err, OnOk, IfOk, IsOk, IsErr, Vec}
 use Rattle.std.specs.declared.alloc.Global.{Global}
 use Rattle.sqlite_trees.specs.declared.store.Store.{Ghosts}
 use Rattle.sqlite.specs.Order.{Row}
@@ -20,7 +20,7 @@ pub record IsRead {A : Type 0} (rows : Result (Vec Row Global) Error) (read : Re
 pub record Checked {S : Type 0} (g : Ghosts S) (mid new : Held S) {A : Type 0} (found r : Result A Fault)
     : Type 0 where
   pub told : IfOk r (λ v. (found ≡ Ok v) × (new ≡ mid))
-  -- want of memory is told of an open connection alone
+  -- want of memory is told of an open connection alone, and never of what was found
   pub memory : HasCleanDisk (state g new) → r ≡ Err Memory
-      → Shows (state g mid) (state g new) (state g mid).now (state g mid).now false
+      → IsErr found × Shows (state g mid) (state g new) (state g mid).now (state g mid).now false
   pub survives : Lasts g mid new

@@ -1,6 +1,8 @@
-//! Each SQL text of a store as a change or a selection of the rows of one table.
+//! Each SQL text of a store as a change or a selection of the rows of one table, and the transaction that a
+//! change of the store is.
 #![tactic(auto)]
 
+pub mod blob_storing;
 pub mod blobs;
 mod columns;
 pub mod contents;
@@ -14,5 +16,6 @@ pub mod repos;
 pub mod subjects;
 pub mod tag_pages;
 pub mod tags;
-mod telling;
+pub mod telling;
+pub mod transaction;
 pub mod uploads;

@@ -28,10 +28,7 @@ pub(crate) fn told<T>(found: Result<T, Error>) -> Result<T, Fault>
 }
 
 /// What was found; of a failure, whether the connection is open still.
-pub(crate) fn checked<S: Alter, T>(
-    conn: &mut Connection<S>,
-    found: Result<T, Fault>,
-) -> Result<T, Fault>
+pub fn checked<S: Alter, T>(conn: &mut Connection<S>, found: Result<T, Fault>) -> Result<T, Fault>
     ensures told { Checked S.Store conn.old conn.new found result }
 {
     match found {

@@ -15,8 +15,8 @@ use Rattle.store_statements.specs.declared.blobs.BlobLink.{BlobLink}
 use Rattle.store_statements.specs.Shown.{blob_link}
 use Rattle.store_statements.specs.Steps.{BlobStored}
 use Rattle.store_statements.proofs.Transactions.{registry, makes}
-use Rattle.store_transactions.proofs.WritesAfterReads.{some_found, same_held, makes_same}
-use Rattle.store_transactions.proofs.Alone.{commits_as}
+use Rattle.store_statements.proofs.WritesAfterReads.{some_found, same_held, makes_same}
+use Rattle.store_statements.proofs.Alone.{commits_as}
 
 pub puts_new : (old mid end : State) (name digest bytes : Text) → IsSettled old → has_repo (world_in old) name ≡ true → StaysSettled old mid → find (has_key name digest) (held old).blobs ≡ None
     → Commits end (held end) × BlobStored (held mid) (held end) name digest bytes → SettlesOn end (put_blob (world_in old) name digest bytes)

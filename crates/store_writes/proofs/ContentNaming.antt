@@ -77,3 +77,10 @@ pub all_inserted : (t : Tables) (none some more all : List ContentId) → none �
 all_inserted t none some more all empty blobs manifests pieces i =
     pieces i ∙ ap (λ b. b || is_in_column 5 t.pieces i) (manifests i ∙ ap (λ b. b || is_in_column 6 t.manifests i) (blobs i ∙ ap (λ (ks : List ContentId). is_among ks i || is_in_column 4 t.blobs i) empty))
     ∙ or_grouped (is_in_column 4 t.blobs i) (is_in_column 6 t.manifests i) (is_in_column 5 t.pieces i)
+
+-- ---- of a call's result
+
+-- what is so in any case is so where it did well
+pub always_ok : {A E P : Type 0} (r : Result A E) → P → OnOk r P
+always_ok (Ok x) p = p
+always_ok (Err e) p = tt

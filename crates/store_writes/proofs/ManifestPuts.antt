@@ -33,9 +33,9 @@ use Rattle.store_statements.specs.Steps.{tags_changed, TagComes, ManifestComes, 
 use Rattle.store_writes.specs.Worlds.{IsWhole, Turns, tagged}
 use Rattle.store_writes.proofs.RowCounts.{none_changed}
 use Rattle.store_statements.proofs.Transactions.{makes}
-use Rattle.store_transactions.specs.Ends.{Ends}
-use Rattle.store_transactions.proofs.Alone.{at_begin, before_begin, committed_so, went_back, lasts, less}
-use Rattle.store_transactions.proofs.CleanBefore.{was_clean}
+use Rattle.store_statements.specs.Ends.{Ends}
+use Rattle.store_statements.proofs.Alone.{at_begin, before_begin, committed_so, went_back, lasts, less}
+use Rattle.store_statements.proofs.CleanBefore.{was_clean}
 
 pub registry_inside : (s : State) → IsWhole s → IsRegistry (held s)
 registry_inside s is = record { tables = is.ready.holds.tables; agree = is.agree }

@@ -13,10 +13,10 @@ use Rattle.store_world.proofs.Blobs.{mount_there}
 use Rattle.store_world.proofs.Repos.{has_repo_found}
 use Rattle.store_statements.specs.Held.{IsSettled, StaysSettled, Commits, SettlesOn, held, world_in, tables_in, is_storage}
 use Rattle.store_statements.specs.Shown.{blob_link}
-use Rattle.store_transactions.specs.Steps.{LinkIsPut}
+use Rattle.store_statements.specs.StepsFrom.{LinkIsPut}
 use Rattle.store_statements.specs.declared.blobs.BlobLink.{BlobLink}
 use Rattle.store_statements.proofs.Transactions.{registry, makes}
-use Rattle.store_transactions.proofs.WritesAfterReads.{same_world}
+use Rattle.store_statements.proofs.WritesAfterReads.{same_world}
 use Rattle.store_writes.proofs.PutLemmas.{link_mounted}
 
 -- ---- what was read is still so

@@ -19,7 +19,7 @@ use Rattle.store_world.proofs.Repos.{quota_set, repo_added}
 use Rattle.store_statements.specs.Held.{Becomes, held}
 use Rattle.store_statements.specs.Steps.{grants_changed, GrantComes, repos_changed, RepoComes}
 use Rattle.store_writes.specs.Puts.{SetOrCome, LevelIsPut, QuotaIsPut}
-use Rattle.store_transactions.specs.Steps.{LinkIsPut}
+use Rattle.store_statements.specs.StepsFrom.{LinkIsPut}
 
 -- ---- how many rows were set
 

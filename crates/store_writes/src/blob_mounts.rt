@@ -5,13 +5,14 @@ ghost use Rattle.registry_model.specs.Lookups.{mount};
 ghost use Rattle.store_world.specs.Keys.{has_key};
 ghost use Rattle.store_statements.specs.Between.{GoesBack, IsCommitted, MakesWorld, Relates, StaysOnMemory};
 ghost use Rattle.store_statements.specs.Clauses.{Lasts, TablesHave, WorldHas};
-ghost use Rattle.store_transactions.specs.Steps.{LinkIsPut};
+ghost use Rattle.store_statements.specs.StepsFrom.{LinkIsPut};
 
 use oci_names::{Digest, Fault, RepoName};
 use sqlite::{Alter, Connection};
 use store_contents::ContentId;
+use store_statements::alone;
 use store_statements::blobs::{BlobLink, add_blob_link, find_blob_link};
-use store_transactions::{alone, checked};
+use store_statements::telling::checked;
 
 /// Adds a link to a content that is there, in a transaction of its own.
 fn add_blob_link_alone<S: Alter>(

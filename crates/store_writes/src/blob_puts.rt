@@ -12,8 +12,10 @@ ghost use Rattle.store_statements.specs.Steps.{BlobStored};
 use oci_names::{Digest, Fault, RepoName};
 use sqlite::{Alter, Connection};
 use std::alloc::Global;
+use store_statements::alone;
+use store_statements::blob_storing::store_blob;
 use store_statements::blobs::find_blob_link;
-use store_transactions::{alone, checked, store_blob};
+use store_statements::telling::checked;
 
 /// Puts a blob in that the repository has not, in a transaction of its own.
 fn store_blob_alone<S: Alter>(

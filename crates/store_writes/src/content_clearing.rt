@@ -11,10 +11,11 @@ use sqlite::{Alter, Connection, Transaction};
 use std::alloc::Global;
 use std::collections::BTreeSet;
 use store_contents::{ContentId, remove, unlinked};
+use store_statements::alone;
 use store_statements::blobs::blob_contents;
 use store_statements::manifests::manifest_contents;
 use store_statements::pieces::piece_contents;
-use store_transactions::{alone, checked};
+use store_statements::telling::checked;
 
 fn insert(set: &mut BTreeSet<ContentId>, id: ContentId) -> Result<(), Fault>
     ensures { OnOk result

@@ -10,10 +10,11 @@ ghost use Rattle.store_writes.specs.Deleting.{without_blob_links};
 
 use oci_names::{Digest, Fault, RepoName, Tag};
 use sqlite::{Alter, Connection, Transaction};
+use store_statements::alone;
 use store_statements::blobs::take_blob_link;
 use store_statements::manifests::take_manifest_link;
 use store_statements::tags::{take_tag, take_tags_named};
-use store_transactions::{alone, checked};
+use store_statements::telling::checked;
 
 /// Takes a tag out, in a transaction of its own.
 fn take_tag_alone<S: Alter>(conn: &mut Connection<S>, repo: &str, tag: &str) -> Result<(), Fault>

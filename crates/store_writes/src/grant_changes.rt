@@ -11,8 +11,9 @@ ghost use Rattle.store_statements.specs.Steps.{grants_without};
 use oci_names::{Fault, RepoName, Token};
 use registry_model::Level;
 use sqlite::{Alter, Connection, Transaction};
+use store_statements::alone;
 use store_statements::grants::{add_grant, set_level, take_grant, take_token_grants};
-use store_transactions::{alone, checked};
+use store_statements::telling::checked;
 
 /// Takes a grant out, in a transaction of its own.
 fn take_grant_alone<S: Alter>(

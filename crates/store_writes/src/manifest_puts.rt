@@ -19,10 +19,11 @@ use oci_manifest::Manifest;
 use oci_names::{Digest, Fault, RepoName, Tag};
 use sqlite::{Alter, Connection, Transaction};
 use std::alloc::Global;
+use store_statements::alone;
 use store_statements::contents::keep_matching;
 use store_statements::manifests::{add_manifest_link, find_manifest_link};
 use store_statements::tags::{add_tag, set_tag};
-use store_transactions::{alone, checked};
+use store_statements::telling::checked;
 
 /// Sets the tag to the digest, where it is there, and else adds it.
 fn put_tag<S: Alter>(

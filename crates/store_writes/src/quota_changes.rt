@@ -8,8 +8,9 @@ ghost use Rattle.store_writes.specs.Puts.{QuotaIsPut};
 use oci_names::{Fault, RepoName};
 use registry_model::Quota;
 use sqlite::{Alter, Connection, Transaction};
+use store_statements::alone;
 use store_statements::repos::{add_repo, set_quota};
-use store_transactions::{alone, checked};
+use store_statements::telling::checked;
 
 /// Sets the quota, where the repository is there, and else adds it.
 fn put_quota<S: Alter>(tx: &mut Transaction<'_, S>, name: &str, quota: u64) -> Result<(), Fault>

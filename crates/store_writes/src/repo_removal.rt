@@ -11,14 +11,15 @@ ghost use Rattle.store_statements.specs.Drops.{dropped, without_links, without_s
 
 use oci_names::{Fault, RepoName};
 use sqlite::{Alter, Connection, Transaction};
+use store_statements::alone;
 use store_statements::blobs::take_blob_links;
 use store_statements::grants::take_grants;
 use store_statements::manifests::take_manifest_links;
 use store_statements::pieces::take_pieces;
 use store_statements::repos::take_repo;
 use store_statements::tags::take_tags;
+use store_statements::telling::checked;
 use store_statements::uploads::take_uploads;
-use store_transactions::{alone, checked};
 
 /// Takes the tags of the repository out, and its links to manifests and blobs.
 fn drop_links<S: Alter>(tx: &mut Transaction<'_, S>, name: &str) -> Result<(), Fault>

@@ -1,7 +1,4 @@
-use Rattle.std.proofs.Common.{[]}
 use Rattle.sqlite.specs.Held.{state}
-use Rattle.store_schema.proofs.Selects.{leaves_all}
-use Rattle.store_statements.specs.VersionTexts.{version_find}
 use Rattle.store_opening.proofs.OpeningLemmas.{shows_version, fails_understood}
 use Rattle.store_opening.proofs.VersionAsked.{unchanged_asked, leaves_asked, answers_asked}
 use Rattle.store_opening.proofs.version.version_rows.Goals as goal

@@ -7,7 +7,7 @@ use Rattle.store_world.specs.Keys.{has_key}
 use Rattle.store_world.specs.Tables.{Tables}
 use Rattle.store_statements.specs.Held.{held}
 use Rattle.store_session_writes.proofs.KnownEnds.{ended_if}
-use Rattle.store_transactions.proofs.CleanBefore.{was_clean}
+use Rattle.store_statements.proofs.CleanBefore.{was_clean}
 use Rattle.store_session_writes.proofs.known_finish.end_whole.Goals as goal
 
 pub returns-in-Ok-clause-ended : goal.returns-in-Ok-clause-ended
@@ -31,11 +31,16 @@ returns-in-Ok-clause-survives g c = survives_both (state g.S.Store c.args.tx.now
 pub returns-in-Ok-clause-same_reference : goal.returns-in-Ok-clause-same_reference
 returns-in-Ok-clause-same_reference g c = c.add_blob_link.ensures.same_reference ∙ c.take_session.ensures.same_reference
 
-pub returns-in-Err-clause-kept : goal.returns-in-Err-clause-kept
-returns-in-Err-clause-kept g c = c.take_session.ensures.kept
+pub take_session-requires : goal.take_session-requires
+take_session-requires g c = record { fits = c.requires.number_fits }
 
-pub returns-in-Err-clause-same_reference : goal.returns-in-Err-clause-same_reference
-returns-in-Err-clause-same_reference g c = c.take_session.ensures.same_reference
+pub add_blob_link-requires : goal.add_blob_link-requires
+add_blob_link-requires g c = record { fits = c.requires.fits }
 
-pub returns-in-Err-clause-survives : goal.returns-in-Err-clause-survives
-returns-in-Err-clause-survives g c = c.take_session.ensures.survives
+pub returns-in-Err : goal.returns-in-Err
+returns-in-Err g c = record {
+  ended = λ clean is fresh. tt;
+  kept = c.take_session.ensures.kept;
+  same_reference = c.take_session.ensures.same_reference;
+  survives = c.take_session.ensures.survives;
+}

@@ -6,10 +6,10 @@ use Rattle.store_statements.specs.declared.blobs.BlobLink.{BlobLink}
 use Rattle.store_statements.proofs.SettledAfter.{stays_then}
 use Rattle.store_statements.proofs.Transactions.{survives_all}
 use Rattle.store_session_writes.proofs.KnownEnds.{done, still_known}
-use Rattle.store_transactions.proofs.WritesAfterReads.{memory_told}
-use Rattle.store_transactions.proofs.CleanBefore.{was_clean}
-use Rattle.store_transactions.proofs.FaultsTold.{never_done}
-use Rattle.store_transactions.proofs.NothingDone.{survives_here}
+use Rattle.store_statements.proofs.WritesAfterReads.{memory_told}
+use Rattle.store_statements.proofs.CleanBefore.{was_clean}
+use Rattle.store_statements.proofs.Checks.{never_done}
+use Rattle.store_statements.proofs.Checks.{survives_here}
 use Rattle.store_session_writes.proofs.known_finish.finish_known.Goals as goal
 
 pub returns-then-number-gt-LARGEST-clause-made : goal.returns-then-number-gt-LARGEST-clause-made

@@ -7,30 +7,23 @@ use Rattle.store_statements.specs.declared.blobs.BlobLink.{BlobLink}
 use Rattle.store_statements.specs.Shown.{blob_link}
 use Rattle.store_statements.specs.Held.{held}
 use Rattle.store_statements.proofs.Transactions.{registry, survives_all}
-use Rattle.store_transactions.proofs.BlobLinks.{still_none}
+use Rattle.store_statements.proofs.BlobLinks.{still_none}
 use Rattle.store_session_writes.proofs.KnownEnds.{known_is, ends_there, ends_new}
-use Rattle.store_transactions.proofs.WritesAfterReads.{none_found, memory_told}
-use Rattle.store_transactions.proofs.CleanBefore.{was_clean}
+use Rattle.store_statements.proofs.WritesAfterReads.{none_found, memory_told}
+use Rattle.store_statements.proofs.CleanBefore.{was_clean}
 use Rattle.sqlite.specs.State.{State}
 use Rattle.store_statements.specs.Held.{SettlesOn, world_in}
 use Rattle.store_statements.proofs.SettledAfter.{stays_then}
-use Rattle.store_transactions.proofs.Alone.{less}
-use Rattle.store_transactions.proofs.Told.{told_so, told_memory, told_lasts}
+use Rattle.store_statements.proofs.Alone.{less}
+use Rattle.store_statements.proofs.ChangesTold.{told_so, told_memory, told_lasts}
 use Rattle.registry_model.specs.Closing.{finish_as_is}
+use Rattle.store_statements.proofs.Checks.{never_storage}
+use Rattle.store_session_writes.proofs.Fits.{not_above}
 use Rattle.store_session_writes.proofs.known_finish.finish_whole.Goals as goal
-
-pub returns-in-Err-clause-memory : goal.returns-in-Err-clause-memory
-returns-in-Err-clause-memory g c clean is memory = c.in-Err.ensures.settled clean is (memory_told (Option BlobLink) c.in-Err.fault memory)
-
-pub returns-in-Err-clause-made : goal.returns-in-Err-clause-made
-returns-in-Err-clause-made g c known clean is = tt
-
-pub returns-in-Err-clause-survives : goal.returns-in-Err-clause-survives
-returns-in-Err-clause-survives g c = c.find_blob_link.ensures.survives
 
 pub returns-in-Ok-Some-clause-made : goal.returns-in-Ok-Some-clause-made
 returns-in-Ok-Some-clause-made g c known clean is =
-    told_so c.args.conn.now c.checked.ensures.checked (λ (s : State). SettlesOn s (finish_as_is (world_in (state g.S.Store c.args.conn.now)) c.args.repo.now c.args.number c.args.digest.now)) clean
+    told_so c.args.conn.now c.checked.ensures.told (λ (s : State). SettlesOn s (finish_as_is (world_in (state g.S.Store c.args.conn.now)) c.args.repo.now c.args.number c.args.digest.now)) clean
     (λ clean.
     let old = state g.S.Store c.args.conn.now in
     let mid = state g.S.Store c.find_blob_link.new.conn in
@@ -43,16 +36,16 @@ returns-in-Ok-Some-clause-made g c known clean is =
 
 pub returns-in-Ok-Some-clause-memory : goal.returns-in-Ok-Some-clause-memory
 returns-in-Ok-Some-clause-memory g c clean is memory =
-    let early : HasCleanDisk (state g.S.Store c.find_blob_link.new.conn) = was_clean c.take_session_alone-done.ensures.survives (was_clean c.checked.ensures.checked.survives clean) in
+    let early : HasCleanDisk (state g.S.Store c.find_blob_link.new.conn) = was_clean c.take_session_alone-done.ensures.survives (was_clean c.checked.ensures.told.survives clean) in
     let stays = c.in-Ok-Some.ensures.settled early is refl in
-    stays_then (state g.S.Store c.args.conn.now) (state g.S.Store c.find_blob_link.new.conn) (state g.S.Store c.checked.new.conn) stays (told_memory c.find_blob_link.new.conn c.checked.ensures.checked (c.take_session_alone-done.ensures.back) clean stays.0 memory)
+    stays_then (state g.S.Store c.args.conn.now) (state g.S.Store c.find_blob_link.new.conn) (state g.S.Store c.checked.new.conn) stays (told_memory c.find_blob_link.new.conn c.checked.ensures.told (c.take_session_alone-done.ensures.back) clean stays.0 memory)
 
 pub returns-in-Ok-Some-clause-survives : goal.returns-in-Ok-Some-clause-survives
-returns-in-Ok-Some-clause-survives g c = told_lasts c.args.conn.now c.checked.ensures.checked (survives_all (state g.S.Store c.args.conn.now) (state g.S.Store c.find_blob_link.new.conn) (state g.S.Store c.take_session_alone-done.new.conn) _ _ c.find_blob_link.ensures.survives c.take_session_alone-done.ensures.survives)
+returns-in-Ok-Some-clause-survives g c = told_lasts c.args.conn.now c.checked.ensures.told (survives_all (state g.S.Store c.args.conn.now) (state g.S.Store c.find_blob_link.new.conn) (state g.S.Store c.take_session_alone-done.new.conn) _ _ c.find_blob_link.ensures.survives c.take_session_alone-done.ensures.survives)
 
 pub returns-in-Ok-None-clause-made : goal.returns-in-Ok-None-clause-made
 returns-in-Ok-None-clause-made g c known clean is =
-    told_so c.args.conn.now c.checked-in-Ok-None.ensures.checked (λ (s : State). SettlesOn s (finish_as_is (world_in (state g.S.Store c.args.conn.now)) c.args.repo.now c.args.number c.args.digest.now)) clean
+    told_so c.args.conn.now c.checked-in-Ok-None.ensures.told (λ (s : State). SettlesOn s (finish_as_is (world_in (state g.S.Store c.args.conn.now)) c.args.repo.now c.args.number c.args.digest.now)) clean
     (λ clean.
     let old = state g.S.Store c.args.conn.now in
     let mid = state g.S.Store c.find_blob_link.new.conn in
@@ -66,9 +59,29 @@ returns-in-Ok-None-clause-made g c known clean is =
 
 pub returns-in-Ok-None-clause-memory : goal.returns-in-Ok-None-clause-memory
 returns-in-Ok-None-clause-memory g c clean is memory =
-    let early : HasCleanDisk (state g.S.Store c.find_blob_link.new.conn) = was_clean c.end_whole_alone-done.ensures.survives (was_clean c.checked-in-Ok-None.ensures.checked.survives clean) in
+    let early : HasCleanDisk (state g.S.Store c.find_blob_link.new.conn) = was_clean c.end_whole_alone-done.ensures.survives (was_clean c.checked-in-Ok-None.ensures.told.survives clean) in
     let stays = c.in-Ok-None.ensures.settled early is refl in
-    stays_then (state g.S.Store c.args.conn.now) (state g.S.Store c.find_blob_link.new.conn) (state g.S.Store c.checked-in-Ok-None.new.conn) stays (told_memory c.find_blob_link.new.conn c.checked-in-Ok-None.ensures.checked (c.end_whole_alone-done.ensures.back (λ clean. still_none (state g.S.Store c.args.conn.now) (state g.S.Store c.find_blob_link.new.conn) c.args.repo.now c.args.digest.now (c.in-Ok-None.ensures.settled clean is refl) (sym c.in-Ok-None.field-0-is ∙ c.in-Ok-None.ensures.found clean is))) clean stays.0 memory)
+    stays_then (state g.S.Store c.args.conn.now) (state g.S.Store c.find_blob_link.new.conn) (state g.S.Store c.checked-in-Ok-None.new.conn) stays (told_memory c.find_blob_link.new.conn c.checked-in-Ok-None.ensures.told (c.end_whole_alone-done.ensures.back (λ clean. still_none (state g.S.Store c.args.conn.now) (state g.S.Store c.find_blob_link.new.conn) c.args.repo.now c.args.digest.now (c.in-Ok-None.ensures.settled clean is refl) (sym c.in-Ok-None.field-0-is ∙ c.in-Ok-None.ensures.found clean is))) clean stays.0 memory)
 
 pub returns-in-Ok-None-clause-survives : goal.returns-in-Ok-None-clause-survives
-returns-in-Ok-None-clause-survives g c = told_lasts c.args.conn.now c.checked-in-Ok-None.ensures.checked (survives_all (state g.S.Store c.args.conn.now) (state g.S.Store c.find_blob_link.new.conn) (state g.S.Store c.end_whole_alone-done.new.conn) _ _ c.find_blob_link.ensures.survives c.end_whole_alone-done.ensures.survives)
+returns-in-Ok-None-clause-survives g c = told_lasts c.args.conn.now c.checked-in-Ok-None.ensures.told (survives_all (state g.S.Store c.args.conn.now) (state g.S.Store c.find_blob_link.new.conn) (state g.S.Store c.end_whole_alone-done.new.conn) _ _ c.find_blob_link.ensures.survives c.end_whole_alone-done.ensures.survives)
+
+pub take_session_alone-done-requires : goal.take_session_alone-done-requires
+take_session_alone-done-requires g c = record { fits = c.requires.number_fits }
+
+pub end_whole_alone-done-requires : goal.end_whole_alone-done-requires
+end_whole_alone-done-requires g c = record { number_fits = c.requires.number_fits; fits = not_above c.args.link.size c.if-link-le-LARGEST.true }
+
+pub returns-in-Ok-None-2 : goal.returns-in-Ok-None-2
+returns-in-Ok-None-2 g c = record {
+  made = λ known clean is. tt;
+  memory = λ clean is memory. absurd (never_storage memory);
+  survives = c.find_blob_link.ensures.survives;
+}
+
+pub returns-in-Err : goal.returns-in-Err
+returns-in-Err g c = record {
+  made = λ known clean is. tt;
+  memory = λ clean is memory. c.in-Err.ensures.settled clean is (memory_told (Option BlobLink) c.in-Err.fault memory);
+  survives = c.find_blob_link.ensures.survives;
+}

@@ -7,7 +7,7 @@ use Rattle.store_world.specs.Keys.{has_start}
 use Rattle.store_statements.specs.Steps.{PieceStored}
 use Rattle.store_session_writes.proofs.BytesStored.{after_step}
 use Rattle.store_world.specs.Tables.{Tables}
-use Rattle.store_transactions.proofs.CleanBefore.{was_clean}
+use Rattle.store_statements.proofs.CleanBefore.{was_clean}
 use Rattle.store_session_writes.proofs.session_appends.add_bytes.Goals as goal
 
 pub returns-in-Ok-clause-appended : goal.returns-in-Ok-clause-appended
@@ -27,3 +27,20 @@ returns-in-Ok-clause-kept g c clean is =
 
 pub returns-in-Ok-clause-survives : goal.returns-in-Ok-clause-survives
 returns-in-Ok-clause-survives g c = survives_both (state g.S.Store c.args.tx.now.conn.now) (state g.S.Store c.set_size.new.tx.conn.now) (state g.S.Store c.store_piece.new.tx.conn.now) c.set_size.ensures.survives c.store_piece.ensures.survives
+
+pub set_size-requires : goal.set_size-requires
+set_size-requires g c = record { number_fits = c.requires.number_fits; size_fits = c.requires.fits }
+
+pub store_piece-requires : goal.store_piece-requires
+store_piece-requires g c = record { number_fits = c.requires.number_fits; fits = c.requires.fits }
+
+pub returns-in-Ok-clause-same_reference : goal.returns-in-Ok-clause-same_reference
+returns-in-Ok-clause-same_reference g c = c.store_piece.ensures.same_reference ∙ c.set_size.ensures.same_reference
+
+pub returns-in-Err : goal.returns-in-Err
+returns-in-Err g c = record {
+  appended = λ clean is fresh. tt;
+  kept = c.set_size.ensures.kept;
+  same_reference = c.set_size.ensures.same_reference;
+  survives = c.set_size.ensures.survives;
+}

@@ -1,9 +1,11 @@
+use Rattle.std.proofs.Common.{◌∙◌, length}
 use Rattle.sqlite.specs.State.{HasCleanDisk}
 use Rattle.sqlite.specs.Held.{state}
 use Rattle.store_schema.proofs.Selects.{commit_then, survives_both}
 use Rattle.store_statements.specs.Held.{held}
 use Rattle.store_session_writes.proofs.BytesStored.{piece_fresh, piece_stored_if}
-use Rattle.store_transactions.proofs.CleanBefore.{was_clean}
+use Rattle.store_statements.proofs.CleanBefore.{was_clean}
+use Rattle.store_session_writes.proofs.Fits.{first_fits, second_fits}
 use Rattle.store_session_writes.proofs.session_appends.store_piece.Goals as goal
 
 pub returns-in-Ok-clause-stored : goal.returns-in-Ok-clause-stored
@@ -24,3 +26,17 @@ returns-in-Ok-clause-kept g c clean is =
 
 pub returns-in-Ok-clause-survives : goal.returns-in-Ok-clause-survives
 returns-in-Ok-clause-survives g c = survives_both (state g.S.Store c.args.tx.now.conn.now) (state g.S.Store c.keep.new.tx.conn.now) (state g.S.Store c.add_piece.new.tx.conn.now) c.keep.ensures.survives c.add_piece.ensures.survives
+
+pub add_piece-requires : goal.add_piece-requires
+add_piece-requires g c = record { number_fits = c.requires.number_fits; start_fits = first_fits c.args.start (length c.args.bytes.now) c.requires.fits; size_fits = second_fits c.args.start (length c.args.bytes.now) c.requires.fits }
+
+pub returns-in-Ok-clause-same_reference : goal.returns-in-Ok-clause-same_reference
+returns-in-Ok-clause-same_reference g c = c.add_piece.ensures.same_reference ∙ c.keep.ensures.same_reference
+
+pub returns-in-Err : goal.returns-in-Err
+returns-in-Err g c = record {
+  stored = λ clean is fresh. tt;
+  kept = c.keep.ensures.kept;
+  same_reference = c.keep.ensures.same_reference;
+  survives = c.keep.ensures.survives;
+}

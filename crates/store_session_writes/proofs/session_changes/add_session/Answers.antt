@@ -6,7 +6,7 @@ use Rattle.store_schema.proofs.Selects.{commit_then, survives_both}
 use Rattle.store_world.specs.Keys.{of_session}
 use Rattle.store_session_writes.proofs.BytesStored.{opened_if}
 use Rattle.store_world.specs.Tables.{Tables}
-use Rattle.store_transactions.proofs.CleanBefore.{was_clean}
+use Rattle.store_statements.proofs.CleanBefore.{was_clean}
 use Rattle.store_session_writes.proofs.session_changes.add_session.Goals as goal
 
 pub returns-in-Ok-clause-opened : goal.returns-in-Ok-clause-opened
@@ -26,3 +26,20 @@ returns-in-Ok-clause-kept g c clean is =
 
 pub returns-in-Ok-clause-survives : goal.returns-in-Ok-clause-survives
 returns-in-Ok-clause-survives g c = survives_both (state g.S.Store c.args.tx.now.conn.now) (state g.S.Store c.set_last.new.tx.conn.now) (state g.S.Store c.add_upload.new.tx.conn.now) c.set_last.ensures.survives c.add_upload.ensures.survives
+
+pub set_last-requires : goal.set_last-requires
+set_last-requires g c = record { fits = c.requires.fits }
+
+pub add_upload-requires : goal.add_upload-requires
+add_upload-requires g c = record { fits = c.requires.fits }
+
+pub returns-in-Ok-clause-same_reference : goal.returns-in-Ok-clause-same_reference
+returns-in-Ok-clause-same_reference g c = c.add_upload.ensures.same_reference ∙ c.set_last.ensures.same_reference
+
+pub returns-in-Err : goal.returns-in-Err
+returns-in-Err g c = record {
+  opened = λ clean is fresh. tt;
+  kept = c.set_last.ensures.kept;
+  same_reference = c.set_last.ensures.same_reference;
+  survives = c.set_last.ensures.survives;
+}

@@ -1,10 +1,11 @@
+use Rattle.std.proofs.Common.{◌∙◌}
 use Rattle.sqlite.specs.State.{HasCleanDisk}
 use Rattle.sqlite.specs.Held.{state}
 use Rattle.store_schema.proofs.Selects.{commit_then, survives_both}
 use Rattle.store_world.specs.Keys.{of_session}
 use Rattle.store_statements.specs.Steps.{pieces_without, uploads_without}
 use Rattle.store_session_writes.proofs.StatementSequences.{becomes_then}
-use Rattle.store_transactions.proofs.CleanBefore.{was_clean}
+use Rattle.store_statements.proofs.CleanBefore.{was_clean}
 use Rattle.store_session_writes.proofs.session_changes.take_session.Goals as goal
 
 pub returns-in-Ok-clause-taken : goal.returns-in-Ok-clause-taken
@@ -23,8 +24,19 @@ returns-in-Ok-clause-kept g c clean is =
 pub returns-in-Ok-clause-survives : goal.returns-in-Ok-clause-survives
 returns-in-Ok-clause-survives g c = survives_both (state g.S.Store c.args.tx.now.conn.now) (state g.S.Store c.take_pieces_of.new.tx.conn.now) (state g.S.Store c.take_upload.new.tx.conn.now) c.take_pieces_of.ensures.survives c.take_upload.ensures.survives
 
-pub returns-in-Err-clause-kept : goal.returns-in-Err-clause-kept
-returns-in-Err-clause-kept g c = c.take_pieces_of.ensures.kept
+pub take_pieces_of-requires : goal.take_pieces_of-requires
+take_pieces_of-requires g c = record { fits = c.requires.fits }
 
-pub returns-in-Err-clause-survives : goal.returns-in-Err-clause-survives
-returns-in-Err-clause-survives g c = c.take_pieces_of.ensures.survives
+pub take_upload-requires : goal.take_upload-requires
+take_upload-requires g c = record { fits = c.requires.fits }
+
+pub returns-in-Ok-clause-same_reference : goal.returns-in-Ok-clause-same_reference
+returns-in-Ok-clause-same_reference g c = c.take_upload.ensures.same_reference ∙ c.take_pieces_of.ensures.same_reference
+
+pub returns-in-Err : goal.returns-in-Err
+returns-in-Err g c = record {
+  taken = λ clean is. tt;
+  kept = c.take_pieces_of.ensures.kept;
+  same_reference = c.take_pieces_of.ensures.same_reference;
+  survives = c.take_pieces_of.ensures.survives;
+}

@@ -1,10 +1,11 @@
+use Rattle.std.proofs.Common.{◌∙◌}
 use Rattle.sqlite.specs.State.{HasCleanDisk}
 use Rattle.sqlite.specs.Held.{state}
 use Rattle.store_schema.proofs.Selects.{commit_then, survives_both}
 use Rattle.store_world.specs.Keys.{of_first}
 use Rattle.store_statements.specs.Steps.{pieces_without, uploads_without}
 use Rattle.store_session_writes.proofs.StatementSequences.{becomes_then}
-use Rattle.store_transactions.proofs.CleanBefore.{was_clean}
+use Rattle.store_statements.proofs.CleanBefore.{was_clean}
 use Rattle.store_session_writes.proofs.session_changes.take_sessions.Goals as goal
 
 pub returns-in-Ok-clause-taken : goal.returns-in-Ok-clause-taken
@@ -23,8 +24,13 @@ returns-in-Ok-clause-kept g c clean is =
 pub returns-in-Ok-clause-survives : goal.returns-in-Ok-clause-survives
 returns-in-Ok-clause-survives g c = survives_both (state g.S.Store c.args.tx.now.conn.now) (state g.S.Store c.take_pieces.new.tx.conn.now) (state g.S.Store c.take_uploads.new.tx.conn.now) c.take_pieces.ensures.survives c.take_uploads.ensures.survives
 
-pub returns-in-Err-clause-kept : goal.returns-in-Err-clause-kept
-returns-in-Err-clause-kept g c = c.take_pieces.ensures.kept
+pub returns-in-Ok-clause-same_reference : goal.returns-in-Ok-clause-same_reference
+returns-in-Ok-clause-same_reference g c = c.take_uploads.ensures.same_reference ∙ c.take_pieces.ensures.same_reference
 
-pub returns-in-Err-clause-survives : goal.returns-in-Err-clause-survives
-returns-in-Err-clause-survives g c = c.take_pieces.ensures.survives
+pub returns-in-Err : goal.returns-in-Err
+returns-in-Err g c = record {
+  taken = λ clean is. tt;
+  kept = c.take_pieces.ensures.kept;
+  same_reference = c.take_pieces.ensures.same_reference;
+  survives = c.take_pieces.ensures.survives;
+}

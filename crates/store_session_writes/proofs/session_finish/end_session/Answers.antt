@@ -7,7 +7,7 @@ use Rattle.store_world.specs.Keys.{has_key}
 use Rattle.store_statements.specs.Steps.{BlobStored}
 use Rattle.store_session_writes.proofs.BytesStored.{after_step}
 use Rattle.store_world.specs.Tables.{Tables}
-use Rattle.store_transactions.proofs.CleanBefore.{was_clean}
+use Rattle.store_statements.proofs.CleanBefore.{was_clean}
 use Rattle.store_session_writes.proofs.session_finish.end_session.Goals as goal
 
 pub returns-in-Ok-clause-finished : goal.returns-in-Ok-clause-finished
@@ -27,3 +27,20 @@ returns-in-Ok-clause-kept g c clean is =
 
 pub returns-in-Ok-clause-survives : goal.returns-in-Ok-clause-survives
 returns-in-Ok-clause-survives g c = survives_both (state g.S.Store c.args.tx.now.conn.now) (state g.S.Store c.take_session.new.tx.conn.now) (state g.S.Store c.store_blob.new.tx.conn.now) c.take_session.ensures.survives c.store_blob.ensures.survives
+
+pub take_session-requires : goal.take_session-requires
+take_session-requires g c = record { fits = c.requires.number_fits }
+
+pub store_blob-requires : goal.store_blob-requires
+store_blob-requires g c = record { matching = c.requires.matching; fits = c.requires.fits }
+
+pub returns-in-Ok-clause-same_reference : goal.returns-in-Ok-clause-same_reference
+returns-in-Ok-clause-same_reference g c = c.store_blob.ensures.same_reference ∙ c.take_session.ensures.same_reference
+
+pub returns-in-Err : goal.returns-in-Err
+returns-in-Err g c = record {
+  finished = λ clean is fresh. tt;
+  kept = c.take_session.ensures.kept;
+  same_reference = c.take_session.ensures.same_reference;
+  survives = c.take_session.ensures.survives;
+}

@@ -5,19 +5,19 @@ use Rattle.sqlite.specs.Held.{state}
 use Rattle.store_world.specs.Keys.{has_key}
 use Rattle.store_statements.specs.declared.blobs.BlobLink.{BlobLink}
 use Rattle.store_statements.specs.Shown.{blob_link}
-use Rattle.store_transactions.proofs.BlobLinks.{still_none}
+use Rattle.store_statements.proofs.BlobLinks.{still_none}
 use Rattle.store_session_writes.proofs.SessionWrites.{finishes_there, finishes_new}
 use Rattle.store_statements.specs.Held.{held}
 use Rattle.store_statements.proofs.Transactions.{survives_all}
-use Rattle.store_transactions.proofs.WritesAfterReads.{none_found, memory_told}
-use Rattle.store_transactions.proofs.CleanBefore.{was_clean}
-use Rattle.store_transactions.proofs.FaultsTold.{never_storage}
-use Rattle.store_transactions.proofs.NothingDone.{survives_here}
+use Rattle.store_statements.proofs.WritesAfterReads.{none_found, memory_told}
+use Rattle.store_statements.proofs.CleanBefore.{was_clean}
+use Rattle.store_statements.proofs.Checks.{never_storage}
+use Rattle.store_statements.proofs.Checks.{survives_here}
 use Rattle.sqlite.specs.State.{State}
 use Rattle.store_statements.specs.Held.{SettlesOn, world_in}
 use Rattle.store_statements.proofs.SettledAfter.{stays_then}
-use Rattle.store_transactions.proofs.Alone.{less}
-use Rattle.store_transactions.proofs.Told.{told_so, told_memory, told_lasts}
+use Rattle.store_statements.proofs.Alone.{less}
+use Rattle.store_statements.proofs.ChangesTold.{told_so, told_memory, told_lasts}
 use Rattle.registry_model.specs.Lookups as Lookups
 use Rattle.store_session_writes.proofs.session_finish.finish.Goals as goal
 
@@ -41,7 +41,7 @@ returns-then-number-gt-LARGEST-clause-survives g c = survives_here (state g.S.St
 
 pub returns-in-Ok-Some-clause-made : goal.returns-in-Ok-Some-clause-made
 returns-in-Ok-Some-clause-made g c is_open clean is =
-    told_so c.args.conn.now c.checked.ensures.checked (λ (s : State). SettlesOn s (Lookups.finish (world_in (state g.S.Store c.args.conn.now)) c.args.repo.now c.args.number c.args.digest.now c.args.bytes.now)) clean
+    told_so c.args.conn.now c.checked.ensures.told (λ (s : State). SettlesOn s (Lookups.finish (world_in (state g.S.Store c.args.conn.now)) c.args.repo.now c.args.number c.args.digest.now c.args.bytes.now)) clean
     (λ clean.
     let old = state g.S.Store c.args.conn.now in
     let mid = state g.S.Store c.find_blob_link.new.conn in
@@ -54,16 +54,16 @@ returns-in-Ok-Some-clause-made g c is_open clean is =
 
 pub returns-in-Ok-Some-clause-memory : goal.returns-in-Ok-Some-clause-memory
 returns-in-Ok-Some-clause-memory g c clean is memory =
-    let early : HasCleanDisk (state g.S.Store c.find_blob_link.new.conn) = was_clean c.take_session_alone-done.ensures.survives (was_clean c.checked.ensures.checked.survives clean) in
+    let early : HasCleanDisk (state g.S.Store c.find_blob_link.new.conn) = was_clean c.take_session_alone-done.ensures.survives (was_clean c.checked.ensures.told.survives clean) in
     let stays = c.in-Ok-Some.ensures.settled early is refl in
-    stays_then (state g.S.Store c.args.conn.now) (state g.S.Store c.find_blob_link.new.conn) (state g.S.Store c.checked.new.conn) stays (told_memory c.find_blob_link.new.conn c.checked.ensures.checked (c.take_session_alone-done.ensures.back) clean stays.0 memory)
+    stays_then (state g.S.Store c.args.conn.now) (state g.S.Store c.find_blob_link.new.conn) (state g.S.Store c.checked.new.conn) stays (told_memory c.find_blob_link.new.conn c.checked.ensures.told (c.take_session_alone-done.ensures.back) clean stays.0 memory)
 
 pub returns-in-Ok-Some-clause-survives : goal.returns-in-Ok-Some-clause-survives
-returns-in-Ok-Some-clause-survives g c = told_lasts c.args.conn.now c.checked.ensures.checked (survives_all (state g.S.Store c.args.conn.now) (state g.S.Store c.find_blob_link.new.conn) (state g.S.Store c.take_session_alone-done.new.conn) _ _ c.find_blob_link.ensures.survives c.take_session_alone-done.ensures.survives)
+returns-in-Ok-Some-clause-survives g c = told_lasts c.args.conn.now c.checked.ensures.told (survives_all (state g.S.Store c.args.conn.now) (state g.S.Store c.find_blob_link.new.conn) (state g.S.Store c.take_session_alone-done.new.conn) _ _ c.find_blob_link.ensures.survives c.take_session_alone-done.ensures.survives)
 
 pub returns-in-Ok-None-clause-made : goal.returns-in-Ok-None-clause-made
 returns-in-Ok-None-clause-made g c is_open clean is =
-    told_so c.args.conn.now c.checked-in-Ok-None.ensures.checked (λ (s : State). SettlesOn s (Lookups.finish (world_in (state g.S.Store c.args.conn.now)) c.args.repo.now c.args.number c.args.digest.now c.args.bytes.now)) clean
+    told_so c.args.conn.now c.checked-in-Ok-None.ensures.told (λ (s : State). SettlesOn s (Lookups.finish (world_in (state g.S.Store c.args.conn.now)) c.args.repo.now c.args.number c.args.digest.now c.args.bytes.now)) clean
     (λ clean.
     let old = state g.S.Store c.args.conn.now in
     let mid = state g.S.Store c.find_blob_link.new.conn in
@@ -77,9 +77,9 @@ returns-in-Ok-None-clause-made g c is_open clean is =
 
 pub returns-in-Ok-None-clause-memory : goal.returns-in-Ok-None-clause-memory
 returns-in-Ok-None-clause-memory g c clean is memory =
-    let early : HasCleanDisk (state g.S.Store c.find_blob_link.new.conn) = was_clean c.end_session_alone-done.ensures.survives (was_clean c.checked-in-Ok-None.ensures.checked.survives clean) in
+    let early : HasCleanDisk (state g.S.Store c.find_blob_link.new.conn) = was_clean c.end_session_alone-done.ensures.survives (was_clean c.checked-in-Ok-None.ensures.told.survives clean) in
     let stays = c.in-Ok-None.ensures.settled early is refl in
-    stays_then (state g.S.Store c.args.conn.now) (state g.S.Store c.find_blob_link.new.conn) (state g.S.Store c.checked-in-Ok-None.new.conn) stays (told_memory c.find_blob_link.new.conn c.checked-in-Ok-None.ensures.checked (c.end_session_alone-done.ensures.back (λ clean. still_none (state g.S.Store c.args.conn.now) (state g.S.Store c.find_blob_link.new.conn) c.as_str-repo.result.now c.as_str-digest.result.now (c.in-Ok-None.ensures.settled clean is refl) (sym c.in-Ok-None.field-0-is ∙ c.in-Ok-None.ensures.found clean is))) clean stays.0 memory)
+    stays_then (state g.S.Store c.args.conn.now) (state g.S.Store c.find_blob_link.new.conn) (state g.S.Store c.checked-in-Ok-None.new.conn) stays (told_memory c.find_blob_link.new.conn c.checked-in-Ok-None.ensures.told (c.end_session_alone-done.ensures.back (λ clean. still_none (state g.S.Store c.args.conn.now) (state g.S.Store c.find_blob_link.new.conn) c.as_str-repo.result.now c.as_str-digest.result.now (c.in-Ok-None.ensures.settled clean is refl) (sym c.in-Ok-None.field-0-is ∙ c.in-Ok-None.ensures.found clean is))) clean stays.0 memory)
 
 pub returns-in-Ok-None-clause-survives : goal.returns-in-Ok-None-clause-survives
-returns-in-Ok-None-clause-survives g c = told_lasts c.args.conn.now c.checked-in-Ok-None.ensures.checked (survives_all (state g.S.Store c.args.conn.now) (state g.S.Store c.find_blob_link.new.conn) (state g.S.Store c.end_session_alone-done.new.conn) _ _ c.find_blob_link.ensures.survives c.end_session_alone-done.ensures.survives)
+returns-in-Ok-None-clause-survives g c = told_lasts c.args.conn.now c.checked-in-Ok-None.ensures.told (survives_all (state g.S.Store c.args.conn.now) (state g.S.Store c.find_blob_link.new.conn) (state g.S.Store c.end_session_alone-done.new.conn) _ _ c.find_blob_link.ensures.survives c.end_session_alone-done.ensures.survives)

@@ -5,7 +5,7 @@ use Rattle.store_statements.specs.Held.{held}
 use Rattle.store_statements.proofs.SettledAfter.{stays_then}
 use Rattle.store_statements.proofs.Transactions.{survives_all}
 use Rattle.store_session_writes.proofs.KnownEnds.{whole_found, no_whole}
-use Rattle.store_transactions.proofs.CleanBefore.{was_clean}
+use Rattle.store_statements.proofs.CleanBefore.{was_clean}
 use Rattle.store_session_writes.proofs.whole_sessions.find_whole.Goals as goal
 
 pub returns-in-Ok-Some-clause-found : goal.returns-in-Ok-Some-clause-found
@@ -22,5 +22,22 @@ returns-in-Ok-Some-clause-settled g c clean is unspent =
 pub returns-in-Ok-Some-clause-survives : goal.returns-in-Ok-Some-clause-survives
 returns-in-Ok-Some-clause-survives g c = survives_all (state g.S.Store c.args.conn.now) (state g.S.Store c.find_upload.new.conn) (state g.S.Store c.piece_link.new.conn) _ _ c.find_upload.ensures.survives c.piece_link.ensures.survives
 
-pub returns-in-Ok-None-clause-found : goal.returns-in-Ok-None-clause-found
-returns-in-Ok-None-clause-found g c clean is = no_whole (held (state g.S.Store c.args.conn.now)) c.args.repo.now c.args.number (sym c.in-Ok-None.field-0-is ∙ c.in-Ok-None.ensures.found clean is)
+pub returns-in-Ok-None : goal.returns-in-Ok-None
+returns-in-Ok-None g c = record {
+  found = λ clean is. no_whole (held (state g.S.Store c.args.conn.now)) c.args.repo.now c.args.number (sym c.in-Ok-None.field-0-is ∙ c.in-Ok-None.ensures.found clean is);
+  settled = λ clean is unspent. c.in-Ok-None.ensures.settled clean is refl;
+  survives = c.find_upload.ensures.survives;
+}
+
+pub find_upload-requires : goal.find_upload-requires
+find_upload-requires g c = record { fits = c.requires.fits }
+
+pub piece_link-requires : goal.piece_link-requires
+piece_link-requires g c = record { fits = c.requires.fits }
+
+pub returns-in-Err : goal.returns-in-Err
+returns-in-Err g c = record {
+  found = λ clean is. tt;
+  settled = λ clean is unspent. c.in-Err.ensures.settled clean is unspent;
+  survives = c.find_upload.ensures.survives;
+}

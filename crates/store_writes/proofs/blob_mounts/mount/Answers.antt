@@ -11,9 +11,10 @@ use Rattle.store_statements.specs.Shown.{blob_link}
 use Rattle.store_statements.specs.declared.blobs.BlobLink.{BlobLink}
 use Rattle.store_statements.proofs.SettledAfter.{stays_then}
 use Rattle.store_statements.proofs.Transactions.{survives_all}
-use Rattle.store_transactions.proofs.WritesAfterReads.{same_world}
+use Rattle.store_statements.proofs.WritesAfterReads.{same_world}
 use Rattle.store_writes.proofs.MountLemmas.{same_tables, no_storage, found_none, mounts_nothing, makes_from}
-use Rattle.store_transactions.proofs.CleanBefore.{was_clean}
+use Rattle.store_statements.proofs.CleanBefore.{was_clean}
+use Rattle.store_statements.proofs.Checks.{never_done}
 use Rattle.store_writes.proofs.blob_mounts.mount.Goals as goal
 
 pub returns-in-Ok-Some-clause-made : goal.returns-in-Ok-Some-clause-made
@@ -46,3 +47,15 @@ returns-in-Ok-None-clause-survives g c = survives_all (state g.S.Store c.args.co
 
 pub returns-in-Err-clause-memory : goal.returns-in-Err-clause-memory
 returns-in-Err-clause-memory g c clean is memory = c.in-Err.ensures.settled clean is (no_storage _ (Option BlobLink) c.in-Err.fault memory)
+
+pub returns-in-Ok-Some-clause-memory : goal.returns-in-Ok-Some-clause-memory
+returns-in-Ok-Some-clause-memory g c = λ clean is memory. absurd (never_done memory)
+
+pub returns-in-Ok-Some-clause-survives : goal.returns-in-Ok-Some-clause-survives
+returns-in-Ok-Some-clause-survives g c = c.find_blob_link.ensures.survives
+
+pub returns-in-Err-clause-made : goal.returns-in-Err-clause-made
+returns-in-Err-clause-made g c = λ there clean is. tt
+
+pub returns-in-Err-clause-survives : goal.returns-in-Err-clause-survives
+returns-in-Err-clause-survives g c = c.find_blob_link.ensures.survives

@@ -8,12 +8,12 @@ use Rattle.store_statements.specs.declared.blobs.BlobLink.{BlobLink}
 use Rattle.store_statements.proofs.SettledAfter.{stays_then}
 use Rattle.store_statements.proofs.Transactions.{survives_all}
 use Rattle.store_writes.proofs.MountLemmas.{same_tables, no_storage, mounts}
-use Rattle.store_transactions.proofs.CleanBefore.{was_clean}
-use Rattle.store_transactions.proofs.FaultsTold.{never_storage}
+use Rattle.store_statements.proofs.CleanBefore.{was_clean}
+use Rattle.store_statements.proofs.Checks.{never_storage}
 use Rattle.sqlite.specs.State.{State}
 use Rattle.store_statements.specs.Held.{SettlesOn, world_in}
-use Rattle.store_transactions.proofs.Alone.{less, pair}
-use Rattle.store_transactions.proofs.Told.{told_so, told_memory, told_lasts}
+use Rattle.store_statements.proofs.Alone.{less, pair}
+use Rattle.store_statements.proofs.ChangesTold.{told_so, told_memory, told_lasts}
 use Rattle.registry_model.specs.Lookups as Lookups
 use Rattle.store_writes.proofs.blob_mounts.mount_link.Goals as goal
 
@@ -46,7 +46,7 @@ returns-in-Ok-2-clause-survives g c = c.find_blob_link.ensures.survives
 
 pub returns-in-Ok-Some-clause-made : goal.returns-in-Ok-Some-clause-made
 returns-in-Ok-Some-clause-made g c there fresh clean is =
-    told_so c.args.conn.now c.checked.ensures.checked (λ (s : State). SettlesOn s (Lookups.mount (world_in (state g.S.Store c.args.conn.now)) c.args.from.now c.args.to.now c.args.digest.now)) clean
+    told_so c.args.conn.now c.checked.ensures.told (λ (s : State). SettlesOn s (Lookups.mount (world_in (state g.S.Store c.args.conn.now)) c.args.from.now c.args.to.now c.args.digest.now)) clean
     (λ clean.
     let old = state g.S.Store c.args.conn.now in
     let mid = state g.S.Store c.find_blob_link.new.conn in
@@ -61,10 +61,10 @@ returns-in-Ok-Some-clause-made g c there fresh clean is =
 
 pub returns-in-Ok-Some-clause-memory : goal.returns-in-Ok-Some-clause-memory
 returns-in-Ok-Some-clause-memory g c fresh clean is memory =
-    let early : HasCleanDisk (state g.S.Store c.find_blob_link.new.conn) = was_clean c.add_blob_link_alone-done.ensures.survives (was_clean c.checked.ensures.checked.survives clean) in
+    let early : HasCleanDisk (state g.S.Store c.find_blob_link.new.conn) = was_clean c.add_blob_link_alone-done.ensures.survives (was_clean c.checked.ensures.told.survives clean) in
     let stays = c.in-Ok-Some.ensures.settled early is refl in
-    stays_then (state g.S.Store c.args.conn.now) (state g.S.Store c.find_blob_link.new.conn) (state g.S.Store c.checked.new.conn) stays (told_memory c.find_blob_link.new.conn c.checked.ensures.checked (c.add_blob_link_alone-done.ensures.back (λ clean. let early : HasCleanDisk (state g.S.Store c.args.conn.now) = was_clean c.find_blob_link.ensures.survives clean in
+    stays_then (state g.S.Store c.args.conn.now) (state g.S.Store c.find_blob_link.new.conn) (state g.S.Store c.checked.new.conn) stays (told_memory c.find_blob_link.new.conn c.checked.ensures.told (c.add_blob_link_alone-done.ensures.back (λ clean. let early : HasCleanDisk (state g.S.Store c.args.conn.now) = was_clean c.find_blob_link.ensures.survives clean in
     ap (λ (t : Tables). find (has_key c.args.to.now c.args.digest.now) t.blobs) (same_tables (state g.S.Store c.args.conn.now) (state g.S.Store c.find_blob_link.new.conn) (c.in-Ok-Some.ensures.settled clean is refl)) ∙ fresh early)) clean stays.0 memory)
 
 pub returns-in-Ok-Some-clause-survives : goal.returns-in-Ok-Some-clause-survives
-returns-in-Ok-Some-clause-survives g c = told_lasts c.args.conn.now c.checked.ensures.checked (survives_all (state g.S.Store c.args.conn.now) (state g.S.Store c.find_blob_link.new.conn) (state g.S.Store c.add_blob_link_alone-done.new.conn) _ _ c.find_blob_link.ensures.survives c.add_blob_link_alone-done.ensures.survives)
+returns-in-Ok-Some-clause-survives g c = told_lasts c.args.conn.now c.checked.ensures.told (survives_all (state g.S.Store c.args.conn.now) (state g.S.Store c.find_blob_link.new.conn) (state g.S.Store c.add_blob_link_alone-done.new.conn) _ _ c.find_blob_link.ensures.survives c.add_blob_link_alone-done.ensures.survives)

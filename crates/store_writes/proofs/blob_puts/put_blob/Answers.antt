@@ -6,17 +6,17 @@ use Rattle.store_world.specs.Keys.{has_key}
 use Rattle.store_statements.specs.declared.blobs.BlobLink.{BlobLink}
 use Rattle.store_statements.specs.Shown.{blob_link}
 use Rattle.store_writes.proofs.BlobWrites.{puts_there, puts_new}
-use Rattle.store_transactions.proofs.BlobLinks.{still_none}
+use Rattle.store_statements.proofs.BlobLinks.{still_none}
 use Rattle.store_statements.specs.Held.{held}
 use Rattle.store_statements.proofs.Transactions.{survives_all}
-use Rattle.store_transactions.proofs.WritesAfterReads.{none_found, memory_told}
-use Rattle.store_transactions.proofs.CleanBefore.{was_clean}
-use Rattle.store_transactions.proofs.FaultsTold.{never_done}
+use Rattle.store_statements.proofs.WritesAfterReads.{none_found, memory_told}
+use Rattle.store_statements.proofs.CleanBefore.{was_clean}
+use Rattle.store_statements.proofs.Checks.{never_done}
 use Rattle.sqlite.specs.State.{State}
 use Rattle.store_statements.specs.Held.{SettlesOn, world_in}
 use Rattle.store_statements.proofs.SettledAfter.{stays_then}
-use Rattle.store_transactions.proofs.Alone.{less}
-use Rattle.store_transactions.proofs.Told.{told_so, told_memory, told_lasts}
+use Rattle.store_statements.proofs.Alone.{less}
+use Rattle.store_statements.proofs.ChangesTold.{told_so, told_memory, told_lasts}
 use Rattle.registry_model.specs.Lookups as Lookups
 use Rattle.store_writes.proofs.blob_puts.put_blob.Goals as goal
 
@@ -42,7 +42,7 @@ returns-in-Ok-Some-clause-survives g c = c.find_blob_link.ensures.survives
 
 pub returns-in-Ok-None-clause-made : goal.returns-in-Ok-None-clause-made
 returns-in-Ok-None-clause-made g c there clean is =
-    told_so c.args.conn.now c.checked.ensures.checked (λ (s : State). SettlesOn s (Lookups.put_blob (world_in (state g.S.Store c.args.conn.now)) c.args.repo.now c.args.digest.now c.args.bytes.now)) clean
+    told_so c.args.conn.now c.checked.ensures.told (λ (s : State). SettlesOn s (Lookups.put_blob (world_in (state g.S.Store c.args.conn.now)) c.args.repo.now c.args.digest.now c.args.bytes.now)) clean
     (λ clean.
     let old = state g.S.Store c.args.conn.now in
     let mid = state g.S.Store c.find_blob_link.new.conn in
@@ -56,9 +56,9 @@ returns-in-Ok-None-clause-made g c there clean is =
 
 pub returns-in-Ok-None-clause-memory : goal.returns-in-Ok-None-clause-memory
 returns-in-Ok-None-clause-memory g c clean is memory =
-    let early : HasCleanDisk (state g.S.Store c.find_blob_link.new.conn) = was_clean c.store_blob_alone-done.ensures.survives (was_clean c.checked.ensures.checked.survives clean) in
+    let early : HasCleanDisk (state g.S.Store c.find_blob_link.new.conn) = was_clean c.store_blob_alone-done.ensures.survives (was_clean c.checked.ensures.told.survives clean) in
     let stays = c.in-Ok-None.ensures.settled early is refl in
-    stays_then (state g.S.Store c.args.conn.now) (state g.S.Store c.find_blob_link.new.conn) (state g.S.Store c.checked.new.conn) stays (told_memory c.find_blob_link.new.conn c.checked.ensures.checked (c.store_blob_alone-done.ensures.back (λ clean. still_none (state g.S.Store c.args.conn.now) (state g.S.Store c.find_blob_link.new.conn) c.as_str-repo.result.now c.as_str-digest.result.now (c.in-Ok-None.ensures.settled clean is refl) (sym c.in-Ok-None.field-0-is ∙ c.in-Ok-None.ensures.found clean is))) clean stays.0 memory)
+    stays_then (state g.S.Store c.args.conn.now) (state g.S.Store c.find_blob_link.new.conn) (state g.S.Store c.checked.new.conn) stays (told_memory c.find_blob_link.new.conn c.checked.ensures.told (c.store_blob_alone-done.ensures.back (λ clean. still_none (state g.S.Store c.args.conn.now) (state g.S.Store c.find_blob_link.new.conn) c.as_str-repo.result.now c.as_str-digest.result.now (c.in-Ok-None.ensures.settled clean is refl) (sym c.in-Ok-None.field-0-is ∙ c.in-Ok-None.ensures.found clean is))) clean stays.0 memory)
 
 pub returns-in-Ok-None-clause-survives : goal.returns-in-Ok-None-clause-survives
-returns-in-Ok-None-clause-survives g c = told_lasts c.args.conn.now c.checked.ensures.checked (survives_all (state g.S.Store c.args.conn.now) (state g.S.Store c.find_blob_link.new.conn) (state g.S.Store c.store_blob_alone-done.new.conn) _ _ c.find_blob_link.ensures.survives c.store_blob_alone-done.ensures.survives)
+returns-in-Ok-None-clause-survives g c = told_lasts c.args.conn.now c.checked.ensures.told (survives_all (state g.S.Store c.args.conn.now) (state g.S.Store c.find_blob_link.new.conn) (state g.S.Store c.store_blob_alone-done.new.conn) _ _ c.find_blob_link.ensures.survives c.store_blob_alone-done.ensures.survives)

@@ -3,15 +3,15 @@ use Rattle.std.specs.Prelude.{if◌then◌else◌}
 use Rattle.sqlite.specs.State.{State}
 use Rattle.sqlite.specs.Held.{state}
 use Rattle.store_statements.specs.Held.{SettlesOn, held, world_in}
-use Rattle.store_transactions.proofs.Alone.{less}
-use Rattle.store_transactions.proofs.Told.{told_so, told_memory, told_lasts}
+use Rattle.store_statements.proofs.Alone.{less}
+use Rattle.store_statements.proofs.ChangesTold.{told_so, told_memory, told_lasts}
 use Rattle.store_writes.specs.Naming.{is_named}
 use Rattle.store_writes.proofs.ContentsFreed.{makes_cleared}
 use Rattle.store_writes.proofs.content_clearing.clear.Goals as goal
 
 pub returns : goal.returns
 returns g c =
-    let told = c.checked.ensures.checked in
+    let told = c.checked.ensures.told in
     let did = c.clear_contents_alone-done.ensures in
     let old = state g.S.Store c.args.conn.now in
     record {

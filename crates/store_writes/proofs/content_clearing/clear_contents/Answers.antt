@@ -2,7 +2,9 @@ use Rattle.sqlite.specs.State.{HasCleanDisk}
 use Rattle.sqlite.specs.Held.{state}
 use Rattle.store_schema.proofs.Selects.{commit_then, survives_both}
 use Rattle.store_writes.proofs.ContentsFreed.{still_ready, cleared_if}
-use Rattle.store_transactions.proofs.CleanBefore.{was_clean}
+use Rattle.store_statements.proofs.CleanBefore.{was_clean}
+use Rattle.std.proofs.Common.{◌∙◌}
+use Rattle.std.proofs.lemmas.Result.{IfOk-from_err}
 use Rattle.store_writes.proofs.content_clearing.clear_contents.Goals as goal
 
 pub returns-in_err-ids-clause-kept : goal.returns-in_err-ids-clause-kept
@@ -45,3 +47,17 @@ returns-clause-kept g c clean is =
 pub returns-clause-survives : goal.returns-clause-survives
 returns-clause-survives g c =
     survives_both (state g.S.Store c.args.tx.now.conn.now) (state g.S.Store c.unlinked.new.tx.conn.now) (state g.S.Store c.take_contents.new.tx.conn.now) (survives_both (state g.S.Store c.args.tx.now.conn.now) (state g.S.Store c.named.new.tx.conn.now) (state g.S.Store c.unlinked.new.tx.conn.now) c.named.ensures.survives c.unlinked.ensures.survives) c.take_contents.ensures.survives
+
+pub returns-in_err-set : goal.returns-in_err-set
+returns-in_err-set g c = record {
+  cleared = λ clean is. IfOk-from_err c.from_residual.result _ c.from_residual.ensures.0;
+  kept = c.named.ensures.kept;
+  same_reference = c.named.ensures.same_reference;
+  survives = c.named.ensures.survives;
+}
+
+pub returns-clause-same_reference : goal.returns-clause-same_reference
+returns-clause-same_reference g c = c.take_contents.ensures.same_reference ∙ c.unlinked.ensures.same_reference ∙ c.named.ensures.same_reference
+
+pub returns-in_err-ids-clause-same_reference : goal.returns-in_err-ids-clause-same_reference
+returns-in_err-ids-clause-same_reference g c = c.unlinked.ensures.same_reference ∙ c.named.ensures.same_reference

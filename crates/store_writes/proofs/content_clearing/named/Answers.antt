@@ -4,7 +4,9 @@ use Rattle.sqlite.specs.Held.{state}
 use Rattle.sqlite.proofs.Callers.{unchanged_then}
 use Rattle.store_schema.proofs.Selects.{commit_then, survives_both}
 use Rattle.store_writes.proofs.ContentsFreed.{still_ready, named_read}
-use Rattle.store_transactions.proofs.CleanBefore.{was_clean}
+use Rattle.store_statements.proofs.CleanBefore.{was_clean}
+use Rattle.std.proofs.Common.{◌∙◌}
+use Rattle.std.proofs.lemmas.Result.{IfOk-from_err}
 use Rattle.store_writes.proofs.content_clearing.named.Goals as goal
 
 pub returns-in_err-insert_pieces-clause-kept : goal.returns-in_err-insert_pieces-clause-kept
@@ -72,3 +74,21 @@ returns-in_err-insert_manifests-clause-kept g c clean is =
 pub returns-in_err-insert_manifests-clause-survives : goal.returns-in_err-insert_manifests-clause-survives
 returns-in_err-insert_manifests-clause-survives g c =
     survives_both (state g.S.Store c.args.tx.now.conn.now) (state g.S.Store c.insert_blobs.new.tx.conn.now) (state g.S.Store c.insert_manifests.new.tx.conn.now) c.insert_blobs.ensures.survives c.insert_manifests.ensures.survives
+
+pub returns-in_err-insert_blobs : goal.returns-in_err-insert_blobs
+returns-in_err-insert_blobs g c = record {
+  named = λ clean is. IfOk-from_err c.from_residual.result _ c.from_residual.ensures.0;
+  same = λ clean is. IfOk-from_err c.from_residual.result _ c.from_residual.ensures.0;
+  kept = c.insert_blobs.ensures.kept;
+  same_reference = c.insert_blobs.ensures.same_reference;
+  survives = c.insert_blobs.ensures.survives;
+}
+
+pub returns-clause-same_reference : goal.returns-clause-same_reference
+returns-clause-same_reference g c = c.insert_pieces.ensures.same_reference ∙ c.insert_manifests.ensures.same_reference ∙ c.insert_blobs.ensures.same_reference
+
+pub returns-in_err-insert_manifests-clause-same_reference : goal.returns-in_err-insert_manifests-clause-same_reference
+returns-in_err-insert_manifests-clause-same_reference g c = c.insert_manifests.ensures.same_reference ∙ c.insert_blobs.ensures.same_reference
+
+pub returns-in_err-insert_pieces-clause-same_reference : goal.returns-in_err-insert_pieces-clause-same_reference
+returns-in_err-insert_pieces-clause-same_reference g c = c.insert_pieces.ensures.same_reference ∙ c.insert_manifests.ensures.same_reference ∙ c.insert_blobs.ensures.same_reference

@@ -5,7 +5,7 @@ use Rattle.store_statements.specs.Held.{held}
 use Rattle.store_writes.specs.Naming.{ContentsGone}
 use Rattle.store_writes.proofs.ContentsFreed.{so_far_none, so_far_more}
 use Rattle.std.proofs.lemmas.Result.{IfOk-from_err}
-use Rattle.store_transactions.proofs.CleanBefore.{was_clean}
+use Rattle.store_statements.proofs.CleanBefore.{was_clean}
 use Rattle.store_schema.proofs.Selects.{commit_then, survives_both}
 use Rattle.sqlite.specs.State.{HasCleanDisk}
 use Rattle.store_writes.proofs.content_clearing.take_contents.Goals as goal

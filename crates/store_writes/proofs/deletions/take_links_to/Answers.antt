@@ -5,7 +5,7 @@ use Rattle.store_statements.specs.Held.{Becomes, held}
 use Rattle.store_writes.specs.Deleting.{without_blob_links}
 use Rattle.store_writes.proofs.SeveralBlobs.{so_far_none, so_far_more}
 use Rattle.std.proofs.lemmas.Result.{IfOk-from_err}
-use Rattle.store_transactions.proofs.CleanBefore.{was_clean}
+use Rattle.store_statements.proofs.CleanBefore.{was_clean}
 use Rattle.store_schema.proofs.Selects.{commit_then, survives_both}
 use Rattle.sqlite.specs.State.{HasCleanDisk}
 use Rattle.store_writes.proofs.deletions.take_links_to.Goals as goal

@@ -4,7 +4,9 @@ use Rattle.oci_manifest.specs.Manifest.{shown}
 use Rattle.registry_model.specs.Ask.{text_in}
 use Rattle.store_schema.proofs.Selects.{commit_then, survives_both}
 use Rattle.store_writes.proofs.ManifestPuts.{then_ok, fresh_manifest, manifest_came}
-use Rattle.store_transactions.proofs.CleanBefore.{was_clean}
+use Rattle.store_statements.proofs.CleanBefore.{was_clean}
+use Rattle.std.proofs.Common.{◌∙◌}
+use Rattle.std.proofs.lemmas.Result.{IfOk-from_err}
 use Rattle.store_writes.proofs.manifest_puts.add_manifest.Goals as goal
 
 pub returns-clause-made : goal.returns-clause-made
@@ -28,3 +30,14 @@ returns-clause-kept g c clean is =
 
 pub returns-clause-survives : goal.returns-clause-survives
 returns-clause-survives g c = survives_both (state g.S.Store c.args.tx.now.conn.now) (state g.S.Store c.keep_matching.new.tx.conn.now) (state g.S.Store c.add_manifest_link.new.tx.conn.now) c.keep_matching.ensures.survives c.add_manifest_link.ensures.survives
+
+pub returns-in_err-content : goal.returns-in_err-content
+returns-in_err-content g c = record {
+  made = λ clean is there fresh. IfOk-from_err c.from_residual.result _ c.from_residual.ensures.0;
+  kept = λ clean is. c.keep_matching.ensures.kept clean is.ready;
+  same_reference = c.keep_matching.ensures.same_reference;
+  survives = c.keep_matching.ensures.survives;
+}
+
+pub returns-clause-same_reference : goal.returns-clause-same_reference
+returns-clause-same_reference g c = c.add_manifest_link.ensures.same_reference ∙ c.keep_matching.ensures.same_reference

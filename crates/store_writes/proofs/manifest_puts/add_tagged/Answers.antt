@@ -6,7 +6,8 @@ use Rattle.store_schema.proofs.Selects.{commit_then, survives_both}
 use Rattle.store_world.specs.Registry.{is_repo}
 use Rattle.store_statements.specs.Held.{held}
 use Rattle.store_writes.proofs.ManifestPuts.{then_ok, tagged_put}
-use Rattle.store_transactions.proofs.CleanBefore.{was_clean}
+use Rattle.store_statements.proofs.CleanBefore.{was_clean}
+use Rattle.std.proofs.lemmas.Result.{IfOk-from_err}
 use Rattle.store_writes.proofs.manifest_puts.add_tagged.Goals as goal
 
 pub returns-clause-made : goal.returns-clause-made
@@ -24,3 +25,17 @@ returns-clause-kept g c clean is there fresh =
 
 pub returns-clause-survives : goal.returns-clause-survives
 returns-clause-survives g c = survives_both (state g.S.Store c.args.tx.now.conn.now) (state g.S.Store c.add_manifest.new.tx.conn.now) (state g.S.Store c.put_tag_if.new.tx.conn.now) c.add_manifest.ensures.survives c.put_tag_if.ensures.survives
+
+pub returns-in_err-add_manifest : goal.returns-in_err-add_manifest
+returns-in_err-add_manifest g c = record {
+  made = λ clean is there fresh. IfOk-from_err c.from_residual.result _ c.from_residual.ensures.0;
+  kept = λ clean is there fresh. c.add_manifest.ensures.kept clean is;
+  same_reference = c.add_manifest.ensures.same_reference;
+  survives = c.add_manifest.ensures.survives;
+}
+
+pub returns-clause-same_reference : goal.returns-clause-same_reference
+returns-clause-same_reference g c = c.put_tag_if.ensures.same_reference ∙ c.add_manifest.ensures.same_reference
+
+pub add_manifest-requires : goal.add_manifest-requires
+add_manifest-requires g c = record { matching = c.requires.matching; reads = c.requires.reads; fits = c.requires.fits }

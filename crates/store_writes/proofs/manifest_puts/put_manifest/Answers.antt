@@ -10,7 +10,7 @@ use Rattle.store_statements.specs.ManifestShown.{manifest_link}
 use Rattle.store_statements.proofs.SettledAfter.{stays_then}
 use Rattle.store_statements.proofs.Transactions.{survives_all}
 use Rattle.store_writes.proofs.ManifestPuts.{then_ok, found_none, found_some, repo_there, fresh_still, made_there, made_new, memory_unspent}
-use Rattle.store_transactions.proofs.CleanBefore.{was_clean}
+use Rattle.store_statements.proofs.CleanBefore.{was_clean}
 use Rattle.store_writes.proofs.manifest_puts.put_manifest.Goals as goal
 
 pub returns-in-Ok-Some-clause-made : goal.returns-in-Ok-Some-clause-made
@@ -50,3 +50,9 @@ returns-in-Ok-None-clause-survives g c = survives_all (state g.S.Store c.args.co
 
 pub returns-in-Err-clause-memory : goal.returns-in-Err-clause-memory
 returns-in-Err-clause-memory g c there clean is memory = c.in-Err.ensures.settled clean is (memory_unspent ⊤ (Option ManifestLink) c.in-Err.fault _ refl memory)
+
+pub returns-in-Err-clause-made : goal.returns-in-Err-clause-made
+returns-in-Err-clause-made g c = λ there clean is. tt
+
+pub returns-in-Err-clause-survives : goal.returns-in-Err-clause-survives
+returns-in-Err-clause-survives g c = c.find_manifest_link.ensures.survives

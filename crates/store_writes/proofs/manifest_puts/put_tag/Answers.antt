@@ -7,7 +7,7 @@ use Rattle.store_world.specs.Keys.{has_key}
 use Rattle.store_statements.specs.Held.{held}
 use Rattle.store_writes.proofs.RowCounts.{none_counted, some_counted}
 use Rattle.store_writes.proofs.ManifestPuts.{then_ok, tag_was_set, fresh_tag, tag_came}
-use Rattle.store_transactions.proofs.CleanBefore.{was_clean}
+use Rattle.store_statements.proofs.CleanBefore.{was_clean}
 use Rattle.std.proofs.lemmas.Result.{IfOk-from_err}
 use Rattle.store_writes.proofs.manifest_puts.put_tag.Goals as goal
 

@@ -6,7 +6,7 @@ use Rattle.store_schema.proofs.Selects.{commit_then, survives_both}
 use Rattle.store_world.specs.Keys.{of_first}
 use Rattle.store_statements.specs.Held.{held}
 use Rattle.store_writes.proofs.PutLemmas.{none_counted, some_counted, then_ok, repo_came, fresh_repo, quota_was_set}
-use Rattle.store_transactions.proofs.CleanBefore.{was_clean}
+use Rattle.store_statements.proofs.CleanBefore.{was_clean}
 use Rattle.std.proofs.lemmas.Result.{IfOk-from_err}
 use Rattle.store_writes.proofs.quota_changes.put_quota.Goals as goal
 

@@ -1,4 +1,4 @@
-use Rattle.std.proofs.Common.{OnOk, subst}
+use Rattle.std.proofs.Common.{OnOk, subst, ◌∙◌}
 use Rattle.sqlite.specs.State.{HasCleanDisk}
 use Rattle.sqlite.specs.Held.{state}
 use Rattle.store_schema.proofs.Selects.{commit_then, survives_both}
@@ -6,7 +6,8 @@ use Rattle.store_statements.specs.Held.{Becomes, held}
 use Rattle.store_world.specs.Keys.{of_second}
 use Rattle.store_statements.specs.Steps.{grants_without}
 use Rattle.store_statements.specs.Drops.{without_links, without_sessions}
-use Rattle.store_transactions.proofs.CleanBefore.{was_clean}
+use Rattle.store_statements.proofs.CleanBefore.{was_clean}
+use Rattle.std.proofs.lemmas.Result.{IfOk-from_err}
 use Rattle.store_writes.proofs.repo_removal.drop_children.Goals as goal
 
 pub returns-in_err-drop_sessions-clause-kept : goal.returns-in_err-drop_sessions-clause-kept
@@ -36,3 +37,17 @@ returns-clause-kept g c clean is =
 
 pub returns-clause-survives : goal.returns-clause-survives
 returns-clause-survives g c = survives_both (state g.S.Store c.args.tx.now.conn.now) (state g.S.Store c.drop_sessions.new.tx.conn.now) (state g.S.Store c.take_grants.new.tx.conn.now) (survives_both (state g.S.Store c.args.tx.now.conn.now) (state g.S.Store c.drop_links.new.tx.conn.now) (state g.S.Store c.drop_sessions.new.tx.conn.now) c.drop_links.ensures.survives c.drop_sessions.ensures.survives) c.take_grants.ensures.survives
+
+pub returns-in_err-drop_links : goal.returns-in_err-drop_links
+returns-in_err-drop_links g c = record {
+  dropped = λ clean is. IfOk-from_err c.from_residual.result _ c.from_residual.ensures.0;
+  kept = c.drop_links.ensures.kept;
+  same_reference = c.drop_links.ensures.same_reference;
+  survives = c.drop_links.ensures.survives;
+}
+
+pub returns-clause-same_reference : goal.returns-clause-same_reference
+returns-clause-same_reference g c = c.take_grants.ensures.same_reference ∙ c.drop_sessions.ensures.same_reference ∙ c.drop_links.ensures.same_reference
+
+pub returns-in_err-drop_sessions-clause-same_reference : goal.returns-in_err-drop_sessions-clause-same_reference
+returns-in_err-drop_sessions-clause-same_reference g c = c.drop_sessions.ensures.same_reference ∙ c.drop_links.ensures.same_reference

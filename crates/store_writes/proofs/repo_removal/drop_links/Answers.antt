@@ -1,11 +1,12 @@
-use Rattle.std.proofs.Common.{OnOk, subst}
+use Rattle.std.proofs.Common.{OnOk, subst, ◌∙◌}
 use Rattle.sqlite.specs.State.{HasCleanDisk}
 use Rattle.sqlite.specs.Held.{state}
 use Rattle.store_schema.proofs.Selects.{commit_then, survives_both}
 use Rattle.store_statements.specs.Held.{Becomes, held}
 use Rattle.store_world.specs.Keys.{of_first}
 use Rattle.store_statements.specs.Steps.{tags_without, manifests_without, blobs_without}
-use Rattle.store_transactions.proofs.CleanBefore.{was_clean}
+use Rattle.store_statements.proofs.CleanBefore.{was_clean}
+use Rattle.std.proofs.lemmas.Result.{IfOk-from_err}
 use Rattle.store_writes.proofs.repo_removal.drop_links.Goals as goal
 
 pub returns-in_err-take_manifest_links-clause-kept : goal.returns-in_err-take_manifest_links-clause-kept
@@ -35,3 +36,17 @@ returns-clause-kept g c clean is =
 
 pub returns-clause-survives : goal.returns-clause-survives
 returns-clause-survives g c = survives_both (state g.S.Store c.args.tx.now.conn.now) (state g.S.Store c.take_manifest_links.new.tx.conn.now) (state g.S.Store c.take_blob_links.new.tx.conn.now) (survives_both (state g.S.Store c.args.tx.now.conn.now) (state g.S.Store c.take_tags.new.tx.conn.now) (state g.S.Store c.take_manifest_links.new.tx.conn.now) c.take_tags.ensures.survives c.take_manifest_links.ensures.survives) c.take_blob_links.ensures.survives
+
+pub returns-in_err-take_tags : goal.returns-in_err-take_tags
+returns-in_err-take_tags g c = record {
+  dropped = λ clean is. IfOk-from_err c.from_residual.result _ c.from_residual.ensures.0;
+  kept = c.take_tags.ensures.kept;
+  same_reference = c.take_tags.ensures.same_reference;
+  survives = c.take_tags.ensures.survives;
+}
+
+pub returns-clause-same_reference : goal.returns-clause-same_reference
+returns-clause-same_reference g c = c.take_blob_links.ensures.same_reference ∙ c.take_manifest_links.ensures.same_reference ∙ c.take_tags.ensures.same_reference
+
+pub returns-in_err-take_manifest_links-clause-same_reference : goal.returns-in_err-take_manifest_links-clause-same_reference
+returns-in_err-take_manifest_links-clause-same_reference g c = c.take_manifest_links.ensures.same_reference ∙ c.take_tags.ensures.same_reference

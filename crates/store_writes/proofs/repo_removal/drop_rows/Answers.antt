@@ -1,4 +1,4 @@
-use Rattle.std.proofs.Common.{OnOk, subst}
+use Rattle.std.proofs.Common.{OnOk, subst, ◌∙◌}
 use Rattle.sqlite.specs.State.{HasCleanDisk}
 use Rattle.sqlite.specs.Held.{state}
 use Rattle.store_schema.proofs.Selects.{commit_then, survives_both}
@@ -7,7 +7,8 @@ use Rattle.store_world.specs.Keys.{of_first}
 use Rattle.store_statements.specs.Steps.{repos_without}
 use Rattle.store_statements.specs.Drops.{without_children}
 use Rattle.store_statements.proofs.ChildLemmas.{childless_now}
-use Rattle.store_transactions.proofs.CleanBefore.{was_clean}
+use Rattle.store_statements.proofs.CleanBefore.{was_clean}
+use Rattle.std.proofs.lemmas.Result.{IfOk-from_err}
 use Rattle.store_writes.proofs.repo_removal.drop_rows.Goals as goal
 
 pub returns-clause-dropped : goal.returns-clause-dropped
@@ -24,3 +25,14 @@ returns-clause-kept g c clean is =
 
 pub returns-clause-survives : goal.returns-clause-survives
 returns-clause-survives g c = survives_both (state g.S.Store c.args.tx.now.conn.now) (state g.S.Store c.drop_children.new.tx.conn.now) (state g.S.Store c.take_repo.new.tx.conn.now) c.drop_children.ensures.survives c.take_repo.ensures.survives
+
+pub returns-in_err-drop_children : goal.returns-in_err-drop_children
+returns-in_err-drop_children g c = record {
+  dropped = λ clean is none. IfOk-from_err c.from_residual.result _ c.from_residual.ensures.0;
+  kept = c.drop_children.ensures.kept;
+  same_reference = c.drop_children.ensures.same_reference;
+  survives = c.drop_children.ensures.survives;
+}
+
+pub returns-clause-same_reference : goal.returns-clause-same_reference
+returns-clause-same_reference g c = c.take_repo.ensures.same_reference ∙ c.drop_children.ensures.same_reference

@@ -4,13 +4,13 @@ ghost use Rattle.oci_names.specs.Digest.{matches};
 ghost use Rattle.store_world.specs.Keys.{has_key};
 ghost use Rattle.store_statements.specs.Clauses.{KeepsInside, LastsUncommitted};
 ghost use Rattle.store_statements.specs.Steps.{BlobStored};
-ghost use Rattle.store_transactions.specs.Steps.{StepsFrom};
+ghost use Rattle.store_statements.specs.StepsFrom.{StepsFrom};
 
+use crate::blobs::add_blob_link;
+use crate::contents::keep_matching;
 use oci_names::Fault;
 use sqlite::{Alter, Transaction};
 use std::alloc::Global;
-use store_statements::blobs::add_blob_link;
-use store_statements::contents::keep_matching;
 
 /// Puts a blob in that the repository has not.
 pub fn store_blob<S: Alter>(

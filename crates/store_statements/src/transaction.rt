@@ -1,5 +1,5 @@
 //! The shape that each change has: its work in a transaction of its own.
-ghost use Rattle.store_transactions.specs.Ends.{Ends};
+ghost use Rattle.store_statements.specs.Ends.{Ends};
 
 use oci_names::Fault;
 use sqlite::{Alter, Transaction};
@@ -27,6 +27,6 @@ macro_rules! alone {
         }
         let mut $tx = $conn.transaction();
         let done = $work;
-        $crate::end($tx, done)
+        $crate::transaction::end($tx, done)
     }};
 }

@@ -12,10 +12,10 @@ use Rattle.store_statements.specs.Between.{CommitsStep, CommitsTables, GoesBack,
 use Rattle.store_statements.specs.Clauses.{Changes, GoesOn, KeepsInside, Lasts, LastsUncommitted, RelatesInside, StepsInside, TablesHave}
 use Rattle.store_statements.specs.Held.{IsReady, IsSettled, Commits, IsBack, held}
 use Rattle.store_statements.proofs.Transactions.{ready, back_dropped, survives_all}
-use Rattle.store_transactions.specs.Ends.{Ends}
-use Rattle.store_transactions.specs.Steps.{StepsFrom}
-use Rattle.store_transactions.proofs.CleanBefore.{was_clean}
-use Rattle.store_transactions.proofs.NothingDone.{survives_here}
+use Rattle.store_statements.specs.Ends.{Ends}
+use Rattle.store_statements.specs.StepsFrom.{StepsFrom}
+use Rattle.store_statements.proofs.CleanBefore.{was_clean}
+use Rattle.store_statements.proofs.Checks.{survives_here}
 
 -- ---- of results
 

@@ -9,8 +9,8 @@ use Rattle.sqlite.specs.Tree.{Trees}
 use Rattle.sqlite.specs.Held.{Held, state}
 use Rattle.oci_names.specs.declared.fault.Fault.{Fault}
 use Rattle.store_statements.proofs.Transactions.{commits, survives_all}
-use Rattle.store_transactions.specs.Ends.{Ends}
-use Rattle.store_transactions.proofs.NothingDone.{survives_here}
+use Rattle.store_statements.specs.Ends.{Ends}
+use Rattle.store_statements.proofs.Checks.{survives_here}
 
 failed_undone : (mid new : State) (e : Error) → IsTrue mid.in_transaction → FailsToCommit mid new e → IsRolledBack mid new
 failed_undone mid new e inside (inl fails) = fails.3

@@ -1,5 +1,5 @@
-use Rattle.store_transactions.proofs.Endings.{ends_committed, ends_refused, ends_given_up}
-use Rattle.store_transactions.proofs.transaction.end.Goals as goal
+use Rattle.store_statements.proofs.Endings.{ends_committed, ends_refused, ends_given_up}
+use Rattle.store_statements.proofs.transaction.end.Goals as goal
 
 pub returns-in-Ok-commit : goal.returns-in-Ok-commit
 returns-in-Ok-commit g c = record { ended = ends_committed g.S.Store c.args.tx.conn.now c.commit.new.self.0 c.args.done _ c.commit.ensures.survives c.in-Ok.field-0 _ c.in-Ok.is (λ clean. (c.in-Ok-commit.ensures.ok clean).1) }

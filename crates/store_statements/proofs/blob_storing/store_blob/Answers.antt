@@ -2,9 +2,9 @@ use Rattle.sqlite.specs.State.{HasCleanDisk}
 use Rattle.sqlite.specs.Held.{state}
 use Rattle.store_schema.proofs.Selects.{commit_then, survives_both}
 use Rattle.store_statements.specs.Held.{held}
-use Rattle.store_transactions.proofs.BlobLinks.{blob_fresh, blob_stored_if}
-use Rattle.store_transactions.proofs.CleanBefore.{was_clean}
-use Rattle.store_transactions.proofs.blob_storing.store_blob.Goals as goal
+use Rattle.store_statements.proofs.BlobLinks.{blob_fresh, blob_stored_if}
+use Rattle.store_statements.proofs.CleanBefore.{was_clean}
+use Rattle.store_statements.proofs.blob_storing.store_blob.Goals as goal
 
 pub returns-in-Ok-clause-stored : goal.returns-in-Ok-clause-stored
 returns-in-Ok-clause-stored g c clean is fresh =

@@ -1,11 +1,10 @@
 -- What is told of a change that was one transaction.
-use Rattle.std.proofs.Common.{◌≡◌, Ok, Err, Result, OnOk, OnErr, refl, sym, subst}
-use Rattle.std.specs.Prelude.{IsOk, IsErr, false, ⊤}
+use Rattle.std.proofs.Common.{◌≡◌, Ok, Err, Result, OnOk, OnErr, sym, subst}
+use Rattle.std.specs.Prelude.{IfOk, IsErr}
 use Rattle.sqlite_trees.specs.declared.store.Store.{Ghosts}
-use Rattle.sqlite.specs.State.{State, HasCleanDisk, Shows, Survives}
+use Rattle.sqlite.specs.State.{State, HasCleanDisk}
 use Rattle.sqlite.specs.Held.{Held, state}
 use Rattle.oci_names.specs.declared.fault.Fault.{Fault}
-use Rattle.oci_names.specs.declared.fault.Fault.TheVariants.{Memory}
 use Rattle.registry_model.specs.World.{World}
 use Rattle.store_world.specs.Tables.{Tables}
 use Rattle.store_world.specs.Registry.{IsRegistry}
@@ -14,13 +13,11 @@ use Rattle.store_statements.specs.Between.{CommitsTables, GoesBack, IsCommitted,
 use Rattle.store_statements.specs.Clauses.{Lasts}
 use Rattle.store_statements.specs.Held.{SettlesOn, held, world_in}
 use Rattle.store_statements.proofs.Transactions.{makes, registry, stays_back, survives_all}
-use Rattle.store_transactions.specs.Ends.{Checked}
-use Rattle.store_transactions.proofs.Alone.{less, pair}
-use Rattle.store_transactions.proofs.CleanBefore.{was_clean}
-use Rattle.store_transactions.proofs.FaultsTold.{never_done, fault_is}
-use Rattle.store_transactions.proofs.NothingDone.{survives_here}
+use Rattle.store_statements.specs.Told.{Checked}
+use Rattle.store_statements.proofs.Alone.{less, pair}
+use Rattle.store_statements.proofs.CleanBefore.{was_clean}
 
-both : {A B E : Type 0} (P Q : Type 0) (d : Result A E) (r : Result B E) → OnOk r (IsOk d × Q) → OnOk d P → OnOk r (P × Q)
+both : {A E : Type 0} (P Q : Type 0) (d r : Result A E) → IfOk r (λ v. (d ≡ Ok v) × Q) → OnOk d P → OnOk r (P × Q)
 both P Q d (Err e) told p = tt
 both P Q (Ok x) (Ok y) told p = (p, told.1)
 both P Q (Err e) (Ok y) told p = absurd (let no = told.0 in cc)
@@ -29,23 +26,7 @@ failed : {A E P : Type 0} (r : Result A E) → IsErr r → OnErr r P → P
 failed (Ok x) is p = absurd cc
 failed (Err e) is p = p
 
-module _ {S : Type 0} (g : Ghosts S) (mid new : Held S) {A B : Type 0} where
-  pub checked_done : (x : A) (y : B) (done : Result A Fault) → done ≡ Ok x → new ≡ mid → Checked g mid new {B = B} done (Ok y)
-  checked_done x y done is same = record {
-    told = (subst IsOk (sym is) refl, same);
-    memory = λ clean e. absurd (never_done e);
-    survives = subst (λ (h : Held S). Survives (state g mid) (state g h) (λ _. ⊤)) (sym same) (survives_here (state g mid));
-  }
-
-  pub checked_failed : (fault told : Fault) (done : Result A Fault) → done ≡ Err fault
-      → (HasCleanDisk (state g new) → told ≡ Memory → Shows (state g mid) (state g new) (state g mid).now (state g mid).now false) → Lasts g mid new → Checked g mid new {B = B} done (Err told)
-  checked_failed fault told done is memory lasts = record {
-    told = tt;
-    memory = λ clean e. (subst IsErr (sym is) refl, memory clean (fault_is e));
-    survives = lasts;
-  }
-
-module _ {S : Type 0} {g : Ghosts S} (old : Held S) {mid new : Held S} {A B : Type 0} {done : Result A Fault} {r : Result B Fault} (checks : Checked g mid new done r) where
+module _ {S : Type 0} {g : Ghosts S} (old : Held S) {mid new : Held S} {A : Type 0} {done r : Result A Fault} (checks : Checked g mid new done r) where
   pub told_lasts : Lasts g old mid → Lasts g old new
   told_lasts worked = survives_all (state g old) (state g mid) (state g new) _ _ worked checks.survives
 

@@ -9,8 +9,8 @@ use Rattle.store_world.specs.Changes.{blob_columns, Comes, Grow}
 use Rattle.store_statements.specs.Held.{IsReady, StaysSettled, held}
 use Rattle.store_statements.specs.Shown.{blob_link}
 use Rattle.store_statements.specs.Steps.{ContentKept, BlobStored, BlobComes}
-use Rattle.store_transactions.specs.Steps.{LinkIsPut}
-use Rattle.store_transactions.proofs.WritesAfterReads.{none_found, same_held}
+use Rattle.store_statements.specs.StepsFrom.{LinkIsPut}
+use Rattle.store_statements.proofs.WritesAfterReads.{none_found, same_held}
 
 -- ---- there is none yet
 
