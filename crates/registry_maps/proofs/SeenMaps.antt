@@ -1,6 +1,7 @@
 -- Ordered maps, seen as finite maps.
 use Rattle.std.proofs.Common.{◌≡◌, ◌∙◌, suc, List, [], ◌∷◌, map, length, Bool, true, false, cond, None, Some, refl, sym, ap, subst}
-use Rattle.std.specs.Prelude.{Option, option_map, is_some, bytes_eq, filter, T, ◌&&◌}
+use Rattle.std.specs.Prelude.{Option, option_map, is_some, bytes_eq, filter, T, ◌&&◌, Result, Ok, Err, IfOk, Vec}
+use Rattle.std.specs.declared.alloc.Global.{Global}
 use Rattle.std.specs.declared.cmp.Ordering.{Ordering}
 use Rattle.std.specs.declared.cmp.Ordering.TheVariants.{Less, Equal}
 use Rattle.std.specs.Ordering.{is_eq, is_lt, eq_by_cmp, nat_cmp}
@@ -155,6 +156,12 @@ module _ {K X Y : Type 0} {R : K → K → Ordering} (o : IsTotalOrder R) (exact
       firsts : (es : List (K × X)) → map (λ (e : K × Y). e.0) (map (λ (e : K × X). (e.0, show e.1)) es) ≡ map (λ e. e.0) es
       firsts [] = refl
       firsts (e ∷ es) = ap (λ xs. e.0 ∷ xs) (firsts es)
+
+  -- copies of the keys are copies of the keys as they are seen
+  pub keys_copied : {E : Type 0} (m : BTreeMap K X) (r : Result (Vec K Global) E) → IsOrdered R m
+      → IfOk r (λ v. v.items ≡ btree.keys m) → IfOk r (λ v. v.items ≡ fin.keys (seen R show m.entries))
+  keys_copied m (Ok v) h is = is ∙ sym (keys_seen m h)
+  keys_copied m (Err e) h is = tt
 
   -- what a look-up found
   pub at_some : (m : BTreeMap K X) (q : K) (given : Option (Bor X)) (b : Bor X) → given ≡ Some b → option_copied given ≡ btree.get R m q → get (seen R show m.entries) q ≡ Some (show b.now)

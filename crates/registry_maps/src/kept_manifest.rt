@@ -10,11 +10,20 @@ use std::alloc::{AllocError, Global};
 use std::marker::Model;
 
 /// The bytes of a manifest, with the kind and the subject as which they read.
-#[derive(Drop)]
 pub struct KeptManifest {
     bytes: Vec<u8>,
     kind: Kind,
     subject: Option<Digest>,
+}
+
+impl Drop for KeptManifest {
+    fn drop(self) {
+        let KeptManifest {
+            bytes: _,
+            kind: _,
+            subject: _,
+        } = self;
+    }
 }
 
 impl Model for KeptManifest {

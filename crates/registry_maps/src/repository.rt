@@ -14,6 +14,7 @@ ghost use Rattle.registry_model.specs.Lookups.{bytes_or_none};
 ghost use Rattle.registry_model.specs.Command.{without_sessions};
 ghost use Rattle.registry_maps.specs.Maps.{repo_of, Makes};
 
+mod digests;
 mod reads;
 
 use crate::kept_manifest::KeptManifest;
@@ -25,7 +26,6 @@ use std::collections::BTreeMap;
 
 /// What a repository holds: the bytes of blobs and manifests by their digests, digests by their
 /// tags, and the bytes of open upload sessions by their numbers.
-#[derive(Drop)]
 pub struct Repository {
     pub quota: u64,
     pub last: u64,
@@ -33,6 +33,19 @@ pub struct Repository {
     pub manifests: BTreeMap<Digest, KeptManifest>,
     pub tags: BTreeMap<Tag, Digest>,
     pub sessions: BTreeMap<u64, Vec<u8>>,
+}
+
+impl Drop for Repository {
+    fn drop(self) {
+        let Repository {
+            quota: _,
+            last: _,
+            blobs: _,
+            manifests: _,
+            tags: _,
+            sessions: _,
+        } = self;
+    }
 }
 
 impl Repository {

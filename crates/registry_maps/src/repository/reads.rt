@@ -12,6 +12,7 @@ ghost use Rattle.registry_maps.specs.Maps.{repo_of};
 
 use crate::kept_manifest::KeptManifest;
 use crate::repository::Repository;
+use crate::repository::digests::digests_of;
 use oci_manifest::Kind;
 use oci_names::{Digest, Tag};
 use registry_model::Usage;
@@ -156,22 +157,14 @@ impl Repository {
     pub fn blob_digests(&self, alloc: Global) -> Result<Vec<Digest>, AllocError>
         ensures { IfOk result (λ found. digests_shown found ≡ keys (repo_of self.now).blobs) }
     {
-        let mut found = Vec::new(alloc);
-        for digest in self.blobs.keys() {
-            found.push(digest.clone()?)?;
-        }
-        Ok(found)
+        digests_of(alloc, &self.blobs)
     }
 
     /// The digests of the manifests, in byte order.
     pub fn manifest_digests(&self, alloc: Global) -> Result<Vec<Digest>, AllocError>
         ensures { IfOk result (λ found. digests_shown found ≡ keys (repo_of self.now).manifests) }
     {
-        let mut found = Vec::new(alloc);
-        for digest in self.manifests.keys() {
-            found.push(digest.clone()?)?;
-        }
-        Ok(found)
+        digests_of(alloc, &self.manifests)
     }
 
     pub fn session(&self, alloc: Global, number: u64) -> Result<Option<Vec<u8>>, AllocError>
