@@ -157,11 +157,12 @@ def prove_all(crates, kit):
             ready = [it for it in left if not failed and done.issuperset(it.below)]
             for at, crate in enumerate(ready[: most - len(running)]):
                 left.remove(crate)
-                # (those that are ready share the processors that rest)
-                jobs = max(1, (most - sum(jobs for _, jobs in running.values())) // (len(ready) - at))
-                if all(crate in it.all_below for it in left):
-                    # (all others wait for it, so processors will rest soon)
-                    jobs = max(min(2, most), jobs)
+                # (those that are ready share the processors that rest, what most others wait for first)
+                resting = most - sum(jobs for _, jobs in running.values())
+                jobs = min(2, max(1, -(-resting // (len(ready) - at))))
+                if len(left) < 3 or all(crate in it.all_below for it in left):
+                    # (processors will rest soon: all others wait for it, or few are left)
+                    jobs = min(2, most)
                 running[pool.submit(prove, crate, jobs, kit)] = crate, jobs
             for it in concurrent.futures.wait(running, return_when=concurrent.futures.FIRST_COMPLETED).done:
                 crate, _ = running.pop(it)
