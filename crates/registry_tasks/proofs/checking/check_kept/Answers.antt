@@ -44,8 +44,7 @@ returns-in-Ok-write_wrongs g c =
     let now = c.look.new.wrongs in
     record {
       checks = λ honest.
-          let found = rw c.new-found.ensures.items at (c.in-Ok.ensures.found honest).0 in
-          (
+          let found = rw c.new-found.ensures.items at (c.in-Ok.ensures.found honest).0 in (
             something_found now.items _ now.len now.ok.0 c.if-is_empty.ensures found,
             rw (c.deref-2.ensures.value ∙ found) at c.in-Ok-write_wrongs.ensures,
             (c.in-Ok.ensures.found honest).1,

@@ -8,10 +8,10 @@ returns-in-Ok g c =
     let carried = c.carry_out-ended in
     record {
       runs = rw c.end_at.ensures
-      (inr (record {
-        last = carried.result.keeper;
-        says = λ honest. (g.K.Keeper.state c.in-Ok.kept, c.in-Ok.ensures.opened (carried.ensures.honest honest), carried.ensures.carries honest);
-      }));
+          (inr (record {
+            last = carried.result.keeper;
+            says = λ honest. (g.K.Keeper.state c.in-Ok.kept, c.in-Ok.ensures.opened (carried.ensures.honest honest), carried.ensures.carries honest);
+          }));
       silent = rw c.end_at.ensures carried.ensures.silent;
       status = rw c.end_at.ensures carried.ensures.status;
       read = rw c.end_at.ensures carried.ensures.read;

@@ -8,10 +8,10 @@ returns-in-Ok g c =
     let served = c.serve_from-ended in
     record {
       runs = rw c.end_at.ensures
-      (inr (record {
-        last = served.result.keeper;
-        says = λ honest. (g.K.Keeper.state c.in-Ok.kept, c.in-Ok.ensures.opened (served.ensures.honest honest), served.ensures.serves honest);
-      }));
+          (inr (record {
+            last = served.result.keeper;
+            says = λ honest. (g.K.Keeper.state c.in-Ok.kept, c.in-Ok.ensures.opened (served.ensures.honest honest), served.ensures.serves honest);
+          }));
       failed = rw c.end_at.ensures served.ensures.failed;
       status = rw c.end_at.ensures served.ensures.status;
     }

@@ -31,10 +31,15 @@ pub returns-then-status-eq0 : goal.returns-then-status-eq0
 returns-then-status-eq0 g c =
     let said = c.in-Some.field-0 in
     record {
-      relays = inl (said.status, said.text.now, c.in-Some.ensures.read, record {
-        done = λ zero. c.show.ensures;
-        not_done = λ some. absurd (some c.if-status-eq0.true);
-      });
+      relays = inl (
+        said.status,
+        said.text.now,
+        c.in-Some.ensures.read,
+        record {
+          done = λ zero. c.show.ensures;
+          not_done = λ some. absurd (some c.if-status-eq0.true);
+        },
+      );
       silent = shown_silent said.text.now c.show.result _ c.show.ensures;
       status = shown_at_most said.text.now c.show.result _ c.show.ensures;
       read = shown_read said.text.now c.show.result _ c.show.ensures;
@@ -44,10 +49,15 @@ pub returns-then-status-eq2 : goal.returns-then-status-eq2
 returns-then-status-eq2 g c =
     let said = c.in-Some.field-0 in
     record {
-      relays = inl (said.status, said.text.now, c.in-Some.ensures.read, record {
-        done = λ zero. absurd (c.if-status-eq0.false zero);
-        not_done = λ some. (refl, c.status.ensures ∙ ap relayed (sym c.if-status-eq2.true));
-      });
+      relays = inl (
+        said.status,
+        said.text.now,
+        c.in-Some.ensures.read,
+        record {
+          done = λ zero. absurd (c.if-status-eq0.false zero);
+          not_done = λ some. (refl, c.status.ensures ∙ ap relayed (sym c.if-status-eq2.true));
+        },
+      );
       silent = λ more less. refl;
       status = status_at_most ConnectionFailure c.status.result c.status.ensures;
       read = sending_read ConnectionFailure c.status.result tt c.status.ensures;
@@ -61,10 +71,15 @@ pub returns-else-status-eq2 : goal.returns-else-status-eq2
 returns-else-status-eq2 g c =
     let said = c.in-Some.field-0 in
     record {
-      relays = inl (said.status, said.text.now, c.in-Some.ensures.read, record {
-        done = λ zero. absurd (c.if-status-eq0.false zero);
-        not_done = λ some. (refl, passed_on said.status c.if-status-eq2.false);
-      });
+      relays = inl (
+        said.status,
+        said.text.now,
+        c.in-Some.ensures.read,
+        record {
+          done = λ zero. absurd (c.if-status-eq0.false zero);
+          not_done = λ some. (refl, passed_on said.status c.if-status-eq2.false);
+        },
+      );
       silent = λ more less. refl;
       status = c.in-Some.ensures.status;
       read = c.if-status-eq2.false;

@@ -47,7 +47,7 @@ returns-in-Whole g c = record {
   cases =
       let kept = with_items_is c.loop-spans.self.headers c.parse_head.new.headers (c.parse_head.auto.headers ∙ c.deref_mut.ensures.len) in
       let read = subst (λ (xs : List HeaderSpan). Parses (Whole c.in-Whole.spans) (unread c.loop-spans.self) xs) (sym kept)
-          (subst (λ (b : Text). Parses (Whole c.in-Whole.spans) b c.parse_head.new.headers) c.behind-unread.ensures c.in-Whole.ensures) in
+      (subst (λ (b : Text). Parses (Whole c.in-Whole.spans) b c.parse_head.new.headers) c.behind-unread.ensures c.in-Whole.ensures) in
       (c.loop-spans.invariant.pulls, read.0, read.1);
   taken = c.loop-spans.invariant.taken;
   weight = c.loop-spans.invariant.weight;
