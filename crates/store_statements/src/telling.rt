@@ -27,7 +27,8 @@ pub(crate) fn told<T>(found: Result<T, Error>) -> Result<T, Fault>
     }
 }
 
-/// What was found; of a failure, whether the connection is open still.
+/// What was found, or done. Of a failure want of memory is told only where the connection is seen to be open
+/// still and nothing has changed, and else a failure of the storage.
 pub fn checked<S: Alter, T>(conn: &mut Connection<S>, found: Result<T, Fault>) -> Result<T, Fault>
     ensures told { Checked S.Store conn.old conn.new found result }
 {
