@@ -3,9 +3,8 @@ ghost use Rattle.registry_orders.specs.Failures.{IsOfOpening};
 
 use crate::progress::{Progress, show_looked_at};
 use database_files::{begin, cause_at};
-use registry_checking::Watch;
+use registry_checking::{Opener, Watch};
 use registry_model::Keeper;
-use registry_opening::Opener;
 use registry_orders::{Cause, Failure};
 use registry_store::{OpenFault, Store, Written};
 use sqlite::{Alter, Connection, FileFrom, FileStore, Unknown};

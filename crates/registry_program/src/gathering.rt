@@ -6,9 +6,9 @@ ghost use Rattle.registry_tasks.specs.Sockets.{ServesAddress};
 ghost use Rattle.registry_loop.specs.Together.{ServesTogether};
 ghost use Rattle.registry_orders.specs.Failures.{IsOfServing};
 
+use registry_checking::Opener;
 use registry_loop::Gathering;
 use registry_model::Keeper;
-use registry_opening::Opener;
 use registry_orders::Failure;
 use registry_service::Service;
 use registry_tasks::sockets::{announce, resume};
@@ -16,7 +16,7 @@ use std::alloc::Global;
 use std::io::Write;
 
 /// Serves them over the registry that was opened at the path, which is opened again where its storage fails.
-fn serve_gathered<K: Keeper + Drop, O: Opener<K>, G: Gathering>(
+fn serve_gathered<K: Keeper, O: Opener<K>, G: Gathering>(
     alloc: Global,
     opener: &O,
     path: &str,
@@ -37,16 +37,20 @@ fn serve_gathered<K: Keeper + Drop, O: Opener<K>, G: Gathering>(
                 return Ok(());
             }
             Ok(false) => service = resume(opener, path, service)?,
-            Err(_) => return Err(Failure::ConnectionFailure),
+            Err(_) => {
+                opener.close(service.into_keeper());
+                return Err(Failure::ConnectionFailure);
+            }
         }
     }
+    opener.close(service.into_keeper());
     Ok(())
 }
 
 /// Says on standard output that connections are taken, and serves those who come together, at most so many at
 /// once. The error is that the registry is not opened again, that nobody can come, or that the line cannot be
 /// written.
-pub fn serve_together<K: Keeper + Drop, O: Opener<K>, G: Gathering, W: Write>(
+pub fn serve_together<K: Keeper, O: Opener<K>, G: Gathering, W: Write>(
     alloc: Global,
     opener: &O,
     path: &str,
@@ -59,6 +63,11 @@ pub fn serve_together<K: Keeper + Drop, O: Opener<K>, G: Gathering, W: Write>(
     ensures { ServesAddress (ServesTogether at_once) (Over K.is_honest K.state (O.opens opener.now path.now))
         result (output (W.contents out.old) (W.contents out.new)) }
 {
-    announce(out)?;
-    serve_gathered(alloc, opener, path, kept, gathering, at_once)
+    match announce(out) {
+        Ok(()) => serve_gathered(alloc, opener, path, kept, gathering, at_once),
+        Err(failure) => {
+            opener.close(kept);
+            Err(failure)
+        }
+    }
 }

@@ -8,9 +8,9 @@ ghost use Rattle.registry_program.specs.Running.{RunsServer, RunsWords, IsSpared
 ghost use Rattle.registry_orders.specs.Outputs.{output};
 
 use crate::gathering::serve_together;
+use registry_checking::Opener;
 use registry_loop::{Crowd, Doors, Log};
 use registry_model::Keeper;
-use registry_opening::Opener;
 use registry_orders::cause::say_at;
 use registry_orders::failure::say;
 use registry_orders::line::read_words;
@@ -26,10 +26,7 @@ use std::alloc::Global;
 use std::convert::AsStr;
 use std::io;
 use std::io::{Read, Write};
-use std::net::{Net, TcpListener, TcpStream};
 use std::os::fd::RawFd;
-use std::rt::Files;
-use std::time::Clock;
 
 /// The descriptor of standard input.
 const STANDARD_INPUT: RawFd = 0;
@@ -45,8 +42,8 @@ struct Serving<'a> {
 
 /// Serves so many connections that are taken at a listener, together. A server that is to end with standard input
 /// fails at once where that is a file, the null device or closed: nobody holds another end of these.
-fn serve_many<T: Clock + Net, K: Keeper + Drop, O: Opener<K>, W: Write, E: Write>(
-    rt: &T,
+fn serve_many<K: Keeper, O: Opener<K>, W: Write, E: Write>(
+    rt: &HostRuntime,
     alloc: Global,
     opener: &O,
     path: &str,
@@ -71,16 +68,19 @@ fn serve_many<T: Clock + Net, K: Keeper + Drop, O: Opener<K>, W: Write, E: Write
     };
     match Crowd::new(alloc, rt, rt, log, doors, limits, connections) {
         Ok(mut crowd) => serve_together(alloc, opener, path, kept, &mut crowd, at_once, out),
-        Err(error) => match error.kind() {
-            io::ErrorKind::OutOfMemory => Err(Failure::OutOfMemory),
-            _ => Err(Failure::ConnectionFailure),
-        },
+        Err(error) => {
+            opener.close(kept);
+            match error.kind() {
+                io::ErrorKind::OutOfMemory => Err(Failure::OutOfMemory),
+                _ => Err(Failure::ConnectionFailure),
+            }
+        }
     }
 }
 
 /// Serves so many connections that are taken at a listener, one after the other or together.
-fn serve_taken<T: Clock + Net, K: Keeper + Drop, O: Opener<K>, W: Write, E: Write>(
-    rt: &T,
+fn serve_taken<K: Keeper, O: Opener<K>, W: Write, E: Write>(
+    rt: &HostRuntime,
     alloc: Global,
     opener: &O,
     path: &str,
@@ -111,8 +111,8 @@ fn serve_taken<T: Clock + Net, K: Keeper + Drop, O: Opener<K>, W: Write, E: Writ
 }
 
 /// Says what is served, and serves so many connections that are taken there.
-fn serve_bound<T: AllocGlobal + Clock + Net, K: Keeper + Drop, O: Opener<K>, W: Write, E: Write>(
-    rt: &T,
+fn serve_bound<K: Keeper, O: Opener<K>, W: Write, E: Write>(
+    rt: &HostRuntime,
     opener: &O,
     path: &str,
     kept: K,
@@ -130,19 +130,23 @@ fn serve_bound<T: AllocGlobal + Clock + Net, K: Keeper + Drop, O: Opener<K>, W: 
     let mut kept = kept;
     match introduce(alloc, &mut kept, &listeners.connections, path, err) {
         Ok(()) => serve_taken(rt, alloc, opener, path, kept, listeners, serving, out, err),
-        Err(failure) => Err(failure),
+        Err(failure) => {
+            opener.close(kept);
+            Err(failure)
+        }
     }
 }
 
 /// Opens the registry at a path, binds the address and the socket for orders, says what is served, and
 /// serves so many connections. The socket for orders is taken away at the end.
-fn run_server<
-    T: AllocGlobal + Clock + Files + Net<Listener = TcpListener, Stream = TcpStream>,
-    K: Keeper + Drop,
-    O: Opener<K>,
-    W: Write,
-    E: Write,
->(rt: &T, opener: &O, path: &str, serving: Serving, out: &mut W, err: &mut E) -> u8
+fn run_server<K: Keeper, O: Opener<K>, W: Write, E: Write>(
+    rt: &HostRuntime,
+    opener: &O,
+    path: &str,
+    serving: Serving,
+    out: &mut W,
+    err: &mut E,
+) -> u8
     ensures runs { RunsServer serving.entry.limits (OverAt K.is_honest K.state (O.opens opener.now) path.now)
         result (output (W.contents out.old) (W.contents out.new)) }
     ensures failed { 0 < result → 3 ≤ result }
@@ -155,7 +159,10 @@ fn run_server<
     let orders = serving.beside.orders;
     let listeners = match listen(rt, serving.address, orders) {
         Ok(listeners) => listeners,
-        Err(none) => return say_at(err, Failure::ConnectionFailure, none.place, none.cause),
+        Err(none) => {
+            opener.close(kept);
+            return say_at(err, Failure::ConnectionFailure, none.place, none.cause);
+        }
     };
     let served = serve_bound(rt, opener, path, kept, listeners, serving, out, err);
     stop_orders(rt, orders);
@@ -167,14 +174,14 @@ fn run_server<
 
 /// Does a task, and gives the exit status. With status 1 or 2 nothing was read or written, but for the line of
 /// standard input that the task takes for a token.
-fn run_task<
-    T: AllocGlobal + Clock + Files + Net<Listener = TcpListener, Stream = TcpStream>,
-    K: Keeper + Drop,
-    O: Opener<K>,
-    R: Read,
-    W: Write,
-    E: Write,
->(rt: &T, opener: &O, task: Task, reader: &mut R, out: &mut W, err: &mut E) -> u8
+fn run_task<K: Keeper, O: Opener<K>, R: Read, W: Write, E: Write>(
+    rt: &HostRuntime,
+    opener: &O,
+    task: Task,
+    reader: &mut R,
+    out: &mut W,
+    err: &mut E,
+) -> u8
     ensures runs { EndsTask (OverAt K.is_honest K.state (O.opens opener.now)) task.entry result
         (streams (R.remaining reader.old) (R.remaining reader.new)
         (W.contents out.old) (W.contents out.new)) }
@@ -221,15 +228,14 @@ fn run_task<
 /// with the words is told before a database is opened or a server asked. With status 1 or 2 nothing was read
 /// or written, but for the line of standard input that the words take for a token. An order that is sent has
 /// the status and the text that the server answers.
-pub fn run_words<
-    T: AllocGlobal + Clock + Files + Net<Listener = TcpListener, Stream = TcpStream>,
-    K: Keeper + Drop,
-    O: Opener<K>,
-    S: AsStr,
-    R: Read,
-    W: Write,
-    E: Write,
->(rt: &T, opener: &O, words: &[S], reader: &mut R, out: &mut W, err: &mut E) -> u8
+pub fn run_words<K: Keeper, O: Opener<K>, S: AsStr, R: Read, W: Write, E: Write>(
+    rt: &HostRuntime,
+    opener: &O,
+    words: &[S],
+    reader: &mut R,
+    out: &mut W,
+    err: &mut E,
+) -> u8
     ensures runs { RunsWords (OverAt K.is_honest K.state (O.opens opener.now))
         (map S.text words.now) result
         (streams (R.remaining reader.old) (R.remaining reader.new)

@@ -9,9 +9,8 @@ ghost use Rattle.registry_tasks.specs.Stored.{OverAt};
 use crate::opened::end_at;
 use oci_names::Fault;
 use order_carrying::Ended;
-use registry_checking::{Watch, look, write_wrongs};
+use registry_checking::{Opener, Watch, look, write_wrongs};
 use registry_model::Keeper;
-use registry_opening::Opener;
 use registry_orders::Failure;
 use registry_orders::cause::say_at;
 use registry_orders::failure::say;
@@ -61,7 +60,7 @@ fn told<E: Write>(checked: Result<(), Failure>, err: &mut E) -> u8
 }
 
 /// Opens the registry at a path, reads all that it holds, and writes a line for each thing that is wrong.
-pub fn run_check<K: Keeper + Drop, O: Opener<K>, W: Write, E: Write>(
+pub fn run_check<K: Keeper, O: Opener<K>, W: Write, E: Write>(
     alloc: Global,
     opener: &O,
     path: &str,

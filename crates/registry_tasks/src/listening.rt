@@ -10,10 +10,9 @@ use registry_orders::{Cause, Failure};
 use std::alloc::Global;
 use std::io;
 use std::io::{ErrorKind, Write};
-use std::net::{Net, TcpListener, TcpStream};
+use std::net::TcpListener;
 use std::os::fd::IntoRawFd;
 use std::os::unix::net::UnixListener;
-use std::rt::Files;
 
 /// What is written in the place of an address where a listener is handed over.
 const HANDED_OVER: &str = "fd:3";
@@ -47,10 +46,7 @@ fn handed_over() -> io::Result<TcpListener> {
 }
 
 /// Listens at an address, or takes the listener that was handed over where that is asked for.
-fn listener_at<T: Net<Listener = TcpListener, Stream = TcpStream>>(
-    rt: &T,
-    address: &str,
-) -> io::Result<TcpListener> {
+fn listener_at(rt: &HostRuntime, address: &str) -> io::Result<TcpListener> {
     if address == HANDED_OVER {
         return handed_over();
     }
@@ -58,8 +54,8 @@ fn listener_at<T: Net<Listener = TcpListener, Stream = TcpStream>>(
 }
 
 /// Listens at an address for connections, and then for orders at the path of a socket, if one is given.
-pub fn listen<'a, T: AllocGlobal + Files + Net<Listener = TcpListener, Stream = TcpStream>>(
-    rt: &T,
+pub fn listen<'a>(
+    rt: &HostRuntime,
     address: &'a str,
     orders: Option<&'a str>,
 ) -> Result<Listeners, NotBound<'a>> {

@@ -8,17 +8,16 @@ ghost use Rattle.registry_orders.specs.Outputs.{output, IsSilent};
 use crate::sending::send_order;
 use crate::stdio::serve_from;
 use order_carrying::{Ended, carry_out};
+use registry_checking::Opener;
 use registry_model::Keeper;
-use registry_opening::Opener;
 use registry_orders::cause::{explain, say_at};
 use registry_orders::{Failure, Order, Place};
 use std::alloc::Global;
 use std::io::{Read, Write};
-use std::net::Net;
 
 /// Closes what an order or a connection was for, and where its storage has failed, says on a line behind
 /// that, where it can be seen, what is wrong with the path.
-pub(crate) fn end_at<K: Keeper + Drop, O: Opener<K>, E: Write>(
+pub(crate) fn end_at<K: Keeper, O: Opener<K>, E: Write>(
     opener: &O,
     path: &str,
     ended: Ended<K>,
@@ -38,7 +37,7 @@ pub(crate) fn end_at<K: Keeper + Drop, O: Opener<K>, E: Write>(
 }
 
 /// Opens the registry at a path, and carries an order out over it.
-fn run_order<K: Keeper + Drop, O: Opener<K>, W: Write, E: Write>(
+fn run_order<K: Keeper, O: Opener<K>, W: Write, E: Write>(
     alloc: Global,
     opener: &O,
     path: &str,
@@ -63,8 +62,8 @@ fn run_order<K: Keeper + Drop, O: Opener<K>, W: Write, E: Write>(
 }
 
 /// Carries an order out over the registry that is opened for it, or sends it to the server that holds it.
-pub fn run_order_at<T: Net, K: Keeper + Drop, O: Opener<K>, W: Write, E: Write>(
-    rt: &T,
+pub fn run_order_at<K: Keeper, O: Opener<K>, W: Write, E: Write>(
+    rt: &HostRuntime,
     alloc: Global,
     opener: &O,
     place: Place,
@@ -86,7 +85,7 @@ pub fn run_order_at<T: Net, K: Keeper + Drop, O: Opener<K>, W: Write, E: Write>(
 }
 
 /// Opens the registry at a path, and serves one connection over it.
-pub fn run_stored<K: Keeper + Drop, O: Opener<K>, R: Read, W: Write, E: Write>(
+pub fn run_stored<K: Keeper, O: Opener<K>, R: Read, W: Write, E: Write>(
     alloc: Global,
     opener: &O,
     path: &str,

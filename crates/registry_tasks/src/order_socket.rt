@@ -3,10 +3,8 @@ use registry_orders::Cause;
 use std::alloc::Global;
 use std::fs::Permissions;
 use std::io::ErrorKind;
-use std::net::Net;
 use std::os::unix::fs::{FileTypeExt, PermissionsExt};
 use std::os::unix::net::{UnixListener, UnixStream};
-use std::rt::Files;
 use std::{fs, io};
 
 /// What is wrong with the path, where the kind of the error tells.
@@ -27,7 +25,7 @@ fn cause_of_error(error: io::Error) -> Option<Cause> {
 
 /// Takes away the socket that a dead server left at a path. The error is that something else is there, or a
 /// server that lives.
-fn clear<T: Files + Net>(rt: &T, path: &str) -> Result<(), Option<Cause>> {
+fn clear(rt: &HostRuntime, path: &str) -> Result<(), Option<Cause>> {
     match fs::symlink_metadata(rt, path) {
         Ok(found) if found.file_type().is_socket() => {}
         Ok(_) => return Err(Some(Cause::NoSocket)),
@@ -55,7 +53,7 @@ fn turn_away(listener: &UnixListener) -> io::Result<()> {
 }
 
 /// Makes a socket that was bound at a path that nobody asks for its owner's alone, and moves it then.
-fn settle<T: Files>(rt: &T, listener: &UnixListener, beside: &str, path: &str) -> io::Result<()> {
+fn settle(rt: &HostRuntime, listener: &UnixListener, beside: &str, path: &str) -> io::Result<()> {
     fs::set_permissions(rt, beside, Permissions::from_mode(0o600))?;
     turn_away(listener)?;
     fs::rename(rt, beside, path)
@@ -64,8 +62,8 @@ fn settle<T: Files>(rt: &T, listener: &UnixListener, beside: &str, path: &str) -
 /// Listens for orders at a path. What a dead server left there is taken away. The socket is bound at the
 /// path with `.new` behind it, given mode 0600 there, and moved. An error has what is wrong with the path,
 /// as far as it can be seen; a path of more than 103 bytes is none of a socket.
-pub fn listen_for_orders<T: Files + Net>(
-    rt: &T,
+pub fn listen_for_orders(
+    rt: &HostRuntime,
     alloc: Global,
     path: &str,
 ) -> Result<UnixListener, Option<Cause>> {
@@ -85,7 +83,7 @@ pub fn listen_for_orders<T: Files + Net>(
 }
 
 /// Takes the socket away at which orders were taken, if they were.
-pub fn stop_orders<T: Files>(rt: &T, path: Option<&str>) {
+pub fn stop_orders(rt: &HostRuntime, path: Option<&str>) {
     if let Some(path) = path {
         let _ = fs::remove_file(rt, path);
     }

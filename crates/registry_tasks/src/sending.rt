@@ -12,7 +12,7 @@ use registry_orders::{Cause, Failure, Order};
 use std::alloc::Global;
 use std::io;
 use std::io::{ErrorKind, Read, Write};
-use std::net::{Net, Shutdown};
+use std::net::Shutdown;
 use std::os::unix::net::UnixStream;
 
 /// The most bytes of an answer.
@@ -81,7 +81,7 @@ fn read_all<R: Read + Drop>(alloc: Global, reader: R) -> Result<Vec<u8>, Failure
 }
 
 /// What the server that takes orders at a path answers to a line.
-fn ask<T: Net>(rt: &T, alloc: Global, path: &str, line: &str) -> Result<Vec<u8>, NoAnswer>
+fn ask(rt: &HostRuntime, alloc: Global, path: &str, line: &str) -> Result<Vec<u8>, NoAnswer>
     ensures { IfErr result (λ none. IsOfSending none.failure) }
 {
     let stream = match UnixStream::connect(rt, path) {
@@ -139,8 +139,8 @@ fn relay<W: Write, E: Write>(bytes: &[u8], out: &mut W, err: &mut E) -> u8
 /// status is the server's, and its text goes to standard output where the line was carried out, and else to
 /// standard error. Where there is no server, no answer, or one of more than 64 MiB, it is a failed
 /// connection. The status is 3 where memory is wanting for it.
-fn send_line<T: Net, W: Write, E: Write>(
-    rt: &T,
+fn send_line<W: Write, E: Write>(
+    rt: &HostRuntime,
     alloc: Global,
     path: &str,
     line: &str,
@@ -161,8 +161,8 @@ fn send_line<T: Net, W: Write, E: Write>(
 
 /// Sends an order to the server that takes them at the socket at a path, and does what it answers, as
 /// `send_line` has it.
-pub fn send_order<T: Net, W: Write, E: Write>(
-    rt: &T,
+pub fn send_order<W: Write, E: Write>(
+    rt: &HostRuntime,
     alloc: Global,
     path: &str,
     order: &Order,
@@ -183,8 +183,8 @@ pub fn send_order<T: Net, W: Write, E: Write>(
 
 /// Asks the server that takes orders at the socket at a path to stop, and does what it answers, likewise. It
 /// ends when the connections that have something in hand are done with, and its answer ends with it.
-pub fn send_stop<T: Net, W: Write, E: Write>(
-    rt: &T,
+pub fn send_stop<W: Write, E: Write>(
+    rt: &HostRuntime,
     alloc: Global,
     path: &str,
     out: &mut W,

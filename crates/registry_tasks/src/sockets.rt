@@ -7,10 +7,10 @@ ghost use Rattle.registry_tasks.specs.Sockets.{ServesNext, ServesMany, ServesSom
 ghost use Rattle.registry_model.specs.Keeping.{State};
 ghost use Rattle.registry_http.specs.Privacy.{IsPrivateRun};
 
+use registry_checking::Opener;
 use registry_connection::serve_connection;
 use registry_http::End;
 use registry_model::Keeper;
-use registry_opening::Opener;
 use registry_orders::Failure;
 use registry_service::Service;
 use std::alloc::Global;
@@ -57,11 +57,8 @@ pub fn serve_one<K: Keeper>(
     Ok(serve_connection(alloc, service, &mut reader, &mut writer))
 }
 
-/// Lets go of a service, whose database is closed so.
-fn close<K: Keeper + Drop>(_service: Service<K>) {}
-
 /// The service, or another over the registry that is opened again where this one is spent.
-pub fn resume<K: Keeper + Drop, O: Opener<K>>(
+pub fn resume<K: Keeper, O: Opener<K>>(
     opener: &O,
     path: &str,
     service: Service<K>,
@@ -74,7 +71,7 @@ pub fn resume<K: Keeper + Drop, O: Opener<K>>(
     if !service.spent() {
         return Ok(service);
     }
-    close(service);
+    opener.close(service.into_keeper());
     match opener.open(path) {
         Ok(kept) => Ok(Service::new(kept)),
         Err(failure) => Err(failure),
@@ -94,7 +91,7 @@ pub fn announce<W: Write>(out: &mut W) -> Result<(), Failure>
 
 /// Serves so many connections, one after the other. Where the service is spent after one, its
 /// database is closed and opened again before the next; a connection that fails ends nothing.
-fn serve_each<K: Keeper + Drop, O: Opener<K>, D: Entrance>(
+fn serve_each<K: Keeper, O: Opener<K>, D: Entrance>(
     alloc: Global,
     opener: &O,
     path: &str,
@@ -114,7 +111,10 @@ fn serve_each<K: Keeper + Drop, O: Opener<K>, D: Entrance>(
         };
         match entrance.serve_next(alloc, &mut service) {
             Ok(_) => {}
-            Err(_) => return Err(Failure::ConnectionFailure),
+            Err(_) => {
+                opener.close(service.into_keeper());
+                return Err(Failure::ConnectionFailure);
+            }
         }
     }
     opener.close(service.into_keeper());
@@ -124,7 +124,7 @@ fn serve_each<K: Keeper + Drop, O: Opener<K>, D: Entrance>(
 /// Says on standard output that connections are taken, and serves so many, one after the other, over
 /// the registry that was opened at the path. The error is that the registry is not opened again, or
 /// that a connection cannot be taken or the line not be written.
-pub fn serve<K: Keeper + Drop, O: Opener<K>, D: Entrance, W: Write>(
+pub fn serve<K: Keeper, O: Opener<K>, D: Entrance, W: Write>(
     alloc: Global,
     opener: &O,
     path: &str,
@@ -139,7 +139,10 @@ pub fn serve<K: Keeper + Drop, O: Opener<K>, D: Entrance, W: Write>(
 {
     match announce(out) {
         Ok(()) => serve_each(alloc, opener, path, kept, entrance, connections),
-        Err(failure) => Err(failure),
+        Err(failure) => {
+            opener.close(kept);
+            Err(failure)
+        }
     }
 }
 

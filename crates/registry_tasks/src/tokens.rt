@@ -9,15 +9,13 @@ ghost use Rattle.registry_tasks.specs.Opened.{IsWithoutToken, LacksTokenOf};
 
 use crate::opened::run_order_at;
 use oci_names::Token;
+use registry_checking::Opener;
 use registry_model::Keeper;
-use registry_opening::Opener;
 use registry_orders::cause::say_at;
 use registry_orders::{Cause, Failure, Order, Place, TokenOrder, TokenSource, read_token};
 use std::alloc::Global;
 use std::fs;
 use std::io::{ErrorKind, Read, Write};
-use std::net::Net;
-use std::rt::Files;
 
 /// Why there is no token.
 #[derive(Clone, Copy)]
@@ -47,7 +45,7 @@ fn cause_of_file(kind: ErrorKind) -> Cause {
 }
 
 /// The token that is the first line of the file at a path.
-fn token_in_file<T: Files>(rt: &T, alloc: Global, path: &str) -> Result<Token, NoToken>
+fn token_in_file(rt: &HostRuntime, alloc: Global, path: &str) -> Result<Token, NoToken>
     ensures { IfErr result (λ none. IsOfWords none.failure) }
 {
     let mut file = match fs::open(rt, path) {
@@ -66,8 +64,8 @@ fn token_in_file<T: Files>(rt: &T, alloc: Global, path: &str) -> Result<Token, N
 }
 
 /// Carries out an order that has its token, at its place.
-fn run_whole_order<T: Net, K: Keeper + Drop, O: Opener<K>, W: Write, E: Write>(
-    rt: &T,
+fn run_whole_order<K: Keeper, O: Opener<K>, W: Write, E: Write>(
+    rt: &HostRuntime,
     alloc: Global,
     opener: &O,
     place: Place,
@@ -86,8 +84,8 @@ fn run_whole_order<T: Net, K: Keeper + Drop, O: Opener<K>, W: Write, E: Write>(
 }
 
 /// Carries out an order, the token of which is the first line of standard input.
-fn run_by_input<T: Net, K: Keeper + Drop, O: Opener<K>, R: Read, W: Write, E: Write>(
-    rt: &T,
+fn run_by_input<K: Keeper, O: Opener<K>, R: Read, W: Write, E: Write>(
+    rt: &HostRuntime,
     alloc: Global,
     opener: &O,
     place: Place,
@@ -112,8 +110,8 @@ fn run_by_input<T: Net, K: Keeper + Drop, O: Opener<K>, R: Read, W: Write, E: Wr
 }
 
 /// Carries out an order, the token of which is the first line of a file.
-fn run_by_file<T: Files + Net, K: Keeper + Drop, O: Opener<K>, W: Write, E: Write>(
-    rt: &T,
+fn run_by_file<K: Keeper, O: Opener<K>, W: Write, E: Write>(
+    rt: &HostRuntime,
     alloc: Global,
     opener: &O,
     place: Place,
@@ -138,8 +136,8 @@ fn run_by_file<T: Files + Net, K: Keeper + Drop, O: Opener<K>, W: Write, E: Writ
 
 /// Reads the token that an order lacks, and carries the order out at its place. Without a token no registry
 /// is opened, and nothing is sent.
-pub fn run_token_order<T: Files + Net, K: Keeper + Drop, O: Opener<K>, R: Read, W: Write, E: Write>(
-    rt: &T,
+pub fn run_token_order<K: Keeper, O: Opener<K>, R: Read, W: Write, E: Write>(
+    rt: &HostRuntime,
     alloc: Global,
     opener: &O,
     place: Place,

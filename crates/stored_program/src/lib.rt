@@ -9,7 +9,7 @@ ghost use Rattle.registry_tasks.specs.Stored.{OverAt};
 ghost use Rattle.registry_program.specs.Running.{RunsWords, IsSparedFor};
 ghost use Rattle.registry_store.specs.Kept.{IsHonest, shown};
 
-use registry_opening::Opener;
+use registry_checking::Opener;
 use registry_program::run_words;
 use registry_store::Store;
 use sqlite::{Alter, FileStore};
@@ -18,7 +18,7 @@ use std::convert::AsStr;
 use std::io::{Read, Write};
 
 /// `run_words` over the tables of databases.
-fn run_over<S: Alter + Drop, O: Opener<Store<S>>, T: AsStr, R: Read, W: Write, E: Write>(
+fn run_over<S: Alter, O: Opener<Store<S>>, T: AsStr, R: Read, W: Write, E: Write>(
     rt: &HostRuntime,
     opener: &O,
     words: &[T],
@@ -41,14 +41,14 @@ fn run_over<S: Alter + Drop, O: Opener<Store<S>>, T: AsStr, R: Read, W: Write, E
 
 /// Does what the words behind the program's name say, over databases in files, with these ends for standard
 /// input, output and error; gives the exit status, as `run_words` does.
-pub fn run_in_files<
-    D: Disk + Drop,
-    O: Opener<Store<FileStore<D>>>,
-    T: AsStr,
-    R: Read,
-    W: Write,
-    E: Write,
->(rt: &HostRuntime, opener: &O, words: &[T], reader: &mut R, out: &mut W, err: &mut E) -> u8
+pub fn run_in_files<D: Disk, O: Opener<Store<FileStore<D>>>, T: AsStr, R: Read, W: Write, E: Write>(
+    rt: &HostRuntime,
+    opener: &O,
+    words: &[T],
+    reader: &mut R,
+    out: &mut W,
+    err: &mut E,
+) -> u8
     ensures runs { RunsWords
         (OverAt (IsHonest (over_files {g = D.Disk}) true) (shown (over_files {g = D.Disk}))
         (O.opens opener.now))

@@ -1,63 +1,69 @@
-use Rattle.std.proofs.Common.{inl, refl, arith}
+use Rattle.std.proofs.Common.{inl, refl, arith, rules}
+use Rattle.registry_tasks.specs.Program.{streams}
 use Rattle.registry_tasks.specs.Stored.{OverAt}
 use Rattle.registry_tasks.proofs.ExitStatuses.{memory_read, untouched_memory}
 use Rattle.registry_program.proofs.EndedTasks.{order_spares}
 use Rattle.registry_program.proofs.program.run_task.Goals as goal
 
-pub returns-in-Memory-clause-runs : goal.returns-in-Memory-clause-runs
-returns-in-Memory-clause-runs g c =
-    let serves = c.serve_memory.ensures.serves in
-    inl (memory_read c.in-Memory.setup c.serve_memory.result _ serves, rw c.in-Memory.is serves)
+pub returns-in-Memory : goal.returns-in-Memory
+returns-in-Memory g c = record {
+  runs =
+      let e = streams (g.R.Read.remaining c.args.reader.now) (g.R.Read.remaining c.serve_memory.new.reader) (g.W.Write.contents c.args.out.now) (g.W.Write.contents c.serve_memory.new.out) in
+      inl (memory_read c.in-Memory.setup c.serve_memory.result e c.serve_memory.ensures.serves, rw c.in-Memory.is c.serve_memory.ensures.serves);
+  refused = λ more less.
+      let e = streams (g.R.Read.remaining c.args.reader.now) (g.R.Read.remaining c.serve_memory.new.reader) (g.W.Write.contents c.args.out.now) (g.W.Write.contents c.serve_memory.new.out) in
+      inl (untouched_memory c.in-Memory.setup c.serve_memory.result e c.serve_memory.ensures.serves more (omega arith));
+  status = search rules;
+}
 
-pub returns-in-Memory-clause-refused : goal.returns-in-Memory-clause-refused
-returns-in-Memory-clause-refused g c more less =
-    inl (untouched_memory c.in-Memory.setup c.serve_memory.result _ c.serve_memory.ensures.serves more (omega arith))
+pub returns-in-Stored : goal.returns-in-Stored
+returns-in-Stored g c = record {
+  runs = inl ((λ two. let three = c.run_stored.ensures.failed (omega arith) in omega arith), rw c.in-Stored.is c.run_stored.ensures.runs);
+  refused = λ more less. absurd (let three = c.run_stored.ensures.failed more in omega arith);
+  status = c.run_stored.ensures.status;
+}
 
-pub returns-in-Stored-clause-runs : goal.returns-in-Stored-clause-runs
-returns-in-Stored-clause-runs g c =
-    inl ((λ two. let three = c.run_stored.ensures.failed (omega arith) in omega arith), rw c.in-Stored.is c.run_stored.ensures.runs)
+pub returns-in-Server : goal.returns-in-Server
+returns-in-Server g c = record {
+  runs = inl ((λ two. let three = c.run_server.ensures.failed (omega arith) in omega arith), rw c.in-Server.is (refl, c.run_server.ensures.runs));
+  refused = λ more less. absurd (let three = c.run_server.ensures.failed more in omega arith);
+  status = c.run_server.ensures.status;
+}
 
-pub returns-in-Stored-clause-refused : goal.returns-in-Stored-clause-refused
-returns-in-Stored-clause-refused g c more less = absurd (let three = c.run_stored.ensures.failed more in omega arith)
+pub returns-in-Order : goal.returns-in-Order
+returns-in-Order g c = record {
+  runs = inl (c.run_order_at.ensures.read, rw c.in-Order.is (refl, c.run_order_at.ensures.runs));
+  refused = λ more less. inl (record { left = refl; held = c.run_order_at.ensures.silent more (omega arith) });
+  status = c.run_order_at.ensures.status;
+}
 
-pub returns-in-Server-clause-runs : goal.returns-in-Server-clause-runs
-returns-in-Server-clause-runs g c =
-    inl ((λ two. let three = c.run_server.ensures.failed (omega arith) in omega arith), rw c.in-Server.is (refl, c.run_server.ensures.runs))
+pub returns-in-TokenOrder : goal.returns-in-TokenOrder
+returns-in-TokenOrder g c = record {
+  runs = rw c.in-TokenOrder.is c.run_token_order.ensures.runs;
+  refused = λ more less.
+      let found = c.in-TokenOrder in
+      rw found.is (order_spares (OverAt g.K.Keeper.is_honest g.K.Keeper.state (g.O.Opener.opens c.args.opener.now))
+      found.place found.source found.order _ _ c.run_token_order.ensures.runs (c.run_token_order.ensures.silent more (omega arith)));
+  status = c.run_token_order.ensures.status;
+}
 
-pub returns-in-Server-clause-refused : goal.returns-in-Server-clause-refused
-returns-in-Server-clause-refused g c more less = absurd (let three = c.run_server.ensures.failed more in omega arith)
+pub returns-in-Check : goal.returns-in-Check
+returns-in-Check g c = record {
+  runs = inl ((λ two. let three = c.run_check.ensures.failed (omega arith) in omega arith), rw c.in-Check.is (refl, c.run_check.ensures.runs));
+  refused = λ more less. absurd (let three = c.run_check.ensures.failed more in omega arith);
+  status = c.run_check.ensures.status;
+}
 
-pub returns-in-Check-clause-runs : goal.returns-in-Check-clause-runs
-returns-in-Check-clause-runs g c =
-    inl ((λ two. let three = c.run_check.ensures.failed (omega arith) in omega arith), rw c.in-Check.is (refl, c.run_check.ensures.runs))
+pub returns-in-Migration : goal.returns-in-Migration
+returns-in-Migration g c = record {
+  runs = inl (c.run_migration.ensures.read, rw c.in-Migration.is (record { left = refl; held = refl }, c.run_migration.ensures.runs));
+  refused = λ more less. inl (record { left = refl; held = refl });
+  status = c.run_migration.ensures.status;
+}
 
-pub returns-in-Check-clause-refused : goal.returns-in-Check-clause-refused
-returns-in-Check-clause-refused g c more less = absurd (let three = c.run_check.ensures.failed more in omega arith)
-
-pub returns-in-Order-clause-runs : goal.returns-in-Order-clause-runs
-returns-in-Order-clause-runs g c =
-    inl (c.run_order_at.ensures.read, rw c.in-Order.is (refl, c.run_order_at.ensures.runs))
-
-pub returns-in-Order-clause-refused : goal.returns-in-Order-clause-refused
-returns-in-Order-clause-refused g c more less =
-    inl (record { left = refl; held = c.run_order_at.ensures.silent more (omega arith) })
-
-pub returns-in-Migration-clause-runs : goal.returns-in-Migration-clause-runs
-returns-in-Migration-clause-runs g c =
-    inl (c.run_migration.ensures.read, rw c.in-Migration.is (record { left = refl; held = refl }, c.run_migration.ensures.runs))
-
-pub returns-in-Stop-clause-runs : goal.returns-in-Stop-clause-runs
-returns-in-Stop-clause-runs g c = inl (c.send_stop.ensures.read, rw c.in-Stop.is (refl, c.send_stop.ensures.sent))
-
-pub returns-in-Stop-clause-refused : goal.returns-in-Stop-clause-refused
-returns-in-Stop-clause-refused g c more less =
-    inl (record { left = refl; held = c.send_stop.ensures.silent more (omega arith) })
-
-pub returns-in-TokenOrder-clause-runs : goal.returns-in-TokenOrder-clause-runs
-returns-in-TokenOrder-clause-runs g c = rw c.in-TokenOrder.is c.run_token_order.ensures.runs
-
-pub returns-in-TokenOrder-clause-refused : goal.returns-in-TokenOrder-clause-refused
-returns-in-TokenOrder-clause-refused g c more less =
-    let found = c.in-TokenOrder in
-    rw found.is (order_spares (OverAt g.K.Keeper.is_honest g.K.Keeper.state (g.O.Opener.opens c.args.opener.now))
-    found.place found.source found.order _ _ c.run_token_order.ensures.runs (c.run_token_order.ensures.silent more (omega arith)))
+pub returns-in-Stop : goal.returns-in-Stop
+returns-in-Stop g c = record {
+  runs = inl (c.send_stop.ensures.read, rw c.in-Stop.is (refl, c.send_stop.ensures.sent));
+  refused = λ more less. inl (record { left = refl; held = c.send_stop.ensures.silent more (omega arith) });
+  status = c.send_stop.ensures.status;
+}

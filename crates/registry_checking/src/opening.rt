@@ -2,7 +2,7 @@ ghost use Rattle.std.specs.Prelude.{◌≡◌, ℕ, false, List, IfOk, IfErr};
 ghost use Rattle.registry_model.specs.Keeping.{State};
 ghost use Rattle.registry_orders.specs.Failures.{IsOfOpening};
 
-use registry_checking::Watch;
+use crate::progress::Watch;
 use registry_model::Keeper;
 use registry_orders::{Cause, Failure};
 
