@@ -109,8 +109,8 @@ module _ {S : Type 0} (g : Ghosts S) (old mid new : Held S) (told : Result (Opti
 
   module _ {A : Type 0} (answer : Result A Fault) where
     -- the write made its change of what was there before
-    pub made_then : (P : World → Type 0) (f : World → World) → WorldHas g old P → (WorldHas g mid P → MakesWorld g mid new answer f) → MakesWorld g old new answer f
-    made_then P f has made clean is = by (looked_up clean is)
+    pub made_then : (P : World → Type 0) (f : World → World) → (WorldHas g mid P → MakesWorld g mid new answer f) → WorldHas g old P → MakesWorld g old new answer f
+    made_then P f made has clean is = by (looked_up clean is)
       where
         by : StaysSettled (state g old) (state g mid) → OnOk answer (SettlesOn (state g new) (f (world_in (state g old))))
         by same = earlier (λ w. OnOk answer (SettlesOn (state g new) (f w))) (state g old) (state g mid) same.1 (made (has_then P has is) clean same.0)
@@ -121,8 +121,8 @@ module _ {S : Type 0} (g : Ghosts S) (old mid new : Held S) (told : Result (Opti
         by : StaysSettled (state g old) (state g mid) → StaysSettled (state g old) (state g new)
         by same = stays_then (state g old) (state g mid) (state g new) same (memory clean same.0 wanting)
 
-    pub memory_where : (P : World → Type 0) → WorldHas g old P → (WorldHas g mid P → StaysOnMemory g mid new answer) → StaysOnMemory g old new answer
-    memory_where P has memory clean is wanting = memory_then (memory (has_then P has is)) clean is wanting
+    pub memory_where : (P : World → Type 0) → (WorldHas g mid P → StaysOnMemory g mid new answer) → WorldHas g old P → StaysOnMemory g old new answer
+    memory_where P memory has clean is wanting = memory_then (memory (has_then P has is)) clean is wanting
 
     pub known_then : (known knew : KnownUsages) (name : Text) (f : World → Repo → Repo) → IsKnown g old known → WorldHas g old (λ w. has_repo w name ≡ true)
         → Tells g old mid told (λ w change. IfSome change (Foretells w name (f w))) → OnOk answer (Sets known knew name (IsNext (known_at known name) change)) → OnErr answer (knew ≡ known)

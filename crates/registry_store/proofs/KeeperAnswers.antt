@@ -121,6 +121,10 @@ module _ {S : Type 0} (g : Ghosts S) (ours : Bool) (conn : Held S) (old : Kept S
   pub same_honest : IsHonest g ours (record { conn = conn; spent = spent }) → IsHonest g ours old
   same_honest h = subst (λ (k : Kept S). IsHonest g ours k) is h
 
+  -- and what was spent is so
+  pub still_spent : spent ≡ true → old.spent ≡ true
+  still_spent e = subst (λ (k : Kept S). k.spent ≡ true) is e
+
   module _ (known : KnownUsages) (holds : spent ≡ false → ours ≡ true → HasCleanDisk (state g conn) → IsSettled (state g conn) × Knows known (world_in (state g conn)))
       (unspent : spent ≡ false) (new : Held S) (lasts : Lasts g conn new) where
     -- what is honest behind the call was so before

@@ -1,6 +1,7 @@
 -- What is known of upload sessions of one piece, and what their end makes of the world.
-use Rattle.std.proofs.Common.{◌≡◌, ◌∙◌, ◌||◌, ◌++◌, ℕ, List, [], ◌∷◌, map, length, Bool, true, false, cond, Option, Some, None, Ok, Err, Result, IfOk, OnOk, refl, sym, ap, subst, arith}
-use Rattle.std.specs.Prelude.{find, is_some, option_map, bytes_eq}
+use Rattle.std.proofs.Common.{◌≡◌, ◌∙◌, ◌||◌, ◌++◌, ℕ, List, [], ◌∷◌, map, length, Bool, true, false, true≢false, cond, Option, Some, None, Ok, Err, Result, IfOk, OnOk, refl, sym, ap, subst, arith}
+use Rattle.std.specs.Prelude.{find, is_some, option_map, bytes_eq, MatchResult, Vec}
+use Rattle.std.specs.declared.alloc.Global.{Global}
 use Rattle.std.specs.Option.{option_and_then, option_map_or}
 use Rattle.std.specs.List.{AllByRecursion}
 use Rattle.sqlite.specs.Order.{Row}
@@ -8,6 +9,7 @@ use Rattle.sqlite.specs.State.{State}
 use Rattle.oci_names.specs.Text.{Text}
 use Rattle.oci_names.specs.Digest.{matches, sha512_digest}
 use Rattle.oci_names.specs.declared.fault.Fault.{Fault}
+use Rattle.oci_names.specs.declared.fault.Fault.TheVariants.{Memory, Storage}
 use Rattle.registry_model.specs.World.{World}
 use Rattle.registry_model.specs.Lookups.{session_at, bytes_or_none, finish}
 use Rattle.registry_model.specs.Closing.{session_matches, finish_as_is}
@@ -19,10 +21,11 @@ use Rattle.store_world.specs.Registry.{IsRegistry, PieceAgrees, Reach}
 use Rattle.store_world.specs.Changes.{Comes, blob_columns}
 use Rattle.store_world.proofs.SessionReads.{upload_reach, session_at_found, session_pieces}
 use Rattle.store_world.proofs.Reach.{content_found}
+use Rattle.store_contents.specs.declared.content_id.ContentId.{ContentId}
 use Rattle.store_statements.specs.declared.blobs.BlobLink.{BlobLink}
 use Rattle.store_statements.specs.Shown.{blob_link, content_named}
 use Rattle.store_statements.specs.ContentShown.{has_sha256_digest}
-use Rattle.store_statements.specs.Held.{IsReady, IsSettled, StaysSettled, Commits, SettlesOn, held, world_in}
+use Rattle.store_statements.specs.Held.{IsReady, IsSettled, StaysSettled, Commits, SettlesOn, held, world_in, is_storage}
 use Rattle.store_statements.specs.Steps.{Finished, BlobComes, sessions_without}
 use Rattle.store_statements.proofs.Transactions.{registry}
 use Rattle.store_statements.specs.StepsFrom.{LinkIsPut}
@@ -158,6 +161,19 @@ no_whole t name number e = sym (ap (λ x. option_and_then (λ r. only_link (natu
 pub no_known : (t : Tables) (name : Text) (number : ℕ) (digest : Text) → None ≡ whole_link t name number → None ≡ known_link t name number digest
 no_known t name number digest e = ap (λ x. option_and_then (λ l. if_digest t digest l) x) e
 
--- the content has the digest, or has it not
-pub digest_told : (t : Tables) (digest : Text) (link : BlobLink) (has b : Bool) → has ≡ b → has ≡ has_sha256_digest (t.contents link.content.id) digest → cond b (Some link) None ≡ if_digest t digest link
-digest_told t digest link has b is e = ap (λ x. cond x (Some link) None) (sym is ∙ e)
+-- ---- what is made of what was read, where a failure is passed on
+
+pub unspent_before : {A B : Type 0} (f : A → B) (read : Result A Fault) (r : Result B Fault) → MatchResult read (λ v. r ≡ Ok (f v)) (λ e. r ≡ Err e) → is_storage r ≡ false → is_storage read ≡ false
+unspent_before f (Ok v) r is e = refl
+unspent_before f (Err Memory) r is e = refl
+unspent_before f (Err Storage) r is e = absurd (true≢false (subst (λ x. is_storage x ≡ false) is e))
+
+pub piece_made : (size : ℕ) (ids : List ContentId) (read : Result (Vec ContentId Global) Fault) (r : Found) → MatchResult read (λ xs. r ≡ Ok (only_link size xs.items)) (λ e. r ≡ Err e)
+    → IfOk read (λ xs. xs.items ≡ ids) → IfOk r (λ o. o ≡ only_link size ids)
+piece_made size ids (Ok xs) r is e = subst (λ x. IfOk x (λ o. o ≡ only_link size ids)) (sym is) (ap (only_link size) e)
+piece_made size ids (Err x) r is e = subst (λ x. IfOk x (λ o. o ≡ only_link size ids)) (sym is) tt
+
+pub digest_made : (t : Tables) (digest : Text) (link : BlobLink) (read : Result Bool Fault) (r : Found) → MatchResult read (λ so. r ≡ Ok (cond so (Some link) None)) (λ e. r ≡ Err e)
+    → IfOk read (λ so. so ≡ has_sha256_digest (t.contents link.content.id) digest) → IfOk r (λ o. o ≡ if_digest t digest link)
+digest_made t digest link (Ok so) r is e = subst (λ x. IfOk x (λ o. o ≡ if_digest t digest link)) (sym is) (ap (λ b. cond b (Some link) None) e)
+digest_made t digest link (Err x) r is e = subst (λ x. IfOk x (λ o. o ≡ if_digest t digest link)) (sym is) tt

@@ -1,5 +1,5 @@
 //! Bytes come behind those of an open upload session.
-ghost use Rattle.std.specs.Prelude.{◌≡◌, ◌<◌, ◌+◌, ◌^◌, true, length, find, is_some, None};
+ghost use Rattle.std.specs.Prelude.{◌≡◌, ◌<◌, ◌+◌, ◌^◌, true, length, find, is_some, None, Some, Ok, Err, IfOk, IfErr};
 ghost use Rattle.registry_model.specs.Lookups.{append, session_at};
 ghost use Rattle.store_world.specs.Keys.{has_start};
 ghost use Rattle.store_statements.specs.StepsFrom.{StepsFrom};
@@ -90,6 +90,19 @@ fn add_bytes_alone<S: Alter>(
     )
 }
 
+/// The size that was found of a session, where there is room for so many bytes more.
+fn with_room(found: Result<Option<u64>, Fault>, more: u64) -> Result<u64, Fault>
+    ensures same { IfOk result (λ size. found ≡ Ok (Some size)) }
+    ensures room { IfOk result (λ size. size + more < 2 ^ 63) }
+    ensures memory { IfErr result (λ fault. fault ≡ Fault.Memory → found ≡ Err fault) }
+{
+    match found {
+        Ok(Some(size)) if has_room(size, more) => Ok(size),
+        Ok(_) => Err(Fault::Storage),
+        Err(fault) => Err(fault),
+    }
+}
+
 /// Puts bytes behind those of an open session; none that it has are touched.
 pub fn append<S: Alter>(
     alloc: Global,
@@ -110,12 +123,11 @@ pub fn append<S: Alter>(
         return Err(Fault::Storage);
     }
     let repo = repo.as_str();
-    match find_upload(conn, repo, number) {
-        Ok(Some(size)) if has_room(size, bytes.len() as u64) => {
+    match with_room(find_upload(conn, repo, number), bytes.len() as u64) {
+        Ok(size) => {
             let done = add_bytes_alone(alloc, conn, repo, number, size, bytes);
             checked(conn, done)
         }
-        Ok(_) => Err(Fault::Storage),
         Err(fault) => Err(fault),
     }
 }

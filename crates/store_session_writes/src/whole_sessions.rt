@@ -1,10 +1,8 @@
 //! Upload sessions of one piece: their bytes are those of one content, whose digest is known unread.
-ghost use Rattle.std.specs.Prelude.{◌≡◌, ◌<◌, ◌^◌, map};
-ghost use Rattle.store_world.specs.World.{pieces_of};
+ghost use Rattle.std.specs.Prelude.{◌≡◌, ◌<◌, ◌^◌, MatchResult, if◌then◌else◌, Some, None, Ok, Err};
 ghost use Rattle.store_statements.specs.Between.{Finds, Stays};
 ghost use Rattle.store_statements.specs.Clauses.{Lasts};
-ghost use Rattle.store_statements.specs.Shown.{content_named};
-ghost use Rattle.store_session_writes.specs.Whole.{only_link, whole_link, if_digest, known_link};
+ghost use Rattle.store_session_writes.specs.Whole.{only_link, whole_link, known_link};
 
 use oci_names::Fault;
 use sqlite::{Alter, Connection};
@@ -28,21 +26,12 @@ fn only(ids: &[ContentId], size: u64) -> Option<BlobLink>
     }
 }
 
-/// The link to the content of a session that has `size` bytes, where it has one piece.
-fn piece_link<S: Alter>(
-    alloc: Global,
-    conn: &mut Connection<S>,
-    repo: &str,
-    number: u64,
-    size: u64,
-) -> Result<Option<BlobLink>, Fault>
-    requires fits { number < 2 ^ 63 }
-    ensures found { Finds S.Store conn.old conn.new result
-        (λ t o. o ≡ only_link size (map (content_named 5) (pieces_of t.pieces repo.now number))) }
-    ensures settled { Stays S.Store conn.old conn.new result }
-    ensures survives { Lasts S.Store conn.old conn.new }
+/// The link to the one content that was found, of `size` bytes.
+fn piece_link(found: Result<Vec<ContentId>, Fault>, size: u64) -> Result<Option<BlobLink>, Fault>
+    ensures { MatchResult found (λ ids. result ≡ Ok (only_link size ids.items))
+        (λ fault. result ≡ Err fault) }
 {
-    match pieces_in_order(alloc, conn, repo, number) {
+    match found {
         Ok(ids) => Ok(only(&ids, size)),
         Err(fault) => Err(fault),
     }
@@ -61,23 +50,18 @@ fn find_whole<S: Alter>(
     ensures survives { Lasts S.Store conn.old conn.new }
 {
     match find_upload(conn, repo, number) {
-        Ok(Some(size)) => piece_link(alloc, conn, repo, number, size),
+        Ok(Some(size)) => piece_link(pieces_in_order(alloc, conn, repo, number), size),
         Ok(None) => Ok(None),
         Err(fault) => Err(fault),
     }
 }
 
-/// The link, where its content has the digest.
-fn with_digest<S: Alter>(
-    conn: &mut Connection<S>,
-    digest: &str,
-    link: BlobLink,
-) -> Result<Option<BlobLink>, Fault>
-    ensures found { Finds S.Store conn.old conn.new result (λ t o. o ≡ if_digest t digest.now link) }
-    ensures settled { Stays S.Store conn.old conn.new result }
-    ensures survives { Lasts S.Store conn.old conn.new }
+/// The link, where its content was found to have the digest.
+fn with_digest(found: Result<bool, Fault>, link: BlobLink) -> Result<Option<BlobLink>, Fault>
+    ensures { MatchResult found (λ so. result ≡ Ok (if so then Some link else None))
+        (λ fault. result ≡ Err fault) }
 {
-    match has_digest(conn, link.content, digest) {
+    match found {
         Ok(true) => Ok(Some(link)),
         Ok(false) => Ok(None),
         Err(fault) => Err(fault),
@@ -100,7 +84,7 @@ pub(crate) fn find_known<S: Alter>(
     ensures survives { Lasts S.Store conn.old conn.new }
 {
     match find_whole(alloc, conn, repo, number) {
-        Ok(Some(link)) => with_digest(conn, digest, link),
+        Ok(Some(link)) => with_digest(has_digest(conn, link.content, digest), link),
         Ok(None) => Ok(None),
         Err(fault) => Err(fault),
     }

@@ -1,5 +1,5 @@
 -- What the version that is found says of a database, and how it is refused.
-use Rattle.std.proofs.Common.{◌≡◌, ◌≢◌, ◌⊎◌, ◌∙◌, inl, inr, ℤ, pos, List, [], ◌∷◌, Ok, Err, Result, IfOk, IfErr, refl, sym, ap, subst}
+use Rattle.std.proofs.Common.{◌≡◌, ◌≢◌, ◌⊎◌, ◌∙◌, inl, inr, ℤ, pos, List, [], ◌∷◌, Some, Ok, Err, Result, IfOk, IfErr, refl, sym, ap, subst}
 use Rattle.std.specs.Prelude.{IsErrAnd}
 use Rattle.sqlite.specs.declared.types.Value.TheVariants.{Int}
 use Rattle.sqlite.specs.Order.{Row}
@@ -9,13 +9,16 @@ use Rattle.sqlite.specs.State.{State, IsUnchanged}
 use Rattle.sqlite_schema.specs.Names.{same_name}
 use Rattle.sqlite_tied.specs.Compute.{everything}
 use Rattle.store_schema.specs.OldSchema.{old_schema}
-use Rattle.store_statements.specs.Held.{IsBack}
+use Rattle.store_schema.specs.Beside.{AreFree, names_of_two}
+use Rattle.store_statements.specs.Held.{SettlesOn, IsBack, LeavesAsWas}
 use Rattle.store_opening.specs.declared.opening.OpenFault.{OpenFault}
 use Rattle.store_opening.specs.declared.opening.OpenFault.TheVariants.{Memory, Storage, NotARegistry, Schema as Numbered}
 use Rattle.store_opening.specs.Opening.{IsIdle, KnowsVersion, HoldsRegistry, versions_in}
 use Rattle.store_opening.specs.Asking.{IsWanting, IsWantingOr, IsUnnumbered, IsOfSchema, ShowsAlone}
-use Rattle.store_opening.proofs.OpeningLemmas.{same_alone, shows_two}
-use Rattle.store_upgrade.specs.OldFile.{HoldsOldRegistry}
+use Rattle.store_opening.proofs.OpeningLemmas.{knows_version as knows_new, same_alone, shows_two}
+use Rattle.store_upgrade.specs.OldFile.{HoldsOldRegistry, olds_in, old_world_in}
+use Rattle.store_upgrade.specs.declared.rewrite.MovedRows.{MovedRows}
+use Rattle.store_upgrade.specs.Rewriting.{counts}
 use Rattle.store_upgrade.specs.Migrating.{IsRefused, NamesNeither, IsTold}
 
 -- ---- a registry of schema 1, and one of schema 2
@@ -33,6 +36,9 @@ old_says db h = (Int (pos 1) ∷ [], h.registry.version, refl)
 pub new_says : (db : Database) → HoldsRegistry db → ShowsAlone (versions_in db) (pos 2)
 new_says db h = shows_two (versions_in db) h.agree.version
 
+one_not_two : pos 1 ≡ pos 2 → ⊥
+one_not_two e = absurd cc
+
 -- ---- the number that was found is the one that the rows show
 
 module _ (rows : List Row) (found : Result ℤ OpenFault) (alone : IfOk found (ShowsAlone rows)) where
@@ -42,8 +48,16 @@ module _ (rows : List Row) (found : Result ℤ OpenFault) (alone : IfOk found (S
   pub not_said : (k : ℤ) → found ≡ Ok k → ((n : ℤ) → ShowsAlone rows n → ⊥) → ⊥
   not_said k is none = none k (subst (λ f. IfOk f (ShowsAlone rows)) is alone)
 
-  -- ---- it is refused
+module _ (db : Database) (found : Result ℤ OpenFault) (alone : KnowsVersion db.schema → IfOk found (ShowsAlone (versions_in db))) where
+  pub one_not_new : found ≡ Ok (pos 1) → HoldsRegistry db → ⊥
+  one_not_new is holds = one_not_two (same_number (versions_in db) found (alone (knows_new db holds.holds)) (pos 1) (pos 2) is (new_says db holds))
 
+  pub two_not_old : found ≡ Ok (pos 2) → HoldsOldRegistry db → ⊥
+  two_not_old is holds = one_not_two (sym (same_number (versions_in db) found (alone (old_known db holds)) (pos 2) (pos 1) is (old_says db holds)))
+
+-- ---- it is refused
+
+module _ (rows : List Row) (found : Result ℤ OpenFault) (alone : IfOk found (ShowsAlone rows)) where
   pub refused_wanting : (e : OpenFault) → IsRefused found e → (n : ℤ) → (n ≡ pos 1) ⊎ (n ≡ pos 2) → ShowsAlone rows n → IfErr found IsWanting → IsWanting e
   refused_wanting e refused n either says wanting = go found alone refused wanting
     where
@@ -98,8 +112,29 @@ refused_told s (Err k) e is of none = subst (IsTold s) (sym is.1) (is_told s k n
 
 -- ---- it was only read
 
-pub idle_read : (old mid : State) → IsIdle old → IsUnchanged old mid → IsIdle mid
+pub old_read : (old mid : State) → IsUnchanged old mid → HoldsOldRegistry old.now → HoldsOldRegistry mid.now
+old_read old mid u holds = subst HoldsOldRegistry (sym u.0.now_is) holds
+
+idle_read : (old mid : State) → IsIdle old → IsUnchanged old mid → IsIdle mid
 idle_read old mid idle u = record { is_open = u.0.is_open; autocommit = u.0.mode ∙ idle.autocommit; committed = u.0.now_is ∙ idle.committed ∙ sym u.0.committed_is }
 
-pub back_read : (old mid new : State) → IsUnchanged old mid → IsBack mid new → IsBack old new
-back_read old mid new u back open_now = let it = back open_now in (it.0 ∙ u.0.now_is, it.1 ∙ u.0.committed_is)
+-- what is then done is done to what was there
+module _ (old mid new : State) (u : IsUnchanged old mid) where
+  pub settles_read : HoldsOldRegistry old.now → (HoldsOldRegistry mid.now → SettlesOn new (old_world_in mid.now)) → SettlesOn new (old_world_in old.now)
+  settles_read holds done = subst (λ (d : Database). SettlesOn new (old_world_in d)) u.0.now_is (done (old_read old mid u holds))
+
+  pub counts_read : (m : MovedRows) → HoldsOldRegistry old.now → (HoldsOldRegistry mid.now → m ≡ counts (olds_in mid.now)) → Some m ≡ Some (counts (olds_in old.now))
+  counts_read m holds done = ap Some (done (old_read old mid u holds) ∙ ap (λ (d : Database). counts (olds_in d)) u.0.now_is)
+
+  pub free_read : AreFree mid.now.schema names_of_two → AreFree old.now.schema names_of_two
+  free_read free = subst (λ (d : Database). AreFree d.schema names_of_two) u.0.now_is free
+
+  pub back_read : IsIdle old → HoldsOldRegistry old.now → (IsIdle mid → HoldsOldRegistry mid.now → IsBack mid new) → IsBack old new
+  back_read idle holds done open_now =
+      let it = done (idle_read old mid idle u) (old_read old mid u holds) open_now in
+      (it.0 ∙ u.0.now_is, it.1 ∙ u.0.committed_is)
+
+-- or the reading failed
+pub left_back : (old mid : State) → IsIdle old → LeavesAsWas old mid → IsBack old mid
+left_back old mid idle (inl u) is_open = (u.0.now_is, u.0.committed_is)
+left_back old mid idle (inr h) is_open = ((h.undone is_open).0 ∙ sym idle.committed, (h.undone is_open).1)

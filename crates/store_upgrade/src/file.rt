@@ -4,7 +4,7 @@ ghost use Rattle.store_upgrade.specs.Migrating.{NamesNeither};
 
 use crate::migration::migrate_open;
 use crate::rewrite::MovedRows;
-use sqlite::{Connection, FileStore, Start};
+use sqlite::{Alter, Connection, Error, FileStore, Start};
 use sqlite_disk::Disk;
 use std::alloc::Global;
 use store_moves::Watch;
@@ -21,28 +21,48 @@ pub fn migrate<F: Start, W: Watch>(
 ) -> Result<Option<MovedRows>, OpenFault>
     ensures another { IfErr result NamesNeither }
 {
-    match Connection::open_from(rt, path, false, start) {
-        Ok(conn) => migrate_files(rt.alloc(), conn, watch),
-        Err((error, _)) => Err(fault_in_opening(error)),
-    }
+    migrate_files(
+        rt.alloc(),
+        Connection::open_from(rt, path, false, start),
+        watch,
+    )
 }
 
-/// `migrate_open` over the files of a database, which are closed again.
-fn migrate_files<D: Disk + Drop, W: Watch>(
+/// `migrate_open` over the files of a database that was opened, which are closed again; what is left of files
+/// that were not is let go.
+fn migrate_files<D: Disk + Drop, L: Drop, W: Watch>(
     alloc: Global,
-    mut conn: Connection<FileStore<D>>,
+    opened: Result<Connection<FileStore<D>>, (Error, L)>,
     watch: &mut W,
 ) -> Result<Option<MovedRows>, OpenFault>
     ensures another { IfErr result NamesNeither }
 {
-    match migrate_open(alloc, &mut conn, watch) {
-        Ok(moved) => match conn.close() {
-            Ok(()) => Ok(moved),
-            Err(error) => Err(fault_in_opening(error)),
-        },
-        Err(fault) => {
-            let_go(conn);
-            Err(fault)
+    match opened {
+        Ok(conn) => {
+            let (moved, conn) = migrate_own(alloc, conn, watch);
+            match moved {
+                Ok(moved) => match conn.close() {
+                    Ok(()) => Ok(moved),
+                    Err(error) => Err(fault_in_opening(error)),
+                },
+                Err(fault) => {
+                    let_go(conn);
+                    Err(fault)
+                }
+            }
         }
+        Err((error, _)) => Err(fault_in_opening(error)),
     }
+}
+
+/// `migrate_open` over a connection that is given back.
+fn migrate_own<S: Alter, W: Watch>(
+    alloc: Global,
+    mut conn: Connection<S>,
+    watch: &mut W,
+) -> (Result<Option<MovedRows>, OpenFault>, Connection<S>)
+    ensures another { IfErr result.0 NamesNeither }
+{
+    let moved = migrate_open(alloc, &mut conn, watch);
+    (moved, conn)
 }

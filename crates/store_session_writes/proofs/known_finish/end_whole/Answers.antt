@@ -10,26 +10,22 @@ use Rattle.store_session_writes.proofs.KnownEnds.{ended_if}
 use Rattle.store_statements.proofs.CleanBefore.{was_clean}
 use Rattle.store_session_writes.proofs.known_finish.end_whole.Goals as goal
 
-pub returns-in-Ok-clause-ended : goal.returns-in-Ok-clause-ended
-returns-in-Ok-clause-ended g c clean is fresh =
-    let mid = state g.S.Store c.take_session.new.tx.conn.now in
-    let new = state g.S.Store c.add_blob_link.new.tx.conn.now in
-    let early : HasCleanDisk mid = was_clean c.add_blob_link.ensures.survives clean in
-    let first = c.in-Ok.ensures.taken early is in
-    ended_if (held (state g.S.Store c.args.tx.now.conn.now)) mid new c.args.repo.now c.args.number c.args.digest.now c.args.link c.add_blob_link.result first.1
-    (c.add_blob_link.ensures.added clean first.0 (ap (λ (t : Tables). find (has_key c.args.repo.now c.args.digest.now) t.blobs) first.1 ∙ fresh))
-
-pub returns-in-Ok-clause-kept : goal.returns-in-Ok-clause-kept
-returns-in-Ok-clause-kept g c clean is =
-    let mid = state g.S.Store c.take_session.new.tx.conn.now in
-    let early : HasCleanDisk mid = was_clean c.add_blob_link.ensures.survives clean in
-    commit_then (state g.S.Store c.args.tx.now.conn.now) mid (state g.S.Store c.add_blob_link.new.tx.conn.now) (c.take_session.ensures.kept early is) (c.add_blob_link.ensures.kept clean (c.in-Ok.ensures.taken early is).0)
-
-pub returns-in-Ok-clause-survives : goal.returns-in-Ok-clause-survives
-returns-in-Ok-clause-survives g c = survives_both (state g.S.Store c.args.tx.now.conn.now) (state g.S.Store c.take_session.new.tx.conn.now) (state g.S.Store c.add_blob_link.new.tx.conn.now) c.take_session.ensures.survives c.add_blob_link.ensures.survives
-
-pub returns-in-Ok-clause-same_reference : goal.returns-in-Ok-clause-same_reference
-returns-in-Ok-clause-same_reference g c = c.add_blob_link.ensures.same_reference ∙ c.take_session.ensures.same_reference
+pub returns-in-Ok : goal.returns-in-Ok
+returns-in-Ok g c = record {
+  ended = λ clean is fresh.
+      let mid = state g.S.Store c.take_session.new.tx.conn.now in
+      let new = state g.S.Store c.add_blob_link.new.tx.conn.now in
+      let early : HasCleanDisk mid = was_clean c.add_blob_link.ensures.survives clean in
+      let first = c.in-Ok.ensures.taken early is in
+      ended_if (held (state g.S.Store c.args.tx.now.conn.now)) mid new c.args.repo.now c.args.number c.args.digest.now c.args.link c.add_blob_link.result first.1
+      (c.add_blob_link.ensures.added clean first.0 (ap (λ (t : Tables). find (has_key c.args.repo.now c.args.digest.now) t.blobs) first.1 ∙ fresh));
+  kept = λ clean is.
+      let mid = state g.S.Store c.take_session.new.tx.conn.now in
+      let early : HasCleanDisk mid = was_clean c.add_blob_link.ensures.survives clean in
+      commit_then (state g.S.Store c.args.tx.now.conn.now) mid (state g.S.Store c.add_blob_link.new.tx.conn.now) (c.take_session.ensures.kept early is) (c.add_blob_link.ensures.kept clean (c.in-Ok.ensures.taken early is).0);
+  same_reference = c.add_blob_link.ensures.same_reference ∙ c.take_session.ensures.same_reference;
+  survives = survives_both (state g.S.Store c.args.tx.now.conn.now) (state g.S.Store c.take_session.new.tx.conn.now) (state g.S.Store c.add_blob_link.new.tx.conn.now) c.take_session.ensures.survives c.add_blob_link.ensures.survives;
+}
 
 pub take_session-requires : goal.take_session-requires
 take_session-requires g c = record { fits = c.requires.number_fits }

@@ -8,30 +8,26 @@ use Rattle.store_statements.proofs.CleanBefore.{was_clean}
 use Rattle.store_session_writes.proofs.Fits.{first_fits, second_fits}
 use Rattle.store_session_writes.proofs.session_appends.store_piece.Goals as goal
 
-pub returns-in-Ok-clause-stored : goal.returns-in-Ok-clause-stored
-returns-in-Ok-clause-stored g c clean is fresh =
-    let old = state g.S.Store c.args.tx.now.conn.now in
-    let mid = state g.S.Store c.keep.new.tx.conn.now in
-    let early : HasCleanDisk mid = was_clean c.add_piece.ensures.survives clean in
-    let here = c.in-Ok.ensures.content early is in
-    piece_stored_if old mid (state g.S.Store c.add_piece.new.tx.conn.now) c.in-Ok.content.id c.args.repo.now c.args.number c.args.start c.args.bytes.now c.add_piece.result here.1
-    (c.add_piece.ensures.added clean here.0 (piece_fresh (held old) (held mid) c.in-Ok.content.id c.args.repo.now c.args.number c.args.start c.args.bytes.now here.1 fresh))
-
-pub returns-in-Ok-clause-kept : goal.returns-in-Ok-clause-kept
-returns-in-Ok-clause-kept g c clean is =
-    let mid = state g.S.Store c.keep.new.tx.conn.now in
-    let early : HasCleanDisk mid = was_clean c.add_piece.ensures.survives clean in
-    commit_then (state g.S.Store c.args.tx.now.conn.now) mid (state g.S.Store c.add_piece.new.tx.conn.now)
-    (c.keep.ensures.kept early is) (c.add_piece.ensures.kept clean (c.in-Ok.ensures.content early is).0)
-
-pub returns-in-Ok-clause-survives : goal.returns-in-Ok-clause-survives
-returns-in-Ok-clause-survives g c = survives_both (state g.S.Store c.args.tx.now.conn.now) (state g.S.Store c.keep.new.tx.conn.now) (state g.S.Store c.add_piece.new.tx.conn.now) c.keep.ensures.survives c.add_piece.ensures.survives
+pub returns-in-Ok : goal.returns-in-Ok
+returns-in-Ok g c = record {
+  stored = λ clean is fresh.
+      let old = state g.S.Store c.args.tx.now.conn.now in
+      let mid = state g.S.Store c.keep.new.tx.conn.now in
+      let early : HasCleanDisk mid = was_clean c.add_piece.ensures.survives clean in
+      let here = c.in-Ok.ensures.content early is in
+      piece_stored_if old mid (state g.S.Store c.add_piece.new.tx.conn.now) c.in-Ok.content.id c.args.repo.now c.args.number c.args.start c.args.bytes.now c.add_piece.result here.1
+      (c.add_piece.ensures.added clean here.0 (piece_fresh (held old) (held mid) c.in-Ok.content.id c.args.repo.now c.args.number c.args.start c.args.bytes.now here.1 fresh));
+  kept = λ clean is.
+      let mid = state g.S.Store c.keep.new.tx.conn.now in
+      let early : HasCleanDisk mid = was_clean c.add_piece.ensures.survives clean in
+      commit_then (state g.S.Store c.args.tx.now.conn.now) mid (state g.S.Store c.add_piece.new.tx.conn.now)
+      (c.keep.ensures.kept early is) (c.add_piece.ensures.kept clean (c.in-Ok.ensures.content early is).0);
+  same_reference = c.add_piece.ensures.same_reference ∙ c.keep.ensures.same_reference;
+  survives = survives_both (state g.S.Store c.args.tx.now.conn.now) (state g.S.Store c.keep.new.tx.conn.now) (state g.S.Store c.add_piece.new.tx.conn.now) c.keep.ensures.survives c.add_piece.ensures.survives;
+}
 
 pub add_piece-requires : goal.add_piece-requires
 add_piece-requires g c = record { number_fits = c.requires.number_fits; start_fits = first_fits c.args.start (length c.args.bytes.now) c.requires.fits; size_fits = second_fits c.args.start (length c.args.bytes.now) c.requires.fits }
-
-pub returns-in-Ok-clause-same_reference : goal.returns-in-Ok-clause-same_reference
-returns-in-Ok-clause-same_reference g c = c.add_piece.ensures.same_reference ∙ c.keep.ensures.same_reference
 
 pub returns-in-Err : goal.returns-in-Err
 returns-in-Err g c = record {

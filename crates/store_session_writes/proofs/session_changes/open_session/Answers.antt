@@ -15,38 +15,34 @@ use Rattle.store_session_writes.proofs.Fits.{next_fits, next_is_number}
 use Rattle.registry_model.specs.Lookups as Lookups
 use Rattle.store_session_writes.proofs.session_changes.open_session.Goals as goal
 
-pub returns-in-Ok-add_session_alone-clause-made : goal.returns-in-Ok-add_session_alone-clause-made
-returns-in-Ok-add_session_alone-clause-made g c clean is =
-    let mid = state g.S.Store c.find_repo.new.conn in
-    let late : HasCleanDisk mid = was_clean c.add_session_alone.ensures.survives clean in
-    let last : Some c.in-Ok-Some.row.last ≡ option_map (λ r. natural_at r 3) (find (of_first c.as_str-repo.result.now) (held (state g.S.Store c.args.conn.now)).repos) =
-    last_found (find (of_first c.as_str-repo.result.now) (held (state g.S.Store c.args.conn.now)).repos) c.in-Ok-Some.row (sym c.in-Ok-Some.field-0-is ∙ c.in-Ok-Some.ensures.found late is) in
-    subst (λ name. (c.in-Ok-Some.row.last + 1 ≡ Lookups.last_number_at (world_in (state g.S.Store c.args.conn.now)) name + 1) × SettlesOn (state g.S.Store c.add_session_alone.new.conn) (Lookups.open_session (world_in (state g.S.Store c.args.conn.now)) name)) c.as_str-repo.ensures.text (opens (state g.S.Store c.args.conn.now) mid (state g.S.Store c.add_session_alone.new.conn) c.as_str-repo.result.now c.in-Ok-Some.row.last is (c.in-Ok-Some.ensures.settled late is refl) last
-    (c.in-Ok-add_session_alone.ensures.made (λ clean. let last : Some c.in-Ok-Some.row.last ≡ option_map (λ r. natural_at r 3) (find (of_first c.as_str-repo.result.now) (held (state g.S.Store c.args.conn.now)).repos) =
-    last_found (find (of_first c.as_str-repo.result.now) (held (state g.S.Store c.args.conn.now)).repos) c.in-Ok-Some.row (sym c.in-Ok-Some.field-0-is ∙ c.in-Ok-Some.ensures.found clean is) in
-    number_behind (state g.S.Store c.args.conn.now) (state g.S.Store c.find_repo.new.conn) c.as_str-repo.result.now c.in-Ok-Some.row.last is (c.in-Ok-Some.ensures.settled clean is refl) last) clean (c.in-Ok-Some.ensures.settled late is refl).0))
+pub returns-in-Ok-add_session_alone : goal.returns-in-Ok-add_session_alone
+returns-in-Ok-add_session_alone g c = record {
+  made = λ clean is.
+      let mid = state g.S.Store c.find_repo.new.conn in
+      let late : HasCleanDisk mid = was_clean c.add_session_alone.ensures.survives clean in
+      let last : Some c.in-Ok-Some.row.last ≡ option_map (λ r. natural_at r 3) (find (of_first c.as_str-repo.result.now) (held (state g.S.Store c.args.conn.now)).repos) =
+      last_found (find (of_first c.as_str-repo.result.now) (held (state g.S.Store c.args.conn.now)).repos) c.in-Ok-Some.row (sym c.in-Ok-Some.field-0-is ∙ c.in-Ok-Some.ensures.found late is) in
+      subst (λ name. (c.in-Ok-Some.row.last + 1 ≡ Lookups.last_number_at (world_in (state g.S.Store c.args.conn.now)) name + 1) × SettlesOn (state g.S.Store c.add_session_alone.new.conn) (Lookups.open_session (world_in (state g.S.Store c.args.conn.now)) name)) c.as_str-repo.ensures.text (opens (state g.S.Store c.args.conn.now) mid (state g.S.Store c.add_session_alone.new.conn) c.as_str-repo.result.now c.in-Ok-Some.row.last is (c.in-Ok-Some.ensures.settled late is refl) last
+      (c.in-Ok-add_session_alone.ensures.made (λ clean. let last : Some c.in-Ok-Some.row.last ≡ option_map (λ r. natural_at r 3) (find (of_first c.as_str-repo.result.now) (held (state g.S.Store c.args.conn.now)).repos) =
+      last_found (find (of_first c.as_str-repo.result.now) (held (state g.S.Store c.args.conn.now)).repos) c.in-Ok-Some.row (sym c.in-Ok-Some.field-0-is ∙ c.in-Ok-Some.ensures.found clean is) in
+      number_behind (state g.S.Store c.args.conn.now) (state g.S.Store c.find_repo.new.conn) c.as_str-repo.result.now c.in-Ok-Some.row.last is (c.in-Ok-Some.ensures.settled clean is refl) last) clean (c.in-Ok-Some.ensures.settled late is refl).0));
+  memory = λ clean is memory. absurd (never_done memory);
+  survives = survives_all (state g.S.Store c.args.conn.now) (state g.S.Store c.find_repo.new.conn) (state g.S.Store c.add_session_alone.new.conn) _ _ c.find_repo.ensures.survives c.add_session_alone.ensures.survives;
+}
 
-pub returns-in-Ok-add_session_alone-clause-survives : goal.returns-in-Ok-add_session_alone-clause-survives
-returns-in-Ok-add_session_alone-clause-survives g c = survives_all (state g.S.Store c.args.conn.now) (state g.S.Store c.find_repo.new.conn) (state g.S.Store c.add_session_alone.new.conn) _ _ c.find_repo.ensures.survives c.add_session_alone.ensures.survives
-
-pub returns-in-Err-add_session_alone-clause-memory : goal.returns-in-Err-add_session_alone-clause-memory
-returns-in-Err-add_session_alone-clause-memory g c clean is memory =
-    let late : HasCleanDisk (state g.S.Store c.add_session_alone.new.conn) = was_clean c.checked_fault.ensures.survives clean in
-    let early : HasCleanDisk (state g.S.Store c.find_repo.new.conn) = was_clean c.add_session_alone.ensures.survives (was_clean c.checked_fault.ensures.survives clean) in
-    stays_after (state g.S.Store c.args.conn.now) (state g.S.Store c.find_repo.new.conn) (state g.S.Store c.add_session_alone.new.conn) (state g.S.Store c.checked_fault.new.conn) (c.in-Ok-Some.ensures.settled early is refl)
-    (c.in-Err-add_session_alone.ensures.back (λ clean. let last : Some c.in-Ok-Some.row.last ≡ option_map (λ r. natural_at r 3) (find (of_first c.as_str-repo.result.now) (held (state g.S.Store c.args.conn.now)).repos) =
-    last_found (find (of_first c.as_str-repo.result.now) (held (state g.S.Store c.args.conn.now)).repos) c.in-Ok-Some.row (sym c.in-Ok-Some.field-0-is ∙ c.in-Ok-Some.ensures.found clean is) in
-    number_behind (state g.S.Store c.args.conn.now) (state g.S.Store c.find_repo.new.conn) c.as_str-repo.result.now c.in-Ok-Some.row.last is (c.in-Ok-Some.ensures.settled clean is refl) last) late (c.in-Ok-Some.ensures.settled early is refl).0) (c.checked_fault.ensures.memory clean (fault_is memory))
-
-pub returns-in-Err-add_session_alone-clause-survives : goal.returns-in-Err-add_session_alone-clause-survives
-returns-in-Err-add_session_alone-clause-survives g c =
-    survives_all (state g.S.Store c.args.conn.now) (state g.S.Store c.add_session_alone.new.conn) (state g.S.Store c.checked_fault.new.conn) _ _ (survives_all (state g.S.Store c.args.conn.now) (state g.S.Store c.find_repo.new.conn) (state g.S.Store c.add_session_alone.new.conn) _ _ c.find_repo.ensures.survives c.add_session_alone.ensures.survives) c.checked_fault.ensures.survives
-
-pub returns-in-Ok-add_session_alone-clause-memory : goal.returns-in-Ok-add_session_alone-clause-memory
-returns-in-Ok-add_session_alone-clause-memory g c clean is memory = absurd (never_done memory)
-
-pub returns-in-Err-add_session_alone-clause-made : goal.returns-in-Err-add_session_alone-clause-made
-returns-in-Err-add_session_alone-clause-made g c clean is = tt
+pub returns-in-Err-add_session_alone : goal.returns-in-Err-add_session_alone
+returns-in-Err-add_session_alone g c = record {
+  made = λ clean is. tt;
+  memory = λ clean is memory.
+      let late : HasCleanDisk (state g.S.Store c.add_session_alone.new.conn) = was_clean c.checked_fault.ensures.survives clean in
+      let early : HasCleanDisk (state g.S.Store c.find_repo.new.conn) = was_clean c.add_session_alone.ensures.survives (was_clean c.checked_fault.ensures.survives clean) in
+      stays_after (state g.S.Store c.args.conn.now) (state g.S.Store c.find_repo.new.conn) (state g.S.Store c.add_session_alone.new.conn) (state g.S.Store c.checked_fault.new.conn) (c.in-Ok-Some.ensures.settled early is refl)
+      (c.in-Err-add_session_alone.ensures.back (λ clean. let last : Some c.in-Ok-Some.row.last ≡ option_map (λ r. natural_at r 3) (find (of_first c.as_str-repo.result.now) (held (state g.S.Store c.args.conn.now)).repos) =
+      last_found (find (of_first c.as_str-repo.result.now) (held (state g.S.Store c.args.conn.now)).repos) c.in-Ok-Some.row (sym c.in-Ok-Some.field-0-is ∙ c.in-Ok-Some.ensures.found clean is) in
+      number_behind (state g.S.Store c.args.conn.now) (state g.S.Store c.find_repo.new.conn) c.as_str-repo.result.now c.in-Ok-Some.row.last is (c.in-Ok-Some.ensures.settled clean is refl) last) late (c.in-Ok-Some.ensures.settled early is refl).0) (c.checked_fault.ensures.memory clean (fault_is memory));
+  survives =
+      survives_all (state g.S.Store c.args.conn.now) (state g.S.Store c.add_session_alone.new.conn) (state g.S.Store c.checked_fault.new.conn) _ _ (survives_all (state g.S.Store c.args.conn.now) (state g.S.Store c.find_repo.new.conn) (state g.S.Store c.add_session_alone.new.conn) _ _ c.find_repo.ensures.survives c.add_session_alone.ensures.survives) c.checked_fault.ensures.survives;
+}
 
 pub as_str-repo-requires : goal.as_str-repo-requires
 as_str-repo-requires g c = tt

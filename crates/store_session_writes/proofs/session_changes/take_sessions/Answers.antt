@@ -8,24 +8,20 @@ use Rattle.store_session_writes.proofs.StatementSequences.{becomes_then}
 use Rattle.store_statements.proofs.CleanBefore.{was_clean}
 use Rattle.store_session_writes.proofs.session_changes.take_sessions.Goals as goal
 
-pub returns-in-Ok-clause-taken : goal.returns-in-Ok-clause-taken
-returns-in-Ok-clause-taken g c clean is =
-    let mid : HasCleanDisk (state g.S.Store c.take_pieces.new.tx.conn.now) = was_clean c.take_uploads.ensures.survives clean in
-    let first = c.in-Ok.ensures.taken mid is in
-    becomes_then (pieces_without (of_first c.args.repo.now)) (uploads_without (of_first c.args.repo.now)) (state g.S.Store c.args.tx.now.conn.now) (state g.S.Store c.take_pieces.new.tx.conn.now) (state g.S.Store c.take_uploads.new.tx.conn.now)
-    c.take_uploads.result first (c.take_uploads.ensures.taken clean first.0)
-
-pub returns-in-Ok-clause-kept : goal.returns-in-Ok-clause-kept
-returns-in-Ok-clause-kept g c clean is =
-    let mid : HasCleanDisk (state g.S.Store c.take_pieces.new.tx.conn.now) = was_clean c.take_uploads.ensures.survives clean in
-    commit_then (state g.S.Store c.args.tx.now.conn.now) (state g.S.Store c.take_pieces.new.tx.conn.now) (state g.S.Store c.take_uploads.new.tx.conn.now)
-    (c.take_pieces.ensures.kept mid is) (c.take_uploads.ensures.kept clean (c.in-Ok.ensures.taken mid is).0)
-
-pub returns-in-Ok-clause-survives : goal.returns-in-Ok-clause-survives
-returns-in-Ok-clause-survives g c = survives_both (state g.S.Store c.args.tx.now.conn.now) (state g.S.Store c.take_pieces.new.tx.conn.now) (state g.S.Store c.take_uploads.new.tx.conn.now) c.take_pieces.ensures.survives c.take_uploads.ensures.survives
-
-pub returns-in-Ok-clause-same_reference : goal.returns-in-Ok-clause-same_reference
-returns-in-Ok-clause-same_reference g c = c.take_uploads.ensures.same_reference ∙ c.take_pieces.ensures.same_reference
+pub returns-in-Ok : goal.returns-in-Ok
+returns-in-Ok g c = record {
+  taken = λ clean is.
+      let mid : HasCleanDisk (state g.S.Store c.take_pieces.new.tx.conn.now) = was_clean c.take_uploads.ensures.survives clean in
+      let first = c.in-Ok.ensures.taken mid is in
+      becomes_then (pieces_without (of_first c.args.repo.now)) (uploads_without (of_first c.args.repo.now)) (state g.S.Store c.args.tx.now.conn.now) (state g.S.Store c.take_pieces.new.tx.conn.now) (state g.S.Store c.take_uploads.new.tx.conn.now)
+      c.take_uploads.result first (c.take_uploads.ensures.taken clean first.0);
+  kept = λ clean is.
+      let mid : HasCleanDisk (state g.S.Store c.take_pieces.new.tx.conn.now) = was_clean c.take_uploads.ensures.survives clean in
+      commit_then (state g.S.Store c.args.tx.now.conn.now) (state g.S.Store c.take_pieces.new.tx.conn.now) (state g.S.Store c.take_uploads.new.tx.conn.now)
+      (c.take_pieces.ensures.kept mid is) (c.take_uploads.ensures.kept clean (c.in-Ok.ensures.taken mid is).0);
+  same_reference = c.take_uploads.ensures.same_reference ∙ c.take_pieces.ensures.same_reference;
+  survives = survives_both (state g.S.Store c.args.tx.now.conn.now) (state g.S.Store c.take_pieces.new.tx.conn.now) (state g.S.Store c.take_uploads.new.tx.conn.now) c.take_pieces.ensures.survives c.take_uploads.ensures.survives;
+}
 
 pub returns-in-Err : goal.returns-in-Err
 returns-in-Err g c = record {

@@ -10,32 +10,28 @@ use Rattle.store_world.specs.Tables.{Tables}
 use Rattle.store_statements.proofs.CleanBefore.{was_clean}
 use Rattle.store_session_writes.proofs.session_finish.end_session.Goals as goal
 
-pub returns-in-Ok-clause-finished : goal.returns-in-Ok-clause-finished
-returns-in-Ok-clause-finished g c clean is fresh =
-    let mid = state g.S.Store c.take_session.new.tx.conn.now in
-    let new = state g.S.Store c.store_blob.new.tx.conn.now in
-    let early : HasCleanDisk mid = was_clean c.store_blob.ensures.survives clean in
-    let first = c.in-Ok.ensures.taken early is in
-    after_step (λ s n. BlobStored s n c.args.repo.now c.args.digest.now c.args.bytes.now) _ mid new c.store_blob.result first.1
-    (c.store_blob.ensures.stored clean first.0 (ap (λ (t : Tables). find (has_key c.args.repo.now c.args.digest.now) t.blobs) first.1 ∙ fresh))
-
-pub returns-in-Ok-clause-kept : goal.returns-in-Ok-clause-kept
-returns-in-Ok-clause-kept g c clean is =
-    let mid = state g.S.Store c.take_session.new.tx.conn.now in
-    let early : HasCleanDisk mid = was_clean c.store_blob.ensures.survives clean in
-    commit_then (state g.S.Store c.args.tx.now.conn.now) mid (state g.S.Store c.store_blob.new.tx.conn.now) (c.take_session.ensures.kept early is) (c.store_blob.ensures.kept clean (c.in-Ok.ensures.taken early is).0)
-
-pub returns-in-Ok-clause-survives : goal.returns-in-Ok-clause-survives
-returns-in-Ok-clause-survives g c = survives_both (state g.S.Store c.args.tx.now.conn.now) (state g.S.Store c.take_session.new.tx.conn.now) (state g.S.Store c.store_blob.new.tx.conn.now) c.take_session.ensures.survives c.store_blob.ensures.survives
+pub returns-in-Ok : goal.returns-in-Ok
+returns-in-Ok g c = record {
+  finished = λ clean is fresh.
+      let mid = state g.S.Store c.take_session.new.tx.conn.now in
+      let new = state g.S.Store c.store_blob.new.tx.conn.now in
+      let early : HasCleanDisk mid = was_clean c.store_blob.ensures.survives clean in
+      let first = c.in-Ok.ensures.taken early is in
+      after_step (λ s n. BlobStored s n c.args.repo.now c.args.digest.now c.args.bytes.now) _ mid new c.store_blob.result first.1
+      (c.store_blob.ensures.stored clean first.0 (ap (λ (t : Tables). find (has_key c.args.repo.now c.args.digest.now) t.blobs) first.1 ∙ fresh));
+  kept = λ clean is.
+      let mid = state g.S.Store c.take_session.new.tx.conn.now in
+      let early : HasCleanDisk mid = was_clean c.store_blob.ensures.survives clean in
+      commit_then (state g.S.Store c.args.tx.now.conn.now) mid (state g.S.Store c.store_blob.new.tx.conn.now) (c.take_session.ensures.kept early is) (c.store_blob.ensures.kept clean (c.in-Ok.ensures.taken early is).0);
+  same_reference = c.store_blob.ensures.same_reference ∙ c.take_session.ensures.same_reference;
+  survives = survives_both (state g.S.Store c.args.tx.now.conn.now) (state g.S.Store c.take_session.new.tx.conn.now) (state g.S.Store c.store_blob.new.tx.conn.now) c.take_session.ensures.survives c.store_blob.ensures.survives;
+}
 
 pub take_session-requires : goal.take_session-requires
 take_session-requires g c = record { fits = c.requires.number_fits }
 
 pub store_blob-requires : goal.store_blob-requires
 store_blob-requires g c = record { matching = c.requires.matching; fits = c.requires.fits }
-
-pub returns-in-Ok-clause-same_reference : goal.returns-in-Ok-clause-same_reference
-returns-in-Ok-clause-same_reference g c = c.store_blob.ensures.same_reference ∙ c.take_session.ensures.same_reference
 
 pub returns-in-Err : goal.returns-in-Err
 returns-in-Err g c = record {

@@ -21,65 +21,57 @@ use Rattle.store_statements.proofs.ChangesTold.{told_so, told_memory, told_lasts
 use Rattle.registry_model.specs.Lookups as Lookups
 use Rattle.store_session_writes.proofs.session_finish.finish.Goals as goal
 
-pub returns-in-Err-clause-memory : goal.returns-in-Err-clause-memory
-returns-in-Err-clause-memory g c clean is memory = c.in-Err.ensures.settled clean is (memory_told (Option BlobLink) c.in-Err.fault memory)
+pub returns-in-Err : goal.returns-in-Err
+returns-in-Err g c = record {
+  made = λ is_open clean is. tt;
+  memory = λ clean is memory. c.in-Err.ensures.settled clean is (memory_told (Option BlobLink) c.in-Err.fault memory);
+  survives = c.find_blob_link.ensures.survives;
+}
 
-pub returns-in-Err-clause-made : goal.returns-in-Err-clause-made
-returns-in-Err-clause-made g c is_open clean is = tt
+pub returns-then-number-gt-LARGEST : goal.returns-then-number-gt-LARGEST
+returns-then-number-gt-LARGEST g c = record {
+  made = λ is_open clean is. tt;
+  memory = λ clean is memory. absurd (never_storage memory);
+  survives = survives_here (state g.S.Store c.args.conn.now);
+}
 
-pub returns-in-Err-clause-survives : goal.returns-in-Err-clause-survives
-returns-in-Err-clause-survives g c = c.find_blob_link.ensures.survives
+pub returns-in-Ok-Some : goal.returns-in-Ok-Some
+returns-in-Ok-Some g c = record {
+  made = λ is_open clean is.
+      told_so c.args.conn.now {new = c.checked.new.conn} c.checked.ensures.told (λ (s : State). SettlesOn s (Lookups.finish (world_in (state g.S.Store c.args.conn.now)) c.args.repo.now c.args.number c.args.digest.now c.args.bytes.now)) clean
+      (λ clean.
+      let old = state g.S.Store c.args.conn.now in
+      let mid = state g.S.Store c.find_blob_link.new.conn in
+      let late : HasCleanDisk mid = was_clean c.take_session_alone-done.ensures.survives clean in
+      let early : HasCleanDisk old = was_clean c.find_blob_link.ensures.survives late in
+      let stays = c.in-Ok-Some.ensures.settled late is refl in
+      less c.take_session_alone-done.result
+      (λ it. rw (c.as_str-repo.ensures.text, c.as_str-digest.ensures.text) at (finishes_there old mid (state g.S.Store c.take_session_alone-done.new.conn) c.as_str-repo.result.now c.args.number c.as_str-digest.result.now c.args.bytes.now c.in-Ok-Some.field-0-0 is stays (sym c.in-Ok-Some.field-0-is ∙ c.in-Ok-Some.ensures.found late is) it))
+      (c.take_session_alone-done.ensures.made clean stays.0));
+  memory = λ clean is memory.
+      let early : HasCleanDisk (state g.S.Store c.find_blob_link.new.conn) = was_clean c.take_session_alone-done.ensures.survives (was_clean c.checked.ensures.told.survives clean) in
+      let stays = c.in-Ok-Some.ensures.settled early is refl in
+      stays_then (state g.S.Store c.args.conn.now) (state g.S.Store c.find_blob_link.new.conn) (state g.S.Store c.checked.new.conn) stays (told_memory c.find_blob_link.new.conn {new = c.checked.new.conn} c.checked.ensures.told (c.take_session_alone-done.ensures.back) clean stays.0 memory);
+  survives = told_lasts c.args.conn.now {new = c.checked.new.conn} c.checked.ensures.told (survives_all (state g.S.Store c.args.conn.now) (state g.S.Store c.find_blob_link.new.conn) (state g.S.Store c.take_session_alone-done.new.conn) _ _ c.find_blob_link.ensures.survives c.take_session_alone-done.ensures.survives);
+}
 
-pub returns-then-number-gt-LARGEST-clause-made : goal.returns-then-number-gt-LARGEST-clause-made
-returns-then-number-gt-LARGEST-clause-made g c is_open clean is = tt
-
-pub returns-then-number-gt-LARGEST-clause-memory : goal.returns-then-number-gt-LARGEST-clause-memory
-returns-then-number-gt-LARGEST-clause-memory g c clean is memory = absurd (never_storage memory)
-
-pub returns-then-number-gt-LARGEST-clause-survives : goal.returns-then-number-gt-LARGEST-clause-survives
-returns-then-number-gt-LARGEST-clause-survives g c = survives_here (state g.S.Store c.args.conn.now)
-
-pub returns-in-Ok-Some-clause-made : goal.returns-in-Ok-Some-clause-made
-returns-in-Ok-Some-clause-made g c is_open clean is =
-    told_so c.args.conn.now c.checked.ensures.told (λ (s : State). SettlesOn s (Lookups.finish (world_in (state g.S.Store c.args.conn.now)) c.args.repo.now c.args.number c.args.digest.now c.args.bytes.now)) clean
-    (λ clean.
-    let old = state g.S.Store c.args.conn.now in
-    let mid = state g.S.Store c.find_blob_link.new.conn in
-    let late : HasCleanDisk mid = was_clean c.take_session_alone-done.ensures.survives clean in
-    let early : HasCleanDisk old = was_clean c.find_blob_link.ensures.survives late in
-    let stays = c.in-Ok-Some.ensures.settled late is refl in
-    less c.take_session_alone-done.result
-    (λ it. rw (c.as_str-repo.ensures.text, c.as_str-digest.ensures.text) at (finishes_there old mid (state g.S.Store c.take_session_alone-done.new.conn) c.as_str-repo.result.now c.args.number c.as_str-digest.result.now c.args.bytes.now c.in-Ok-Some.field-0-0 is stays (sym c.in-Ok-Some.field-0-is ∙ c.in-Ok-Some.ensures.found late is) it))
-    (c.take_session_alone-done.ensures.made clean stays.0))
-
-pub returns-in-Ok-Some-clause-memory : goal.returns-in-Ok-Some-clause-memory
-returns-in-Ok-Some-clause-memory g c clean is memory =
-    let early : HasCleanDisk (state g.S.Store c.find_blob_link.new.conn) = was_clean c.take_session_alone-done.ensures.survives (was_clean c.checked.ensures.told.survives clean) in
-    let stays = c.in-Ok-Some.ensures.settled early is refl in
-    stays_then (state g.S.Store c.args.conn.now) (state g.S.Store c.find_blob_link.new.conn) (state g.S.Store c.checked.new.conn) stays (told_memory c.find_blob_link.new.conn c.checked.ensures.told (c.take_session_alone-done.ensures.back) clean stays.0 memory)
-
-pub returns-in-Ok-Some-clause-survives : goal.returns-in-Ok-Some-clause-survives
-returns-in-Ok-Some-clause-survives g c = told_lasts c.args.conn.now c.checked.ensures.told (survives_all (state g.S.Store c.args.conn.now) (state g.S.Store c.find_blob_link.new.conn) (state g.S.Store c.take_session_alone-done.new.conn) _ _ c.find_blob_link.ensures.survives c.take_session_alone-done.ensures.survives)
-
-pub returns-in-Ok-None-clause-made : goal.returns-in-Ok-None-clause-made
-returns-in-Ok-None-clause-made g c is_open clean is =
-    told_so c.args.conn.now c.checked-in-Ok-None.ensures.told (λ (s : State). SettlesOn s (Lookups.finish (world_in (state g.S.Store c.args.conn.now)) c.args.repo.now c.args.number c.args.digest.now c.args.bytes.now)) clean
-    (λ clean.
-    let old = state g.S.Store c.args.conn.now in
-    let mid = state g.S.Store c.find_blob_link.new.conn in
-    let late : HasCleanDisk mid = was_clean c.end_session_alone-done.ensures.survives clean in
-    let early : HasCleanDisk old = was_clean c.find_blob_link.ensures.survives late in
-    let stays = c.in-Ok-None.ensures.settled late is refl in
-    let none = none_found blob_link (find (has_key c.as_str-repo.result.now c.as_str-digest.result.now) (held old).blobs) (sym c.in-Ok-None.field-0-is ∙ c.in-Ok-None.ensures.found late is) in
-    less c.end_session_alone-done.result
-    (λ it. finishes_new old mid (state g.S.Store c.end_session_alone-done.new.conn) c.args.repo.now c.args.number c.args.digest.now c.args.bytes.now is (is_open early) stays (rw (c.as_str-repo.ensures.text, c.as_str-digest.ensures.text) at none) (rw (c.as_str-repo.ensures.text, c.as_str-digest.ensures.text) at it))
-    (c.end_session_alone-done.ensures.made (λ clean. still_none (state g.S.Store c.args.conn.now) (state g.S.Store c.find_blob_link.new.conn) c.as_str-repo.result.now c.as_str-digest.result.now (c.in-Ok-None.ensures.settled clean is refl) (sym c.in-Ok-None.field-0-is ∙ c.in-Ok-None.ensures.found clean is)) clean stays.0))
-
-pub returns-in-Ok-None-clause-memory : goal.returns-in-Ok-None-clause-memory
-returns-in-Ok-None-clause-memory g c clean is memory =
-    let early : HasCleanDisk (state g.S.Store c.find_blob_link.new.conn) = was_clean c.end_session_alone-done.ensures.survives (was_clean c.checked-in-Ok-None.ensures.told.survives clean) in
-    let stays = c.in-Ok-None.ensures.settled early is refl in
-    stays_then (state g.S.Store c.args.conn.now) (state g.S.Store c.find_blob_link.new.conn) (state g.S.Store c.checked-in-Ok-None.new.conn) stays (told_memory c.find_blob_link.new.conn c.checked-in-Ok-None.ensures.told (c.end_session_alone-done.ensures.back (λ clean. still_none (state g.S.Store c.args.conn.now) (state g.S.Store c.find_blob_link.new.conn) c.as_str-repo.result.now c.as_str-digest.result.now (c.in-Ok-None.ensures.settled clean is refl) (sym c.in-Ok-None.field-0-is ∙ c.in-Ok-None.ensures.found clean is))) clean stays.0 memory)
-
-pub returns-in-Ok-None-clause-survives : goal.returns-in-Ok-None-clause-survives
-returns-in-Ok-None-clause-survives g c = told_lasts c.args.conn.now c.checked-in-Ok-None.ensures.told (survives_all (state g.S.Store c.args.conn.now) (state g.S.Store c.find_blob_link.new.conn) (state g.S.Store c.end_session_alone-done.new.conn) _ _ c.find_blob_link.ensures.survives c.end_session_alone-done.ensures.survives)
+pub returns-in-Ok-None : goal.returns-in-Ok-None
+returns-in-Ok-None g c = record {
+  made = λ is_open clean is.
+      told_so c.args.conn.now {new = c.checked-in-Ok-None.new.conn} c.checked-in-Ok-None.ensures.told (λ (s : State). SettlesOn s (Lookups.finish (world_in (state g.S.Store c.args.conn.now)) c.args.repo.now c.args.number c.args.digest.now c.args.bytes.now)) clean
+      (λ clean.
+      let old = state g.S.Store c.args.conn.now in
+      let mid = state g.S.Store c.find_blob_link.new.conn in
+      let late : HasCleanDisk mid = was_clean c.end_session_alone-done.ensures.survives clean in
+      let early : HasCleanDisk old = was_clean c.find_blob_link.ensures.survives late in
+      let stays = c.in-Ok-None.ensures.settled late is refl in
+      let none = none_found blob_link (find (has_key c.as_str-repo.result.now c.as_str-digest.result.now) (held old).blobs) (sym c.in-Ok-None.field-0-is ∙ c.in-Ok-None.ensures.found late is) in
+      less c.end_session_alone-done.result
+      (λ it. finishes_new old mid (state g.S.Store c.end_session_alone-done.new.conn) c.args.repo.now c.args.number c.args.digest.now c.args.bytes.now is (is_open early) stays (rw (c.as_str-repo.ensures.text, c.as_str-digest.ensures.text) at none) (rw (c.as_str-repo.ensures.text, c.as_str-digest.ensures.text) at it))
+      (c.end_session_alone-done.ensures.made (λ clean. still_none (state g.S.Store c.args.conn.now) (state g.S.Store c.find_blob_link.new.conn) c.as_str-repo.result.now c.as_str-digest.result.now (c.in-Ok-None.ensures.settled clean is refl) (sym c.in-Ok-None.field-0-is ∙ c.in-Ok-None.ensures.found clean is)) clean stays.0));
+  memory = λ clean is memory.
+      let early : HasCleanDisk (state g.S.Store c.find_blob_link.new.conn) = was_clean c.end_session_alone-done.ensures.survives (was_clean c.checked-in-Ok-None.ensures.told.survives clean) in
+      let stays = c.in-Ok-None.ensures.settled early is refl in
+      stays_then (state g.S.Store c.args.conn.now) (state g.S.Store c.find_blob_link.new.conn) (state g.S.Store c.checked-in-Ok-None.new.conn) stays (told_memory c.find_blob_link.new.conn {new = c.checked-in-Ok-None.new.conn} c.checked-in-Ok-None.ensures.told (c.end_session_alone-done.ensures.back (λ clean. still_none (state g.S.Store c.args.conn.now) (state g.S.Store c.find_blob_link.new.conn) c.as_str-repo.result.now c.as_str-digest.result.now (c.in-Ok-None.ensures.settled clean is refl) (sym c.in-Ok-None.field-0-is ∙ c.in-Ok-None.ensures.found clean is))) clean stays.0 memory);
+  survives = told_lasts c.args.conn.now {new = c.checked-in-Ok-None.new.conn} c.checked-in-Ok-None.ensures.told (survives_all (state g.S.Store c.args.conn.now) (state g.S.Store c.find_blob_link.new.conn) (state g.S.Store c.end_session_alone-done.new.conn) _ _ c.find_blob_link.ensures.survives c.end_session_alone-done.ensures.survives);
+}

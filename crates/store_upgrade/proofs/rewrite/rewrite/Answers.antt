@@ -1,97 +1,70 @@
-use Rattle.std.proofs.Common.{◌∙◌, arith, ap, subst}
+use Rattle.std.proofs.Common.{◌∙◌, ap, subst}
 use Rattle.sqlite.specs.State.{HasCleanDisk}
 use Rattle.sqlite.specs.Held.{state}
 use Rattle.store_schema.proofs.Selects.{commit_then, survives_both}
 use Rattle.store_statements.specs.Held.{IsReady, held}
+use Rattle.store_statements.proofs.CleanBefore.{was_clean}
+use Rattle.store_upgrade.specs.OldFile.{HoldsOldRegistry}
 use Rattle.store_upgrade.specs.Rewriting.{StandsFor, counts}
 use Rattle.store_upgrade.proofs.Begins.{begin_holding, begin_underway, begin_world, olds_are}
 use Rattle.store_upgrade.proofs.rewrite.rewrite.Goals as goal
 
-pub returns-in-Ok-move_rows-clause-made : goal.returns-in-Ok-move_rows-clause-made
-returns-in-Ok-move_rows-clause-made g c clean holds =
-    let early : HasCleanDisk (state g.S.Store c.make_tables_of_two.new.tx.conn.now) = omega (arith, c.move_rows.ensures.survives.clean) in
-    let both = c.in-Ok.ensures.both early holds.schema in
-    let comes = c.in-Ok.ensures.comes early in
-    let ready : IsReady (state g.S.Store c.make_tables_of_two.new.tx.conn.now) = record { inside = c.in-Ok.ensures.inside early; holds = begin_holding (state g.S.Store c.args.tx.now.conn.now).now (state g.S.Store c.make_tables_of_two.new.tx.conn.now).now holds both comes } in
-    let under = begin_underway (state g.S.Store c.args.tx.now.conn.now).now (state g.S.Store c.make_tables_of_two.new.tx.conn.now).now holds both comes in
-    let it = c.in-Ok-move_rows.ensures.moved clean ready under in
-    (it.0, subst (StandsFor (held (state g.S.Store c.move_rows.new.tx.conn.now))) (begin_world (state g.S.Store c.args.tx.now.conn.now).now (state g.S.Store c.make_tables_of_two.new.tx.conn.now).now holds both comes) it.1)
+pub returns-in-Ok-move_rows : goal.returns-in-Ok-move_rows
+returns-in-Ok-move_rows g c =
+    let old = state g.S.Store c.args.tx.now.conn.now in
+    let mid = state g.S.Store c.make_tables_of_two.new.tx.conn.now in
+    let new = state g.S.Store c.move_rows.new.tx.conn.now in
+    let early : HasCleanDisk new → HasCleanDisk mid = was_clean c.move_rows.ensures.survives in
+    let ready : HasCleanDisk new → HoldsOldRegistry old.now → IsReady mid = λ clean holds. record { inside = c.in-Ok.ensures.inside (early clean); holds = begin_holding old.now mid.now holds (c.in-Ok.ensures.both (early clean) holds.schema) (c.in-Ok.ensures.comes (early clean)) } in
+    record {
+      made = λ clean holds.
+          let both = c.in-Ok.ensures.both (early clean) holds.schema in
+          let comes = c.in-Ok.ensures.comes (early clean) in
+          let it = c.in-Ok-move_rows.ensures.moved clean (ready clean holds) (begin_underway old.now mid.now holds both comes) in
+          (it.0, subst (StandsFor (held new)) (begin_world old.now mid.now holds both comes) it.1);
+      counted = λ clean holds.
+          let both = c.in-Ok.ensures.both (early clean) holds.schema in
+          let comes = c.in-Ok.ensures.comes (early clean) in
+          c.in-Ok-move_rows.ensures.counted clean (ready clean holds) (begin_underway old.now mid.now holds both comes) ∙ ap counts (olds_are old.now mid.now holds both comes);
+      wanting = λ clean holds. tt;
+      unnumbered = tt;
+      free = λ clean. (c.in-Ok.ensures.comes (early clean)).free;
+      kept = λ clean holds.
+          commit_then old mid new (c.make_tables_of_two.ensures.kept (early clean))
+          (c.move_rows.ensures.kept clean (ready clean holds) (begin_underway old.now mid.now holds (c.in-Ok.ensures.both (early clean) holds.schema) (c.in-Ok.ensures.comes (early clean))));
+      same_reference = c.move_rows.ensures.same_reference ∙ c.make_tables_of_two.ensures.same_reference;
+      survives = survives_both old mid new c.make_tables_of_two.ensures.survives c.move_rows.ensures.survives;
+    }
 
-pub returns-in-Ok-move_rows-clause-counted : goal.returns-in-Ok-move_rows-clause-counted
-returns-in-Ok-move_rows-clause-counted g c clean holds =
-    let early : HasCleanDisk (state g.S.Store c.make_tables_of_two.new.tx.conn.now) = omega (arith, c.move_rows.ensures.survives.clean) in
-    let both = c.in-Ok.ensures.both early holds.schema in
-    let comes = c.in-Ok.ensures.comes early in
-    let ready : IsReady (state g.S.Store c.make_tables_of_two.new.tx.conn.now) = record { inside = c.in-Ok.ensures.inside early; holds = begin_holding (state g.S.Store c.args.tx.now.conn.now).now (state g.S.Store c.make_tables_of_two.new.tx.conn.now).now holds both comes } in
-    let under = begin_underway (state g.S.Store c.args.tx.now.conn.now).now (state g.S.Store c.make_tables_of_two.new.tx.conn.now).now holds both comes in
-    c.in-Ok-move_rows.ensures.counted clean ready under ∙ ap counts (olds_are (state g.S.Store c.args.tx.now.conn.now).now (state g.S.Store c.make_tables_of_two.new.tx.conn.now).now holds both comes)
+pub returns-in-Err-move_rows : goal.returns-in-Err-move_rows
+returns-in-Err-move_rows g c =
+    let old = state g.S.Store c.args.tx.now.conn.now in
+    let mid = state g.S.Store c.make_tables_of_two.new.tx.conn.now in
+    let new = state g.S.Store c.move_rows.new.tx.conn.now in
+    let early : HasCleanDisk new → HasCleanDisk mid = was_clean c.move_rows.ensures.survives in
+    record {
+      made = λ clean holds. tt;
+      counted = λ clean holds. tt;
+      wanting = λ clean holds. c.opening_fault.ensures.wanting;
+      unnumbered = c.opening_fault.ensures.unnumbered;
+      free = λ clean. tt;
+      kept = λ clean holds.
+          let both = c.in-Ok.ensures.both (early clean) holds.schema in
+          let comes = c.in-Ok.ensures.comes (early clean) in
+          let ready : IsReady mid = record { inside = c.in-Ok.ensures.inside (early clean); holds = begin_holding old.now mid.now holds both comes } in
+          commit_then old mid new (c.make_tables_of_two.ensures.kept (early clean)) (c.move_rows.ensures.kept clean ready (begin_underway old.now mid.now holds both comes));
+      same_reference = c.move_rows.ensures.same_reference ∙ c.make_tables_of_two.ensures.same_reference;
+      survives = survives_both old mid new c.make_tables_of_two.ensures.survives c.move_rows.ensures.survives;
+    }
 
-pub returns-in-Ok-move_rows-clause-kept : goal.returns-in-Ok-move_rows-clause-kept
-returns-in-Ok-move_rows-clause-kept g c clean holds =
-    let early : HasCleanDisk (state g.S.Store c.make_tables_of_two.new.tx.conn.now) = omega (arith, c.move_rows.ensures.survives.clean) in
-    let both = c.in-Ok.ensures.both early holds.schema in
-    let comes = c.in-Ok.ensures.comes early in
-    let ready : IsReady (state g.S.Store c.make_tables_of_two.new.tx.conn.now) = record { inside = c.in-Ok.ensures.inside early; holds = begin_holding (state g.S.Store c.args.tx.now.conn.now).now (state g.S.Store c.make_tables_of_two.new.tx.conn.now).now holds both comes } in
-    let under = begin_underway (state g.S.Store c.args.tx.now.conn.now).now (state g.S.Store c.make_tables_of_two.new.tx.conn.now).now holds both comes in
-    commit_then (state g.S.Store c.args.tx.now.conn.now) (state g.S.Store c.make_tables_of_two.new.tx.conn.now) (state g.S.Store c.move_rows.new.tx.conn.now) (c.make_tables_of_two.ensures.kept early) (c.move_rows.ensures.kept clean ready under)
-
-pub returns-in-Err-move_rows-clause-kept : goal.returns-in-Err-move_rows-clause-kept
-returns-in-Err-move_rows-clause-kept g c clean holds =
-    let early : HasCleanDisk (state g.S.Store c.make_tables_of_two.new.tx.conn.now) = omega (arith, c.move_rows.ensures.survives.clean) in
-    let both = c.in-Ok.ensures.both early holds.schema in
-    let comes = c.in-Ok.ensures.comes early in
-    let ready : IsReady (state g.S.Store c.make_tables_of_two.new.tx.conn.now) = record { inside = c.in-Ok.ensures.inside early; holds = begin_holding (state g.S.Store c.args.tx.now.conn.now).now (state g.S.Store c.make_tables_of_two.new.tx.conn.now).now holds both comes } in
-    let under = begin_underway (state g.S.Store c.args.tx.now.conn.now).now (state g.S.Store c.make_tables_of_two.new.tx.conn.now).now holds both comes in
-    commit_then (state g.S.Store c.args.tx.now.conn.now) (state g.S.Store c.make_tables_of_two.new.tx.conn.now) (state g.S.Store c.move_rows.new.tx.conn.now) (c.make_tables_of_two.ensures.kept early) (c.move_rows.ensures.kept clean ready under)
-
-pub returns-in-Ok-move_rows-clause-survives : goal.returns-in-Ok-move_rows-clause-survives
-returns-in-Ok-move_rows-clause-survives g c = survives_both (state g.S.Store c.args.tx.now.conn.now) (state g.S.Store c.make_tables_of_two.new.tx.conn.now) (state g.S.Store c.move_rows.new.tx.conn.now) c.make_tables_of_two.ensures.survives c.move_rows.ensures.survives
-
-pub returns-in-Ok-move_rows-clause-wanting : goal.returns-in-Ok-move_rows-clause-wanting
-returns-in-Ok-move_rows-clause-wanting g c clean holds = tt
-
-pub returns-in-Ok-move_rows-clause-unnumbered : goal.returns-in-Ok-move_rows-clause-unnumbered
-returns-in-Ok-move_rows-clause-unnumbered g c = tt
-
-pub returns-in-Ok-move_rows-clause-same_reference : goal.returns-in-Ok-move_rows-clause-same_reference
-returns-in-Ok-move_rows-clause-same_reference g c = c.move_rows.ensures.same_reference ∙ c.make_tables_of_two.ensures.same_reference
-
-pub returns-in-Err-move_rows-clause-made : goal.returns-in-Err-move_rows-clause-made
-returns-in-Err-move_rows-clause-made g c clean holds = tt
-
-pub returns-in-Err-move_rows-clause-counted : goal.returns-in-Err-move_rows-clause-counted
-returns-in-Err-move_rows-clause-counted g c clean holds = tt
-
-pub returns-in-Err-move_rows-clause-wanting : goal.returns-in-Err-move_rows-clause-wanting
-returns-in-Err-move_rows-clause-wanting g c clean holds = c.opening_fault.ensures.wanting
-
-pub returns-in-Err-move_rows-clause-unnumbered : goal.returns-in-Err-move_rows-clause-unnumbered
-returns-in-Err-move_rows-clause-unnumbered g c = c.opening_fault.ensures.unnumbered
-
-pub returns-in-Err-move_rows-clause-free : goal.returns-in-Err-move_rows-clause-free
-returns-in-Err-move_rows-clause-free g c clean = tt
-
-pub returns-in-Err-move_rows-clause-same_reference : goal.returns-in-Err-move_rows-clause-same_reference
-returns-in-Err-move_rows-clause-same_reference g c = c.move_rows.ensures.same_reference ∙ c.make_tables_of_two.ensures.same_reference
-
-pub returns-in-Err-move_rows-clause-survives : goal.returns-in-Err-move_rows-clause-survives
-returns-in-Err-move_rows-clause-survives g c =
-    survives_both (state g.S.Store c.args.tx.now.conn.now) (state g.S.Store c.make_tables_of_two.new.tx.conn.now) (state g.S.Store c.move_rows.new.tx.conn.now) c.make_tables_of_two.ensures.survives c.move_rows.ensures.survives
-
-pub returns-in-Err-clause-made : goal.returns-in-Err-clause-made
-returns-in-Err-clause-made g c clean holds = tt
-
-pub returns-in-Err-clause-counted : goal.returns-in-Err-clause-counted
-returns-in-Err-clause-counted g c clean holds = tt
-
-pub returns-in-Err-clause-free : goal.returns-in-Err-clause-free
-returns-in-Err-clause-free g c clean = tt
-
-pub returns-in-Err-clause-kept : goal.returns-in-Err-clause-kept
-returns-in-Err-clause-kept g c clean holds = c.make_tables_of_two.ensures.kept clean
-
-pub returns-in-Err-clause-same_reference : goal.returns-in-Err-clause-same_reference
-returns-in-Err-clause-same_reference g c = c.make_tables_of_two.ensures.same_reference
-
-pub returns-in-Err-clause-survives : goal.returns-in-Err-clause-survives
-returns-in-Err-clause-survives g c = c.make_tables_of_two.ensures.survives
+pub returns-in-Err : goal.returns-in-Err
+returns-in-Err g c = record {
+  made = λ clean holds. tt;
+  counted = λ clean holds. tt;
+  wanting = λ clean holds. c.fault_in_making.ensures.wanting (c.in-Err.ensures.unmade clean holds.schema);
+  unnumbered = c.fault_in_making.ensures.unnumbered;
+  free = λ clean. tt;
+  kept = λ clean holds. c.make_tables_of_two.ensures.kept clean;
+  same_reference = c.make_tables_of_two.ensures.same_reference;
+  survives = c.make_tables_of_two.ensures.survives;
+}

@@ -1,5 +1,5 @@
 use Rattle.registry_model.specs.Lookups.{delete_blob}
-use Rattle.registry_store.proofs.KeeperAnswers.{spends_told, was_honest, write_holds, write_says}
+use Rattle.registry_store.proofs.KeeperAnswers.{spends_told, still_spent, was_honest, write_holds, write_says}
 use Rattle.registry_store.proofs.keeper.StoreKeeper.delete_blob.Goals as goal
 
 pub invariant_of-self : goal.invariant_of-self
@@ -8,17 +8,22 @@ invariant_of-self g c =
     c.note_fault.result c.delete_blob-answer.result c.note_fault.new.spent c.note_fault.ensures.same c.note_fault.ensures.noted c.delete_blob-answer.new.known (λ w. delete_blob w c.args.repo.now c.args.digest.now)
     (λ ours. c.delete_blob-answer.ensures.made) (λ ours. c.delete_blob-answer.ensures.memory) (λ ours. c.delete_blob-answer.ensures.known)
 
-pub returns-clause-made : goal.returns-clause-made
-returns-clause-made g c =
-    write_says g.S.Store g.O.Origin.is_ours c.self.inside.conn c.args.self.now c.self.inside.spent c.self.view_is c.self.inside.known c.self.invariant c.if-self.false c.delete_blob-answer.new.conn c.delete_blob-answer.ensures.survives
-    c.note_fault.result c.delete_blob-answer.result c.note_fault.new.spent c.note_fault.ensures.same c.note_fault.ensures.noted (λ w. delete_blob w c.args.repo.now c.args.digest.now)
-    (λ ours. c.delete_blob-answer.ensures.made) (λ ours. c.delete_blob-answer.ensures.memory)
+pub returns-then-self : goal.returns-then-self
+returns-then-self g c = record {
+  made = λ honest. tt;
+  spends = still_spent g.S.Store g.O.Origin.is_ours c.self.inside.conn c.args.self.now c.self.inside.spent c.self.view_is c.if-self.true;
+  honest = λ honest. honest;
+}
 
-pub returns-clause-spends : goal.returns-clause-spends
-returns-clause-spends g c =
-    spends_told g.S.Store g.O.Origin.is_ours c.self.inside.conn c.args.self.now c.self.inside.spent c.self.view_is c.self.inside.known c.self.invariant c.if-self.false c.delete_blob-answer.new.conn c.delete_blob-answer.ensures.survives
-    c.note_fault.result c.delete_blob-answer.result c.note_fault.new.spent c.note_fault.ensures.same c.note_fault.ensures.noted
-
-pub returns-clause-honest : goal.returns-clause-honest
-returns-clause-honest g c =
-    was_honest g.S.Store g.O.Origin.is_ours c.self.inside.conn c.args.self.now c.self.inside.spent c.self.view_is c.self.inside.known c.self.invariant c.if-self.false c.delete_blob-answer.new.conn c.delete_blob-answer.ensures.survives c.note_fault.new.spent
+pub returns : goal.returns
+returns g c = record {
+  made =
+      write_says g.S.Store g.O.Origin.is_ours c.self.inside.conn c.args.self.now c.self.inside.spent c.self.view_is c.self.inside.known c.self.invariant c.if-self.false c.delete_blob-answer.new.conn c.delete_blob-answer.ensures.survives
+      c.note_fault.result c.delete_blob-answer.result c.note_fault.new.spent c.note_fault.ensures.same c.note_fault.ensures.noted (λ w. delete_blob w c.args.repo.now c.args.digest.now)
+      (λ ours. c.delete_blob-answer.ensures.made) (λ ours. c.delete_blob-answer.ensures.memory);
+  spends =
+      spends_told g.S.Store g.O.Origin.is_ours c.self.inside.conn c.args.self.now c.self.inside.spent c.self.view_is c.self.inside.known c.self.invariant c.if-self.false c.delete_blob-answer.new.conn c.delete_blob-answer.ensures.survives
+      c.note_fault.result c.delete_blob-answer.result c.note_fault.new.spent c.note_fault.ensures.same c.note_fault.ensures.noted;
+  honest =
+      was_honest g.S.Store g.O.Origin.is_ours c.self.inside.conn c.args.self.now c.self.inside.spent c.self.view_is c.self.inside.known c.self.invariant c.if-self.false c.delete_blob-answer.new.conn c.delete_blob-answer.ensures.survives c.note_fault.new.spent;
+}

@@ -1,5 +1,5 @@
 use Rattle.registry_model.specs.Lookups.{manifest_at}
-use Rattle.registry_store.proofs.KeeperAnswers.{read_holds, read_says, spends_told, was_honest}
+use Rattle.registry_store.proofs.KeeperAnswers.{read_holds, read_says, spends_told, still_spent, was_honest}
 use Rattle.registry_store.proofs.keeper.StoreKeeper.manifest.Goals as goal
 
 pub invariant_of-self : goal.invariant_of-self
@@ -7,16 +7,21 @@ invariant_of-self g c =
     read_holds g.S.Store g.O.Origin.is_ours c.self.inside.conn c.args.self.now c.self.inside.spent c.self.view_is c.self.inside.known c.self.invariant c.if-self.false c.manifest-answer.new.conn c.manifest-answer.ensures.survives
     c.note_fault.result c.manifest-answer.result c.note_fault.new.spent c.note_fault.ensures.same c.note_fault.ensures.noted c.manifest-answer.ensures.settled
 
-pub returns-clause-found : goal.returns-clause-found
-returns-clause-found g c =
-    read_says g.S.Store g.O.Origin.is_ours c.self.inside.conn c.args.self.now c.self.inside.spent c.self.view_is c.self.inside.known c.self.invariant c.if-self.false c.manifest-answer.new.conn c.manifest-answer.ensures.survives
-    c.note_fault.result c.manifest-answer.result c.note_fault.new.spent c.note_fault.ensures.same c.note_fault.ensures.noted _ (λ w. manifest_at w c.args.repo.now c.args.digest.now) (λ _. c.manifest-answer.ensures.found) c.manifest-answer.ensures.settled
+pub returns-then-self : goal.returns-then-self
+returns-then-self g c = record {
+  found = λ honest. tt;
+  spends = still_spent g.S.Store g.O.Origin.is_ours c.self.inside.conn c.args.self.now c.self.inside.spent c.self.view_is c.if-self.true;
+  honest = λ honest. honest;
+}
 
-pub returns-clause-spends : goal.returns-clause-spends
-returns-clause-spends g c =
-    spends_told g.S.Store g.O.Origin.is_ours c.self.inside.conn c.args.self.now c.self.inside.spent c.self.view_is c.self.inside.known c.self.invariant c.if-self.false c.manifest-answer.new.conn c.manifest-answer.ensures.survives
-    c.note_fault.result c.manifest-answer.result c.note_fault.new.spent c.note_fault.ensures.same c.note_fault.ensures.noted
-
-pub returns-clause-honest : goal.returns-clause-honest
-returns-clause-honest g c =
-    was_honest g.S.Store g.O.Origin.is_ours c.self.inside.conn c.args.self.now c.self.inside.spent c.self.view_is c.self.inside.known c.self.invariant c.if-self.false c.manifest-answer.new.conn c.manifest-answer.ensures.survives c.note_fault.new.spent
+pub returns : goal.returns
+returns g c = record {
+  found =
+      read_says g.S.Store g.O.Origin.is_ours c.self.inside.conn c.args.self.now c.self.inside.spent c.self.view_is c.self.inside.known c.self.invariant c.if-self.false c.manifest-answer.new.conn c.manifest-answer.ensures.survives
+      c.note_fault.result c.manifest-answer.result c.note_fault.new.spent c.note_fault.ensures.same c.note_fault.ensures.noted _ (λ w. manifest_at w c.args.repo.now c.args.digest.now) (λ _. c.manifest-answer.ensures.found) c.manifest-answer.ensures.settled;
+  spends =
+      spends_told g.S.Store g.O.Origin.is_ours c.self.inside.conn c.args.self.now c.self.inside.spent c.self.view_is c.self.inside.known c.self.invariant c.if-self.false c.manifest-answer.new.conn c.manifest-answer.ensures.survives
+      c.note_fault.result c.manifest-answer.result c.note_fault.new.spent c.note_fault.ensures.same c.note_fault.ensures.noted;
+  honest =
+      was_honest g.S.Store g.O.Origin.is_ours c.self.inside.conn c.args.self.now c.self.inside.spent c.self.view_is c.self.inside.known c.self.invariant c.if-self.false c.manifest-answer.new.conn c.manifest-answer.ensures.survives c.note_fault.new.spent;
+}

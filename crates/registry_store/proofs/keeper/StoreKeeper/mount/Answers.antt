@@ -2,7 +2,7 @@ use Rattle.std.proofs.Common.{◌≡◌, true}
 use Rattle.registry_model.specs.Lookups.{mount}
 use Rattle.registry_model.specs.World.{has_repo}
 use Rattle.registry_store.proofs.KeeperStates.{asked}
-use Rattle.registry_store.proofs.KeeperAnswers.{spends_told, was_honest, write_holds, write_says}
+use Rattle.registry_store.proofs.KeeperAnswers.{spends_told, still_spent, was_honest, write_holds, write_says}
 use Rattle.registry_store.proofs.keeper.StoreKeeper.mount.Goals as goal
 
 pub invariant_of-self : goal.invariant_of-self
@@ -11,17 +11,22 @@ invariant_of-self g c =
     c.note_fault.result c.mount-answer.result c.note_fault.new.spent c.note_fault.ensures.same c.note_fault.ensures.noted c.mount-answer.new.known (λ w. mount w c.args.from.now c.args.to.now c.args.digest.now)
     (λ ours. c.mount-answer.ensures.made (asked g.S.Store c.self.inside.conn c.args.self.now c.self.inside.spent c.self.view_is (λ w. has_repo w c.args.to.now ≡ true) g.O.Origin.is_ours c.if-self.false ours c.requires.there)) (λ ours. c.mount-answer.ensures.memory) (λ ours known. c.mount-answer.ensures.known known (asked g.S.Store c.self.inside.conn c.args.self.now c.self.inside.spent c.self.view_is (λ w. has_repo w c.args.to.now ≡ true) g.O.Origin.is_ours c.if-self.false ours c.requires.there))
 
-pub returns-clause-made : goal.returns-clause-made
-returns-clause-made g c =
-    write_says g.S.Store g.O.Origin.is_ours c.self.inside.conn c.args.self.now c.self.inside.spent c.self.view_is c.self.inside.known c.self.invariant c.if-self.false c.mount-answer.new.conn c.mount-answer.ensures.survives
-    c.note_fault.result c.mount-answer.result c.note_fault.new.spent c.note_fault.ensures.same c.note_fault.ensures.noted (λ w. mount w c.args.from.now c.args.to.now c.args.digest.now)
-    (λ ours. c.mount-answer.ensures.made (asked g.S.Store c.self.inside.conn c.args.self.now c.self.inside.spent c.self.view_is (λ w. has_repo w c.args.to.now ≡ true) g.O.Origin.is_ours c.if-self.false ours c.requires.there)) (λ ours. c.mount-answer.ensures.memory)
+pub returns-then-self : goal.returns-then-self
+returns-then-self g c = record {
+  made = λ honest. tt;
+  spends = still_spent g.S.Store g.O.Origin.is_ours c.self.inside.conn c.args.self.now c.self.inside.spent c.self.view_is c.if-self.true;
+  honest = λ honest. honest;
+}
 
-pub returns-clause-spends : goal.returns-clause-spends
-returns-clause-spends g c =
-    spends_told g.S.Store g.O.Origin.is_ours c.self.inside.conn c.args.self.now c.self.inside.spent c.self.view_is c.self.inside.known c.self.invariant c.if-self.false c.mount-answer.new.conn c.mount-answer.ensures.survives
-    c.note_fault.result c.mount-answer.result c.note_fault.new.spent c.note_fault.ensures.same c.note_fault.ensures.noted
-
-pub returns-clause-honest : goal.returns-clause-honest
-returns-clause-honest g c =
-    was_honest g.S.Store g.O.Origin.is_ours c.self.inside.conn c.args.self.now c.self.inside.spent c.self.view_is c.self.inside.known c.self.invariant c.if-self.false c.mount-answer.new.conn c.mount-answer.ensures.survives c.note_fault.new.spent
+pub returns : goal.returns
+returns g c = record {
+  made =
+      write_says g.S.Store g.O.Origin.is_ours c.self.inside.conn c.args.self.now c.self.inside.spent c.self.view_is c.self.inside.known c.self.invariant c.if-self.false c.mount-answer.new.conn c.mount-answer.ensures.survives
+      c.note_fault.result c.mount-answer.result c.note_fault.new.spent c.note_fault.ensures.same c.note_fault.ensures.noted (λ w. mount w c.args.from.now c.args.to.now c.args.digest.now)
+      (λ ours. c.mount-answer.ensures.made (asked g.S.Store c.self.inside.conn c.args.self.now c.self.inside.spent c.self.view_is (λ w. has_repo w c.args.to.now ≡ true) g.O.Origin.is_ours c.if-self.false ours c.requires.there)) (λ ours. c.mount-answer.ensures.memory);
+  spends =
+      spends_told g.S.Store g.O.Origin.is_ours c.self.inside.conn c.args.self.now c.self.inside.spent c.self.view_is c.self.inside.known c.self.invariant c.if-self.false c.mount-answer.new.conn c.mount-answer.ensures.survives
+      c.note_fault.result c.mount-answer.result c.note_fault.new.spent c.note_fault.ensures.same c.note_fault.ensures.noted;
+  honest =
+      was_honest g.S.Store g.O.Origin.is_ours c.self.inside.conn c.args.self.now c.self.inside.spent c.self.view_is c.self.inside.known c.self.invariant c.if-self.false c.mount-answer.new.conn c.mount-answer.ensures.survives c.note_fault.new.spent;
+}

@@ -3,7 +3,7 @@ use Rattle.registry_model.specs.Lookups.{put_manifest}
 use Rattle.registry_model.specs.Ask.{text_in}
 use Rattle.registry_model.specs.World.{has_repo}
 use Rattle.registry_store.proofs.KeeperStates.{asked}
-use Rattle.registry_store.proofs.KeeperAnswers.{spends_told, was_honest, write_holds, write_says}
+use Rattle.registry_store.proofs.KeeperAnswers.{spends_told, still_spent, was_honest, write_holds, write_says}
 use Rattle.registry_store.proofs.keeper.StoreKeeper.put_manifest.Goals as goal
 
 pub put_manifest-answer-requires : goal.put_manifest-answer-requires
@@ -15,17 +15,22 @@ invariant_of-self g c =
     c.note_fault.result c.put_manifest-answer.result c.note_fault.new.spent c.note_fault.ensures.same c.note_fault.ensures.noted c.put_manifest-answer.new.known (λ w. put_manifest w c.args.repo.now c.args.digest.now c.args.bytes.now (text_in c.args.tag))
     (λ ours. c.put_manifest-answer.ensures.made (asked g.S.Store c.self.inside.conn c.args.self.now c.self.inside.spent c.self.view_is (λ w. has_repo w c.args.repo.now ≡ true) g.O.Origin.is_ours c.if-self.false ours c.requires.there)) (λ ours. c.put_manifest-answer.ensures.memory (asked g.S.Store c.self.inside.conn c.args.self.now c.self.inside.spent c.self.view_is (λ w. has_repo w c.args.repo.now ≡ true) g.O.Origin.is_ours c.if-self.false ours c.requires.there)) (λ ours known. c.put_manifest-answer.ensures.known known (asked g.S.Store c.self.inside.conn c.args.self.now c.self.inside.spent c.self.view_is (λ w. has_repo w c.args.repo.now ≡ true) g.O.Origin.is_ours c.if-self.false ours c.requires.there))
 
-pub returns-clause-made : goal.returns-clause-made
-returns-clause-made g c =
-    write_says g.S.Store g.O.Origin.is_ours c.self.inside.conn c.args.self.now c.self.inside.spent c.self.view_is c.self.inside.known c.self.invariant c.if-self.false c.put_manifest-answer.new.conn c.put_manifest-answer.ensures.survives
-    c.note_fault.result c.put_manifest-answer.result c.note_fault.new.spent c.note_fault.ensures.same c.note_fault.ensures.noted (λ w. put_manifest w c.args.repo.now c.args.digest.now c.args.bytes.now (text_in c.args.tag))
-    (λ ours. c.put_manifest-answer.ensures.made (asked g.S.Store c.self.inside.conn c.args.self.now c.self.inside.spent c.self.view_is (λ w. has_repo w c.args.repo.now ≡ true) g.O.Origin.is_ours c.if-self.false ours c.requires.there)) (λ ours. c.put_manifest-answer.ensures.memory (asked g.S.Store c.self.inside.conn c.args.self.now c.self.inside.spent c.self.view_is (λ w. has_repo w c.args.repo.now ≡ true) g.O.Origin.is_ours c.if-self.false ours c.requires.there))
+pub returns-then-self : goal.returns-then-self
+returns-then-self g c = record {
+  made = λ honest. tt;
+  spends = still_spent g.S.Store g.O.Origin.is_ours c.self.inside.conn c.args.self.now c.self.inside.spent c.self.view_is c.if-self.true;
+  honest = λ honest. honest;
+}
 
-pub returns-clause-spends : goal.returns-clause-spends
-returns-clause-spends g c =
-    spends_told g.S.Store g.O.Origin.is_ours c.self.inside.conn c.args.self.now c.self.inside.spent c.self.view_is c.self.inside.known c.self.invariant c.if-self.false c.put_manifest-answer.new.conn c.put_manifest-answer.ensures.survives
-    c.note_fault.result c.put_manifest-answer.result c.note_fault.new.spent c.note_fault.ensures.same c.note_fault.ensures.noted
-
-pub returns-clause-honest : goal.returns-clause-honest
-returns-clause-honest g c =
-    was_honest g.S.Store g.O.Origin.is_ours c.self.inside.conn c.args.self.now c.self.inside.spent c.self.view_is c.self.inside.known c.self.invariant c.if-self.false c.put_manifest-answer.new.conn c.put_manifest-answer.ensures.survives c.note_fault.new.spent
+pub returns : goal.returns
+returns g c = record {
+  made =
+      write_says g.S.Store g.O.Origin.is_ours c.self.inside.conn c.args.self.now c.self.inside.spent c.self.view_is c.self.inside.known c.self.invariant c.if-self.false c.put_manifest-answer.new.conn c.put_manifest-answer.ensures.survives
+      c.note_fault.result c.put_manifest-answer.result c.note_fault.new.spent c.note_fault.ensures.same c.note_fault.ensures.noted (λ w. put_manifest w c.args.repo.now c.args.digest.now c.args.bytes.now (text_in c.args.tag))
+      (λ ours. c.put_manifest-answer.ensures.made (asked g.S.Store c.self.inside.conn c.args.self.now c.self.inside.spent c.self.view_is (λ w. has_repo w c.args.repo.now ≡ true) g.O.Origin.is_ours c.if-self.false ours c.requires.there)) (λ ours. c.put_manifest-answer.ensures.memory (asked g.S.Store c.self.inside.conn c.args.self.now c.self.inside.spent c.self.view_is (λ w. has_repo w c.args.repo.now ≡ true) g.O.Origin.is_ours c.if-self.false ours c.requires.there));
+  spends =
+      spends_told g.S.Store g.O.Origin.is_ours c.self.inside.conn c.args.self.now c.self.inside.spent c.self.view_is c.self.inside.known c.self.invariant c.if-self.false c.put_manifest-answer.new.conn c.put_manifest-answer.ensures.survives
+      c.note_fault.result c.put_manifest-answer.result c.note_fault.new.spent c.note_fault.ensures.same c.note_fault.ensures.noted;
+  honest =
+      was_honest g.S.Store g.O.Origin.is_ours c.self.inside.conn c.args.self.now c.self.inside.spent c.self.view_is c.self.inside.known c.self.invariant c.if-self.false c.put_manifest-answer.new.conn c.put_manifest-answer.ensures.survives c.note_fault.new.spent;
+}

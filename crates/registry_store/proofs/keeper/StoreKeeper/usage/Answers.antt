@@ -1,5 +1,5 @@
 use Rattle.registry_model.specs.Lookups.{usage_at}
-use Rattle.registry_store.proofs.KeeperAnswers.{call_holds, read_says, spends_told, was_honest}
+use Rattle.registry_store.proofs.KeeperAnswers.{call_holds, read_says, spends_told, still_spent, was_honest}
 use Rattle.registry_store.proofs.keeper.StoreKeeper.usage.Goals as goal
 
 pub invariant_of-self : goal.invariant_of-self
@@ -7,16 +7,21 @@ invariant_of-self g c =
     call_holds g.S.Store g.O.Origin.is_ours c.self.inside.conn c.args.self.now c.self.inside.spent c.self.view_is c.self.inside.known c.self.invariant c.if-self.false c.usage-answer.new.conn c.usage-answer.ensures.survives
     c.note_fault.result c.usage-answer.result c.note_fault.new.spent c.note_fault.ensures.same c.note_fault.ensures.noted c.usage-answer.new.known (λ ours clean is sound. (c.usage-answer.ensures.settled clean is sound).0) (λ ours. c.usage-answer.ensures.known)
 
-pub returns-clause-found : goal.returns-clause-found
-returns-clause-found g c =
-    read_says g.S.Store g.O.Origin.is_ours c.self.inside.conn c.args.self.now c.self.inside.spent c.self.view_is c.self.inside.known c.self.invariant c.if-self.false c.usage-answer.new.conn c.usage-answer.ensures.survives
-    c.note_fault.result c.usage-answer.result c.note_fault.new.spent c.note_fault.ensures.same c.note_fault.ensures.noted _ (λ w. usage_at w c.args.repo.now) (λ ours. c.usage-answer.ensures.found (λ early. (c.self.invariant c.if-self.false ours early).1)) c.usage-answer.ensures.settled
+pub returns-then-self : goal.returns-then-self
+returns-then-self g c = record {
+  found = λ honest. tt;
+  spends = still_spent g.S.Store g.O.Origin.is_ours c.self.inside.conn c.args.self.now c.self.inside.spent c.self.view_is c.if-self.true;
+  honest = λ honest. honest;
+}
 
-pub returns-clause-spends : goal.returns-clause-spends
-returns-clause-spends g c =
-    spends_told g.S.Store g.O.Origin.is_ours c.self.inside.conn c.args.self.now c.self.inside.spent c.self.view_is c.self.inside.known c.self.invariant c.if-self.false c.usage-answer.new.conn c.usage-answer.ensures.survives
-    c.note_fault.result c.usage-answer.result c.note_fault.new.spent c.note_fault.ensures.same c.note_fault.ensures.noted
-
-pub returns-clause-honest : goal.returns-clause-honest
-returns-clause-honest g c =
-    was_honest g.S.Store g.O.Origin.is_ours c.self.inside.conn c.args.self.now c.self.inside.spent c.self.view_is c.self.inside.known c.self.invariant c.if-self.false c.usage-answer.new.conn c.usage-answer.ensures.survives c.note_fault.new.spent
+pub returns : goal.returns
+returns g c = record {
+  found =
+      read_says g.S.Store g.O.Origin.is_ours c.self.inside.conn c.args.self.now c.self.inside.spent c.self.view_is c.self.inside.known c.self.invariant c.if-self.false c.usage-answer.new.conn c.usage-answer.ensures.survives
+      c.note_fault.result c.usage-answer.result c.note_fault.new.spent c.note_fault.ensures.same c.note_fault.ensures.noted _ (λ w. usage_at w c.args.repo.now) (λ ours. c.usage-answer.ensures.found (λ early. (c.self.invariant c.if-self.false ours early).1)) c.usage-answer.ensures.settled;
+  spends =
+      spends_told g.S.Store g.O.Origin.is_ours c.self.inside.conn c.args.self.now c.self.inside.spent c.self.view_is c.self.inside.known c.self.invariant c.if-self.false c.usage-answer.new.conn c.usage-answer.ensures.survives
+      c.note_fault.result c.usage-answer.result c.note_fault.new.spent c.note_fault.ensures.same c.note_fault.ensures.noted;
+  honest =
+      was_honest g.S.Store g.O.Origin.is_ours c.self.inside.conn c.args.self.now c.self.inside.spent c.self.view_is c.self.inside.known c.self.invariant c.if-self.false c.usage-answer.new.conn c.usage-answer.ensures.survives c.note_fault.new.spent;
+}

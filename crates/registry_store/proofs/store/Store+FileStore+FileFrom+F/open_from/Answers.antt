@@ -13,9 +13,16 @@ adopt_or_close-requires g c = record {
       (told_of (λ conn. HasCleanDisk (file_state conn) → FindsIn (image_at g.F.Start) (file_state conn)) c.open_from.result c.in-Ok.conn c.in-Ok.ensures.same c.open_from.ensures.found);
 }
 
-pub returns-in-Ok-clause-found : goal.returns-in-Ok-clause-found
-returns-in-Ok-clause-found g c =
-    opens_on (λ s. file_state s.conn) (image_at g.F.Start) (file_state c.in-Ok.conn)
-    (told_of (λ conn. HasCleanDisk (file_state conn) → Opens (file_state conn) × IsLive (file_state conn)) c.open_from.result c.in-Ok.conn c.in-Ok.ensures.same c.open_from.ensures.opened)
-    (told_of (λ conn. HasCleanDisk (file_state conn) → FindsIn (image_at g.F.Start) (file_state conn)) c.open_from.result c.in-Ok.conn c.in-Ok.ensures.same c.open_from.ensures.found)
-    c.adopt_or_close.result c.adopt_or_close.ensures.made c.adopt_or_close.ensures.found c.adopt_or_close.ensures.survives
+pub returns-in-Ok : goal.returns-in-Ok
+returns-in-Ok g c = record {
+  found =
+      opens_on (λ s. file_state s.conn) (image_at g.F.Start) (file_state c.in-Ok.conn)
+      (told_of (λ conn. HasCleanDisk (file_state conn) → Opens (file_state conn) × IsLive (file_state conn)) c.open_from.result c.in-Ok.conn c.in-Ok.ensures.same c.open_from.ensures.opened)
+      (told_of (λ conn. HasCleanDisk (file_state conn) → FindsIn (image_at g.F.Start) (file_state conn)) c.open_from.result c.in-Ok.conn c.in-Ok.ensures.same c.open_from.ensures.found)
+      c.adopt_or_close.result c.adopt_or_close.ensures.made c.adopt_or_close.ensures.found c.adopt_or_close.ensures.survives;
+  unspent = c.adopt_or_close.ensures.unspent;
+  another = c.adopt_or_close.ensures.another;
+}
+
+pub returns-in-Err : goal.returns-in-Err
+returns-in-Err g c = record { found = tt; unspent = tt; another = c.in-Err.ensures.another }
