@@ -1,31 +1,41 @@
 -- What reads that follow one another leave, and a fault that is passed on.
-use Rattle.std.proofs.Common.{◌≡◌, ◌∙◌, ◌<◌, ◌+◌, ℕ, List, [], ◌∷◌, ◌++◌, map, length, take, get_or, inl, Ok, Err, Result, false, sym, ap, refl, arith, append-nil}
+use Rattle.std.proofs.Common.{◌≡◌, ◌∙◌, ◌<◌, ◌+◌, ℕ, List, [], ◌∷◌, ◌++◌, map, length, take, get_or, Ok, Err, Result, false, sym, ap, refl, append-nil}
 use Rattle.std.specs.Prelude.{⊤, IsErrAnd}
 use Rattle.std.specs.List.{concat}
 use Rattle.std.proofs.lemmas.List.{map_more}
 use Rattle.std.proofs.lemmas.List.Folds.{concat-append}
 use Rattle.sqlite.specs.Effect.{Database}
-use Rattle.sqlite.specs.State.{State, Survives}
+use Rattle.sqlite.specs.State.{State, HasCleanDisk, Survives}
 use Rattle.oci_names.specs.declared.fault.Fault.{Fault}
 use Rattle.oci_names.specs.declared.fault.Fault.TheVariants.{Memory, Storage}
 use Rattle.store_contents.specs.declared.content_id.ContentId.{ContentId}
 use Rattle.store_contents.specs.Contents.{bytes_in}
 use Rattle.store_world.specs.World.{content_at}
 use Rattle.store_statements.specs.Held.{IsSettled, StaysSettled, is_storage}
+use Rattle.store_statements.proofs.CleanBefore.{was_clean}
+use Rattle.store_statements.proofs.SettledAfter.{stays_then}
 
 -- nothing was read yet
 pub stays_here : (s : State) → IsSettled s → StaysSettled s s
 stays_here s settled = (settled, refl)
 
-pub survives_here : (s : State) → Survives s s (λ _. ⊤)
-survives_here s = record {
-  clean = omega arith;
-  shield = λ h. h;
-  counts = omega arith;
-  limit = refl;
-  closes = λ clean h. inl h;
-  crash = λ clean db h. inl h;
-}
+-- ---- a read behind another one
+
+module _ (a b c : State) (lasts : Survives b c (λ _. ⊤)) (first : HasCleanDisk b → IsSettled a → StaysSettled a b) where
+  -- what is told where the one before left all as it was
+  pub told_behind : {R : Type 0} → (HasCleanDisk b → StaysSettled a b → R) → HasCleanDisk c → IsSettled a → R
+  told_behind {R} tell clean is = by (was_clean lasts clean)
+    where
+      by : HasCleanDisk b → R
+      by early = tell early (first early is)
+
+  pub stays_behind : (HasCleanDisk c → IsSettled b → StaysSettled b c) → HasCleanDisk c → IsSettled a → StaysSettled a c
+  stays_behind next clean is = by (first (was_clean lasts clean) is)
+    where
+      by : StaysSettled a b → StaysSettled a c
+      by s = stays_then a b c s (next clean s.0)
+
+-- ---- a fault that is passed on
 
 same_fault : (A B : Type 0) (f : Fault) → is_storage {A = A} (Err f) ≡ is_storage {A = B} (Err f)
 same_fault A B Memory = refl

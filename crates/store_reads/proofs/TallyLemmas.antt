@@ -48,14 +48,14 @@ tally_shown rows name sizes t same is =
     is ∙ (λ i. record { number = long i; bytes = in_64_bits (sums i) })
 
 -- one after the other, of a database that stays
-pub held_together : (old mid late : State) (name : Text) (blobs manifests sessions : Tally) → mid.now ≡ old.now → late.now ≡ mid.now
+pub held_together : (old mid late : State) (name : Text) (blobs manifests sessions : Tally) → mid.now ≡ old.now → late.now ≡ old.now
     → blobs ≡ tally_in (held old).blobs name → manifests ≡ tally_in (held mid).manifests name → sessions ≡ tally_in (held late).uploads name
     → ◌≡◌ {A = Holdings} (record { blobs = blobs; manifests = manifests; sessions = sessions }) (holdings_in (held old) name)
 held_together old mid late name blobs manifests sessions same again b m s =
     λ i. record {
       blobs = b i;
       manifests = (m ∙ ap (λ db. tally_in (tables_in db).manifests name) same) i;
-      sessions = (s ∙ ap (λ db. tally_in (tables_in db).uploads name) (again ∙ same)) i;
+      sessions = (s ∙ ap (λ db. tally_in (tables_in db).uploads name) again) i;
     }
 
 pub three_totals : (a b c : ℕ) → in_64_bits (in_64_bits a + in_64_bits b + in_64_bits c) ≡ in_64_bits (a + b + c)

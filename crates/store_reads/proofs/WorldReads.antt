@@ -1,5 +1,5 @@
 -- What rows tell of the world.
-use Rattle.std.proofs.Common.{◌≡◌, ◌∙◌, ◌<◌, ◌≤◌, ℕ, ℤ, arith, None, Some, Ok, Err, Result, IfOk, refl, sym, ap, subst}
+use Rattle.std.proofs.Common.{◌≡◌, ◌∙◌, ◌<◌, ◌≤◌, ℕ, ℤ, Bool, List, arith, None, Some, Ok, Err, Result, IfOk, refl, sym, ap, subst}
 use Rattle.std.specs.Prelude.{Option, option_map, find, is_some}
 use Rattle.sqlite.specs.Order.{Row}
 use Rattle.sqlite.specs.Effect.{Database}
@@ -8,6 +8,7 @@ use Rattle.oci_names.specs.Text.{Text}
 use Rattle.oci_names.specs.declared.fault.Fault.{Fault}
 use Rattle.oci_manifest.specs.declared.kind.Kind.{Kind}
 use Rattle.std.specs.Option.{option_map_or}
+use Rattle.registry_model.specs.TagPage.{Page}
 use Rattle.registry_model.specs.World.{has_repo}
 use Rattle.registry_model.specs.Lookups.{blob_at, blob_size_at, manifest_at, manifest_size_at, session_at, last_number_at}
 use Rattle.store_schema.specs.Rows.{natural_at}
@@ -58,6 +59,10 @@ bytes_kept old mid id bytes same e = sym (content_found (held mid).contents id b
 
 pub with_kind : (kind : Kind) (a b : Text) → a ≡ b → ◌≡◌ {A = Option (Kind × Text)} (Some (kind, a)) (Some (kind, b))
 with_kind kind a b e = λ i. Some (kind, e i)
+
+-- a page, by its parts
+pub page_told : (tags : List Text) (more : Bool) (shown page : Page) → page ≡ shown → (tags ≡ shown.tags) × (more ≡ shown.more) → ◌≡◌ {A = Page} (record { tags = tags; more = more }) page
+page_told tags more shown page is e = (λ i. record { tags = e.0 i; more = e.1 i }) ∙ sym is
 
 -- ---- repositories
 

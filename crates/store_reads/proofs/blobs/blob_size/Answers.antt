@@ -5,12 +5,27 @@ use Rattle.store_statements.proofs.Transactions.{registry}
 use Rattle.store_reads.proofs.WorldReads.{blob_size_by}
 use Rattle.store_reads.proofs.blobs.blob_size.Goals as goal
 
-pub returns-in-Ok-Some-clause-found : goal.returns-in-Ok-Some-clause-found
-returns-in-Ok-Some-clause-found g c clean is =
-    blob_size_by (held (state g.S.Store c.args.conn.now)) c.args.repo.now c.args.digest.now (registry (state g.S.Store c.args.conn.now) is) (Some c.in-Ok-Some.link)
-    (rw (c.in-Ok-Some.field-0-is, c.as_str.ensures.text, c.as_str-2.ensures.text) at (c.in-Ok-Some.ensures.found clean is))
+pub returns-in-Ok-Some : goal.returns-in-Ok-Some
+returns-in-Ok-Some g c = record {
+  found = λ clean is.
+      blob_size_by (held (state g.S.Store c.args.conn.now)) c.args.repo.now c.args.digest.now (registry (state g.S.Store c.args.conn.now) is) (Some c.in-Ok-Some.link)
+      (rw (c.in-Ok-Some.field-0-is, c.as_str.ensures.text, c.as_str-2.ensures.text) at (c.in-Ok-Some.ensures.found clean is));
+  settled = c.in-Ok-Some.ensures.settled;
+  survives = c.find_blob_link.ensures.survives;
+}
 
-pub returns-in-Ok-None-clause-found : goal.returns-in-Ok-None-clause-found
-returns-in-Ok-None-clause-found g c clean is =
-    blob_size_by (held (state g.S.Store c.args.conn.now)) c.args.repo.now c.args.digest.now (registry (state g.S.Store c.args.conn.now) is) None
-    (rw (c.in-Ok-None.field-0-is, c.as_str.ensures.text, c.as_str-2.ensures.text) at (c.in-Ok-None.ensures.found clean is))
+pub returns-in-Ok-None : goal.returns-in-Ok-None
+returns-in-Ok-None g c = record {
+  found = λ clean is.
+      blob_size_by (held (state g.S.Store c.args.conn.now)) c.args.repo.now c.args.digest.now (registry (state g.S.Store c.args.conn.now) is) None
+      (rw (c.in-Ok-None.field-0-is, c.as_str.ensures.text, c.as_str-2.ensures.text) at (c.in-Ok-None.ensures.found clean is));
+  settled = c.in-Ok-None.ensures.settled;
+  survives = c.find_blob_link.ensures.survives;
+}
+
+pub returns-in-Err : goal.returns-in-Err
+returns-in-Err g c = record {
+  found = λ clean is. tt;
+  settled = λ clean is unspent. c.in-Err.ensures.settled clean is unspent;
+  survives = c.find_blob_link.ensures.survives;
+}

@@ -6,6 +6,10 @@ use Rattle.store_statements.proofs.Transactions.{registry}
 use Rattle.store_reads.proofs.WorldReads.{told}
 use Rattle.store_reads.proofs.grants.known.Goals as goal
 
-pub returns-clause-found : goal.returns-clause-found
-returns-clause-found g c clean is =
-    told c.is_known.result _ _ (sym (known_found (held (state g.S.Store c.args.conn.now)) c.args.token.now (registry (state g.S.Store c.args.conn.now) is))) (rw c.as_str.ensures.text at (c.is_known.ensures.found clean is))
+pub returns : goal.returns
+returns g c = record {
+  found = λ clean is.
+      told c.is_known.result _ _ (sym (known_found (held (state g.S.Store c.args.conn.now)) c.args.token.now (registry (state g.S.Store c.args.conn.now) is))) (rw c.as_str.ensures.text at (c.is_known.ensures.found clean is));
+  settled = c.is_known.ensures.settled;
+  survives = c.is_known.ensures.survives;
+}

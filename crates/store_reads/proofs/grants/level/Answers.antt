@@ -5,5 +5,10 @@ use Rattle.store_statements.specs.Held.{held}
 use Rattle.store_reads.proofs.WorldReads.{told}
 use Rattle.store_reads.proofs.grants.level.Goals as goal
 
-pub returns-clause-found : goal.returns-clause-found
-returns-clause-found g c clean is = told c.find_level.result _ _ (sym (level_found (held (state g.S.Store c.args.conn.now)) c.args.token.now c.args.repo.now)) (rw (c.as_str.ensures.text, c.as_str-2.ensures.text) at (c.find_level.ensures.found clean is))
+pub returns : goal.returns
+returns g c = record {
+  found = λ clean is.
+      told c.find_level.result _ _ (sym (level_found (held (state g.S.Store c.args.conn.now)) c.args.token.now c.args.repo.now)) (rw (c.as_str.ensures.text, c.as_str-2.ensures.text) at (c.find_level.ensures.found clean is));
+  settled = c.find_level.ensures.settled;
+  survives = c.find_level.ensures.survives;
+}

@@ -10,27 +10,20 @@ use Rattle.store_statements.proofs.SelectedRows.{all_of_them}
 use Rattle.store_statements.proofs.ReadFailures.{same_if, left_if}
 use Rattle.store_reads.proofs.level_lists.select_levels.Goals as goal
 
-pub returns-in-Ok-clause-found : goal.returns-in-Ok-clause-found
-returns-in-Ok-clause-found g c clean is =
-    all_of_them token_level_shown (λ r. column r 1 ∷ column r 3 ∷ []) (sort_by by_token (filter (of_second c.args.repo.now) (held (state g.S.Store c.args.conn.now)).grants)) c.in-Ok.rows.items c.levels_in.result (c.in-Ok.ensures.shown clean is) (rw c.deref.ensures.value at c.levels_in.ensures)
+pub returns-in-Ok : goal.returns-in-Ok
+returns-in-Ok g c = record {
+  found = λ clean is.
+      all_of_them token_level_shown (λ r. column r 1 ∷ column r 3 ∷ []) (sort_by by_token (filter (of_second c.args.repo.now) (held (state g.S.Store c.args.conn.now)).grants)) c.in-Ok.rows.items c.levels_in.result
+      (c.in-Ok.ensures.shown clean is) (rw c.deref.ensures.value at c.levels_in.ensures);
+  same = λ clean is. same_if c.levels_in.result (c.in-Ok.ensures.same clean is);
+  err = λ clean is. left_if (state g.S.Store c.args.conn.now) (state g.S.Store c.token_rows.new.conn) c.levels_in.result (c.in-Ok.ensures.same clean is);
+  survives = c.token_rows.ensures.survives;
+}
 
-pub returns-in-Ok-clause-same : goal.returns-in-Ok-clause-same
-returns-in-Ok-clause-same g c clean is = same_if c.levels_in.result (c.in-Ok.ensures.same clean is)
-
-pub returns-in-Ok-clause-err : goal.returns-in-Ok-clause-err
-returns-in-Ok-clause-err g c clean is = left_if (state g.S.Store c.args.conn.now) (state g.S.Store c.token_rows.new.conn) c.levels_in.result (c.in-Ok.ensures.same clean is)
-
-pub returns-in-Ok-clause-survives : goal.returns-in-Ok-clause-survives
-returns-in-Ok-clause-survives g c = c.token_rows.ensures.survives
-
-pub returns-in-Err-clause-found : goal.returns-in-Err-clause-found
-returns-in-Err-clause-found g c clean is = tt
-
-pub returns-in-Err-clause-same : goal.returns-in-Err-clause-same
-returns-in-Err-clause-same g c clean is = tt
-
-pub returns-in-Err-clause-err : goal.returns-in-Err-clause-err
-returns-in-Err-clause-err g c clean is = c.in-Err.ensures.err clean is
-
-pub returns-in-Err-clause-survives : goal.returns-in-Err-clause-survives
-returns-in-Err-clause-survives g c = c.token_rows.ensures.survives
+pub returns-in-Err : goal.returns-in-Err
+returns-in-Err g c = record {
+  found = λ clean is. tt;
+  same = λ clean is. tt;
+  err = λ clean is. c.in-Err.ensures.err clean is;
+  survives = c.token_rows.ensures.survives;
+}

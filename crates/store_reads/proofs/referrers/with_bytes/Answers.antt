@@ -1,15 +1,15 @@
-use Rattle.std.proofs.Common.{◌∙◌, ℕ, map, false, arith, ap, refl}
+use Rattle.std.proofs.Common.{◌∙◌, ℕ, map, false, ap, refl}
 use Rattle.std.specs.declared.alloc.Global.{Global}
 use Rattle.std.specs.Prelude.{Vec}
+use Rattle.std.proofs.lemmas.Result.{IfOk-from_err}
 use Rattle.std.proofs.lemmas.Iterator.Adapters.{YieldsList-from_vec}
 use Rattle.std.proofs.lemmas.Iterator.Consumers.{YieldsList-end}
-use Rattle.sqlite.specs.State.{HasCleanDisk}
 use Rattle.sqlite.specs.Held.{state}
 use Rattle.oci_names.specs.Text.{Text}
 use Rattle.registry_model.specs.Keeping.{entries_shown}
-use Rattle.store_statements.proofs.SettledAfter.{stays_then}
+use Rattle.store_statements.proofs.Checks.{survives_here}
 use Rattle.store_statements.proofs.Transactions.{survives_all}
-use Rattle.store_reads.proofs.ReadSequences.{stays_here, survives_here, passed_on}
+use Rattle.store_reads.proofs.ReadSequences.{stays_here, stays_behind, told_behind, passed_on}
 use Rattle.store_reads.proofs.ReferrerBytes.{entries_more, entries_whole}
 use Rattle.store_reads.proofs.referrers.with_bytes.Goals as goal
 
@@ -27,32 +27,27 @@ loop-digest-preserved g c =
     let new = state g.S.Store c.append.new.conn in
     record {
       survives = survives_all old mid new _ _ c.loop-digest.invariant.survives c.append.ensures.survives;
-      settled = λ clean is.
-          let early : HasCleanDisk mid = omega (arith, c.append.ensures.survives.clean) in
-          stays_then old mid new (c.loop-digest.invariant.settled early is) (c.in_ok-append.ensures.settled clean (c.loop-digest.invariant.settled early is).0 (refl {a = false}));
+      settled = stays_behind old mid new c.append.ensures.survives c.loop-digest.invariant.settled (λ clean is. c.in_ok-append.ensures.settled clean is (refl {a = false}));
       entries = λ clean is.
-          let early : HasCleanDisk mid = omega (arith, c.append.ensures.survives.clean) in
-          entries_more old.now mid.now c.loop-digest.yielded (c.in-Some.digest, c.in-Some.id) (entries_shown c.loop-digest.entries) (entries_shown c.append.new.entries) (c.loop-digest.invariant.settled early is).1 (c.loop-digest.invariant.entries early is) (c.in_ok-append.ensures.added clean (c.loop-digest.invariant.settled early is).0);
+          told_behind old mid new c.append.ensures.survives c.loop-digest.invariant.settled (λ early stays.
+          entries_more old.now mid.now c.loop-digest.yielded (c.in-Some.digest, c.in-Some.id) (entries_shown c.loop-digest.entries) (entries_shown c.append.new.entries) stays.1 (c.loop-digest.invariant.entries early is) (c.in_ok-append.ensures.added clean stays.0)) clean is;
     }
 
-pub returns-in_err-append-clause-settled : goal.returns-in_err-append-clause-settled
-returns-in_err-append-clause-settled g c clean is unspent =
-    let mid : HasCleanDisk (state g.S.Store c.loop-digest.conn) = omega (arith, c.append.ensures.survives.clean) in
-    stays_then (state g.S.Store c.args.conn.now) (state g.S.Store c.loop-digest.conn) (state g.S.Store c.append.new.conn) (c.loop-digest.invariant.settled mid is)
-    (c.append.ensures.settled clean (c.loop-digest.invariant.settled mid is).0 (passed_on c.from_residual.result c.append.result _ c.in_err-append.was c.from_residual.ensures.1 unspent))
+pub returns : goal.returns
+returns g c = record {
+  found = λ clean is.
+      let given = c.into_iter-digest-iterator.ensures.into_iter_gives in
+      let all = YieldsList-end (YieldsList-from_vec c.args.referrers.items given.0 (given.1 ∙ c.args.referrers.ok.0)) c.loop-digest.yielded c.loop-digest.digest-iterator c.loop-digest.yielded_by c.next.result c.next.new.self c.in-None.is c.next.ensures.steps in
+      entries_whole (state g.S.Store c.args.conn.now).now c.loop-digest.yielded c.args.referrers.items (entries_shown c.loop-digest.entries) (c.loop-digest.invariant.entries clean is) all.0;
+  settled = λ clean is unspent. c.loop-digest.invariant.settled clean is;
+  survives = c.loop-digest.invariant.survives;
+}
 
-pub returns-in_err-append-clause-survives : goal.returns-in_err-append-clause-survives
-returns-in_err-append-clause-survives g c =
-    survives_all (state g.S.Store c.args.conn.now) (state g.S.Store c.loop-digest.conn) (state g.S.Store c.append.new.conn) _ _ c.loop-digest.invariant.survives c.append.ensures.survives
-
-pub returns-clause-found : goal.returns-clause-found
-returns-clause-found g c clean is =
-    let given = c.into_iter-digest-iterator.ensures.into_iter_gives in
-    let all = YieldsList-end (YieldsList-from_vec c.args.referrers.items given.0 (given.1 ∙ c.args.referrers.ok.0)) c.loop-digest.yielded c.loop-digest.digest-iterator c.loop-digest.yielded_by c.next.result c.next.new.self c.in-None.is c.next.ensures.steps in
-    entries_whole (state g.S.Store c.args.conn.now).now c.loop-digest.yielded c.args.referrers.items (entries_shown c.loop-digest.entries) (c.loop-digest.invariant.entries clean is) all.0
-
-pub returns-clause-settled : goal.returns-clause-settled
-returns-clause-settled g c clean is unspent = c.loop-digest.invariant.settled clean is
-
-pub returns-clause-survives : goal.returns-clause-survives
-returns-clause-survives g c = c.loop-digest.invariant.survives
+pub returns-in_err-append : goal.returns-in_err-append
+returns-in_err-append g c = record {
+  found = λ clean is. IfOk-from_err c.from_residual.result _ c.from_residual.ensures.0;
+  settled = λ clean is unspent.
+      stays_behind (state g.S.Store c.args.conn.now) (state g.S.Store c.loop-digest.conn) (state g.S.Store c.append.new.conn) c.append.ensures.survives c.loop-digest.invariant.settled
+      (λ clean is. c.append.ensures.settled clean is (passed_on c.from_residual.result c.append.result _ c.in_err-append.was c.from_residual.ensures.1 unspent)) clean is;
+  survives = survives_all (state g.S.Store c.args.conn.now) (state g.S.Store c.loop-digest.conn) (state g.S.Store c.append.new.conn) _ _ c.loop-digest.invariant.survives c.append.ensures.survives;
+}

@@ -1,14 +1,14 @@
-use Rattle.std.proofs.Common.{◌∙◌, false, map, ap, sym, refl, arith, rules}
+use Rattle.std.proofs.Common.{◌∙◌, false, map, ap, sym, refl}
 use Rattle.std.proofs.lemmas.List.{map-id}
+use Rattle.std.proofs.lemmas.Result.{IfOk-from_err}
 use Rattle.std.proofs.lemmas.Iterator.Adapters.{YieldsList-from_vec}
 use Rattle.std.proofs.lemmas.Iterator.Consumers.{YieldsList-end}
-use Rattle.sqlite.specs.State.{HasCleanDisk}
 use Rattle.sqlite.specs.Held.{state}
 use Rattle.store_statements.specs.Held.{world_in}
 use Rattle.store_reads.specs.Tallies.{named_usage}
-use Rattle.store_statements.proofs.SettledAfter.{stays_then}
+use Rattle.store_statements.proofs.Checks.{survives_here}
 use Rattle.store_statements.proofs.Transactions.{survives_all}
-use Rattle.store_reads.proofs.ReadSequences.{stays_here, survives_here, passed_on}
+use Rattle.store_reads.proofs.ReadSequences.{stays_here, stays_behind, told_behind, passed_on}
 use Rattle.store_reads.proofs.NamedUsages.{one_more_named}
 use Rattle.store_reads.proofs.repo_usages.usages_named.Goals as goal
 
@@ -26,33 +26,27 @@ loop-repo-preserved g c =
     let new = state g.S.Store c.push_usage.new.conn in
     record {
       survives = survives_all old mid new _ _ c.loop-repo.invariant.survives c.push_usage.ensures.survives;
-      settled = λ clean is.
-          let early : HasCleanDisk mid = omega (arith, c.push_usage.ensures.survives.clean) in
-          stays_then old mid new (c.loop-repo.invariant.settled early is) (c.in_ok-push_usage.ensures.settled clean (c.loop-repo.invariant.settled early is).0 (refl {a = false}));
+      settled = stays_behind old mid new c.push_usage.ensures.survives c.loop-repo.invariant.settled (λ clean is. c.in_ok-push_usage.ensures.settled clean is (refl {a = false}));
       usages = λ clean is.
-          let early : HasCleanDisk mid = omega (arith, c.push_usage.ensures.survives.clean) in
-          one_more_named old mid c.in-Some.repo c.loop-repo.yielded c.loop-repo.all.items c.push_usage.new.all.items (c.loop-repo.invariant.settled early is).1 (c.loop-repo.invariant.usages early is) (c.in_ok-push_usage.ensures.added clean (c.loop-repo.invariant.settled early is).0);
+          told_behind old mid new c.push_usage.ensures.survives c.loop-repo.invariant.settled (λ early stays.
+          one_more_named old mid c.in-Some.repo c.loop-repo.yielded c.loop-repo.all.items c.push_usage.new.all.items stays.1 (c.loop-repo.invariant.usages early is) (c.in_ok-push_usage.ensures.added clean stays.0)) clean is;
     }
 
-pub returns-in_err-push_usage-clause-settled : goal.returns-in_err-push_usage-clause-settled
-returns-in_err-push_usage-clause-settled g c clean is unspent =
-    let mid : HasCleanDisk (state g.S.Store c.loop-repo.conn) = omega (arith, c.push_usage.ensures.survives.clean) in
-    stays_then (state g.S.Store c.args.conn.now) (state g.S.Store c.loop-repo.conn) (state g.S.Store c.push_usage.new.conn) (c.loop-repo.invariant.settled mid is)
-    (c.push_usage.ensures.settled clean (c.loop-repo.invariant.settled mid is).0 (passed_on c.from_residual.result c.push_usage.result _ c.in_err-push_usage.was c.from_residual.ensures.1 unspent))
+pub returns : goal.returns
+returns g c = record {
+  found = λ clean is.
+      let gives = c.into_iter-repo-iterator.ensures.into_iter_gives in
+      let all = YieldsList-end (YieldsList-from_vec c.args.names.items gives.0 (gives.1 ∙ c.args.names.ok.0)) c.loop-repo.yielded c.loop-repo.repo-iterator c.loop-repo.yielded_by c.next.result c.next.new.self c.in-None.is c.next.ensures.steps in
+      c.loop-repo.invariant.usages clean is ∙ ap (map (named_usage (world_in (state g.S.Store c.args.conn.now)))) (sym (map-id c.loop-repo.yielded) ∙ all.0);
+  settled = λ clean is unspent. c.loop-repo.invariant.settled clean is;
+  survives = c.loop-repo.invariant.survives;
+}
 
-pub returns-in_err-push_usage-clause-survives : goal.returns-in_err-push_usage-clause-survives
-returns-in_err-push_usage-clause-survives g c =
-    survives_all (state g.S.Store c.args.conn.now) (state g.S.Store c.loop-repo.conn) (state g.S.Store c.push_usage.new.conn) _ _ c.loop-repo.invariant.survives c.push_usage.ensures.survives
-
-pub returns-clause-found : goal.returns-clause-found
-returns-clause-found g c clean is =
-    let gives = c.into_iter-repo-iterator.ensures.into_iter_gives in
-    let road = YieldsList-from_vec c.args.names.items gives.0 (search (rules, gives)) in
-    let all = YieldsList-end road c.loop-repo.yielded c.loop-repo.repo-iterator c.loop-repo.yielded_by c.next.result c.next.new.self c.in-None.is c.next.ensures.steps in
-    c.loop-repo.invariant.usages clean is ∙ ap (map (named_usage (world_in (state g.S.Store c.args.conn.now)))) (sym (map-id c.loop-repo.yielded) ∙ all.0)
-
-pub returns-clause-settled : goal.returns-clause-settled
-returns-clause-settled g c clean is unspent = c.loop-repo.invariant.settled clean is
-
-pub returns-clause-survives : goal.returns-clause-survives
-returns-clause-survives g c = c.loop-repo.invariant.survives
+pub returns-in_err-push_usage : goal.returns-in_err-push_usage
+returns-in_err-push_usage g c = record {
+  found = λ clean is. IfOk-from_err c.from_residual.result _ c.from_residual.ensures.0;
+  settled = λ clean is unspent.
+      stays_behind (state g.S.Store c.args.conn.now) (state g.S.Store c.loop-repo.conn) (state g.S.Store c.push_usage.new.conn) c.push_usage.ensures.survives c.loop-repo.invariant.settled
+      (λ clean is. c.push_usage.ensures.settled clean is (passed_on c.from_residual.result c.push_usage.result _ c.in_err-push_usage.was c.from_residual.ensures.1 unspent)) clean is;
+  survives = survives_all (state g.S.Store c.args.conn.now) (state g.S.Store c.loop-repo.conn) (state g.S.Store c.push_usage.new.conn) _ _ c.loop-repo.invariant.survives c.push_usage.ensures.survives;
+}

@@ -4,8 +4,23 @@ use Rattle.store_statements.specs.Held.{held}
 use Rattle.store_reads.proofs.WorldReads.{last_number_by}
 use Rattle.store_reads.proofs.repos.last_number.Goals as goal
 
-pub returns-in-Ok-Some-clause-found : goal.returns-in-Ok-Some-clause-found
-returns-in-Ok-Some-clause-found g c clean is = last_number_by (held (state g.S.Store c.args.conn.now)) c.args.repo.now (Some c.in-Ok-Some.row) (rw (c.in-Ok-Some.field-0-is, c.as_str.ensures.text) at (c.in-Ok-Some.ensures.found clean is))
+pub returns-in-Ok-Some : goal.returns-in-Ok-Some
+returns-in-Ok-Some g c = record {
+  found = λ clean is. last_number_by (held (state g.S.Store c.args.conn.now)) c.args.repo.now (Some c.in-Ok-Some.row) (rw (c.in-Ok-Some.field-0-is, c.as_str.ensures.text) at (c.in-Ok-Some.ensures.found clean is));
+  settled = c.in-Ok-Some.ensures.settled;
+  survives = c.find_repo.ensures.survives;
+}
 
-pub returns-in-Ok-None-clause-found : goal.returns-in-Ok-None-clause-found
-returns-in-Ok-None-clause-found g c clean is = last_number_by (held (state g.S.Store c.args.conn.now)) c.args.repo.now None (rw (c.in-Ok-None.field-0-is, c.as_str.ensures.text) at (c.in-Ok-None.ensures.found clean is))
+pub returns-in-Ok-None : goal.returns-in-Ok-None
+returns-in-Ok-None g c = record {
+  found = λ clean is. last_number_by (held (state g.S.Store c.args.conn.now)) c.args.repo.now None (rw (c.in-Ok-None.field-0-is, c.as_str.ensures.text) at (c.in-Ok-None.ensures.found clean is));
+  settled = c.in-Ok-None.ensures.settled;
+  survives = c.find_repo.ensures.survives;
+}
+
+pub returns-in-Err : goal.returns-in-Err
+returns-in-Err g c = record {
+  found = λ clean is. tt;
+  settled = λ clean is unspent. c.in-Err.ensures.settled clean is unspent;
+  survives = c.find_repo.ensures.survives;
+}

@@ -1,48 +1,52 @@
-use Rattle.std.proofs.Common.{arith, refl, false}
-use Rattle.sqlite.specs.State.{HasCleanDisk}
+use Rattle.std.proofs.Common.{refl, false}
+use Rattle.std.proofs.lemmas.Result.{IfOk-from_err}
 use Rattle.sqlite.specs.Held.{state}
-use Rattle.store_statements.proofs.SettledAfter.{stays_then}
 use Rattle.store_statements.proofs.Transactions.{registry, survives_all}
-use Rattle.store_reads.proofs.ReadSequences.{passed_on}
+use Rattle.store_reads.proofs.ReadSequences.{stays_behind, told_behind, passed_on}
 use Rattle.store_reads.proofs.SessionBytes.{session_none, session_some}
 use Rattle.store_reads.proofs.sessions.session.Goals as goal
 
-pub returns-in_err-size-clause-settled : goal.returns-in_err-size-clause-settled
-returns-in_err-size-clause-settled g c clean is unspent =
-    c.find_upload.ensures.settled clean is (passed_on c.from_residual.result c.find_upload.result _ c.in_err-size.was c.from_residual.ensures.1 unspent)
+pub returns-in_ok-session_bytes-in-Some : goal.returns-in_ok-session_bytes-in-Some
+returns-in_ok-session_bytes-in-Some g c =
+    let old = state g.S.Store c.args.conn.now in
+    let mid = state g.S.Store c.find_upload.new.conn in
+    let new = state g.S.Store c.session_bytes.new.conn in
+    record {
+      found = λ clean is.
+          told_behind old mid new c.session_bytes.ensures.survives (λ early is. c.in_ok-size.ensures.settled early is (refl {a = false})) (λ early stays.
+          session_some old.now mid.now c.args.repo.now c.as_str-repo.result.now c.args.number c.in-Some.size c.in_ok-size.field-0 c.in_ok-session_bytes-in-Some.field-0.items
+          (registry old is) c.as_str-repo.ensures.text stays.1 c.in-Some.is (c.in_ok-size.ensures.found early is) (c.in_ok-session_bytes-in-Some.ensures.found clean stays.0)) clean is;
+      settled = λ clean is unspent.
+          stays_behind old mid new c.session_bytes.ensures.survives (λ early is. c.in_ok-size.ensures.settled early is (refl {a = false}))
+          (λ clean is. c.in_ok-session_bytes-in-Some.ensures.settled clean is (refl {a = false})) clean is;
+      survives = survives_all old mid new _ _ c.find_upload.ensures.survives c.session_bytes.ensures.survives;
+    }
 
-pub returns-in_err-session_bytes-in-Some-clause-settled :
-    goal.returns-in_err-session_bytes-in-Some-clause-settled
-returns-in_err-session_bytes-in-Some-clause-settled g c clean is unspent =
-    let mid : HasCleanDisk (state g.S.Store c.find_upload.new.conn) = omega (arith, c.session_bytes.ensures.survives.clean) in
-    stays_then (state g.S.Store c.args.conn.now) (state g.S.Store c.find_upload.new.conn) (state g.S.Store c.session_bytes.new.conn) (c.in_ok-size.ensures.settled mid is (refl {a = false}))
-    (c.session_bytes.ensures.settled clean (c.in_ok-size.ensures.settled mid is (refl {a = false})).0 (passed_on c.from_residual-in_err-session_bytes-in-Some.result c.session_bytes.result _ c.in_err-session_bytes-in-Some.was c.from_residual-in_err-session_bytes-in-Some.ensures.1 unspent))
+pub returns-in-None : goal.returns-in-None
+returns-in-None g c = record {
+  found = λ clean is.
+      session_none (state g.S.Store c.args.conn.now).now c.args.repo.now c.as_str-repo.result.now c.args.number c.in_ok-size.field-0
+      (registry (state g.S.Store c.args.conn.now) is) c.as_str-repo.ensures.text c.in-None.is (c.in_ok-size.ensures.found clean is);
+  settled = λ clean is unspent. c.in_ok-size.ensures.settled clean is (refl {a = false});
+  survives = c.find_upload.ensures.survives;
+}
 
-pub returns-in_err-session_bytes-in-Some-clause-survives :
-    goal.returns-in_err-session_bytes-in-Some-clause-survives
-returns-in_err-session_bytes-in-Some-clause-survives g c =
-    survives_all (state g.S.Store c.args.conn.now) (state g.S.Store c.find_upload.new.conn) (state g.S.Store c.session_bytes.new.conn) _ _ c.find_upload.ensures.survives c.session_bytes.ensures.survives
+pub returns-in_err-size : goal.returns-in_err-size
+returns-in_err-size g c = record {
+  found = λ clean is. IfOk-from_err c.from_residual.result _ c.from_residual.ensures.0;
+  settled = λ clean is unspent. c.find_upload.ensures.settled clean is (passed_on c.from_residual.result c.find_upload.result _ c.in_err-size.was c.from_residual.ensures.1 unspent);
+  survives = c.find_upload.ensures.survives;
+}
 
-pub returns-in_ok-session_bytes-in-Some-clause-found :
-    goal.returns-in_ok-session_bytes-in-Some-clause-found
-returns-in_ok-session_bytes-in-Some-clause-found g c clean is =
-    let mid : HasCleanDisk (state g.S.Store c.find_upload.new.conn) = omega (arith, c.session_bytes.ensures.survives.clean) in
-    session_some (state g.S.Store c.args.conn.now).now (state g.S.Store c.find_upload.new.conn).now c.args.repo.now c.as_str-repo.result.now c.args.number c.in-Some.size c.in_ok-size.field-0 c.in_ok-session_bytes-in-Some.field-0.items
-    (registry (state g.S.Store c.args.conn.now) is) c.as_str-repo.ensures.text (c.in_ok-size.ensures.settled mid is (refl {a = false})).1 c.in-Some.is (c.in_ok-size.ensures.found mid is) (c.in_ok-session_bytes-in-Some.ensures.found clean (c.in_ok-size.ensures.settled mid is (refl {a = false})).0)
-
-pub returns-in_ok-session_bytes-in-Some-clause-settled :
-    goal.returns-in_ok-session_bytes-in-Some-clause-settled
-returns-in_ok-session_bytes-in-Some-clause-settled g c clean is unspent =
-    let mid : HasCleanDisk (state g.S.Store c.find_upload.new.conn) = omega (arith, c.session_bytes.ensures.survives.clean) in
-    stays_then (state g.S.Store c.args.conn.now) (state g.S.Store c.find_upload.new.conn) (state g.S.Store c.session_bytes.new.conn) (c.in_ok-size.ensures.settled mid is (refl {a = false}))
-    (c.in_ok-session_bytes-in-Some.ensures.settled clean (c.in_ok-size.ensures.settled mid is (refl {a = false})).0 (refl {a = false}))
-
-pub returns-in_ok-session_bytes-in-Some-clause-survives :
-    goal.returns-in_ok-session_bytes-in-Some-clause-survives
-returns-in_ok-session_bytes-in-Some-clause-survives g c =
-    survives_all (state g.S.Store c.args.conn.now) (state g.S.Store c.find_upload.new.conn) (state g.S.Store c.session_bytes.new.conn) _ _ c.find_upload.ensures.survives c.session_bytes.ensures.survives
-
-pub returns-in-None-clause-found : goal.returns-in-None-clause-found
-returns-in-None-clause-found g c clean is =
-    session_none (state g.S.Store c.args.conn.now).now c.args.repo.now c.as_str-repo.result.now c.args.number c.in_ok-size.field-0
-    (registry (state g.S.Store c.args.conn.now) is) c.as_str-repo.ensures.text c.in-None.is (c.in_ok-size.ensures.found clean is)
+pub returns-in_err-session_bytes-in-Some : goal.returns-in_err-session_bytes-in-Some
+returns-in_err-session_bytes-in-Some g c =
+    let old = state g.S.Store c.args.conn.now in
+    let mid = state g.S.Store c.find_upload.new.conn in
+    let new = state g.S.Store c.session_bytes.new.conn in
+    record {
+      found = λ clean is. IfOk-from_err c.from_residual-in_err-session_bytes-in-Some.result _ c.from_residual-in_err-session_bytes-in-Some.ensures.0;
+      settled = λ clean is unspent.
+          stays_behind old mid new c.session_bytes.ensures.survives (λ early is. c.in_ok-size.ensures.settled early is (refl {a = false}))
+          (λ clean is. c.session_bytes.ensures.settled clean is (passed_on c.from_residual-in_err-session_bytes-in-Some.result c.session_bytes.result _ c.in_err-session_bytes-in-Some.was c.from_residual-in_err-session_bytes-in-Some.ensures.1 unspent)) clean is;
+      survives = survives_all old mid new _ _ c.find_upload.ensures.survives c.session_bytes.ensures.survives;
+    }

@@ -6,6 +6,11 @@ use Rattle.store_statements.proofs.Transactions.{registry}
 use Rattle.store_reads.proofs.WorldReads.{told}
 use Rattle.store_reads.proofs.tags.tag.Goals as goal
 
-pub returns-clause-found : goal.returns-clause-found
-returns-clause-found g c clean is =
-    told c.find_tag.result _ _ (sym (tag_at_found (held (state g.S.Store c.args.conn.now)) c.args.repo.now c.args.tag.now (registry (state g.S.Store c.args.conn.now) is))) (rw (c.as_str.ensures.text, c.as_str-2.ensures.text) at (c.find_tag.ensures.found clean is))
+pub returns : goal.returns
+returns g c = record {
+  found = λ clean is.
+      told c.find_tag.result _ _ (sym (tag_at_found (held (state g.S.Store c.args.conn.now)) c.args.repo.now c.args.tag.now (registry (state g.S.Store c.args.conn.now) is)))
+      (rw (c.as_str.ensures.text, c.as_str-2.ensures.text) at (c.find_tag.ensures.found clean is));
+  settled = c.find_tag.ensures.settled;
+  survives = c.find_tag.ensures.survives;
+}

@@ -7,9 +7,24 @@ use Rattle.store_statements.proofs.Transactions.{registry}
 use Rattle.store_reads.proofs.WorldReads.{told}
 use Rattle.store_reads.proofs.uploads.session_size.Goals as goal
 
-pub returns-then-number-le-LARGEST-clause-found : goal.returns-then-number-le-LARGEST-clause-found
-returns-then-number-le-LARGEST-clause-found g c clean is =
-    told c.find_upload.result _ _ (sym (session_size_found (held (state g.S.Store c.args.conn.now)) c.args.repo.now c.args.number (registry (state g.S.Store c.args.conn.now) is))) (rw c.as_str.ensures.text at (c.find_upload.ensures.found clean is))
+pub returns-then-number-le-LARGEST : goal.returns-then-number-le-LARGEST
+returns-then-number-le-LARGEST g c = record {
+  found = λ clean is.
+      told c.find_upload.result _ _ (sym (session_size_found (held (state g.S.Store c.args.conn.now)) c.args.repo.now c.args.number (registry (state g.S.Store c.args.conn.now) is))) (rw c.as_str.ensures.text at (c.find_upload.ensures.found clean is));
+  settled = c.find_upload.ensures.settled;
+  survives = c.find_upload.ensures.survives;
+}
 
-pub returns-in-Ok-clause-found : goal.returns-in-Ok-clause-found
-returns-in-Ok-clause-found g c clean is = ap (option_map length) (sym (c.in-Ok.ensures.found clean is))
+pub returns-in-Ok : goal.returns-in-Ok
+returns-in-Ok g c = record {
+  found = λ clean is. ap (option_map length) (sym (c.in-Ok.ensures.found clean is));
+  settled = c.in-Ok.ensures.settled;
+  survives = c.expect_no_session.ensures.survives;
+}
+
+pub returns-in-Err : goal.returns-in-Err
+returns-in-Err g c = record {
+  found = λ clean is. tt;
+  settled = λ clean is unspent. c.in-Err.ensures.settled clean is unspent;
+  survives = c.expect_no_session.ensures.survives;
+}
