@@ -1,15 +1,28 @@
 -- One argument or one subcommand more.
-use Rattle.std.proofs.Common.{◌≡◌, ◌∙◌, ℕ, Option, Some, true, ap, ap₂}
-use Rattle.clap.specs.Words.{App, Rule, rule_of, AddsArg, AddsSubcommand, with_rule, with_subcommand}
+use Rattle.std.proofs.Common.{◌≡◌, ◌∙◌, ◌<◌, ◌+◌, ℕ, Option, Some, List, [], ◌∷◌, ◌++◌, map, take, length, get_or, true, ap, ap₂, sym, subst}
+use Rattle.std.proofs.lemmas.List.{take_more, map-append}
+use Rattle.clap.specs.Words.{App, Rule, Text, rule_of, AddsArg, AddsSubcommand, with_rule, with_subcommand}
 use Rattle.clap.proofs.SimpleLemmas.{plain_fields}
 use Rattle.clap.specs.declared.builder.Arg.{Arg}
 use Rattle.clap.specs.declared.builder.Command.{Command}
 use Rattle.clap.specs.declared.builder.ValueParser.{ValueParser}
 use Rattle.clap.specs.declared.builder.ValueParser.TheVariants.{Unsigned}
-use Rattle.command_line.specs.CommandLine.{HasRule, IsApp, required, within}
+use Rattle.command_line.specs.CommandLine.{HasRule, IsApp, IsSub, alone, subcommand, required, within}
+use Rattle.command_line.specs.declared.options.SubOption.{SubOption}
+use Rattle.command_line.specs.Options.{rule_shown}
 
 pub arg_added : (app : App) (r : Rule) (old new : Command) (a : Arg) → IsApp app old → HasRule r a → AddsArg old a new → IsApp (with_rule app r) new
 arg_added app r old new a is has added = added.shape has.1 ∙ ap₂ with_rule is has.0
+
+-- one option more of those that are gone over
+pub option_added : (word : Text) (options : List SubOption) (i : ℕ) (d : SubOption) (old new : Command) (a : Arg) → i < length options
+    → IsSub (subcommand word (map rule_shown (take i options))) old → HasRule (rule_shown (get_or options i d)) a → AddsArg old a new
+    → IsSub (subcommand word (map rule_shown (take (i + 1) options))) new
+option_added word options i d old new a low is has added =
+    let o = get_or options i d in
+    let more : map rule_shown (take (i + 1) options) ≡ map rule_shown (take i options) ++ rule_shown o ∷ [] =
+    ap (map rule_shown) (take_more options i d low) ∙ map-append rule_shown (take i options) (o ∷ []) in
+    subst (λ (rules : List Rule). IsSub (subcommand word rules) new) (sym more) (arg_added (alone (subcommand word (map rule_shown (take i options)))) (rule_shown o) old new a is has added)
 
 pub sub_added : (app sub : App) (old new c : Command) → IsApp app old → IsApp sub c → sub.top.is_plain ≡ true → AddsSubcommand old c new
     → IsApp (with_subcommand app sub.top) new

@@ -1,17 +1,16 @@
-//! The options, each with its word, the values that it takes and its help.
+//! The arguments that read options.
 ghost use Rattle.clap.specs.Words.{Rule};
 ghost use Rattle.command_line.specs.CommandLine as spec;
 ghost use Rattle.command_line.specs.CommandLine.{HasRule};
+ghost use Rattle.command_line.specs.Options.{rule_shown};
 
+use crate::options::{SubOption, Takes};
 use clap::builder::ValueParser;
 use clap::{Arg, ArgAction};
 use std::alloc::Global;
 
-/// The largest number that an option takes: also the largest quota, and the most connections.
-pub(crate) const MOST: u64 = 9_223_372_036_854_775_807;
-
 /// An option with one value.
-pub(crate) fn option<'a>(alloc: Global, word: &'a str, value: &'a str, help: &'a str) -> Arg<'a>
+fn option<'a>(alloc: Global, word: &'a str, value: &'a str, help: &'a str) -> Arg<'a>
     ensures { HasRule (spec.option word.entry.now) result }
 {
     Arg::new(alloc, word)
@@ -29,7 +28,7 @@ fn within<'a>(option: Arg<'a>, least: u64, most: u64) -> Arg<'a>
 }
 
 /// An option that is given or not.
-pub(crate) fn flag<'a>(alloc: Global, word: &'a str, help: &'a str) -> Arg<'a>
+fn flag<'a>(alloc: Global, word: &'a str, help: &'a str) -> Arg<'a>
     ensures { HasRule (spec.flag word.entry.now) result }
 {
     Arg::new(alloc, word)
@@ -38,72 +37,26 @@ pub(crate) fn flag<'a>(alloc: Global, word: &'a str, help: &'a str) -> Arg<'a>
         .help(help)
 }
 
-pub(crate) fn database<'a>(alloc: Global) -> Arg<'a>
-    ensures { HasRule spec.db result }
+/// The argument that reads an option.
+pub(crate) fn argument<'a>(alloc: Global, given: SubOption<'a>) -> Arg<'a>
+    ensures { HasRule (rule_shown given.entry) result }
 {
-    option(alloc, "db", "PATH", "The database file")
-}
-
-pub(crate) fn orders<'a>(alloc: Global, help: &'a str) -> Arg<'a>
-    ensures { HasRule spec.orders result }
-{
-    option(alloc, "orders", "PATH", help)
-}
-
-pub(crate) fn name<'a>(alloc: Global) -> Arg<'a>
-    ensures { HasRule spec.name result }
-{
-    option(alloc, "name", "NAME", "The repository").required(true)
-}
-
-/// The name of a repository, which may be left out.
-pub(crate) fn name_if<'a>(alloc: Global) -> Arg<'a>
-    ensures { HasRule spec.name_if result }
-{
-    let help = "The repository; without it, all of them";
-    option(alloc, "name", "NAME", help)
-}
-
-pub(crate) fn quota<'a>(alloc: Global) -> Arg<'a>
-    ensures { HasRule spec.quota result }
-{
-    let help = "The most bytes that the repository may use";
-    let quota = option(alloc, "quota", "BYTES", help).required(true);
-    within(quota, 0, MOST)
-}
-
-pub(crate) fn level<'a>(alloc: Global) -> Arg<'a>
-    ensures { HasRule spec.level result }
-{
-    let level = option(alloc, "level", "LEVEL", "1 pull, 2 push, 3 delete");
-    within(level.required(true), 1, 3)
-}
-
-/// An option with one value, which may be given any number of times.
-pub(crate) fn repeated<'a>(alloc: Global, word: &'a str, value: &'a str, help: &'a str) -> Arg<'a>
-    ensures { HasRule (spec.repeated word.entry.now) result }
-{
-    option(alloc, word, value, help).action(ArgAction::Append)
-}
-
-pub(crate) fn address<'a>(alloc: Global) -> Arg<'a>
-    ensures { HasRule spec.listen result }
-{
-    option(alloc, "listen", "ADDR", "The address and port to listen on").required(true)
-}
-
-/// An option with a number, which has a default.
-pub(crate) fn number<'a>(
-    alloc: Global,
-    word: &'a str,
-    value: &'a str,
-    help: &'a str,
-    least: u64,
-    most: u64,
-    default: &'a str,
-) -> Arg<'a>
-    ensures { HasRule (spec.with_default default.entry.now (spec.within least most
-        (spec.option word.entry.now))) result }
-{
-    within(option(alloc, word, value, help), least, most).default_value(default)
+    let word = given.word;
+    let help = given.help;
+    match given.takes {
+        Takes::Nothing => flag(alloc, word, help),
+        Takes::One(value) => option(alloc, word, value, help),
+        Takes::Required(value) => option(alloc, word, value, help).required(true),
+        Takes::Many(value) => option(alloc, word, value, help).action(ArgAction::Append),
+        Takes::Number { value, least, most } => {
+            let wanted = option(alloc, word, value, help).required(true);
+            within(wanted, least, most)
+        }
+        Takes::NumberOr {
+            value,
+            least,
+            most,
+            default,
+        } => within(option(alloc, word, value, help), least, most).default_value(default),
+    }
 }

@@ -6,6 +6,7 @@
 
 pub mod arguments;
 pub mod grammar;
+mod options;
 mod results;
 pub mod subcommands;
 

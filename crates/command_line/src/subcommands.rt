@@ -1,87 +1,45 @@
 //! The subcommands, each with the options that it takes.
-ghost use Rattle.std.specs.Prelude.{◌≡◌, IfOk};
-ghost use Rattle.clap.specs.Words.{App, Rule, with_rule};
-ghost use Rattle.clap.specs.Simple.{new_shape};
+ghost use Rattle.std.specs.Prelude.{map, IfOk};
 ghost use Rattle.command_line.specs.CommandLine as spec;
-ghost use Rattle.command_line.specs.CommandLine.{HasRule, IsApp, IsSub};
+ghost use Rattle.command_line.specs.CommandLine.{IsSub};
+ghost use Rattle.command_line.specs.Options.{rule_shown};
 
-use crate::arguments::{
-    MOST, address, database, flag, level, name, name_if, number, option, orders, quota, repeated,
+use crate::arguments::argument;
+use crate::options::{
+    GRANT, LISTING, LISTING_OF_GRANTS, LISTING_OF_REPO, ORDERING, OVER_DATABASE, OVER_QUOTA,
+    OVER_REPO, PRUNE, REVOKE, SERVE, STDIO, STOP, SubOption,
 };
-use clap::{Arg, Command};
+use clap::Command;
 use std::alloc::{AllocError, Global};
 
-/// The fewest bytes that may be given for requests and replies in hand: the largest of each.
-const LEAST_BUFFER: u64 = 134_217_728;
-
-/// The command with one more argument. A chain of these has one `?`, and not one for each argument, since
-/// each `?` of a function makes it dearer to prove.
-fn with<'a>(
-    command: Result<Command<'a>, AllocError>,
-    arg: Arg<'a>,
+/// A subcommand with these options, in their order. A table of options has no calls, each of which would
+/// make a function dearer to prove.
+fn with_options<'a>(
+    alloc: Global,
+    word: &'a str,
+    about: &'a str,
+    options: &[SubOption<'a>],
 ) -> Result<Command<'a>, AllocError>
-    ensures { (app : App) (rule : Rule) → IfOk command.entry (IsApp app) → HasRule rule arg.entry
-        → IfOk result (IsApp (with_rule app rule)) }
+    ensures { IfOk result (IsSub (spec.subcommand word.entry.now (map rule_shown options.now))) }
 {
-    command?.arg(arg)
-}
-
-/// A command that has no argument yet.
-fn bare<'a>(alloc: Global, word: &'a str, about: &'a str) -> Result<Command<'a>, AllocError>
-    ensures { IfOk result (IsSub (new_shape word.entry.now)) }
-{
-    Ok(Command::new(alloc, word).about(about))
+    let mut command = Command::new(alloc, word).about(about);
+    for option in options {
+        command = command.arg(argument(alloc, *option))?;
+    }
+    Ok(command)
 }
 
 pub(crate) fn stdio<'a>(alloc: Global) -> Result<Command<'a>, AllocError>
     ensures { IfOk result (IsSub spec.stdio) }
 {
-    let command = bare(alloc, "stdio", "Serve standard input as one connection");
-    let command = with(command, database(alloc));
-    let command = with(command, flag(alloc, "memory", "Keep everything in memory"));
-    let help = "Make a repository with a quota in bytes";
-    let command = with(command, repeated(alloc, "repo", "NAME=QUOTA", help));
-    let help = "Give a token a level on a repository: 1 pull, 2 push, 3 delete";
-    with(command, repeated(alloc, "grant", "TOKEN=NAME=LEVEL", help))
-}
-
-/// One that serves connections within limits.
-fn serving<'a>(alloc: Global) -> Result<Command<'a>, AllocError>
-    ensures { IfOk result (IsSub spec.serving_within) }
-{
-    let command = over_database(alloc, "serve", "Serve connections");
-    let command = with(command, address(alloc));
-    let help = "End after so many connections";
-    let most = "9223372036854775807";
-    let connections = number(alloc, "connections", "N", help, 0, MOST, most);
-    let command = with(command, connections);
-    let help = "Serve so many at once; 1: one after the other";
-    let at_once = number(alloc, "at-once", "N", help, 1, 65_536, "256");
-    let command = with(command, at_once);
-    let help = "About how many bytes of requests and replies may be in hand";
-    let buffer = number(
-        alloc,
-        "buffer",
-        "BYTES",
-        help,
-        LEAST_BUFFER,
-        MOST,
-        "536870912",
-    );
-    let command = with(command, buffer);
-    let help = "Close one that says and takes nothing for so long";
-    let idle = number(alloc, "idle", "SECONDS", help, 1, 86_400, "60");
-    with(command, idle)
+    let about = "Serve standard input as one connection";
+    with_options(alloc, "stdio", about, &STDIO)
 }
 
 pub(crate) fn serve<'a>(alloc: Global) -> Result<Command<'a>, AllocError>
     ensures { IfOk result (IsSub spec.serve) }
 {
-    let command = with(serving(alloc), orders(alloc, "Take orders at this socket"));
-    let saying = "Say each request on standard error";
-    let command = with(command, flag(alloc, "log", saying));
-    let stopping = "End when the other end of standard input is closed";
-    with(command, flag(alloc, "stop-at-eof", stopping))
+    with_options(alloc, "serve", "Serve connections", &SERVE)
 }
 
 /// One over a database that no server holds.
@@ -92,14 +50,13 @@ pub(crate) fn over_database<'a>(
 ) -> Result<Command<'a>, AllocError>
     ensures { IfOk result (IsSub (spec.over_database word.entry.now)) }
 {
-    with(bare(alloc, word, about), database(alloc).required(true))
+    with_options(alloc, word, about, &OVER_DATABASE)
 }
 
 pub(crate) fn stop<'a>(alloc: Global) -> Result<Command<'a>, AllocError>
     ensures { IfOk result (IsSub spec.stop) }
 {
-    let orders = orders(alloc, "The socket at which it takes orders");
-    with(bare(alloc, "stop", "End a server"), orders.required(true))
+    with_options(alloc, "stop", "End a server", &STOP)
 }
 
 /// A subcommand that orders something, of a database or of the server that holds it.
@@ -110,11 +67,7 @@ pub(crate) fn ordering<'a>(
 ) -> Result<Command<'a>, AllocError>
     ensures { IfOk result (IsSub (spec.ordering word.entry.now)) }
 {
-    let command = with(bare(alloc, word, about), database(alloc));
-    with(
-        command,
-        orders(alloc, "The socket of a server that holds it"),
-    )
+    with_options(alloc, word, about, &ORDERING)
 }
 
 /// One over a repository.
@@ -125,7 +78,7 @@ pub(crate) fn over_repo<'a>(
 ) -> Result<Command<'a>, AllocError>
     ensures { IfOk result (IsSub (spec.over_repo word.entry.now)) }
 {
-    with(ordering(alloc, word, about), name(alloc))
+    with_options(alloc, word, about, &OVER_REPO)
 }
 
 /// One that takes away what no manifest names, or lists it.
@@ -134,8 +87,7 @@ pub(crate) fn prune<'a>(alloc: Global) -> Result<Command<'a>, AllocError>
 {
     let about =
         "Take away the blobs of a repository that none of its manifests names; clear then frees their bytes";
-    let listing = flag(alloc, "dry-run", "List them, and take none away");
-    with(over_repo(alloc, "prune", about), listing)
+    with_options(alloc, "prune", about, &PRUNE)
 }
 
 /// One that lists something.
@@ -146,10 +98,7 @@ pub(crate) fn listing<'a>(
 ) -> Result<Command<'a>, AllocError>
     ensures { IfOk result (IsSub (spec.listing word.entry.now)) }
 {
-    with(
-        ordering(alloc, word, about),
-        flag(alloc, "json", "As one JSON array"),
-    )
+    with_options(alloc, word, about, &LISTING)
 }
 
 /// One that lists something of a repository.
@@ -160,10 +109,7 @@ pub(crate) fn listing_of_repo<'a>(
 ) -> Result<Command<'a>, AllocError>
     ensures { IfOk result (IsSub (spec.listing_of_repo word.entry.now)) }
 {
-    with(
-        over_repo(alloc, word, about),
-        flag(alloc, "json", "As one JSON array"),
-    )
+    with_options(alloc, word, about, &LISTING_OF_REPO)
 }
 
 /// One that sets the repository's quota.
@@ -174,26 +120,14 @@ pub(crate) fn over_quota<'a>(
 ) -> Result<Command<'a>, AllocError>
     ensures { IfOk result (IsSub (spec.over_quota word.entry.now)) }
 {
-    with(over_repo(alloc, word, about), quota(alloc))
-}
-
-/// One that takes a token, on the command line or from elsewhere.
-fn over_token<'a>(alloc: Global, word: &'a str, about: &'a str) -> Result<Command<'a>, AllocError>
-    ensures { IfOk result (IsSub (spec.over_token word.entry.now)) }
-{
-    let command = ordering(alloc, word, about);
-    let help =
-        "The token, or - for a line of standard input; another that begins with - as --token=-x";
-    let command = with(command, option(alloc, "token", "TOKEN", help));
-    let help = "A file, the first line of which is the token";
-    with(command, option(alloc, "token-file", "PATH", help))
+    with_options(alloc, word, about, &OVER_QUOTA)
 }
 
 pub(crate) fn grant<'a>(alloc: Global) -> Result<Command<'a>, AllocError>
     ensures { IfOk result (IsSub spec.grant) }
 {
-    let command = over_token(alloc, "grant", "Give a token a level on a repository");
-    with(with(command, name(alloc)), level(alloc))
+    let about = "Give a token a level on a repository";
+    with_options(alloc, "grant", about, &GRANT)
 }
 
 /// One that takes a level away, or all of a token's levels.
@@ -201,16 +135,13 @@ pub(crate) fn revoke<'a>(alloc: Global) -> Result<Command<'a>, AllocError>
     ensures { IfOk result (IsSub spec.revoke) }
 {
     let about = "Take a token's level on a repository away; without --name, all its levels";
-    with(over_token(alloc, "revoke", about), name_if(alloc))
+    with_options(alloc, "revoke", about, &REVOKE)
 }
 
 /// One that lists the levels of one token or of all, on one repository or on all.
 pub(crate) fn listing_of_grants<'a>(alloc: Global) -> Result<Command<'a>, AllocError>
     ensures { IfOk result (IsSub spec.listing_of_grants) }
 {
-    let command = over_token(alloc, "grants", "List the levels of tokens on repositories");
-    let command = with(command, name_if(alloc));
-    let showing = "Show tokens whole, and not their first four characters";
-    let command = with(command, flag(alloc, "show-tokens", showing));
-    with(command, flag(alloc, "json", "As one JSON array"))
+    let about = "List the levels of tokens on repositories";
+    with_options(alloc, "grants", about, &LISTING_OF_GRANTS)
 }

@@ -1,13 +1,13 @@
 //! Lists as JSON.
 ghost use Rattle.std.specs.Prelude.{◌≡◌, map, string_bytes, IfOk};
-ghost use Rattle.serde_json.specs.Data.{array};
+ghost use Rattle.serde_json.specs.Data.{array, object, member, no_members, string};
 ghost use Rattle.serde_json.specs.View.{view, items_view};
 ghost use Rattle.oci_manifest.specs.Member.{text_items};
-ghost use Rattle.list_texts.specs.Items.{item_shown, blob_item, grant_item};
+ghost use Rattle.list_texts.specs.Items.{item_shown, tag_item, blob_item, grant_item};
 ghost use Rattle.list_texts.specs.Texts.{data_of, list_data, json_of};
 
 use crate::items::{Item, number_of};
-use oci_names::{Digest, RepoName};
+use oci_names::{Digest, RepoName, Tag};
 use registry_model::Level;
 use serde_json::{Value, json};
 use std::alloc::{AllocError, Global};
@@ -30,8 +30,11 @@ fn blob_value(
 ) -> Result<Value, AllocError>
     ensures { IfOk result (λ v. view v ≡ data_of (blob_item digest.now size manifests.now)) }
 {
-    let manifests = Value::Array(digest_values(alloc, manifests)?);
-    json!(in alloc; {"digest": digest.as_str(), "manifests": manifests, "size": size})
+    json!(in alloc; {
+        "digest": digest.as_str(),
+        "manifests": Value::Array(digest_values(alloc, manifests)?),
+        "size": size
+    })
 }
 
 fn grant_value(
@@ -46,20 +49,31 @@ fn grant_value(
     json!(in alloc; {"level": level, "name": name.as_str(), "token": token})
 }
 
+/// An object of one text.
+fn text_value(alloc: Global, key: &str, text: &str) -> Result<Value, AllocError>
+    ensures { IfOk result (λ v. view v ≡ object (member key.now (string text.now) no_members)) }
+{
+    json!(in alloc; {key: text})
+}
+
+fn tag_value(alloc: Global, tag: &Tag, digest: &Digest) -> Result<Value, AllocError>
+    ensures { IfOk result (λ v. view v ≡ data_of (tag_item tag.now digest.now)) }
+{
+    json!(in alloc; {"digest": digest.as_str(), "tag": tag.as_str()})
+}
+
 fn item_value(alloc: Global, item: &Item) -> Result<Value, AllocError>
     ensures { IfOk result (λ v. view v ≡ data_of (item_shown item.now)) }
 {
     match item {
-        Item::Repo { name } => json!(in alloc; {"name": name.as_str()}),
-        Item::Tag { tag, digest } => {
-            json!(in alloc; {"digest": digest.as_str(), "tag": tag.as_str()})
-        }
+        Item::Repo { name } => text_value(alloc, "name", name.as_str()),
+        Item::Tag { tag, digest } => tag_value(alloc, tag, digest),
         Item::Blob {
             digest,
             size,
             manifests,
         } => blob_value(alloc, digest, *size, manifests),
-        Item::Unnamed { digest } => json!(in alloc; {"digest": digest.as_str()}),
+        Item::Unnamed { digest } => text_value(alloc, "digest", digest.as_str()),
         Item::Grant { name, token, level } => grant_value(alloc, name, token.as_str(), *level),
     }
 }

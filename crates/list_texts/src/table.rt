@@ -56,9 +56,16 @@ impl fmt::Display for Numbers {
 
     fn fmt<W: fmt::Write>(&self, f: &mut fmt::Formatter<W>) -> fmt::Result {
         let usage = self.0;
-        write!(f, "{}{}", Bytes(usage.used), Bytes(usage.quota))?;
-        write!(f, "{}{}", Count(usage.blobs), Count(usage.manifests))?;
-        write!(f, "{}{}", Count(usage.tags), Count(usage.sessions))
+        write!(
+            f,
+            "{}{}{}{}{}{}",
+            Bytes(usage.used),
+            Bytes(usage.quota),
+            Count(usage.blobs),
+            Count(usage.manifests),
+            Count(usage.tags),
+            Count(usage.sessions)
+        )
     }
 }
 

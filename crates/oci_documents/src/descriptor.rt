@@ -13,12 +13,46 @@ use serde_json::Value;
 use std::alloc::Global;
 
 /// What is kept of a descriptor.
-#[derive(Drop)]
 pub(crate) struct Descriptor {
     pub(crate) media_type: String,
     pub(crate) digest: Digest,
     /// Its content may be had from a URL.
     pub(crate) elsewhere: bool,
+}
+
+impl Drop for Descriptor {
+    fn drop(self) {
+        let Descriptor {
+            media_type: _,
+            digest: _,
+            elsewhere: _,
+        } = self;
+    }
+}
+
+impl Descriptor {
+    pub(crate) fn into_digest(self) -> Digest
+        ensures { result ≡ self.digest }
+    {
+        let Descriptor {
+            media_type: _,
+            digest,
+            elsewhere: _,
+        } = self;
+        digest
+    }
+
+    /// Its media type and its digest.
+    pub(crate) fn into_parts(self) -> (String, Digest)
+        ensures { result ≡ (self.media_type, self.digest) }
+    {
+        let Descriptor {
+            media_type,
+            digest,
+            elsewhere: _,
+        } = self;
+        (media_type, digest)
+    }
 }
 
 fn read_media_type<'v>(fault: ManifestFault, value: &'v Value) -> Result<&'v str, ManifestFault>
@@ -56,7 +90,7 @@ pub(crate) fn read_descriptor(
     let digest = read_digest(alloc, fault, value)?;
     let _size = member::size(fault, value, "size")?;
     let elsewhere = member::some_text(fault, value, "urls")?;
-    let _annotations = member::texts(alloc, fault, value, "annotations")?;
+    drop(member::texts(alloc, fault, value, "annotations")?);
     let _inline = member::optional_text(fault, value, "data")?;
     let _artifact_type = member::optional_text(fault, value, "artifactType")?;
     let media_type = String::from_str(alloc, media_type)?;

@@ -35,11 +35,12 @@ fn check_version(value: &Value) -> Result<(), ManifestFault>
     ensures { Finds ManifestFault.SchemaVersion (λ u. u) result (version_of (view value.now)) }
 {
     let fault = ManifestFault::SchemaVersion;
-    let member = value.get("schemaVersion").ok_or(fault)?;
-    if member.as_u64().ok_or(fault)? == 2 {
-        Ok(())
-    } else {
-        Err(fault)
+    match value.get("schemaVersion") {
+        Some(member) => match member.as_u64() {
+            Some(2) => Ok(()),
+            _ => Err(fault),
+        },
+        None => Err(fault),
     }
 }
 
@@ -65,7 +66,7 @@ fn read_subject(alloc: Global, value: &Value) -> Result<Option<Digest>, Manifest
         None => Ok(None),
         Some(found) => {
             let descriptor = read_descriptor(alloc, ManifestFault::Subject, found)?;
-            Ok(Some(descriptor.digest))
+            Ok(Some(descriptor.into_digest()))
         }
     }
 }
@@ -96,21 +97,26 @@ fn choose_artifact_type(
 fn read_rules(alloc: Global, value: &Value) -> Result<Manifest, ManifestFault>
     ensures { Gives shown result (manifest_of (view value.now)) }
 {
-    let _members = value.as_object().ok_or(ManifestFault::NotObject)?;
+    let Some(_members) = value.as_object() else {
+        return Err(ManifestFault::NotObject);
+    };
     check_version(value)?;
-    let body = read_body(value)?;
+    let Some(body) = read_body(value) else {
+        return Err(ManifestFault::Kind);
+    };
     let kind = body.kind();
     check_own_type(kind, value)?;
     let contents = read_contents(alloc, &body)?;
     let annotations = member::texts(alloc, ManifestFault::Annotations, value, "annotations")?;
     let subject = read_subject(alloc, value)?;
     let own = member::optional_text(ManifestFault::ArtifactType, value, "artifactType")?;
-    let artifact_type = choose_artifact_type(alloc, own, contents.config_type)?;
+    let (config_type, needs, names) = contents.into_parts();
+    let artifact_type = choose_artifact_type(alloc, own, config_type)?;
     Ok(Manifest {
         kind,
         artifact_type,
-        needs: contents.needs,
-        names: contents.names,
+        needs,
+        names,
         subject,
         annotations,
     })

@@ -1,6 +1,6 @@
 //! Members of a JSON object, in the form that a rule asks for.
 
-ghost use Rattle.std.specs.Prelude.{◌≡◌, option_map};
+ghost use Rattle.std.specs.Prelude.{◌≡◌, [], option_map};
 ghost use Rattle.serde_json.specs.View.{view, items_view, members_view};
 ghost use Rattle.oci_manifest.specs.Part.{Finds};
 ghost use Rattle.oci_manifest.specs.Member.{present_at, text_at, optional_text_at, list_at, size_at, all_texts, has_items, some_text, some_text_at, pairs_of, texts_of, texts_at};
@@ -29,8 +29,10 @@ pub(crate) fn text<'v>(
 ) -> Result<&'v str, ManifestFault>
     ensures { Finds fault (λ s. s.now) result (text_at key.now (view value.now)) }
 {
-    let found = value.get(key).ok_or(fault)?;
-    found.as_str().ok_or(fault)
+    match value.get(key) {
+        Some(found) => found.as_str().ok_or(fault),
+        None => Err(fault),
+    }
 }
 
 /// A text that may be absent or null.
@@ -44,7 +46,10 @@ pub(crate) fn optional_text<'v>(
 {
     match present(value, key) {
         None => Ok(None),
-        Some(found) => Ok(Some(found.as_str().ok_or(fault)?)),
+        Some(found) => match found.as_str() {
+            Some(text) => Ok(Some(text)),
+            None => Err(fault),
+        },
     }
 }
 
@@ -63,7 +68,9 @@ pub(crate) fn list<'v>(value: &'v Value, key: &str) -> Option<&'v [Value]>
 pub(crate) fn size(fault: ManifestFault, value: &Value, key: &str) -> Result<u64, ManifestFault>
     ensures { Finds fault (λ n. n) result (size_at key.now (view value.now)) }
 {
-    let found = value.get(key).ok_or(fault)?;
+    let Some(found) = value.get(key) else {
+        return Err(fault);
+    };
     let size = found.as_u64().ok_or(fault)?;
     if size <= LARGEST_SIZE {
         Ok(size)
@@ -103,7 +110,9 @@ pub(crate) fn some_text(
     match present(value, key) {
         None => Ok(false),
         Some(found) => {
-            let items = found.as_array().ok_or(fault)?;
+            let Some(items) = found.as_array() else {
+                return Err(fault);
+            };
             if are_texts(items) {
                 Ok(is_filled(items))
             } else {
@@ -113,21 +122,23 @@ pub(crate) fn some_text(
     }
 }
 
-fn texts_of_members(
+/// Fills an empty map with the members, if they are texts.
+fn fill(
     alloc: Global,
     fault: ManifestFault,
+    texts: &mut BTreeMap<String, String>,
     members: &Map<String, Value>,
-) -> Result<BTreeMap<String, String>, ManifestFault>
-    ensures { Finds fault (λ m. pairs_of m.entries) result
+) -> Result<(), ManifestFault>
+    requires { texts.old.entries ≡ [] }
+    ensures { Finds fault (λ _. pairs_of texts.new.entries) result
         (texts_of (members_view members.now.entries)) }
 {
-    let mut texts = BTreeMap::new(alloc);
     for (key, member) in members.iter() {
         let text = member.as_str().ok_or(fault)?;
         let name = key.clone()?;
         drop(texts.insert(name, String::from_str(alloc, text)?)?);
     }
-    Ok(texts)
+    Ok(())
 }
 
 /// An object of texts. One that is absent or null is empty.
@@ -142,8 +153,12 @@ pub(crate) fn texts(
     match present(value, key) {
         None => Ok(BTreeMap::new(alloc)),
         Some(found) => {
-            let members = found.as_object().ok_or(fault)?;
-            texts_of_members(alloc, fault, members)
+            let Some(members) = found.as_object() else {
+                return Err(fault);
+            };
+            let mut texts = BTreeMap::new(alloc);
+            fill(alloc, fault, &mut texts, members)?;
+            Ok(texts)
         }
     }
 }

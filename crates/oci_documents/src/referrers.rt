@@ -1,6 +1,6 @@
 //! The body of a list of referrers.
 
-ghost use Rattle.std.specs.Prelude.{◌≡◌, codes, string_bytes, option_map, IfOk, IfErr, OnOk};
+ghost use Rattle.std.specs.Prelude.{◌≡◌, [], codes, string_bytes, option_map, IfOk, IfErr, OnOk};
 ghost use Rattle.serde_json.specs.View.{view, items_view, members_view};
 ghost use Rattle.oci_manifest.specs.Member.{pairs_of, text_members};
 ghost use Rattle.oci_manifest.specs.Referrers.{referrer_shown, referrers_shown, referrers_line, put_texts, put_text, fixed_members, referrer_data, referrer_items, referrers_data};
@@ -12,17 +12,20 @@ use serde_json::{Map, Value, json};
 use std::alloc::{AllocError, Global};
 use std::collections::BTreeMap;
 
-fn fixed_value(alloc: Global, referrer: &Referrer) -> Result<Map<String, Value>, AllocError>
-    ensures { IfOk result (λ m. members_view m.entries
+fn put_fixed(
+    alloc: Global,
+    members: &mut Map<String, Value>,
+    referrer: &Referrer,
+) -> Result<(), AllocError>
+    requires { members.old.entries ≡ [] }
+    ensures { OnOk result (members_view members.new.entries
         ≡ fixed_members referrer.now.digest referrer.now.kind referrer.now.size) }
 {
-    let mut members = Map::new(alloc);
     let digest = Value::try_from_str(alloc, referrer.digest.as_str())?;
-    serde_json::put(&mut members, alloc, "digest", digest)?;
+    serde_json::put(members, alloc, "digest", digest)?;
     let media_type = Value::try_from_str(alloc, referrer.kind.media_type())?;
-    serde_json::put(&mut members, alloc, "mediaType", media_type)?;
-    serde_json::put(&mut members, alloc, "size", Value::from(referrer.size))?;
-    Ok(members)
+    serde_json::put(members, alloc, "mediaType", media_type)?;
+    serde_json::put(members, alloc, "size", Value::from(referrer.size))
 }
 
 fn put_artifact_type(
@@ -41,19 +44,21 @@ fn put_artifact_type(
     Ok(())
 }
 
-fn texts_value(
+/// Fills an empty map with the texts.
+fn fill(
     alloc: Global,
+    members: &mut Map<String, Value>,
     texts: &BTreeMap<String, String>,
-) -> Result<Map<String, Value>, AllocError>
-    ensures { IfOk result (λ m. members_view m.entries
+) -> Result<(), AllocError>
+    requires { members.old.entries ≡ [] }
+    ensures { OnOk result (members_view members.new.entries
         ≡ text_members (pairs_of texts.now.entries)) }
 {
-    let mut members = Map::new(alloc);
     for (key, text) in texts.iter() {
         let name = key.clone()?;
         drop(members.insert(name, Value::try_from_str(alloc, text.as_str())?)?);
     }
-    Ok(members)
+    Ok(())
 }
 
 fn put_annotations(
@@ -66,8 +71,9 @@ fn put_annotations(
         (members_view members.old.entries)) }
 {
     if !annotations.is_empty() {
-        let value = Value::Object(texts_value(alloc, annotations)?);
-        serde_json::put(members, alloc, "annotations", value)?;
+        let mut texts = Map::new(alloc);
+        fill(alloc, &mut texts, annotations)?;
+        serde_json::put(members, alloc, "annotations", Value::Object(texts))?;
     }
     Ok(())
 }
@@ -75,7 +81,8 @@ fn put_annotations(
 fn referrer_value(alloc: Global, referrer: &Referrer) -> Result<Value, AllocError>
     ensures { IfOk result (λ v. view v ≡ referrer_data (referrer_shown referrer.now)) }
 {
-    let mut members = fixed_value(alloc, referrer)?;
+    let mut members = Map::new(alloc);
+    put_fixed(alloc, &mut members, referrer)?;
     put_artifact_type(alloc, &mut members, &referrer.artifact_type)?;
     put_annotations(alloc, &mut members, &referrer.annotations)?;
     Ok(Value::Object(members))

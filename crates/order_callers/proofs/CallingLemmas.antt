@@ -1,8 +1,8 @@
 -- Those who give orders, one after the other.
-use Rattle.std.proofs.Common.{◌≡◌, ◌≢◌, ◌⊎◌, ℕ, zero, suc, inl, inr, Bool, true, false, ◌||◌, ◌≤◌, ◌==◌, min, nat_le, arith, Option, option_map, position, List, [], ◌∷◌, ◌++◌, set, take, drop, ◌+◌, ◌<◌, length, get_or, Some, refl, sym, ap, ◌∙◌, subst, append-nil, append_assoc}
+use Rattle.std.proofs.Common.{◌≡◌, ◌≢◌, ◌⊎◌, ℕ, zero, suc, inl, inr, Bool, true, false, ◌||◌, ◌≤◌, ◌==◌, min, nat_le, arith, Option, option_map, position, List, [], ◌∷◌, ◌++◌, set, take, drop, ◌+◌, ◌<◌, length, get_or, Some, Result, Ok, Err, refl, sym, ap, ◌∙◌, subst, append-nil, append_assoc}
 use Rattle.std.specs.List.{remove, list_any}
 use Rattle.std.proofs.lemmas.List.{map-append, map-set, set-get_or, take_more, take_more_set, take_all, take-map, drop-map, drop_more, drop-set-lt}
-use Rattle.std.specs.Prelude.{MatchOption}
+use Rattle.std.specs.Prelude.{MatchOption, OnErr}
 use Rattle.std.proofs.lemmas.Bool.Decides.{nat_tests}
 use Rattle.std.proofs.lemmas.List.Elements.{All-nil, All-cons, All-append}
 use Rattle.oci_names.specs.Text.{Text}
@@ -12,6 +12,10 @@ use Rattle.order_messages.specs.Stopping.{stop_line, stop_answer}
 use Rattle.order_callers.specs.Calling.{Called, fresh, line_in, CarriesOutLine, Obeys, Attends, AttendsAll, Come, Stay}
 use Rattle.order_callers.specs.declared.caller.Caller.{Caller}
 use Rattle.order_callers.specs.Calls.{called, all_called}
+
+pub anyway_on_err : {T E : Type 0} (P : Type 0) (r : Result T E) → P → OnErr r P
+anyway_on_err P (Ok x) p = tt
+anyway_on_err P (Err e) p = p
 
 take_min : (k : ℕ) (xs : Text) → take (min k (length xs)) xs ≡ take k xs
 take_min k xs = by_test (nat_le k (length xs)) refl

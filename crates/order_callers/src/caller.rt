@@ -23,7 +23,6 @@ const PATIENCE: u64 = 10;
 const TIMES: usize = 16;
 
 /// A socket over which one line comes, and its answer goes.
-#[derive(Drop)]
 pub struct Caller {
     pub token: Token,
     stream: UnixStream,
@@ -41,6 +40,24 @@ pub struct Caller {
     /// It asked the server to stop.
     pub stops: bool,
     since: Duration,
+}
+
+impl Drop for Caller {
+    fn drop(self) {
+        let Caller {
+            token: _,
+            stream: _,
+            heard: _,
+            answered: _,
+            answer: _,
+            gone: _,
+            readable: _,
+            writable: _,
+            over: _,
+            stops: _,
+            since: _,
+        } = self;
+    }
 }
 
 /// Where the first line ends, if it is whole.

@@ -6,7 +6,7 @@ ghost use Rattle.order_callers.specs.Calls.{all_called};
 
 use crate::caller::Caller;
 use mio::event::Event;
-use mio::net::UnixListener;
+use mio::net::{UnixListener, UnixStream};
 use mio::{Interest, Registry, Token};
 use registry_model::Keeper;
 use registry_service::Service;
@@ -23,7 +23,6 @@ const DESK: Token = Token(1 << 62);
 const MOST: usize = 16;
 
 /// A socket at which orders are given, if there is one, and those who came there.
-#[derive(Drop)]
 pub struct Callers {
     listener: Option<UnixListener>,
     /// One may wait to be taken.
@@ -33,6 +32,32 @@ pub struct Callers {
     next: usize,
     /// One of them, who may be gone, asked the server to stop.
     stopping: bool,
+}
+
+impl Drop for Callers {
+    fn drop(self) {
+        let Callers {
+            listener: _,
+            knocks: _,
+            callers: _,
+            next: _,
+            stopping: _,
+        } = self;
+    }
+}
+
+/// Has a listener watched, if there is one.
+fn listening(
+    registry: &Registry,
+    listener: Option<net::UnixListener>,
+) -> io::Result<Option<UnixListener>> {
+    let Some(listener) = listener else {
+        return Ok(None);
+    };
+    listener.set_nonblocking(true)?;
+    let mut listener = UnixListener::from_std(listener);
+    registry.register(&mut listener, DESK, Interest::READABLE)?;
+    Ok(Some(listener))
 }
 
 /// Tells the one that an event is of.
@@ -74,21 +99,14 @@ impl Callers {
         registry: &Registry,
         listener: Option<net::UnixListener>,
     ) -> io::Result<Callers> {
-        let mut callers = Callers {
-            listener: None,
-            knocks: false,
+        let listener = listening(registry, listener)?;
+        Ok(Callers {
+            knocks: listener.is_some(),
+            listener,
             callers: Vec::new(alloc),
             next: DESK.0 + 1,
             stopping: false,
-        };
-        if let Some(listener) = listener {
-            listener.set_nonblocking(true)?;
-            let mut listener = UnixListener::from_std(listener);
-            registry.register(&mut listener, DESK, Interest::READABLE)?;
-            callers.listener = Some(listener);
-            callers.knocks = true;
-        }
-        Ok(callers)
+        })
     }
 
     /// Nobody is there, and nobody waits to be taken.
@@ -120,6 +138,20 @@ impl Callers {
         note_each(&mut self.callers, event);
     }
 
+    /// Has the socket of one that came watched, and keeps it, if the system and memory allow.
+    fn admit(&mut self, alloc: Global, registry: &Registry, stream: UnixStream, now: Duration)
+        ensures come { Come (all_called self.old.callers.items) (all_called self.new.callers.items) }
+        ensures stopping { self.new.stopping ≡ self.old.stopping }
+    {
+        let mut stream = stream;
+        let token = Token(self.next);
+        self.next = self.next.saturating_add(1);
+        let interest = Interest::READABLE | Interest::WRITABLE;
+        if registry.register(&mut stream, token, interest).is_ok() {
+            let _ = self.callers.push(Caller::new(alloc, token, stream, now));
+        }
+    }
+
     /// Takes the next one that came.
     fn accept_next(&mut self, alloc: Global, registry: &Registry, now: Duration)
         ensures come { Come (all_called self.old.callers.items) (all_called self.new.callers.items) }
@@ -130,15 +162,7 @@ impl Callers {
             return;
         };
         match listener.accept() {
-            Ok((stream, _)) => {
-                let mut stream = stream;
-                let token = Token(self.next);
-                self.next = self.next.saturating_add(1);
-                let interest = Interest::READABLE | Interest::WRITABLE;
-                if registry.register(&mut stream, token, interest).is_ok() {
-                    let _ = self.callers.push(Caller::new(alloc, token, stream, now));
-                }
-            }
+            Ok((stream, _)) => self.admit(alloc, registry, stream, now),
             Err(error) => match error.kind() {
                 ErrorKind::ConnectionAborted | ErrorKind::Interrupted => {}
                 _ => self.knocks = false,

@@ -1,5 +1,5 @@
 //! The line that spells an order.
-ghost use Rattle.std.specs.Prelude.{◌≡◌, ◌<◌, ◌∷◌, [], decimal, IfOk, string_bytes};
+ghost use Rattle.std.specs.Prelude.{◌≡◌, ◌<◌, ◌∷◌, [], codes, decimal, IfOk, string_bytes};
 ghost use Rattle.std.specs.List.{join_with_byte};
 ghost use Rattle.std.specs.Fmt.{WritesOnOk};
 ghost use Rattle.order_messages.specs.Lines.{line_of, digit_of, form_word, held_word, shown_word, or_any, space};
@@ -91,16 +91,13 @@ impl<'a> fmt::Display for ListLine<'a> {
     fn fmt<W: fmt::Write>(&self, f: &mut fmt::Formatter<W>) -> fmt::Result {
         let form = form_word(self.form);
         match self.listing {
-            Listing::Repos => write!(f, "list {form} repos"),
+            Listing::Repos => three_words(f, "list", form, "repos"),
             Listing::InRepo { name, what } => {
-                let what = held_word(*what);
-                write!(f, "list {form} {what} {}", name.as_str())
+                four_words(f, "list", form, held_word(*what), name.as_str())
             }
             Listing::Grants { name, token, shown } => {
                 let shown = shown_word(*shown);
-                let name = name_or_any(name);
-                let token = token_or_any(token);
-                write!(f, "list {form} grants {shown} {name} {token}")
+                grant_list_words(f, form, shown, name_or_any(name), token_or_any(token))
             }
         }
     }
@@ -112,6 +109,47 @@ fn two_words<W: fmt::Write>(f: &mut fmt::Formatter<W>, first: &str, second: &str
         (join_with_byte space (first.now ∷ second.now ∷ [])) f.new }
 {
     write!(f, "{first} {second}")
+}
+
+/// Three words.
+fn three_words<W: fmt::Write>(
+    f: &mut fmt::Formatter<W>,
+    first: &str,
+    second: &str,
+    third: &str,
+) -> fmt::Result
+    ensures { WritesOnOk W.write_str_gives f.old result
+        (join_with_byte space (first.now ∷ second.now ∷ third.now ∷ [])) f.new }
+{
+    write!(f, "{first} {second} {third}")
+}
+
+/// Four words.
+fn four_words<W: fmt::Write>(
+    f: &mut fmt::Formatter<W>,
+    first: &str,
+    second: &str,
+    third: &str,
+    fourth: &str,
+) -> fmt::Result
+    ensures { WritesOnOk W.write_str_gives f.old result
+        (join_with_byte space (first.now ∷ second.now ∷ third.now ∷ fourth.now ∷ [])) f.new }
+{
+    write!(f, "{first} {second} {third} {fourth}")
+}
+
+/// The words of a list of levels.
+fn grant_list_words<W: fmt::Write>(
+    f: &mut fmt::Formatter<W>,
+    form: &str,
+    shown: &str,
+    name: &str,
+    token: &str,
+) -> fmt::Result
+    ensures { WritesOnOk W.write_str_gives f.old result (join_with_byte space
+        (codes "list" ∷ form.now ∷ codes "grants" ∷ shown.now ∷ name.now ∷ token.now ∷ [])) f.new }
+{
+    write!(f, "list {form} grants {shown} {name} {token}")
 }
 
 /// The words of a change of a repository's quota.
@@ -147,10 +185,10 @@ impl<'a> fmt::Display for ChangeLine<'a> {
             Change::Prune { name } => two_words(f, "prune", name.as_str()),
             Change::Grant { token, name, level } => {
                 let digit = digit_of(*level);
-                write!(f, "grant {} {digit} {}", name.as_str(), token.as_str())
+                four_words(f, "grant", name.as_str(), digit, token.as_str())
             }
             Change::Revoke { token, name } => {
-                write!(f, "revoke {} {}", name.as_str(), token.as_str())
+                three_words(f, "revoke", name.as_str(), token.as_str())
             }
             Change::RevokeAll { token } => two_words(f, "revoke", token.as_str()),
             Change::Clear => f.write_str("clear"),

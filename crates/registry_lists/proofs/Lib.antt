@@ -1,2 +1,3 @@
+pub mod FailedReads
 pub mod ListLemmas
 pub mod GrantLemmas

@@ -5,25 +5,25 @@ use Rattle.std.specs.Option.{option_map_or, option_and_then}
 use Rattle.std.specs.List.{filter_map, cons_option, list_any, AllByRecursion}
 use Rattle.std.specs.FinMap.{FinMap, get, keys, entries, find, entries_sorted, get-entries}
 use Rattle.std.specs.Ordering.{eq_by_cmp}
-use Rattle.std.proofs.lemmas.List.{map-id}
+use Rattle.std.proofs.lemmas.List.{map-id, map-append}
 use Rattle.std.proofs.lemmas.List.Elements.{filter_map-append}
 use Rattle.std.proofs.lemmas.Map.Text.{is_eq-slice_cmp}
 use Rattle.oci_names.specs.Text.{Text}
 use Rattle.registry_model.specs.declared.quota.Usage.{Usage}
-use Rattle.registry_model.specs.World.{World, Repo, text_cmp, repo_at}
+use Rattle.registry_model.specs.World.{World, Repo, text_cmp, repo_at, has_repo}
 use Rattle.registry_model.specs.Usage.{usage_of}
 use Rattle.registry_model.specs.TagPage.{page_behind}
 use Rattle.registry_model.specs.Lookups.{usages_of, no_page, blob_digests_at}
 use Rattle.registry_model.specs.Pruning.{names_in, is_among}
 use Rattle.registry_model.specs.Keeping.{State}
-use Rattle.manifest_operations.specs.Pruning.{unnamed_of, unnamed_at}
+use Rattle.manifest_operations.specs.Pruning.{unnamed_of, unnamed_at, names_at}
 use Rattle.manifest_operations.proofs.PruningLemmas.{found_each}
 use Rattle.registry_service.specs.Tags.{tags_at}
 use Rattle.registry_orders.specs.declared.listing.Held.{Held}
 use Rattle.registry_orders.specs.declared.listing.Held.TheVariants.{Tags, Blobs, Unnamed}
 use Rattle.list_texts.specs.Items.{ItemShown, repo_item, tag_item, blob_item, unnamed_item}
 use Rattle.registry_lists.specs.Lists.{repos_of, tags_of, namers_of, blobs_of, held_of}
-use Rattle.registry_lists.specs.Reading.{namings_at, namers_among, tag_item_at, blob_item_at, held_at}
+use Rattle.registry_lists.specs.Reading.{naming_at, namings_at, namers_among, tag_item_at, blob_item_at, held_at}
 
 -- ---- one item more
 
@@ -44,6 +44,15 @@ pub all_found : {A B : Type 0} (h : World → List A → List B) (s s1 : State) 
     → items ≡ h s1.world yielded → map (λ x. x) yielded ≡ all → all ≡ given → s1 ≡ s → items ≡ h s.world given
 all_found h s s1 items yielded all given found whole told same =
     found ∙ ap (h s1.world) (sym (map-id yielded) ∙ whole ∙ told) ∙ ap {A = State} (λ x. h x.world given) same
+
+-- what one manifest more names, in a world that is the one before
+pub named_more : (s s1 : State) (name : Text) (so_far more : List (Text × List Text)) (yielded : List Text) (manifest : Text) (names : List Text)
+    → so_far ≡ map (naming_at s.world name) yielded → more ≡ so_far ++ (manifest, names) ∷ [] → names ≡ names_at s1.world name manifest → s1 ≡ s
+    → more ≡ map (naming_at s.world name) (yielded ++ manifest ∷ [])
+named_more s s1 name so_far more yielded manifest names found added told same =
+    added ∙ ap (λ xs. xs ++ (manifest, names) ∷ []) found
+    ∙ ap (λ (ns : List Text). map (naming_at s.world name) yielded ++ (manifest, ns) ∷ []) (told ∙ ap {A = State} (λ z. names_at z.world name manifest) same)
+    ∙ sym (map-append (naming_at s.world name) yielded (manifest ∷ []))
 
 -- ---- what is among digests
 
@@ -162,6 +171,11 @@ pub nothing_held : (what : Held) (o : Option Repo) → is_some o ≡ false → N
 nothing_held what None h = refl
 nothing_held what (Some r) h = cc
 
-pub all_held : (what : Held) (o : Option Repo) (items : List ItemShown) → is_some o ≡ true → items ≡ option_map_or (held_of what) o [] → Some items ≡ option_map (held_of what) o
+all_held : (what : Held) (o : Option Repo) (items : List ItemShown) → is_some o ≡ true → items ≡ option_map_or (held_of what) o [] → Some items ≡ option_map (held_of what) o
 all_held what None items h e = cc
 all_held what (Some r) items h e = ap Some e
+
+pub listed_there : (s mid : State) (name : Text) (what : Held) (b : Bool) (items : List ItemShown) → b ≡ has_repo s.world name → b ≡ true → mid ≡ s
+    → items ≡ held_at mid.world name what → Some items ≡ option_map (held_of what) (repo_at s.world name)
+listed_there s mid name what b items told there same is =
+    all_held what (repo_at s.world name) items (sym told ∙ there) (is ∙ ap {A = State} (λ z. held_at z.world name what) same)

@@ -15,10 +15,19 @@ use registry_service::Service;
 use std::alloc::{AllocError, Global};
 
 /// A manifest, and the digests of the blobs that it names.
-#[derive(Drop)]
 pub struct Naming {
     manifest: Digest,
     names: Vec<Digest>,
+}
+
+// (written out, so that where one is dropped it is by a call)
+impl Drop for Naming {
+    fn drop(self) {
+        let Naming {
+            manifest: _,
+            names: _,
+        } = self;
+    }
 }
 
 fn push(items: &mut Vec<Item>, item: Item) -> Result<(), Fault>

@@ -12,6 +12,7 @@ pub mod limit;
 pub mod log;
 pub mod peer;
 mod peers;
+mod sockets;
 mod stopping;
 mod taking;
 

@@ -27,11 +27,7 @@ pub struct Log<'a, E: Write> {
 
 /// The status of the reply that is to go out.
 fn status_of(going: &[u8]) -> Option<u16> {
-    let reply = if going.starts_with(CONTINUE) {
-        going.get(CONTINUE.len()..)?
-    } else {
-        going
-    };
+    let reply = going.strip_prefix(CONTINUE).unwrap_or(going);
     let digits = str::from_utf8(reply.get(9..12)?).ok()?;
     digits.parse().ok()
 }
@@ -61,6 +57,29 @@ struct Said<'a> {
     went: usize,
     micros: u64,
     limit: Option<Limit<'a>>,
+}
+
+/// What is known of the request of a turn, if a reply came of it, but for how long it took.
+fn said_of<'a>(connections: &'a Connections, turn: &Turn) -> Option<Said<'a>> {
+    if turn.step == Step::Waits {
+        return None;
+    }
+    let going = connections.outgoing(turn.number);
+    let status = status_of(going)?;
+    let (line, came) = match connections.exchange(turn.number) {
+        Some(exchange) => (exchange.line(), exchange.came()),
+        None => (b"".as_slice(), 0),
+    };
+    let request = str::from_utf8(line).unwrap_or("");
+    Some(Said {
+        number: Some(turn.number),
+        request,
+        status,
+        came,
+        went: going.len(),
+        micros: 0,
+        limit: limit_met(status, is_of_body(turn.step), request),
+    })
 }
 
 /// The second that it is.
@@ -150,29 +169,12 @@ impl<'a, E: Write> Log<'a, E> {
         turn: &Turn,
         began: Duration,
     ) {
-        if turn.step == Step::Waits {
-            return;
+        if let Some(said) = said_of(connections, turn) {
+            let mut said = said;
+            let now = clock.monotonic().unwrap_or(began);
+            said.micros = micros(now.saturating_sub(began));
+            self.say(alloc, clock, &said);
         }
-        let going = connections.outgoing(turn.number);
-        let Some(status) = status_of(going) else {
-            return;
-        };
-        let (line, came) = match connections.exchange(turn.number) {
-            Some(exchange) => (exchange.line(), exchange.came()),
-            None => (b"".as_slice(), 0),
-        };
-        let now = clock.monotonic().unwrap_or(began);
-        let request = str::from_utf8(line).unwrap_or("");
-        let said = Said {
-            number: Some(turn.number),
-            request,
-            status,
-            came,
-            went: going.len(),
-            micros: micros(now.saturating_sub(began)),
-            limit: limit_met(status, is_of_body(turn.step), request),
-        };
-        self.say(alloc, clock, &said);
     }
 
     /// Says that one who came was turned away, because memory is wanting for a connection.

@@ -29,7 +29,6 @@ const LINGER: u64 = 2_000;
 const MOST_LINGER: u64 = 30;
 
 /// A socket, and the number of its connection.
-#[derive(Drop)]
 pub struct Peer {
     pub number: u64,
     stream: TcpStream,
@@ -51,6 +50,25 @@ pub struct Peer {
     pub wants: Option<Wants>,
     pub coming: usize,
     pub going: usize,
+}
+
+impl Drop for Peer {
+    fn drop(self) {
+        let Peer {
+            number: _,
+            stream: _,
+            readable: _,
+            writable: _,
+            closed: _,
+            failed: _,
+            refused: _,
+            lingers: _,
+            keeps_room: _,
+            wants: _,
+            coming: _,
+            going: _,
+        } = self;
+    }
 }
 
 impl Peer {
@@ -214,6 +232,17 @@ impl Peer {
             self.read_once(connections, room);
             self.look(connections);
         }
+    }
+
+    /// Reads once, if its connection takes what comes, or lets it fall, if it was refused; says whether its
+    /// connection was to take something.
+    pub fn hear(&mut self, connections: &mut Connections, room: &mut [u8], now: Duration) -> bool
+        ensures { Carries (connected connections.old) (connected connections.new) }
+    {
+        let may = self.may_speak(connections);
+        self.hear_if(may, connections, room);
+        self.drain_if(connections, room, now);
+        may
     }
 
     /// Writes once; answers how many bytes went.

@@ -1,14 +1,13 @@
 //! How a server stops that is asked to.
 
-use crate::crowd::Crowd;
 use crate::peer::Peer;
+use crate::sockets::Sockets;
 use mio::event::Event;
 use mio::unix::SourceFd;
 use mio::{Interest, Registry, Token};
 use std::io;
-use std::io::Write;
 use std::os::fd::RawFd;
-use std::time::{Clock, Duration};
+use std::time::Duration;
 
 /// The token of what is watched, which is none of a caller.
 const WATCHED: Token = Token(usize::MAX - 1);
@@ -32,10 +31,10 @@ pub fn is_end(event: &Event) -> bool {
     event.token() == WATCHED && (event.is_read_closed() || event.is_error())
 }
 
-impl<'a, T: Clock, E: Write> Crowd<'a, T, E> {
+impl Sockets {
     /// Begins to stop, where somebody asked for it or the other end of what is watched is closed: no more
     /// connections are taken.
-    pub(crate) fn stop_if_asked(&mut self) {
+    pub fn stop_if_asked(&mut self) {
         if self.stops.is_none() && (self.ended || self.callers.is_asked_to_stop()) {
             self.stops = Some(self.now);
             self.left = 0;
@@ -44,7 +43,7 @@ impl<'a, T: Clock, E: Write> Crowd<'a, T, E> {
 
     /// Whether a connection goes because the server stops: at once where nothing of it is in hand, and any in
     /// the end.
-    pub(crate) fn goes_by_stop(&self, peer: &Peer) -> bool {
+    pub fn goes_by_stop(&self, peer: &Peer) -> bool {
         match self.stops {
             Some(since) => {
                 let waited = self.now.saturating_sub(since);

@@ -3,9 +3,10 @@ ghost use Rattle.std.specs.Prelude.{◌≡◌};
 ghost use Rattle.registry_server.specs.Events.{Carries};
 ghost use Rattle.registry_server.specs.Showing.{connected};
 
-use crate::crowd::{Crowd, EVENTS};
+use crate::crowd::Crowd;
 use crate::peer::Peer;
 use crate::peers::oldest;
+use crate::sockets::{EVENTS, Sockets};
 use mio::net::TcpStream;
 use mio::{Interest, Token};
 use registry_http::FramingRefusal;
@@ -16,7 +17,7 @@ use std::io;
 use std::io::{ErrorKind, Write};
 use std::time::Clock;
 
-impl<'a, T: Clock, E: Write> Crowd<'a, T, E> {
+impl Sockets {
     /// Whether one more may be taken. Where there is no room, the one goes that has rested longest.
     fn has_room(&mut self, connections: &mut Connections, at_once: usize) -> bool
         ensures { Carries (connected connections.old) (connected connections.new) }
@@ -33,6 +34,43 @@ impl<'a, T: Clock, E: Write> Crowd<'a, T, E> {
         }
     }
 
+    /// Whether the next one that came may be taken, where one may wait.
+    fn takes_next(&mut self, connections: &mut Connections, at_once: usize) -> bool
+        ensures { Carries (connected connections.old) (connected connections.new) }
+    {
+        if !self.knocks || self.left == 0 {
+            return false;
+        }
+        self.has_room(connections, at_once)
+    }
+
+    /// Has the socket of a connection watched, and keeps it; says whether it could.
+    fn keep(&mut self, number: u64, stream: TcpStream) -> bool {
+        let mut stream = stream;
+        let interest = Interest::READABLE | Interest::WRITABLE;
+        let token = Token(number as usize);
+        let registered = self.poll.registry().register(&mut stream, token, interest);
+        match registered {
+            Ok(()) => self.peers.push(Peer::new(number, stream)).is_ok(),
+            Err(_) => false,
+        }
+    }
+
+    /// What it comes to that none was taken. An error is that none can be, and nobody is there.
+    fn none_taken(&mut self, error: io::Error) -> io::Result<bool> {
+        match error.kind() {
+            ErrorKind::WouldBlock => {
+                self.knocks = false;
+                Ok(false)
+            }
+            ErrorKind::ConnectionAborted | ErrorKind::Interrupted => Ok(true),
+            _ if self.peers.is_empty() => Err(error),
+            _ => Ok(false),
+        }
+    }
+}
+
+impl<'a, T: Clock, E: Write> Crowd<'a, T, E> {
     /// Takes a connection that came. Where memory is wanting for it, it is told so and closed, as where the
     /// system refuses it.
     fn welcome(&mut self, alloc: Global, connections: &mut Connections, stream: TcpStream)
@@ -45,14 +83,7 @@ impl<'a, T: Clock, E: Write> Crowd<'a, T, E> {
             self.log.say_turned_away(alloc, self.clock);
             return;
         };
-        let interest = Interest::READABLE | Interest::WRITABLE;
-        let token = Token(number as usize);
-        let registered = self.poll.registry().register(&mut stream, token, interest);
-        let kept = match registered {
-            Ok(()) => self.peers.push(Peer::new(number, stream)).is_ok(),
-            Err(_) => false,
-        };
-        if !kept {
+        if !self.sockets.keep(number, stream) {
             let _ = connections.close(number);
         }
     }
@@ -62,21 +93,13 @@ impl<'a, T: Clock, E: Write> Crowd<'a, T, E> {
     fn accept_next(&mut self, alloc: Global, connections: &mut Connections) -> io::Result<bool>
         ensures { Carries (connected connections.old) (connected connections.new) }
     {
-        match self.listener.accept() {
+        match self.sockets.listener.accept() {
             Ok((stream, _)) => {
-                self.left = self.left.saturating_sub(1);
+                self.sockets.left = self.sockets.left.saturating_sub(1);
                 self.welcome(alloc, connections, stream);
                 Ok(true)
             }
-            Err(error) => match error.kind() {
-                ErrorKind::WouldBlock => {
-                    self.knocks = false;
-                    Ok(false)
-                }
-                ErrorKind::ConnectionAborted | ErrorKind::Interrupted => Ok(true),
-                _ if self.peers.is_empty() => Err(error),
-                _ => Ok(false),
-            },
+            Err(error) => self.sockets.none_taken(error),
         }
     }
 
@@ -89,10 +112,7 @@ impl<'a, T: Clock, E: Write> Crowd<'a, T, E> {
     ) -> io::Result<bool>
         ensures { Carries (connected connections.old) (connected connections.new) }
     {
-        if !self.knocks || self.left == 0 {
-            return Ok(false);
-        }
-        if self.has_room(connections, at_once) {
+        if self.sockets.takes_next(connections, at_once) {
             self.accept_next(alloc, connections)
         } else {
             Ok(false)

@@ -13,7 +13,6 @@ use registry_service::Service;
 use std::alloc::Global;
 
 /// An open connection.
-#[derive(Drop)]
 pub struct Connection {
     pub number: u64,
     pub conversation: Conversation,
@@ -21,6 +20,17 @@ pub struct Connection {
     /// reply has gone out.
     pub stirred: bool,
     pub life: Life,
+}
+
+impl Drop for Connection {
+    fn drop(self) {
+        let Connection {
+            number: _,
+            conversation: _,
+            stirred: _,
+            life: _,
+        } = self;
+    }
 }
 
 impl Connection {

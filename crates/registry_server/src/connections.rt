@@ -18,7 +18,6 @@ use std::alloc::Global;
 ///
 /// It reads nothing and writes nothing itself, and it takes no turn but when it is asked to. A call for a
 /// number that is not open does nothing, and says so.
-#[derive(Drop)]
 pub struct Connections {
     /// In the order in which they take their turns.
     connections: Vec<Connection>,
@@ -30,6 +29,17 @@ pub struct Connections {
     time: u64,
     ghost numbered: { are_numbered next (slots_of connections.items) ≡ true },
     ghost within: { IsWithin bounds (slots_of connections.items) },
+}
+
+impl Drop for Connections {
+    fn drop(self) {
+        let Connections {
+            connections: _,
+            next: _,
+            bounds: _,
+            time: _,
+        } = self;
+    }
 }
 
 impl Connections {

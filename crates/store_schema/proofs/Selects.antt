@@ -198,6 +198,10 @@ refused_leaves g sql params old new (Err x) e plain is h = (
 pub survives_both : (a b c : State) → Survives a b (λ _. ⊥) → Survives b c (λ _. ⊥) → Survives a c (λ _. ⊥)
 survives_both a b c p q = survives_then a b c _ _ _ (λ clean db x. x) (λ clean db x. x) p q
 
+-- the commit stays over two calls, where the disk was clean behind the second
+pub kept_then : (a b c : State) → (HasCleanDisk b → KeepsCommit a b) → Survives b c (λ _. ⊥) → (HasCleanDisk c → KeepsCommit b c) → HasCleanDisk c → KeepsCommit a c
+kept_then a b c p s q clean = let early : HasCleanDisk b = omega (arith, s.clean) in commit_then a b c (p early) (q clean)
+
 pub if_err : {X E P : Type 0} (r : Result X E) → P → IfErr r (λ _. P)
 if_err (Ok x) p = tt
 if_err (Err e) p = p

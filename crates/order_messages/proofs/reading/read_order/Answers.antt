@@ -6,21 +6,16 @@ use Rattle.order_messages.specs.Reading.{AreUnread, IsUnread}
 use Rattle.order_messages.proofs.LineLemmas.{split, line_is_utf8, spells_by_words, unread_by_words}
 use Rattle.order_messages.proofs.reading.read_order.Goals as goal
 
-pub returns-in_default-clause-refused : goal.returns-in_default-clause-refused
-returns-in_default-clause-refused c = λ o h. c.in_default.ensures.cases.0 (line_is_utf8 c.args.line.now o h)
+pub returns-in_default : goal.returns-in_default
+returns-in_default c = record { read = tt; refused = λ o h. c.in_default.ensures.cases.0 (line_is_utf8 c.args.line.now o h) }
 
-pub returns-clause-read : goal.returns-clause-read
-returns-clause-read c =
+pub returns : goal.returns
+returns c =
     let line = c.args.line.now in
     let words : List Text = map (λ word. word.now) c.as_slice.result.now in
     let parted : words ≡ split line =
     ap (map (λ word. word.now)) c.as_slice.ensures.value ∙ c.in_ok-words.ensures ∙ ap split c.in-Ok.ensures.cases.0 in
-    IfOk-weaker c.order_in.result (AreWordsOf words) (Spells line) (λ o h. spells_by_words line words o parted h) c.order_in.ensures.read
-
-pub returns-clause-refused : goal.returns-clause-refused
-returns-clause-refused c =
-    let line = c.args.line.now in
-    let words : List Text = map (λ word. word.now) c.as_slice.result.now in
-    let parted : words ≡ split line =
-    ap (map (λ word. word.now)) c.as_slice.ensures.value ∙ c.in_ok-words.ensures ∙ ap split c.in-Ok.ensures.cases.0 in
-    IfErr-weaker c.order_in.result (AreUnread words) (IsUnread line) (λ u h. unread_by_words line words u parted h) c.order_in.ensures.refused
+    record {
+      read = IfOk-weaker c.order_in.result (AreWordsOf words) (Spells line) (λ o h. spells_by_words line words o parted h) c.order_in.ensures.read;
+      refused = IfErr-weaker c.order_in.result (AreUnread words) (IsUnread line) (λ u h. unread_by_words line words u parted h) c.order_in.ensures.refused;
+    }

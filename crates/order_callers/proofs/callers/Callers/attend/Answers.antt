@@ -28,3 +28,9 @@ returns-clause-stops g c honest =
           ∙ ap (λ (b : Bool). b || list_any (λ c. c.stops) attended) c.accept_all.ensures.stopping
           ∙ ap (λ (b : Bool). c.args.self.now.stopping || b) (sym (shown_stops attended)),
     )
+
+pub returns-clause-attends : goal.returns-clause-attends
+returns-clause-attends g c honest = (returns-clause-stops g c honest).0
+
+pub returns-clause-honest : goal.returns-clause-honest
+returns-clause-honest g c = c.attend_each.ensures.honest

@@ -10,7 +10,16 @@ loop-preserved g c honest =
     let before = c.loop.invariant (c.answer_one-more.ensures.honest honest) in
     (before.0, leads_then _ _ (connected c.loop.connections) (g.K.Keeper.state c.loop.service) _ _ before.1 (c.answer_one-more.ensures.leads honest))
 
-pub returns-then-not-more-clause-leads : goal.returns-then-not-more-clause-leads
-returns-then-not-more-clause-leads g c honest =
-    let before = c.loop.invariant (c.answer_one-more.ensures.honest honest) in
-    leads_then _ _ (connected c.loop.connections) (g.K.Keeper.state c.loop.service) _ _ before.1 (c.answer_one-more.ensures.leads honest)
+pub returns-then-not-more : goal.returns-then-not-more
+returns-then-not-more g c = record {
+  honest = λ honest. (c.loop.invariant (c.answer_one-more.ensures.honest honest)).0;
+  leads = λ honest.
+      let before = c.loop.invariant (c.answer_one-more.ensures.honest honest) in
+      leads_then _ _ (connected c.loop.connections) (g.K.Keeper.state c.loop.service) _ _ before.1 (c.answer_one-more.ensures.leads honest);
+}
+
+pub returns : goal.returns
+returns g c = record {
+  honest = λ honest. (c.loop.invariant honest).0;
+  leads = λ honest. (c.loop.invariant honest).1;
+}

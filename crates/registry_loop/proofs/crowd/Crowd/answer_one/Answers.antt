@@ -1,8 +1,20 @@
 use Rattle.registry_server.specs.Showing.{connected}
-use Rattle.registry_server.proofs.CallLemmas.{leads_then}
+use Rattle.registry_server.proofs.CallLemmas.{leads_none, leads_then}
 use Rattle.registry_loop.proofs.crowd.Crowd.answer_one.Goals as goal
 
-pub returns-in-Some-clause-leads : goal.returns-in-Some-clause-leads
-returns-in-Some-clause-leads g c honest =
-    let t = g.K.Keeper.state c.turn.new.service in
-    leads_then _ _ (connected c.turn.new.self) t _ t (c.turn.ensures.leads honest) (c.tell_of.ensures t)
+pub returns-then-spent : goal.returns-then-spent
+returns-then-spent g c = record {
+  honest = λ honest. honest;
+  leads = λ honest. leads_none (connected c.args.connections.now) (g.K.Keeper.state c.args.service.now);
+}
+
+pub returns-in-Some : goal.returns-in-Some
+returns-in-Some g c = record {
+  honest = c.turn.ensures.honest;
+  leads = λ honest.
+      let t = g.K.Keeper.state c.turn.new.service in
+      leads_then _ _ (connected c.turn.new.self) t _ t (c.turn.ensures.leads honest) (c.tell_of.ensures t);
+}
+
+pub returns-in-None : goal.returns-in-None
+returns-in-None g c = record { honest = c.turn.ensures.honest; leads = c.turn.ensures.leads }

@@ -1,5 +1,0 @@
-use Rattle.oci_documents.proofs.Texts.{Copies}
-use Rattle.oci_documents.proofs.member.texts_of_members.Given as goal
-
-abbrev pub invariant-loop-key : goal.invariant-loop-key
-invariant-loop-key l = Copies l.members.entries l.key-iterator l.texts.entries

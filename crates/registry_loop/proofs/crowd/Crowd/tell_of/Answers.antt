@@ -1,5 +1,0 @@
-use Rattle.registry_server.proofs.CallLemmas.{carries_then}
-use Rattle.registry_loop.proofs.crowd.Crowd.tell_of.Goals as goal
-
-pub loop-peer-preserved : goal.loop-peer-preserved
-loop-peer-preserved g c = carries_then _ _ _ c.loop-peer.invariant c.tell_of.ensures

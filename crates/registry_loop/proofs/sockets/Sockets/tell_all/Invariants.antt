@@ -1,0 +1,6 @@
+use Rattle.registry_server.specs.Events.{Carries}
+use Rattle.registry_server.specs.Showing.{connected}
+use Rattle.registry_loop.proofs.sockets.Sockets.tell_all.Given as goal
+
+abbrev pub invariant-loop-peer : goal.invariant-loop-peer
+invariant-loop-peer l = Carries (connected l.fn.connections) (connected l.connections)
