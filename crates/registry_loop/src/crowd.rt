@@ -14,9 +14,9 @@ use registry_orders::Limits;
 use registry_server::{Bounds, Connections};
 use registry_service::Service;
 use std::alloc::Global;
+use std::io;
 use std::io::Write;
 use std::time::Clock;
-use std::{io, net};
 
 /// A listener, and the sockets that were taken there; and those who give orders.
 #[derive(Drop)]
@@ -42,9 +42,9 @@ fn bounds_for(at_once: usize, buffer: u64) -> Bounds
 impl<'a, T: Clock, E: Write> Crowd<'a, T, E> {
     /// Nobody but those who come to the listener, of whom so many are taken. An error is that of the system,
     /// also where it refuses to watch what is to be watched, or want of memory.
-    pub fn new<N: net::Net>(
+    pub fn new(
         alloc: Global,
-        net: &N,
+        net: &HostRuntime,
         clock: &'a T,
         log: Log<'a, E>,
         doors: Doors,

@@ -24,10 +24,10 @@ pub struct Doors {
 
 impl Doors {
     /// What watches them, the one to which connections come, and those who give orders.
-    pub(crate) fn open<N: net::Net>(
+    pub(crate) fn open(
         self,
         alloc: Global,
-        net: &N,
+        net: &HostRuntime,
     ) -> io::Result<(Poll, TcpListener, Callers)> {
         let Doors {
             listener,

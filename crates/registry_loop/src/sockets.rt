@@ -16,8 +16,8 @@ use registry_model::Keeper;
 use registry_server::{Connections, Turn};
 use registry_service::Service;
 use std::alloc::{AllocError, Global};
+use std::io;
 use std::time::Duration;
-use std::{io, net};
 
 /// How many bytes are read at once.
 const ROOM: usize = 65_536;
@@ -77,9 +77,9 @@ fn rooms(alloc: Global) -> Result<(Events, Vec<u8>), AllocError> {
 impl Sockets {
     /// Those at these doors, where so many connections are taken. An error is that of the system, also where
     /// it refuses to watch what is to be watched, or want of memory.
-    pub fn new<N: net::Net>(
+    pub fn new(
         alloc: Global,
-        net: &N,
+        net: &HostRuntime,
         doors: Doors,
         connections: u64,
     ) -> io::Result<Sockets> {

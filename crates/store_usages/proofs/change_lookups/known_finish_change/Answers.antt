@@ -11,20 +11,30 @@ use Rattle.store_usages.proofs.Foretold.{session_length}
 use Rattle.store_usages.proofs.Behind.{found_behind, tells_behind, stays_behind}
 use Rattle.store_usages.proofs.change_lookups.known_finish_change.Goals as goal
 
-pub returns-in-Ok-Some-clause-found : goal.returns-in-Ok-Some-clause-found
-returns-in-Ok-Some-clause-found g c clean is =
-    let own = session_at (world_in (state g.S.Store c.args.conn.now)) c.args.repo.now c.args.number in
-    tells_behind g.S.Store c.args.conn.now c.session_size.new.conn (λ mid is. c.in-Ok-Some.ensures.settled mid is refl) c.end_change.new.conn c.end_change.ensures.survives
-    c.end_change.result (λ w change. IfSome change (Foretells w c.args.repo.now (λ r. finished r c.args.number c.args.digest.now (bytes_or_none own))))
-    (c.end_change.ensures.found (found_behind g.S.Store c.args.conn.now c.session_size.new.conn (λ mid is. c.in-Ok-Some.ensures.settled mid is refl)
-    (λ w. session_size_at w c.args.repo.now c.args.number ≡ Some c.in-Ok-Some.size) is (λ mid. sym (c.in-Ok-Some.ensures.found mid is) ∙ c.in-Ok-Some.field-0-is)) (bytes_or_none own)
-    (session_length own c.in-Ok-Some.size (sym c.in-Ok-Some.field-0-is ∙ c.in-Ok-Some.ensures.found (was_clean (state g.S.Store c.session_size.new.conn) (state g.S.Store c.end_change.new.conn) c.end_change.ensures.survives clean) is))) clean is
+pub returns-in-Ok-Some : goal.returns-in-Ok-Some
+returns-in-Ok-Some g c = record {
+  found = λ clean is.
+      let own = session_at (world_in (state g.S.Store c.args.conn.now)) c.args.repo.now c.args.number in
+      tells_behind g.S.Store c.args.conn.now c.session_size.new.conn (λ mid is. c.in-Ok-Some.ensures.settled mid is refl) c.end_change.new.conn c.end_change.ensures.survives
+      c.end_change.result (λ w change. IfSome change (Foretells w c.args.repo.now (λ r. finished r c.args.number c.args.digest.now (bytes_or_none own))))
+      (c.end_change.ensures.found (found_behind g.S.Store c.args.conn.now c.session_size.new.conn (λ mid is. c.in-Ok-Some.ensures.settled mid is refl)
+      (λ w. session_size_at w c.args.repo.now c.args.number ≡ Some c.in-Ok-Some.size) is (λ mid. sym (c.in-Ok-Some.ensures.found mid is) ∙ c.in-Ok-Some.field-0-is)) (bytes_or_none own)
+      (session_length own c.in-Ok-Some.size (sym c.in-Ok-Some.field-0-is ∙ c.in-Ok-Some.ensures.found (was_clean (state g.S.Store c.session_size.new.conn) (state g.S.Store c.end_change.new.conn) c.end_change.ensures.survives clean) is))) clean is;
+  settled = stays_behind g.S.Store c.args.conn.now c.session_size.new.conn (λ mid is. c.in-Ok-Some.ensures.settled mid is refl) c.end_change.new.conn c.end_change.ensures.survives
+      c.end_change.result c.end_change.ensures.settled;
+  survives = survives_all (state g.S.Store c.args.conn.now) (state g.S.Store c.session_size.new.conn) (state g.S.Store c.end_change.new.conn) _ _ c.session_size.ensures.survives c.end_change.ensures.survives;
+}
 
-pub returns-in-Ok-Some-clause-settled : goal.returns-in-Ok-Some-clause-settled
-returns-in-Ok-Some-clause-settled g c =
-    stays_behind g.S.Store c.args.conn.now c.session_size.new.conn (λ mid is. c.in-Ok-Some.ensures.settled mid is refl) c.end_change.new.conn c.end_change.ensures.survives
-    c.end_change.result c.end_change.ensures.settled
+pub returns-in-Ok-None : goal.returns-in-Ok-None
+returns-in-Ok-None g c = record {
+  found = λ clean is. tt;
+  settled = c.in-Ok-None.ensures.settled;
+  survives = c.session_size.ensures.survives;
+}
 
-pub returns-in-Ok-Some-clause-survives : goal.returns-in-Ok-Some-clause-survives
-returns-in-Ok-Some-clause-survives g c =
-    survives_all (state g.S.Store c.args.conn.now) (state g.S.Store c.session_size.new.conn) (state g.S.Store c.end_change.new.conn) _ _ c.session_size.ensures.survives c.end_change.ensures.survives
+pub returns-in-Err : goal.returns-in-Err
+returns-in-Err g c = record {
+  found = λ clean is. tt;
+  settled = λ clean is unspent. c.in-Err.ensures.settled clean is unspent;
+  survives = c.session_size.ensures.survives;
+}

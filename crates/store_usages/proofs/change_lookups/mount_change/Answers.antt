@@ -9,23 +9,30 @@ use Rattle.store_usages.proofs.Foretold.{mount_kept}
 use Rattle.store_usages.proofs.Behind.{found_behind, tells_behind, stays_behind}
 use Rattle.store_usages.proofs.change_lookups.mount_change.Goals as goal
 
-pub returns-in-Ok-Some-clause-found : goal.returns-in-Ok-Some-clause-found
-returns-in-Ok-Some-clause-found g c clean is =
-    let w = world_in (state g.S.Store c.args.conn.now) in
-    mount_kept w c.args.to.now c.args.digest.now (blob_at w c.args.from.now c.args.digest.now) c.in-Ok-Some.field-0-0 (sym c.in-Ok-Some.field-0-is ∙ c.in-Ok-Some.ensures.found clean is)
+pub returns-in-Ok-Some : goal.returns-in-Ok-Some
+returns-in-Ok-Some g c = record {
+  found = λ clean is.
+      let w = world_in (state g.S.Store c.args.conn.now) in
+      mount_kept w c.args.to.now c.args.digest.now (blob_at w c.args.from.now c.args.digest.now) c.in-Ok-Some.field-0-0 (sym c.in-Ok-Some.field-0-is ∙ c.in-Ok-Some.ensures.found clean is);
+  settled = c.in-Ok-Some.ensures.settled;
+  survives = c.blob_size.ensures.survives;
+}
 
-pub returns-in-Ok-None-clause-found : goal.returns-in-Ok-None-clause-found
-returns-in-Ok-None-clause-found g c clean is =
-    tells_behind g.S.Store c.args.conn.now c.blob_size.new.conn (λ mid is. c.in-Ok-None.ensures.settled mid is refl) c.source_change.new.conn c.source_change.ensures.survives
-    c.source_change.result (λ w change. IfSome change (Foretells w c.args.to.now (with_mounted c.args.digest.now (blob_at w c.args.from.now c.args.digest.now))))
-    (c.source_change.ensures.found (found_behind g.S.Store c.args.conn.now c.blob_size.new.conn (λ mid is. c.in-Ok-None.ensures.settled mid is refl)
-    (λ w. blob_size_at w c.args.to.now c.args.digest.now ≡ None) is (λ mid. sym (c.in-Ok-None.ensures.found mid is) ∙ c.in-Ok-None.field-0-is))) clean is
+pub returns-in-Ok-None : goal.returns-in-Ok-None
+returns-in-Ok-None g c = record {
+  found = λ clean is.
+      tells_behind g.S.Store c.args.conn.now c.blob_size.new.conn (λ mid is. c.in-Ok-None.ensures.settled mid is refl) c.source_change.new.conn c.source_change.ensures.survives
+      c.source_change.result (λ w change. IfSome change (Foretells w c.args.to.now (with_mounted c.args.digest.now (blob_at w c.args.from.now c.args.digest.now))))
+      (c.source_change.ensures.found (found_behind g.S.Store c.args.conn.now c.blob_size.new.conn (λ mid is. c.in-Ok-None.ensures.settled mid is refl)
+      (λ w. blob_size_at w c.args.to.now c.args.digest.now ≡ None) is (λ mid. sym (c.in-Ok-None.ensures.found mid is) ∙ c.in-Ok-None.field-0-is))) clean is;
+  settled = stays_behind g.S.Store c.args.conn.now c.blob_size.new.conn (λ mid is. c.in-Ok-None.ensures.settled mid is refl) c.source_change.new.conn c.source_change.ensures.survives
+      c.source_change.result c.source_change.ensures.settled;
+  survives = survives_all (state g.S.Store c.args.conn.now) (state g.S.Store c.blob_size.new.conn) (state g.S.Store c.source_change.new.conn) _ _ c.blob_size.ensures.survives c.source_change.ensures.survives;
+}
 
-pub returns-in-Ok-None-clause-settled : goal.returns-in-Ok-None-clause-settled
-returns-in-Ok-None-clause-settled g c =
-    stays_behind g.S.Store c.args.conn.now c.blob_size.new.conn (λ mid is. c.in-Ok-None.ensures.settled mid is refl) c.source_change.new.conn c.source_change.ensures.survives
-    c.source_change.result c.source_change.ensures.settled
-
-pub returns-in-Ok-None-clause-survives : goal.returns-in-Ok-None-clause-survives
-returns-in-Ok-None-clause-survives g c =
-    survives_all (state g.S.Store c.args.conn.now) (state g.S.Store c.blob_size.new.conn) (state g.S.Store c.source_change.new.conn) _ _ c.blob_size.ensures.survives c.source_change.ensures.survives
+pub returns-in-Err : goal.returns-in-Err
+returns-in-Err g c = record {
+  found = λ clean is. tt;
+  settled = λ clean is unspent. c.in-Err.ensures.settled clean is unspent;
+  survives = c.blob_size.ensures.survives;
+}
