@@ -1,11 +1,12 @@
 -- The end of an upload session in a repository that is there.
-use Rattle.std.proofs.Common.{◌≡◌, ◌∙◌, ℕ, ◌+◌, [], ◌∷◌, ◌++◌, length, Bool, true, false, cond, not, None, Some, Ok, refl, sym, ap, arith}
+use Rattle.std.proofs.Common.{◌≡◌, ◌∙◌, ℕ, ◌+◌, [], ◌∷◌, ◌++◌, length, Bool, true, false, cond, not, None, Some, Ok, Err, refl, sym, ap, arith}
 use Rattle.std.specs.Prelude.{Option, Result, nat_lt}
 use Rattle.std.specs.Option.{option_and_then, option_map_or}
 use Rattle.std.specs.FinMap.{get}
 use Rattle.oci_names.specs.Text.{Text}
 use Rattle.oci_names.specs.Digest.{matches}
 use Rattle.oci_names.specs.declared.fault.Fault.{Fault}
+use Rattle.oci_names.specs.declared.fault.Fault.TheVariants.{Memory, Storage}
 use Rattle.registry_model.specs.declared.range.RangeVerdict.{RangeVerdict}
 use Rattle.registry_model.specs.declared.refusal.Refusal.TheVariants.{UploadUnknown, InvalidDigest, DigestMismatch, ContentTooLarge, QuotaExceeded}
 use Rattle.std.proofs.lemmas.Bool.Decides.{nat_tests}
@@ -16,7 +17,7 @@ use Rattle.registry_model.specs.Answer.{Answer, refused}
 use Rattle.registry_model.specs.Decision.{refuses, tells, makes, within_quota}
 use Rattle.registry_model.specs.Blobs.{can_verify, created_blob}
 use Rattle.registry_model.specs.Sessions.{finished, range_checked, last_range_verdict, close_to, close_session}
-use Rattle.registry_model.specs.Keeping.{State}
+use Rattle.registry_model.specs.Keeping.{State, Writes}
 use Rattle.registry_model.specs.Closing.{session_matches, WritesWhereSo}
 use Rattle.registry_model.specs.Lookups.{bytes_or_none, session_at}
 use Rattle.operation_parts.specs.Quota.{grows_over, new_length, blob_grows_over}
@@ -93,6 +94,10 @@ module _ (w : World) (name : Text) (number size : ℕ) (f : Found w name number 
       ∙ ap (λ o. makes (created_blob name digest) (finished f.repo number digest (bytes_or_none o))) (sym all_bytes)
 
 -- what a keeper tells that knew, or did not
+pub unmade : (e : Fault) (so : Bool) (made : World) (s s' : State) → WritesWhereSo (Err e) so made s s' → Writes {A = Reply} (Err e) made s s'
+unmade Memory so made s s' h = h
+unmade Storage so made s s' h = tt
+
 pub known : (b so : Bool) (made : World) (s s' : State) → b ≡ true → WritesWhereSo (Ok b) so made s s' → (so ≡ true) × (s' ≡ record { world = made; spent = false })
 known true so made s s' e h = h
 known false so made s s' e h = absurd cc

@@ -1,30 +1,31 @@
 -- Upload sessions in a repository that is there.
 use Rattle.std.proofs.Common.{◌≡◌, ◌∙◌, ℕ, ◌+◌, ◌≤◌, ◌++◌, length, arith, Bool, true, false, cond, None, Some, refl, sym, ap, subst}
-use Rattle.std.specs.Prelude.{Option, option_map, nat_lt}
+use Rattle.std.specs.Prelude.{Option, option_map, nat_lt, nat_le, ◌||◌}
 use Rattle.std.specs.Option.{option_and_then, option_map_or}
-use Rattle.std.specs.FinMap.{get}
+use Rattle.std.specs.FinMap.{get, len}
 use Rattle.std.proofs.lemmas.Bool.Decides.{nat_tests}
 use Rattle.std.proofs.lemmas.Option.{same_Some}
 use Rattle.oci_names.specs.Text.{Text}
 use Rattle.oci_names.specs.SessionNumber.{session_number_of}
 use Rattle.registry_model.specs.declared.range.RangeVerdict.{RangeVerdict}
 use Rattle.registry_model.specs.declared.range.RangeVerdict.TheVariants.{Fits, Malformed, OutOfOrder, Unequal}
-use Rattle.registry_model.specs.declared.refusal.Refusal.TheVariants.{ContentTooLarge, QuotaExceeded, UploadUnknown}
+use Rattle.registry_model.specs.declared.refusal.Refusal.TheVariants.{ContentTooLarge, QuotaExceeded, UploadUnknown, TooManyUploads}
 use Rattle.registry_model.specs.declared.reply.Status.TheVariants.{NoContent, Accepted}
 use Rattle.registry_model.specs.World.{Repo, World, repo_at, has_repo}
-use Rattle.registry_model.specs.Limits.{largest_blob}
+use Rattle.registry_model.specs.Limits.{largest, largest_blob, most_sessions}
 use Rattle.registry_model.specs.Answer.{Answer, refused}
 use Rattle.registry_model.specs.Heads.{is_sent}
 use Rattle.registry_model.specs.Range.{range_verdict}
 use Rattle.registry_model.specs.Decision.{Decision, refuses, tells, makes, within_quota}
-use Rattle.registry_model.specs.Sessions.{read_session, show_session, Session, session_numbered, session_named, session_reply, range_checked, appended, append_to, append_chunk}
+use Rattle.registry_model.specs.Sessions.{is_full, opened, open_session, read_session, show_session, Session, session_numbered, session_named, session_reply, range_checked, appended, append_to, append_chunk}
 use Rattle.registry_model.specs.Lookups.{session_size_at, bytes_or_none}
+use Rattle.registry_model.specs.Lookups as lookups
 use Rattle.operation_parts.specs.Quota.{grows_over, grows_over_at}
-use Rattle.blob_operations.specs.Uploads.{upload_at, chunk_refusal, bytes_so_far, append_more}
+use Rattle.blob_operations.specs.Uploads.{upload_at, next_number_at, chunk_refusal, bytes_so_far, append_more}
 use Rattle.blob_operations.specs.declared.uploads.Upload.{Upload}
 use Rattle.registry_model.specs.Keeping.{State}
 use Rattle.operation_parts.proofs.QuotaLemmas.{append_over}
-use Rattle.operation_parts.proofs.RepoOutcomes.{Done, there_is, told}
+use Rattle.operation_parts.proofs.RepoOutcomes.{Done, there_is, told, made}
 
 -- ---- the session of a number
 
@@ -194,6 +195,38 @@ patch_unknown s s' name reference range body there none a is unspent stays =
     let here = there_is (repo_at s.world name) there in
     told s s' name (λ r. append_chunk r name reference range body) here.0 here.1 a (refused UploadUnknown) is unspent stays
     (ap (append_to here.0 name range body) (unnamed s.world name reference here.0 here.1 none))
+
+-- ---- the next session
+
+next_is : (w : World) (name : Text) (r : Repo) → repo_at w name ≡ Some r → next_number_at w name ≡ cond (is_full r) None (Some (r.last + 1))
+next_is w name r at =
+    ap (λ o. cond (nat_le most_sessions (option_map_or (λ (r : Repo). len r.sessions) o 0) || nat_le largest (option_map_or (λ (r : Repo). r.last) o 0)) None (Some (option_map_or (λ (r : Repo). r.last) o 0 + 1))) at
+
+none_next : (b : Bool) (n : ℕ) → None ≡ cond b None (Some n) → b ≡ true
+none_next true n e = refl
+none_next false n e = absurd (cc)
+
+some_next : (b : Bool) (k n : ℕ) → Some k ≡ cond b None (Some n) → (b ≡ false) × (k ≡ n)
+some_next true k n e = absurd (cc)
+some_next false k n e = (refl, same_Some k n e)
+
+module _ (s mid : State) (name : Text) (there : has_repo s.world name ≡ true) (unspent : s.spent ≡ false) (first : mid ≡ s) (a : Answer) where
+  -- no more can be opened
+  pub opens_none : None ≡ next_number_at s.world name → a ≡ refused TooManyUploads → Done a name (λ r. open_session r name) s mid
+  opens_none none e =
+      let r = there_is (repo_at s.world name) there in
+      told s mid name (λ r. open_session r name) r.0 r.1 a _ e unspent first
+      (ap (λ b. cond b (refuses TooManyUploads) (makes (session_reply Accepted name (r.0.last + 1) 0) (opened r.0))) (none_next (is_full r.0) (r.0.last + 1) (none ∙ next_is s.world name r.0 r.1)))
+
+  -- one more is
+  pub opens_next : (s' : State) (number : ℕ) → Some number ≡ next_number_at s.world name → s' ≡ record { world = lookups.open_session mid.world name; spent = false }
+      → a ≡ session_reply Accepted name number 0 → Done a name (λ r. open_session r name) s s'
+  opens_next s' number some after e =
+      let r = there_is (repo_at s.world name) there in
+      let next = some_next (is_full r.0) number (r.0.last + 1) (some ∙ next_is s.world name r.0 r.1) in
+      made s s' name (λ r. open_session r name) r.0 r.1 a _ (e ∙ ap (λ n. session_reply Accepted name n 0) next.1) opened
+      (after ∙ ap {A = State} {B = State} (λ m. record { world = lookups.open_session m.world name; spent = false }) first)
+      (ap (λ b. cond b (refuses TooManyUploads) (makes (session_reply Accepted name (r.0.last + 1) 0) (opened r.0))) next.0)
 
 -- ---- how far a session is
 

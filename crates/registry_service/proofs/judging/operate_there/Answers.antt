@@ -1,4 +1,230 @@
+use Rattle.std.proofs.Common.{◌∙◌, sym, ap}
+use Rattle.std.proofs.lemmas.Bool.{true≢false}
+use Rattle.registry_model.specs.Heads.{is_sizing}
+use Rattle.registry_service.specs.Operations.{shown_operation}
 use Rattle.registry_service.proofs.judging.operate_there.Goals as goal
 
-pub returns-in-ListReferrers-clause-comes : goal.returns-in-ListReferrers-clause-comes
-returns-in-ListReferrers-clause-comes g c honest = rw c.in-ListReferrers.is (c.list_referrers.ensures.comes honest)
+pub read_blob-requires-clause-unspent : goal.read_blob-requires-clause-unspent
+read_blob-requires-clause-unspent g c = c.requires.unspent
+
+pub read_blob-requires-clause-there : goal.read_blob-requires-clause-there
+read_blob-requires-clause-there g c = c.requires.there
+
+pub returns-in-ReadBlob : goal.returns-in-ReadBlob
+returns-in-ReadBlob g c = record {
+  comes = λ honest. rw c.in-ReadBlob.is (c.read_blob.ensures.comes honest);
+  answers = c.read_blob.ensures.answers;
+  carries = λ whole. c.read_blob.ensures.carries;
+  spends = c.read_blob.ensures.spends;
+  honest = c.read_blob.ensures.honest;
+}
+
+pub size_blob-requires-clause-unspent : goal.size_blob-requires-clause-unspent
+size_blob-requires-clause-unspent g c = c.requires.unspent
+
+pub size_blob-requires-clause-there : goal.size_blob-requires-clause-there
+size_blob-requires-clause-there g c = c.requires.there
+
+pub returns-in-SizeBlob : goal.returns-in-SizeBlob
+returns-in-SizeBlob g c = record {
+  comes = λ honest. rw c.in-SizeBlob.is (c.size_blob.ensures.comes honest);
+  answers = c.size_blob.ensures.answers;
+  carries = λ whole. absurd (true≢false (sym (ap (λ o. is_sizing (shown_operation o)) c.in-SizeBlob.is) ∙ whole));
+  spends = c.size_blob.ensures.spends;
+  honest = c.size_blob.ensures.honest;
+}
+
+pub delete_blob-requires-clause-unspent : goal.delete_blob-requires-clause-unspent
+delete_blob-requires-clause-unspent g c = c.requires.unspent
+
+pub delete_blob-requires-clause-there : goal.delete_blob-requires-clause-there
+delete_blob-requires-clause-there g c = c.requires.there
+
+pub returns-in-DeleteBlob : goal.returns-in-DeleteBlob
+returns-in-DeleteBlob g c = record {
+  comes = λ honest. rw c.in-DeleteBlob.is (c.delete_blob.ensures.comes honest);
+  answers = c.delete_blob.ensures.answers;
+  carries = λ whole. c.delete_blob.ensures.carries;
+  spends = c.delete_blob.ensures.spends;
+  honest = c.delete_blob.ensures.honest;
+}
+
+pub push_blob-requires-clause-unspent : goal.push_blob-requires-clause-unspent
+push_blob-requires-clause-unspent g c = c.requires.unspent
+
+pub push_blob-requires-clause-there : goal.push_blob-requires-clause-there
+push_blob-requires-clause-there g c = c.requires.there
+
+pub returns-in-PushBlob : goal.returns-in-PushBlob
+returns-in-PushBlob g c = record {
+  comes = λ honest. rw c.in-PushBlob.is (c.push_blob.ensures.comes honest);
+  answers = c.push_blob.ensures.answers;
+  carries = λ whole. c.push_blob.ensures.carries;
+  spends = c.push_blob.ensures.spends;
+  honest = c.push_blob.ensures.honest;
+}
+
+pub open_session-requires-clause-unspent : goal.open_session-requires-clause-unspent
+open_session-requires-clause-unspent g c = c.requires.unspent
+
+pub open_session-requires-clause-there : goal.open_session-requires-clause-there
+open_session-requires-clause-there g c = c.requires.there
+
+pub returns-in-OpenSession : goal.returns-in-OpenSession
+returns-in-OpenSession g c = record {
+  comes = λ honest. rw c.in-OpenSession.is (c.open_session.ensures.comes honest);
+  answers = c.open_session.ensures.answers;
+  carries = λ whole. c.open_session.ensures.carries;
+  spends = c.open_session.ensures.spends;
+  honest = c.open_session.ensures.honest;
+}
+
+pub mount_blob-requires-clause-unspent : goal.mount_blob-requires-clause-unspent
+mount_blob-requires-clause-unspent g c = c.requires.unspent
+
+pub mount_blob-requires-clause-there : goal.mount_blob-requires-clause-there
+mount_blob-requires-clause-there g c = c.requires.there
+
+pub returns-in-MountBlob : goal.returns-in-MountBlob
+returns-in-MountBlob g c = record {
+  comes = λ honest. rw c.in-MountBlob.is (c.mount_blob.ensures.comes honest);
+  answers = c.mount_blob.ensures.answers;
+  carries = λ whole. c.mount_blob.ensures.carries;
+  spends = c.mount_blob.ensures.spends;
+  honest = c.mount_blob.ensures.honest;
+}
+
+pub read_session-requires-clause-unspent : goal.read_session-requires-clause-unspent
+read_session-requires-clause-unspent g c = c.requires.unspent
+
+pub read_session-requires-clause-there : goal.read_session-requires-clause-there
+read_session-requires-clause-there g c = c.requires.there
+
+pub returns-in-ReadSession : goal.returns-in-ReadSession
+returns-in-ReadSession g c = record {
+  comes = λ honest. rw c.in-ReadSession.is (c.read_session.ensures.comes honest);
+  answers = c.read_session.ensures.answers;
+  carries = λ whole. c.read_session.ensures.carries;
+  spends = c.read_session.ensures.spends;
+  honest = c.read_session.ensures.honest;
+}
+
+pub append_chunk-requires-clause-unspent : goal.append_chunk-requires-clause-unspent
+append_chunk-requires-clause-unspent g c = c.requires.unspent
+
+pub append_chunk-requires-clause-there : goal.append_chunk-requires-clause-there
+append_chunk-requires-clause-there g c = c.requires.there
+
+pub returns-in-AppendChunk : goal.returns-in-AppendChunk
+returns-in-AppendChunk g c = record {
+  comes = λ honest. rw c.in-AppendChunk.is (c.append_chunk.ensures.comes honest);
+  answers = c.append_chunk.ensures.answers;
+  carries = λ whole. c.append_chunk.ensures.carries;
+  spends = c.append_chunk.ensures.spends;
+  honest = c.append_chunk.ensures.honest;
+}
+
+pub close_session-requires-clause-unspent : goal.close_session-requires-clause-unspent
+close_session-requires-clause-unspent g c = c.requires.unspent
+
+pub close_session-requires-clause-there : goal.close_session-requires-clause-there
+close_session-requires-clause-there g c = c.requires.there
+
+pub returns-in-CloseSession : goal.returns-in-CloseSession
+returns-in-CloseSession g c = record {
+  comes = λ honest. rw c.in-CloseSession.is (c.close_session.ensures.comes honest);
+  answers = c.close_session.ensures.answers;
+  carries = λ whole. c.close_session.ensures.carries;
+  spends = c.close_session.ensures.spends;
+  honest = c.close_session.ensures.honest;
+}
+
+pub read_manifest-requires-clause-unspent : goal.read_manifest-requires-clause-unspent
+read_manifest-requires-clause-unspent g c = c.requires.unspent
+
+pub read_manifest-requires-clause-there : goal.read_manifest-requires-clause-there
+read_manifest-requires-clause-there g c = c.requires.there
+
+pub returns-in-ReadManifest : goal.returns-in-ReadManifest
+returns-in-ReadManifest g c = record {
+  comes = λ honest. rw c.in-ReadManifest.is (c.read_manifest.ensures.comes honest);
+  answers = c.read_manifest.ensures.answers;
+  carries = λ whole. c.read_manifest.ensures.carries;
+  spends = c.read_manifest.ensures.spends;
+  honest = c.read_manifest.ensures.honest;
+}
+
+pub size_manifest-requires-clause-unspent : goal.size_manifest-requires-clause-unspent
+size_manifest-requires-clause-unspent g c = c.requires.unspent
+
+pub size_manifest-requires-clause-there : goal.size_manifest-requires-clause-there
+size_manifest-requires-clause-there g c = c.requires.there
+
+pub returns-in-SizeManifest : goal.returns-in-SizeManifest
+returns-in-SizeManifest g c = record {
+  comes = λ honest. rw c.in-SizeManifest.is (c.size_manifest.ensures.comes honest);
+  answers = c.size_manifest.ensures.answers;
+  carries = λ whole. absurd (true≢false (sym (ap (λ o. is_sizing (shown_operation o)) c.in-SizeManifest.is) ∙ whole));
+  spends = c.size_manifest.ensures.spends;
+  honest = c.size_manifest.ensures.honest;
+}
+
+pub delete_manifest-requires-clause-unspent : goal.delete_manifest-requires-clause-unspent
+delete_manifest-requires-clause-unspent g c = c.requires.unspent
+
+pub delete_manifest-requires-clause-there : goal.delete_manifest-requires-clause-there
+delete_manifest-requires-clause-there g c = c.requires.there
+
+pub returns-in-DeleteManifest : goal.returns-in-DeleteManifest
+returns-in-DeleteManifest g c = record {
+  comes = λ honest. rw c.in-DeleteManifest.is (c.delete_manifest.ensures.comes honest);
+  answers = c.delete_manifest.ensures.answers;
+  carries = λ whole. c.delete_manifest.ensures.carries;
+  spends = c.delete_manifest.ensures.spends;
+  honest = c.delete_manifest.ensures.honest;
+}
+
+pub push_manifest-requires-clause-unspent : goal.push_manifest-requires-clause-unspent
+push_manifest-requires-clause-unspent g c = c.requires.unspent
+
+pub push_manifest-requires-clause-there : goal.push_manifest-requires-clause-there
+push_manifest-requires-clause-there g c = c.requires.there
+
+pub returns-in-PushManifest : goal.returns-in-PushManifest
+returns-in-PushManifest g c = record {
+  comes = λ honest. rw c.in-PushManifest.is (c.push_manifest.ensures.comes honest);
+  answers = c.push_manifest.ensures.answers;
+  carries = λ whole. c.push_manifest.ensures.carries;
+  spends = c.push_manifest.ensures.spends;
+  honest = c.push_manifest.ensures.honest;
+}
+
+pub list_tags-requires-clause-unspent : goal.list_tags-requires-clause-unspent
+list_tags-requires-clause-unspent g c = c.requires.unspent
+
+pub list_tags-requires-clause-there : goal.list_tags-requires-clause-there
+list_tags-requires-clause-there g c = c.requires.there
+
+pub returns-in-ListTags : goal.returns-in-ListTags
+returns-in-ListTags g c = record {
+  comes = λ honest. rw c.in-ListTags.is (c.list_tags.ensures.comes honest);
+  answers = c.list_tags.ensures.answers;
+  carries = λ whole. c.list_tags.ensures.carries;
+  spends = c.list_tags.ensures.spends;
+  honest = c.list_tags.ensures.honest;
+}
+
+pub list_referrers-requires-clause-unspent : goal.list_referrers-requires-clause-unspent
+list_referrers-requires-clause-unspent g c = c.requires.unspent
+
+pub list_referrers-requires-clause-there : goal.list_referrers-requires-clause-there
+list_referrers-requires-clause-there g c = c.requires.there
+
+pub returns-in-ListReferrers : goal.returns-in-ListReferrers
+returns-in-ListReferrers g c = record {
+  comes = λ honest. rw c.in-ListReferrers.is (c.list_referrers.ensures.comes honest);
+  answers = c.list_referrers.ensures.answers;
+  carries = λ whole. c.list_referrers.ensures.carries;
+  spends = c.list_referrers.ensures.spends;
+  honest = c.list_referrers.ensures.honest;
+}
