@@ -76,11 +76,6 @@ idle = with_default (codes "60") (within 1 86400 (option (codes "idle")))
 abbrev pub subcommand : Text → List Rule → Shape
 subcommand word options = record (new_shape word) { rules = options }
 
--- `serve` but for what is beside it
-abbrev pub serving_within : Shape
-serving_within = subcommand (codes "serve")
-    (required db ∷ listen ∷ connections ∷ at_once ∷ buffer ∷ idle ∷ [])
-
 abbrev pub serve : Shape
 serve = subcommand (codes "serve")
     (required db ∷ listen ∷ connections ∷ at_once ∷ buffer ∷ idle ∷ orders ∷ flag (codes "log")
@@ -106,9 +101,6 @@ over_repo word = subcommand word (db ∷ orders ∷ name ∷ [])
 
 abbrev pub over_quota : Text → Shape
 over_quota word = subcommand word (db ∷ orders ∷ name ∷ quota ∷ [])
-
-abbrev pub over_token : Text → Shape
-over_token word = subcommand word (db ∷ orders ∷ token ∷ token_file ∷ [])
 
 abbrev pub grant : Shape
 grant = subcommand (codes "grant") (db ∷ orders ∷ token ∷ token_file ∷ name ∷ level ∷ [])
