@@ -1,6 +1,6 @@
 //! Looking for what is wrong in a registry: bytes of another digest or size, manifests that read as none,
-//! tags of manifests that are not there. And how a registry that lies in a database is opened, for that or for
-//! anything else, closed and taken over.
+//! tags of manifests that are not there. And how a registry that lies in a database is opened, for that or
+//! for anything else, closed and taken over.
 //!
 //! The crates above rely on `look`, which finds exactly what is wrong in the world that a keeper tells, and
 //! changes nothing, and on `write_wrongs`, which writes a line for each. `laws` says that in a sound world

@@ -45,8 +45,8 @@ fn taken_apart<S: Alter>(kept: Store<S>) -> (bool, Connection<S>) {
     (kept.spent(), kept.into_connection())
 }
 
-/// Closes the file of a registry, into which the log is copied first, unless its storage has failed. That files
-/// are what a store asks for is proved anew at each call, so there is one.
+/// Closes the file of a registry, into which the log is copied first, unless its storage has failed. That
+/// files are what a store asks for is proved anew at each call, so there is one.
 fn close_store<D: Disk + Drop>(kept: Store<FileStore<D>>) {
     let (spent, conn) = taken_apart(kept);
     if spent {

@@ -40,8 +40,8 @@ struct Serving<'a> {
     beside: Beside<'a>,
 }
 
-/// Serves so many connections that are taken at a listener, together. A server that is to end with standard input
-/// fails at once where that is a file, the null device or closed: nobody holds another end of these.
+/// Serves so many connections that are taken at a listener, together. A server that is to end with standard
+/// input fails at once where that is a file, the null device or closed: nobody holds another end of these.
 fn serve_many<K: Keeper, O: Opener<K>, W: Write, E: Write>(
     rt: &HostRuntime,
     alloc: Global,
@@ -172,8 +172,8 @@ fn run_server<K: Keeper, O: Opener<K>, W: Write, E: Write>(
     }
 }
 
-/// Does a task, and gives the exit status. With status 1 or 2 nothing was read or written, but for the line of
-/// standard input that the task takes for a token.
+/// Does a task, and gives the exit status. With status 1 or 2 nothing was read or written, but for the line
+/// of standard input that the task takes for a token.
 fn run_task<K: Keeper, O: Opener<K>, R: Read, W: Write, E: Write>(
     rt: &HostRuntime,
     opener: &O,

@@ -159,12 +159,14 @@ impl<D: Disk + Drop> Store<FileStore<D>> {
         alloc: Global,
         conn: Connection<FileStore<D>>,
     ) -> Result<Store<FileStore<D>>, OpenFault>
-        requires ours { HasCleanDisk (file_state conn) → IsIdle (file_state conn) × IsOurs (file_state conn).now }
+        requires ours { HasCleanDisk (file_state conn)
+            → IsIdle (file_state conn) × IsOurs (file_state conn).now }
         ensures made { IfOk result
             (λ s. HasCleanDisk (file_state s.conn) → IsEmptyWith no_schema (file_state conn).now
             → world_in (file_state s.conn) ≡ no_world) }
         ensures found { IfOk result
-            (λ s. HasCleanDisk (file_state s.conn) → IsIdle (file_state conn) → HoldsRegistry (file_state conn).now
+            (λ s. HasCleanDisk (file_state s.conn) → IsIdle (file_state conn)
+            → HoldsRegistry (file_state conn).now
             → (file_state s.conn).now ≡ (file_state conn).now) }
         ensures unspent { IfOk result (λ s. s.spent ≡ false) }
         ensures survives { IfOk result (λ s. Survives (file_state conn) (file_state s.conn) (λ _. ⊤)) }

@@ -1,5 +1,5 @@
-//! The program over the tables of databases. The layers are each generic in one piece of a store's type, which
-//! keeps their proofs small. They need nothing of how a database is found, and are proved beside that.
+//! The program over the tables of databases. The layers are each generic in one piece of a store's type,
+//! which keeps their proofs small. They need nothing of how a database is found, and are proved beside that.
 #![tactic(auto)]
 
 ghost use Rattle.std.specs.Prelude.{◌<◌, ◌≤◌, true, map};
