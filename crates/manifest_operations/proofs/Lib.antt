@@ -1,3 +1,4 @@
+pub mod FailedReads
 pub mod ManifestLemmas
 pub mod PushLemmas
 pub mod ListingLemmas

@@ -7,12 +7,12 @@ use Rattle.std.proofs.lemmas.List.Elements.{filter_map-append, filter-append}
 use Rattle.oci_names.specs.Text.{Text}
 use Rattle.oci_names.specs.Digest.{is_digest}
 use Rattle.oci_manifest.specs.Referrers.{ReferrerShown}
-use Rattle.registry_model.specs.declared.refusal.Refusal.TheVariants.{InvalidDigest}
+use Rattle.registry_model.specs.declared.refusal.Refusal.TheVariants.{InvalidDigest, InvalidPageSize}
 use Rattle.registry_model.specs.World.{repo_at, has_repo}
 use Rattle.registry_model.specs.Answer.{Answer, refused}
 use Rattle.registry_model.specs.Decision.{refuses, tells}
-use Rattle.registry_model.specs.Lookups.{manifests_on_at}
-use Rattle.registry_model.specs.TagPage.{next_link, link_by, link_behind}
+use Rattle.registry_model.specs.Lookups.{manifests_on_at, no_page, page_at}
+use Rattle.registry_model.specs.TagPage.{Page, page_behind, next_link, link_by, link_behind, size_in, text_or_empty, tags_reply, list_page, list_tags}
 use Rattle.registry_model.specs.Referrers.{referrer_in, is_wanted, filter_in, manifests_on, referrers_of, referrers_reply, list_referrers}
 use Rattle.registry_model.specs.Keeping.{State}
 use Rattle.manifest_operations.specs.Listing.{lets_through, added_by, wanted_of}
@@ -48,6 +48,28 @@ pub links_on : (name : Text) (n : Option ℕ) (k : ℕ) (tags : List Text) (more
 links_on name n k tags more last text m sized at e =
     ap Some e ∙ sym (ap (λ b. cond b (link_by name n (last_or None tags)) None) m ∙ ap (λ x. link_by name x (last_or None tags)) sized
     ∙ ap (link_by name (Some k)) (last_is None tags last at))
+
+-- ---- the page of tags
+
+unsized : (o : Option (Option ℕ)) → ((n : Option ℕ) → o ≡ Some n → ⊥) → o ≡ None
+unsized None h = refl
+unsized (Some n) h = absurd (h n refl)
+
+pub pages_nothing : (s : State) (name : Text) (n last : Option Text) → has_repo s.world name ≡ true → s.spent ≡ false
+    → (size : Option (Option ℕ)) → ((n : Option ℕ) → size ≡ Some n → ⊥) → size ≡ size_in n
+    → (a : Answer) → a ≡ refused InvalidPageSize → Done a name (λ r. list_tags r name n last) s s
+pages_nothing s name n last there unspent size none read a e =
+    let r = there_is (repo_at s.world name) there in
+    told s s name (λ r. list_tags r name n last) r.0 r.1 a _ e unspent refl (ap (list_page r.0 name last) (sym read ∙ unsized size none))
+
+pub pages : (s s' : State) (name : Text) (n last : Option Text) → has_repo s.world name ≡ true → s.spent ≡ false → s' ≡ s → (size : Option ℕ) → Some size ≡ size_in n
+    → (behind : Text) → behind ≡ text_or_empty last → (page : Page) → page ≡ page_at s.world name behind size
+    → (a : Answer) → a ≡ tags_reply name size page → Done a name (λ r. list_tags r name n last) s s'
+pages s s' name n last there unspent stays size sized behind began page at a e =
+    let r = there_is (repo_at s.world name) there in
+    let here : page ≡ page_behind r.0 (text_or_empty last) size =
+    at ∙ ap (λ o. option_map_or (λ r. page_behind r behind size) o no_page) r.1 ∙ ap (λ t. page_behind r.0 t size) began in
+    told s s' name (λ r. list_tags r name n last) r.0 r.1 a _ (e ∙ ap (tags_reply name size) here) unspent stays (ap (list_page r.0 name last) (sym sized))
 
 -- ---- the list of referrers
 

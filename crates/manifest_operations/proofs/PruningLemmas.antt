@@ -1,5 +1,5 @@
 -- The digests that manifests name, and what is left of a repository without the other blobs.
-use Rattle.std.proofs.Common.{◌≡◌, ◌∙◌, ℕ, ◌≤◌, length, take, List, [], ◌∷◌, map, Bool, true, false, cond, not, ◌&&◌, ◌||◌, None, Some, T, refl, sym, ap, subst}
+use Rattle.std.proofs.Common.{◌≡◌, ◌∙◌, ℕ, ◌+◌, ◌<◌, ◌≤◌, length, get_or, take, add-one, List, [], ◌∷◌, ◌++◌, map, Bool, true, false, cond, not, ◌&&◌, ◌||◌, None, Some, T, refl, sym, ap, subst}
 use Rattle.std.specs.Prelude.{Option, Result, filter, bytes_eq}
 use Rattle.std.specs.Option.{option_map_or, option_and_then}
 use Rattle.std.specs.List.{list_any, AllByRecursion}
@@ -9,7 +9,10 @@ use Rattle.std.specs.Ordering.{is_lt, is_eq, eq_by_cmp}
 use Rattle.std.specs.Cmp.{eq_by_cmp_equiv}
 use Rattle.std.specs.FinMap.{FinMap, get, keys, values, entries, find, is_sorted, entries_sorted, get-entries}
 use Rattle.std.specs.FinMap.Entries.{below_all}
+use Rattle.std.proofs.Math.Bool.{or-false}
+use Rattle.std.proofs.Math.Seq.{take-suc}
 use Rattle.std.proofs.lemmas.List.{take_all}
+use Rattle.std.proofs.lemmas.List.Folds.{list_any-append}
 use Rattle.std.proofs.lemmas.Map.Text.{is_eq-slice_cmp}
 use Rattle.oci_names.specs.Text.{Text}
 use Rattle.oci_names.specs.declared.fault.Fault.{Fault}
@@ -19,7 +22,7 @@ use Rattle.registry_model.specs.Pruning.{names_in, is_among, is_named, pruned, p
 use Rattle.registry_model.specs.Keeping.{State, Writes}
 use Rattle.registry_model.proofs.TextOrder.{text_total}
 use Rattle.registry_model.proofs.BlobsTakenAway.{unnamed_taken}
-use Rattle.manifest_operations.specs.Pruning.{is_named_by, is_named_at, unnamed_of, unnamed_at}
+use Rattle.manifest_operations.specs.Pruning.{names_at, is_named_by, is_named_at, unnamed_of, unnamed_at}
 
 -- ---- what is among digests
 
@@ -103,6 +106,17 @@ named_by_all s began name has manifests items index found over given told same i
     ∙ ap (λ ds. is_named_by began.world name ds q) (take_all index items over ∙ given ∙ told)
     ∙ ap {A = State} (λ s'. is_named_by s'.world name (manifest_digests_at s.world name) q) same
     ∙ named_in (repo_at s.world name) q) i
+
+-- what one manifest more names
+pub named_more : (w : World) (name : Text) (items : List Text) (index : ℕ) (manifest : Text) (old new : Bool) (names : List Text) (q : Text) → index < length items
+    → manifest ≡ get_or items index manifest → old ≡ is_named_by w name (take index items) q → names ≡ names_at w name manifest → new ≡ (old || is_among names q)
+    → new ≡ is_named_by w name (take (index + 1) items) q
+named_more w name items index manifest old new names q low at before told added =
+    let more : take (index + 1) items ≡ take index items ++ manifest ∷ [] =
+    ap (λ n. take n items) (add-one index) ∙ take-suc items index manifest low ∙ ap (λ m. take index items ++ m ∷ []) (sym at) in
+    added ∙ ap (λ b. b || is_among names q) before ∙ ap (λ ns. is_named_by w name (take index items) q || is_among ns q) told
+    ∙ ap (λ b. is_named_by w name (take index items) q || b) (sym (or-false (is_among (names_at w name manifest) q)))
+    ∙ sym (ap (λ ms. is_named_by w name ms q) more ∙ list_any-append (λ m. is_among (names_at w name m) q) (take index items) (manifest ∷ []))
 
 -- ---- what is left
 

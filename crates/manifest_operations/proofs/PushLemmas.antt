@@ -1,9 +1,11 @@
 -- The push of a manifest to a repository that is there.
-use Rattle.std.proofs.Common.{◌≡◌, ◌∙◌, List, length, Bool, true, false, cond, not, ◌||◌, None, Some, Ok, Err, refl, sym, ap, subst}
+use Rattle.std.proofs.Common.{◌≡◌, ◌∙◌, ℕ, zero, suc, ◌+◌, ◌<◌, List, [], ◌∷◌, ◌++◌, length, take, get_or, add-one, Bool, true, false, cond, not, ◌&&◌, ◌||◌, None, Some, Ok, Err, refl, sym, ap, subst, arith}
 use Rattle.std.specs.Prelude.{Option, option_map, is_some, nat_lt, Result}
 use Rattle.std.specs.Option.{option_and_then, option_map_or}
 use Rattle.std.specs.List.{list_all}
 use Rattle.std.specs.FinMap.{get}
+use Rattle.std.proofs.Math.Seq.{take-suc}
+use Rattle.std.proofs.lemmas.List.Folds.{list_all-append}
 use Rattle.oci_names.specs.Text.{Text}
 use Rattle.oci_names.specs.Tag.{is_tag}
 use Rattle.oci_names.specs.Digest.{is_digest, is_verified, matches, sha256_digest, verdict_of}
@@ -17,18 +19,19 @@ use Rattle.oci_manifest.specs.declared.fault.ManifestFault.{ManifestFault}
 use Rattle.oci_manifest.specs.Manifest.{ManifestShown, manifest_in}
 use Rattle.registry_model.specs.declared.refusal.Refusal.TheVariants.{InvalidReference, ContentTooLarge, InvalidDigest, DigestMismatch, InvalidManifest, ManifestBlobUnknown, QuotaExceeded}
 use Rattle.registry_model.specs.declared.reply.Reply.{Reply}
-use Rattle.registry_model.specs.World.{Repo, repo_at, has_repo}
+use Rattle.registry_model.specs.World.{Repo, World, repo_at, has_repo}
 use Rattle.registry_model.specs.Limits.{largest_manifest}
 use Rattle.registry_model.specs.Answer.{Answer, refused}
 use Rattle.registry_model.specs.Decision.{Decision, refuses, makes, within_quota}
 use Rattle.registry_model.specs.Manifests.{content_type_fits, has_needs, with_manifest, created_manifest, push_read, push_manifest, pushed_digest, pushed_tag}
-use Rattle.registry_model.specs.Lookups.{put_manifest}
+use Rattle.registry_model.specs.Lookups.{blob_size_at, put_manifest}
 use Rattle.registry_model.specs.Keeping.{State}
 use Rattle.operation_parts.specs.Operating.{Operates}
 use Rattle.operation_parts.specs.Quota.{grows_over, new_length, manifest_grows_over}
-use Rattle.manifest_operations.specs.Push.{has_needs_at, keep_manifest, push_under, push_checked}
+use Rattle.manifest_operations.specs.Push.{has_needs_at, keep_manifest, push_typed, push_under, push_checked}
 use Rattle.operation_parts.proofs.RepoOutcomes.{there_is, Done, told, made}
 use Rattle.manifest_operations.proofs.ManifestLemmas.{digest_is_no_tag}
+use Rattle.operation_parts.proofs.DigestLemmas.{and_false}
 use Rattle.operation_parts.proofs.QuotaLemmas.{manifest_over}
 
 -- ---- what is needed
@@ -43,6 +46,27 @@ needs_in : (o : Option Repo) (r : Repo) → o ≡ Some r → (needs : List Text)
 needs_in o r at needs =
     ap (λ o. list_all (λ digest. is_some (option_map length (option_and_then (λ (r : Repo). get r.blobs digest) o))) needs) at
     ∙ ap (λ (p : Text → Bool). list_all p needs) (λ i digest. is_some_length (get r.blobs digest) i)
+
+module _ (w : World) (name : Text) (needs : List Text) (index : ℕ) (digest : Text) (size : Option ℕ) (low : index < length needs) (at : digest ≡ get_or needs index digest)
+    (found : size ≡ blob_size_at w name digest) where
+  -- one more is there
+  pub has_more : has_needs_at w name (take index needs) ≡ true → is_some size ≡ true → has_needs_at w name (take (index + 1) needs) ≡ true
+  has_more before there =
+      let more : take (index + 1) needs ≡ take index needs ++ digest ∷ [] =
+      ap (λ n. take n needs) (add-one index) ∙ take-suc needs index digest low ∙ ap (λ d. take index needs ++ d ∷ []) (sym at) in
+      ap (has_needs_at w name) more ∙ list_all-append (λ d. is_some (blob_size_at w name d)) (take index needs) (digest ∷ [])
+      ∙ ap (λ b. b && (is_some (blob_size_at w name digest) && true)) before ∙ ap (λ b. b && true) (ap is_some (sym found) ∙ there)
+
+  -- one is not
+  pub lacks_one : is_some size ≡ false → false ≡ has_needs_at w name needs
+  lacks_one gone =
+      sym (lacks_at (λ d. is_some (blob_size_at w name d)) needs index digest low
+      (ap (λ d. is_some (blob_size_at w name d)) (sym at) ∙ ap is_some (sym found) ∙ gone))
+    where
+      lacks_at : (p : Text → Bool) (ds : List Text) (i : ℕ) (d : Text) → i < length ds → p (get_or ds i d) ≡ false → list_all p ds ≡ false
+      lacks_at p [] i d low fails = absurd (omega arith)
+      lacks_at p (x ∷ xs) zero d low fails = ap (λ b. b && list_all p xs) fails
+      lacks_at p (x ∷ xs) (suc i) d low fails = ap (λ b. p x && b) (lacks_at p xs i d (omega arith) fails) ∙ and_false (p x)
 
 -- ---- what is kept
 
@@ -85,17 +109,31 @@ module _ (s : State) (name digest : Text) (tag : Option Text) (body : Text) (m :
         (wrote ∙ ap {A = State} {B = State} (λ m. record { world = put_manifest m.world name digest body tag; spent = false }) (second ∙ first))
         (at_repo r.0 r.1 ∙ ap (λ b. cond b (refuses QuotaExceeded) (makes (created_manifest name digest m.subject) (with_manifest r.0 digest body tag))) fails)
 
+-- a content type of its kind
+pub of_its_kind : (s s' : State) (name digest : Text) (tag content_type : Option Text) (body : Text) (m : ManifestShown) (b : Bool) → b ≡ content_type_fits content_type m.kind → b ≡ true
+    → (a : Answer) → Done a name (λ r. keep_manifest r name digest tag body m) s s' → Done a name (λ r. push_typed r name digest tag content_type body m) s s'
+of_its_kind s s' name digest tag content_type body m b fits ok a h =
+    subst (λ (act : Repo → Decision). Done a name act s s')
+    (λ i r. sym (ap (λ b. cond (not b) (refuses InvalidManifest) (keep_manifest r name digest tag body m)) (sym fits ∙ ok)) i) h
+
 -- ---- what is refused on the way
 
 module _ (s : State) (name digest : Text) (content_type : Option Text) (body : Text) (there : has_repo s.world name ≡ true) (unspent : s.spent ≡ false) where
   -- a content type of another kind
-  pub other_type : (tag : Option Text) (m : ManifestShown) → manifest_in body ≡ Ok m → (b : Bool) → b ≡ content_type_fits content_type m.kind → b ≡ false
+  pub other_type : (tag : Option Text) (m : ManifestShown) (b : Bool) → b ≡ content_type_fits content_type m.kind → b ≡ false
+      → (a : Answer) → a ≡ refused InvalidManifest → Done a name (λ r. push_typed r name digest tag content_type body m) s s
+  other_type tag m b fits fails a e =
+      let r = there_is (repo_at s.world name) there in
+      told s s name (λ r. push_typed r name digest tag content_type body m) r.0 r.1 a _ e unspent refl
+      (ap (λ b. cond (not b) (refuses InvalidManifest) (keep_manifest r.0 name digest tag body m)) (sym fits ∙ fails))
+
+  -- bytes that are no manifest
+  pub unreadable : (tag : Option Text) (fault : ManifestFault) → manifest_in body ≡ Err fault
       → (a : Answer) → a ≡ refused InvalidManifest → Done a name (λ r. push_under r name digest tag content_type body (manifest_in body)) s s
-  other_type tag m read b fits fails a e =
+  unreadable tag fault read a e =
       let r = there_is (repo_at s.world name) there in
       told s s name (λ r. push_under r name digest tag content_type body (manifest_in body)) r.0 r.1 a _ e unspent refl
-      (ap (push_under r.0 name digest tag content_type body) read
-      ∙ ap (λ b. cond (not b) (refuses InvalidManifest) (keep_manifest r.0 name digest tag body m)) (sym fits ∙ fails))
+      (ap (push_under r.0 name digest tag content_type body) read)
 
   -- a digest against which nothing can be verified
   pub unverified : (v : Verdict) → v ≡ verdict_of digest body → v ≡ Unsupported

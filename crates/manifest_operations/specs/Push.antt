@@ -23,11 +23,17 @@ use Rattle.registry_model.specs.Decision.{Decision, refuses, within_quota, in_re
 abbrev pub has_needs_at : World → Text → List Text → Bool
 has_needs_at w name needs = list_all (λ digest. is_some (blob_size_at w name digest)) needs
 
--- a manifest that was read and whose content type fits, under its digest and a tag, if one is given
+-- a manifest whose content type fits, under its digest and a tag, if one is given
 abbrev pub keep_manifest : Repo → Text → Text → Option Text → Text → ManifestShown → Decision
 keep_manifest r name digest tag body m =
     if not (has_needs r m.needs) then refuses ManifestBlobUnknown
     else within_quota r (with_manifest r digest body tag) (created_manifest name digest m.subject)
+
+-- one that was read, by its content type
+abbrev pub push_typed : Repo → Text → Text → Option Text → Option Text → Text → ManifestShown → Decision
+push_typed r name digest tag content_type body m =
+    if not (content_type_fits content_type m.kind) then refuses InvalidManifest
+    else keep_manifest r name digest tag body m
 
 -- the reply of a manifest that was kept and is fetched at the location, or that was refused
 abbrev pub kept_answer : Text → Option Text → Result (String Global) Refusal → Answer
@@ -40,9 +46,9 @@ kept_answer digest subject (Ok location) = record (bare_answer Created) {
 
 -- what comes of it in the repository of the name
 abbrev pub Keeps : Result (Result (String Global) Refusal) Fault
-    → Text → Text → Option Text → Text → ManifestShown → State → State → Type 0
-Keeps result name digest tag body m s s' =
-    let decision = in_repo (repo_at s.world name) (λ r. keep_manifest r name digest tag body m) in
+    → Text → Text → Option Text → Option Text → Text → ManifestShown → State → State → Type 0
+Keeps result name digest tag content_type body m s s' =
+    let decision = in_repo (repo_at s.world name) (λ r. push_typed r name digest tag content_type body m) in
     WritesBy (kept_answer digest m.subject) result decision.reply
     (changed s.world (Some name) decision.change) s s'
 
@@ -50,9 +56,7 @@ Keeps result name digest tag body m s s' =
 abbrev pub push_under : Repo → Text → Text → Option Text → Option Text → Text
     → Result ManifestShown ManifestFault → Decision
 push_under r name digest tag content_type body (Err e) = refuses InvalidManifest
-push_under r name digest tag content_type body (Ok m) =
-    if not (content_type_fits content_type m.kind) then refuses InvalidManifest
-    else keep_manifest r name digest tag body m
+push_under r name digest tag content_type body (Ok m) = push_typed r name digest tag content_type body m
 
 -- bytes under a digest that was given, by what comparing them with it found
 abbrev pub push_checked : Repo → Text → Text → Option Text → Text → Verdict → Decision

@@ -9,7 +9,7 @@ ghost use Rattle.registry_model.specs.Ask.{text_in};
 ghost use Rattle.registry_model.specs.Keeping.{Spends};
 ghost use Rattle.registry_model.specs.Manifests.{push_manifest};
 ghost use Rattle.operation_parts.specs.Operating.{Operates, IsUnspent, HasRepo, Answers, Carries};
-ghost use Rattle.manifest_operations.specs.Push.{has_needs_at, keep_manifest, Keeps, push_under, push_checked};
+ghost use Rattle.manifest_operations.specs.Push.{has_needs_at, push_typed, Keeps, push_under, push_checked};
 ghost use Rattle.operation_parts.specs.Finding.{Finds};
 
 use crate::content_type::content_type_fits;
@@ -37,14 +37,15 @@ fn has_needs<K: Keeper>(keeper: &mut K, name: &RepoName, needs: &[Digest]) -> Re
     Ok(true)
 }
 
-/// Keeps a manifest that was read, and sets the tag to it, if one is given: where it is fetched, or
-/// why it is refused. The reply's memory is taken before the write.
+/// Keeps a manifest that was read, if the content type is that of its kind, and sets the tag to it, if one
+/// is given: where it is fetched, or why it is refused. The reply's memory is taken before the write.
 fn keep<K: Keeper>(
     keeper: &mut K,
     alloc: Global,
     name: &RepoName,
     digest: &Digest,
     tag: Option<&Tag>,
+    content_type: Option<&[u8]>,
     body: &[u8],
     manifest: &Manifest,
 ) -> Result<Result<String, Refusal>, Fault>
@@ -54,11 +55,14 @@ fn keep<K: Keeper>(
     requires reads { manifest_in body.now ≡ Ok (shown manifest.now) }
     requires fits { length body.now ≤ largest_manifest }
     ensures comes { K.is_honest keeper.new → Keeps result name.now
-        digest.now (text_in tag.entry) body.now (shown manifest.now)
+        digest.now (text_in tag.entry) (text_in content_type.entry) body.now (shown manifest.now)
         (K.state keeper.old) (K.state keeper.new) }
     ensures spends { Spends result (K.state keeper.old) (K.state keeper.new) }
     ensures honest { K.is_honest keeper.new → K.is_honest keeper.old }
 {
+    if !content_type_fits(content_type, manifest.kind) {
+        return Ok(Err(Refusal::InvalidManifest));
+    }
     if !has_needs(keeper, name, &manifest.needs)? {
         return Ok(Err(Refusal::ManifestBlobUnknown));
     }
@@ -86,6 +90,7 @@ fn keep_manifest<K: Keeper>(
     name: &RepoName,
     digest: Digest,
     tag: Option<&Tag>,
+    content_type: Option<&[u8]>,
     body: &[u8],
     manifest: Manifest,
 ) -> Result<Reply, Fault>
@@ -95,14 +100,23 @@ fn keep_manifest<K: Keeper>(
     requires reads { manifest_in body.now ≡ Ok (shown manifest) }
     requires fits { length body.now ≤ largest_manifest }
     ensures comes { K.is_honest keeper.new → Operates result name.now
-        (λ r. keep_manifest r name.now digest (text_in tag.entry) body.now (shown manifest))
-        (K.state keeper.old) (K.state keeper.new) }
+        (λ r. push_typed r name.now digest (text_in tag.entry) (text_in content_type.entry) body.now
+        (shown manifest)) (K.state keeper.old) (K.state keeper.new) }
     ensures answers { Answers result }
     ensures carries { Carries result }
     ensures spends { Spends result (K.state keeper.old) (K.state keeper.new) }
     ensures honest { K.is_honest keeper.new → K.is_honest keeper.old }
 {
-    let kept = keep(keeper, alloc, name, &digest, tag, body, &manifest);
+    let kept = keep(
+        keeper,
+        alloc,
+        name,
+        &digest,
+        tag,
+        content_type,
+        body,
+        &manifest,
+    );
     let subject = subject_of(manifest);
     match kept {
         Err(fault) => Err(fault),
@@ -133,17 +147,22 @@ fn push_under<K: Keeper>(
     ensures spends { Spends result (K.state keeper.old) (K.state keeper.new) }
     ensures honest { K.is_honest keeper.new → K.is_honest keeper.old }
 {
-    let manifest = match read_manifest(alloc, body) {
-        Ok(manifest) => manifest,
+    match read_manifest(alloc, body) {
+        Ok(manifest) => keep_manifest(
+            keeper,
+            alloc,
+            name,
+            digest,
+            tag,
+            content_type,
+            body,
+            manifest,
+        ),
         Err(fault) => match fault {
-            ManifestFault::Memory => return Err(Fault::Memory),
-            _ => return Ok(Reply::refusal(Refusal::InvalidManifest)),
+            ManifestFault::Memory => Err(Fault::Memory),
+            _ => Ok(Reply::refusal(Refusal::InvalidManifest)),
         },
-    };
-    if !content_type_fits(content_type, manifest.kind) {
-        return Ok(Reply::refusal(Refusal::InvalidManifest));
     }
-    keep_manifest(keeper, alloc, name, digest, tag, body, manifest)
 }
 
 /// The push by tag: under the bytes' sha256 digest.

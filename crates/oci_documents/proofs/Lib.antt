@@ -3,4 +3,5 @@ mod Texts
 mod Descriptors
 mod Replies
 mod WrittenTexts
+mod NamedDigests
 mod FoundOrRefused

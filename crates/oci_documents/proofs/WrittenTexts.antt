@@ -1,14 +1,18 @@
 -- An object of texts, put together member by member.
-use Rattle.std.proofs.Common.{◌≡◌, List, [], ◌∷◌, ◌++◌, string_cmp, string_bytes, String, Global, refl, sym, ap, ◌∙◌, subst, append_assoc}
+use Rattle.std.proofs.Common.{◌≡◌, List, [], ◌∷◌, ◌++◌, length, true, false, true≢false, string_cmp, string_bytes, String, Global, refl, sym, ap, ◌∙◌, subst, append_assoc, arith}
+use Rattle.std.specs.Prelude.{Result, OnOk}
+use Rattle.std.specs.declared.alloc.AllocError.{AllocError}
 use Rattle.std.specs.BTreeMap.{insert_entry}
 use Rattle.std.specs.List.Sorted.{IsStrictlySortedBy}
 use Rattle.std.specs.Map.{keys_of}
-use Rattle.serde_json.specs.Data.{Data, string, Members, no_members, member}
+use Rattle.std.proofs.lemmas.Result.{on_ok_weaker}
+use Rattle.serde_json.specs.Data.{Data, string, object, Members, no_members, member, put}
 use Rattle.serde_json.specs.declared.value.Value.{Value}
 use Rattle.serde_json.specs.View.{view, members_view}
 use Rattle.serde_json.proofs.Views.{Entry}
 use Rattle.oci_names.specs.Text.{Text}
 use Rattle.oci_manifest.specs.Member.{pairs_of, text_members}
+use Rattle.oci_manifest.specs.Referrers.{put_texts}
 use Rattle.oci_documents.proofs.LastKey.{names, IsAbove, goes_last, above_front, names-append_one}
 use Rattle.oci_documents.proofs.Texts.{TextEntry}
 
@@ -47,3 +51,15 @@ written_one all e left members after k v so_far ordered is text made =
       named = ap (λ (es : List Entry). names es) last ∙ names-append_one members (k, v) ∙ rw (is, so_far.named) refl ∙ sym (names-append_one so_far.done e);
       shown = ap members_view last ∙ members_view-append_one members (k, v) ∙ rw (is, text, so_far.shown) refl ∙ sym (text_members-append_one so_far.done e);
     }
+
+-- ---- the object in another
+
+pub none_put : (key : Text) (es : List TextEntry) (old : Members) → length es ≡ 0 → old ≡ put_texts key (pairs_of es) old
+none_put key [] old none = refl
+none_put key (e ∷ es) old none = absurd (omega arith)
+
+pub some_put : (r : Result (Unit {0}) AllocError) (key : Text) (es : List TextEntry) (texts old new : Members) (inner : Data) → (length es ≡ 0 → false ≡ true)
+    → texts ≡ text_members (pairs_of es) → inner ≡ object texts → OnOk r (new ≡ put key inner old) → OnOk r (new ≡ put_texts key (pairs_of es) old)
+some_put r key [] texts old new inner some is seen made = absurd (true≢false (sym (some refl)))
+some_put r key (e ∷ es) texts old new inner some is seen made =
+    on_ok_weaker r (λ (h : new ≡ put key inner old). h ∙ ap (λ (d : Data). put key d old) (seen ∙ ap object is)) made

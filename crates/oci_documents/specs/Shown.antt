@@ -1,7 +1,8 @@
 -- What was read of a document, as the definitions have it.
-use Rattle.std.specs.Prelude.{List, map, string_bytes, option_map}
+use Rattle.std.specs.Prelude.{List, [], ◌∷◌, ◌++◌, map, Bool, cond, string_bytes, option_map}
 use Rattle.serde_json.specs.View.{view, items_view}
-use Rattle.oci_manifest.specs.Descriptor.{DescriptorShown}
+use Rattle.oci_names.specs.Text.{Text}
+use Rattle.oci_manifest.specs.Descriptor.{DescriptorShown, digests_of, needed}
 use Rattle.oci_manifest.specs.Manifest.{BodyShown, image, index, ContentsShown}
 use Rattle.oci_documents.specs.declared.descriptor.Descriptor.{Descriptor}
 use Rattle.oci_documents.specs.declared.body.Body.{Body}
@@ -27,4 +28,20 @@ contents_shown c = record {
   config_type = option_map string_bytes c.config_type;
   needs = c.needs.items;
   names = c.names.items;
+}
+
+-- one more digest, which is needed unless its content lies elsewhere
+abbrev pub with_digest : ContentsShown → Bool → Text → ContentsShown
+with_digest c elsewhere digest = record {
+  config_type = c.config_type;
+  needs = c.needs ++ cond elsewhere [] (digest ∷ []);
+  names = c.names ++ digest ∷ [];
+}
+
+-- those of more descriptors
+abbrev pub with_digests : ContentsShown → List DescriptorShown → ContentsShown
+with_digests c ds = record {
+  config_type = c.config_type;
+  needs = c.needs ++ needed ds;
+  names = c.names ++ digests_of ds;
 }

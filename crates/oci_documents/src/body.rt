@@ -1,10 +1,9 @@
 //! What a manifest names: a config and layers, or other manifests.
 
-ghost use Rattle.std.specs.Prelude.{◌≡◌, [], ◌∷◌, ◌++◌, cond, option_map, IfOk, OnOk};
+ghost use Rattle.std.specs.Prelude.{◌≡◌, [], ◌∷◌, ◌++◌, cond, string_bytes, option_map, IfOk, OnOk};
 ghost use Rattle.serde_json.specs.View.{view};
 ghost use Rattle.oci_manifest.specs.Part.{Finds};
-ghost use Rattle.oci_manifest.specs.Descriptor.{digests_of, needed};
-ghost use Rattle.oci_documents.specs.Shown.{body_shown, contents_shown, descriptor_shown, descriptors_shown};
+ghost use Rattle.oci_documents.specs.Shown.{body_shown, contents_shown, descriptor_shown, descriptors_shown, with_digest, with_digests};
 ghost use Rattle.oci_manifest.specs.Manifest.{body_kind, body_of, image_contents, contents_of};
 
 use crate::descriptor::{Descriptor, read_descriptor, read_descriptors};
@@ -57,6 +56,42 @@ impl Drop for Contents {
 }
 
 impl Contents {
+    /// Nothing is named yet.
+    fn new(alloc: Global, config_type: Option<String>) -> Contents
+        ensures { contents_shown result ≡ record {
+          config_type = option_map string_bytes config_type;
+          needs = [];
+          names = [];
+        } }
+    {
+        Contents {
+            config_type,
+            needs: Vec::new(alloc),
+            names: Vec::new(alloc),
+        }
+    }
+
+    /// Names a digest, which has to be there unless its content lies elsewhere.
+    fn name(&mut self, elsewhere: bool, digest: Digest) -> Result<(), AllocError>
+        ensures { OnOk result
+            (contents_shown self.new ≡ with_digest (contents_shown self.old) elsewhere digest) }
+    {
+        self.names.push(digest.clone()?)?;
+        push_unless(&mut self.needs, elsewhere, digest)
+    }
+
+    /// Names the descriptors' digests, in their order.
+    fn name_all(&mut self, descriptors: Vec<Descriptor>) -> Result<(), AllocError>
+        ensures { OnOk result (contents_shown self.new
+            ≡ with_digests (contents_shown self.old) (descriptors_shown descriptors.items)) }
+    {
+        for descriptor in descriptors {
+            let elsewhere = descriptor.elsewhere;
+            self.name(elsewhere, descriptor.into_digest())?;
+        }
+        Ok(())
+    }
+
     /// The media type of the config, the digests that have to be there, and those that are named.
     pub(crate) fn into_parts(self) -> (Option<String>, Vec<Digest>, Vec<Digest>)
         ensures { result ≡ (self.config_type, self.needs, self.names) }
@@ -92,17 +127,6 @@ pub(crate) fn read_body(value: &Value) -> Option<Body<'_>>
     }
 }
 
-/// Adds the descriptors' digests, in their order.
-fn push_named(names: &mut Vec<Digest>, descriptors: &[Descriptor]) -> Result<(), AllocError>
-    ensures { OnOk result (names.new.items
-        ≡ names.old.items ++ digests_of (descriptors_shown descriptors.now)) }
-{
-    for descriptor in descriptors {
-        names.push(descriptor.digest.clone()?)?;
-    }
-    Ok(())
-}
-
 /// Adds the digest, unless its content lies elsewhere.
 fn push_unless(needs: &mut Vec<Digest>, elsewhere: bool, digest: Digest) -> Result<(), AllocError>
     ensures { OnOk result (needs.new.items ≡ needs.old.items ++ cond elsewhere [] (digest ∷ [])) }
@@ -114,18 +138,6 @@ fn push_unless(needs: &mut Vec<Digest>, elsewhere: bool, digest: Digest) -> Resu
     }
 }
 
-/// Adds the descriptors' digests, in their order, without those whose content lies elsewhere.
-fn push_needed(needs: &mut Vec<Digest>, descriptors: Vec<Descriptor>) -> Result<(), AllocError>
-    ensures { OnOk result (needs.new.items
-        ≡ needs.old.items ++ needed (descriptors_shown descriptors.items)) }
-{
-    for descriptor in descriptors {
-        let elsewhere = descriptor.elsewhere;
-        push_unless(needs, elsewhere, descriptor.into_digest())?;
-    }
-    Ok(())
-}
-
 /// What an image manifest says by its config and its layers.
 fn image_says(
     alloc: Global,
@@ -135,19 +147,12 @@ fn image_says(
     ensures { IfOk result (λ c. contents_shown c
         ≡ image_contents (descriptor_shown config) (descriptors_shown layers.items)) }
 {
-    let mut names = Vec::new(alloc);
-    names.push(config.digest.clone()?)?;
-    push_named(&mut names, &layers)?;
     let elsewhere = config.elsewhere;
     let (media_type, digest) = config.into_parts();
-    let mut needs = Vec::new(alloc);
-    push_unless(&mut needs, elsewhere, digest)?;
-    push_needed(&mut needs, layers)?;
-    Ok(Contents {
-        config_type: Some(media_type),
-        needs,
-        names,
-    })
+    let mut contents = Contents::new(alloc, Some(media_type));
+    contents.name(elsewhere, digest)?;
+    contents.name_all(layers)?;
+    Ok(contents)
 }
 
 /// What the body's descriptors say, once each of them is one.
@@ -162,11 +167,7 @@ pub(crate) fn read_contents(alloc: Global, body: &Body<'_>) -> Result<Contents, 
         }
         Body::Index { manifests } => {
             drop(read_descriptors(alloc, ManifestFault::Descriptor, manifests)?);
-            Ok(Contents {
-                config_type: None,
-                needs: Vec::new(alloc),
-                names: Vec::new(alloc),
-            })
+            Ok(Contents::new(alloc, None))
         }
     }
 }

@@ -37,11 +37,11 @@ fn put_artifact_type(
         ≡ put_text (codes "artifactType") (option_map string_bytes artifact_type.now)
         (members_view members.old.entries)) }
 {
-    if let Some(text) = artifact_type {
-        let value = Value::try_from_str(alloc, text.as_str())?;
-        serde_json::put(members, alloc, "artifactType", value)?;
-    }
-    Ok(())
+    let Some(text) = artifact_type else {
+        return Ok(());
+    };
+    let value = Value::try_from_str(alloc, text.as_str())?;
+    serde_json::put(members, alloc, "artifactType", value)
 }
 
 /// Fills an empty map with the texts.
@@ -70,12 +70,12 @@ fn put_annotations(
         ≡ put_texts (codes "annotations") (pairs_of annotations.now.entries)
         (members_view members.old.entries)) }
 {
-    if !annotations.is_empty() {
-        let mut texts = Map::new(alloc);
-        fill(alloc, &mut texts, annotations)?;
-        serde_json::put(members, alloc, "annotations", Value::Object(texts))?;
+    if annotations.is_empty() {
+        return Ok(());
     }
-    Ok(())
+    let mut texts = Map::new(alloc);
+    fill(alloc, &mut texts, annotations)?;
+    serde_json::put(members, alloc, "annotations", Value::Object(texts))
 }
 
 fn referrer_value(alloc: Global, referrer: &Referrer) -> Result<Value, AllocError>

@@ -4,8 +4,16 @@ use Rattle.registry_model.specs.declared.reply.Status.TheVariants.{Created}
 use Rattle.registry_model.specs.Answer.{Answer, bare_answer}
 use Rattle.registry_model.specs.Ask.{text_in}
 use Rattle.manifest_operations.specs.Push.{has_needs_at}
-use Rattle.manifest_operations.proofs.PushLemmas.{needs_more, goes_past, keeps_it}
+use Rattle.manifest_operations.proofs.PushLemmas.{of_its_kind, other_type, needs_more, goes_past, keeps_it}
 use Rattle.manifest_operations.proofs.manifest_push.keep.Goals as goal
+
+pub returns-then-not-content_type_fits : goal.returns-then-not-content_type_fits
+returns-then-not-content_type_fits g c = record {
+  comes = λ honest. other_type (g.K.Keeper.state c.args.keeper.now) c.args.name.now c.args.digest.now (text_in c.args.content_type) c.args.body.now
+      (c.requires.there honest) c.requires.unspent (text_in c.args.tag) (shown c.args.manifest.now) _ c.content_type_fits.ensures c.if-not-content_type_fits.true _ refl;
+  spends = (c.requires.unspent, c.requires.unspent);
+  honest = λ honest. honest;
+}
 
 pub returns-then-not-branch : goal.returns-then-not-branch
 returns-then-not-branch g c = record {
@@ -13,8 +21,9 @@ returns-then-not-branch g c = record {
       let s = g.K.Keeper.state c.args.keeper.now in
       let found = c.in_ok-has_needs.ensures.found honest in
       let there = c.requires.there (c.in_ok-has_needs.ensures.honest honest) in
-      needs_more s c.args.name.now c.args.digest.now (text_in c.args.tag) c.args.body.now (shown c.args.manifest.now) there c.requires.unspent _ found.1
-      _ (found.0 ∙ ap (has_needs_at s.world c.args.name.now) c.deref.ensures.value) c.if-not-branch.true _ refl);
+      of_its_kind s _ c.args.name.now c.args.digest.now (text_in c.args.tag) (text_in c.args.content_type) c.args.body.now (shown c.args.manifest.now) _ c.content_type_fits.ensures c.if-not-content_type_fits.false _
+      (needs_more s c.args.name.now c.args.digest.now (text_in c.args.tag) c.args.body.now (shown c.args.manifest.now) there c.requires.unspent _ found.1
+      _ (found.0 ∙ ap (has_needs_at s.world c.args.name.now) c.deref.ensures.value) c.if-not-branch.true _ refl));
   spends = c.in_ok-has_needs.ensures.spends;
   honest = c.in_ok-has_needs.ensures.honest;
 }
@@ -27,8 +36,9 @@ returns-then-branch g c = record {
       let found = c.in_ok-has_needs.ensures.found first in
       let asked = c.in_ok-manifest_goes_over.ensures.found honest in
       let there = c.requires.there (c.in_ok-has_needs.ensures.honest first) in
-      goes_past s c.args.name.now c.args.digest.now (text_in c.args.tag) c.args.body.now (shown c.args.manifest.now) there c.requires.unspent _ _ found.1 asked.1
-      _ (found.0 ∙ ap (has_needs_at s.world c.args.name.now) c.deref.ensures.value) c.if-not-branch.false _ asked.0 c.if-branch.true _ refl);
+      of_its_kind s _ c.args.name.now c.args.digest.now (text_in c.args.tag) (text_in c.args.content_type) c.args.body.now (shown c.args.manifest.now) _ c.content_type_fits.ensures c.if-not-content_type_fits.false _
+      (goes_past s c.args.name.now c.args.digest.now (text_in c.args.tag) c.args.body.now (shown c.args.manifest.now) there c.requires.unspent _ _ found.1 asked.1
+      _ (found.0 ∙ ap (has_needs_at s.world c.args.name.now) c.deref.ensures.value) c.if-not-branch.false _ asked.0 c.if-branch.true _ refl));
   spends = (c.requires.unspent, c.in_ok-manifest_goes_over.ensures.spends.1);
   honest = λ honest. c.in_ok-has_needs.ensures.honest (c.in_ok-manifest_goes_over.ensures.honest honest);
 }
@@ -42,9 +52,10 @@ returns g c = record {
       let found = c.in_ok-has_needs.ensures.found first in
       let asked = c.in_ok-manifest_goes_over.ensures.found second in
       let there = c.requires.there (c.in_ok-has_needs.ensures.honest first) in
-      keeps_it s c.args.name.now c.args.digest.now (text_in c.args.tag) c.args.body.now (shown c.args.manifest.now) there c.requires.unspent _ _ found.1 asked.1
+      of_its_kind s _ c.args.name.now c.args.digest.now (text_in c.args.tag) (text_in c.args.content_type) c.args.body.now (shown c.args.manifest.now) _ c.content_type_fits.ensures c.if-not-content_type_fits.false _
+      (keeps_it s c.args.name.now c.args.digest.now (text_in c.args.tag) c.args.body.now (shown c.args.manifest.now) there c.requires.unspent _ _ found.1 asked.1
       _ (found.0 ∙ ap (has_needs_at s.world c.args.name.now) c.deref.ensures.value) c.if-not-branch.false _ asked.0 c.if-branch.false _ (c.in_ok-put_manifest.ensures.made honest) _
-      (ap {B = Answer} (λ l. record (bare_answer Created) { location = Some l; digest = Some c.args.digest.now; subject = c.args.manifest.now.subject }) c.in-Ok.ensures));
+      (ap {B = Answer} (λ l. record (bare_answer Created) { location = Some l; digest = Some c.args.digest.now; subject = c.args.manifest.now.subject }) c.in-Ok.ensures)));
   spends = (c.requires.unspent, c.in_ok-put_manifest.ensures.spends.1);
   honest = λ honest. c.in_ok-has_needs.ensures.honest (c.in_ok-manifest_goes_over.ensures.honest (c.in_ok-put_manifest.ensures.honest honest));
 }

@@ -1,33 +1,36 @@
-use Rattle.std.proofs.Common.{ap}
+use Rattle.std.proofs.Common.{ap, refl, sym, subst}
+use Rattle.oci_manifest.specs.declared.fault.ManifestFault.{ManifestFault}
+use Rattle.std.specs.Prelude.{Result}
+use Rattle.oci_manifest.specs.Manifest.{ManifestShown}
 use Rattle.registry_model.specs.Answer.{Answer}
+use Rattle.registry_model.specs.Ask.{text_in}
 use Rattle.registry_model.specs.Doing.{course_of_answer}
 use Rattle.registry_model.specs.Heads.{is_sent}
-use Rattle.manifest_operations.proofs.PushLemmas.{other_type}
-use Rattle.registry_model.specs.Ask.{text_in}
+use Rattle.operation_parts.specs.Operating.{Operates}
+use Rattle.manifest_operations.specs.Push.{push_under}
+use Rattle.manifest_operations.proofs.PushLemmas.{unreadable}
 use Rattle.manifest_operations.proofs.manifest_push.push_under.Goals as goal
 
-pub returns-then-not-content_type_fits : goal.returns-then-not-content_type_fits
-returns-then-not-content_type_fits g c = record {
-  comes = λ honest. (
-      let read = c.in-Ok.ensures.exact in
-      let fits = c.content_type_fits.ensures in
-      let no = c.if-not-content_type_fits.true in
-      let e = c.refusal-then-not-content_type_fits.ensures in
-      other_type _ c.args.name.now c.args.digest (text_in c.args.content_type) c.args.body.now (c.requires.there honest) c.requires.unspent (text_in c.args.tag) _ read _ fits no _ e);
-  answers = ap course_of_answer c.refusal-then-not-content_type_fits.ensures;
-  carries = ap (λ (a : Answer). is_sent a.body) c.refusal-then-not-content_type_fits.ensures;
+pub returns-in-Ok : goal.returns-in-Ok
+returns-in-Ok g c = record {
+  comes = λ honest.
+      subst (λ (read : Result ManifestShown ManifestFault). Operates c.keep_manifest.result c.args.name.now (λ r. push_under r c.args.name.now c.args.digest (text_in c.args.tag) (text_in c.args.content_type) c.args.body.now read)
+      (g.K.Keeper.state c.args.keeper.now) (g.K.Keeper.state c.keep_manifest.new.keeper)) (sym c.in-Ok.ensures.exact) (c.keep_manifest.ensures.comes honest);
+  answers = c.keep_manifest.ensures.answers;
+  carries = c.keep_manifest.ensures.carries;
+  spends = c.keep_manifest.ensures.spends;
+  honest = c.keep_manifest.ensures.honest;
+}
+
+pub returns-in-Memory : goal.returns-in-Memory
+returns-in-Memory g c = record { comes = λ honest. refl; answers = tt; carries = tt; spends = (c.requires.unspent, c.requires.unspent); honest = λ honest. honest }
+
+pub returns : goal.returns
+returns g c = record {
+  comes = λ honest. unreadable _ c.args.name.now c.args.digest (text_in c.args.content_type) c.args.body.now (c.requires.there honest) c.requires.unspent (text_in c.args.tag)
+      _ (c.in-Err.ensures.exact c.in_default.not-Memory) _ c.refusal.ensures;
+  answers = ap course_of_answer c.refusal.ensures;
+  carries = ap (λ (a : Answer). is_sent a.body) c.refusal.ensures;
   spends = (c.requires.unspent, c.requires.unspent);
   honest = λ honest. honest;
 }
-
-pub returns-clause-answers : goal.returns-clause-answers
-returns-clause-answers g c = c.keep_manifest.ensures.answers
-
-pub returns-clause-carries : goal.returns-clause-carries
-returns-clause-carries g c = c.keep_manifest.ensures.carries
-
-pub returns-clause-spends : goal.returns-clause-spends
-returns-clause-spends g c = c.keep_manifest.ensures.spends
-
-pub returns-clause-honest : goal.returns-clause-honest
-returns-clause-honest g c = c.keep_manifest.ensures.honest
