@@ -6,7 +6,6 @@ use oci_names::{Digest, RepoName, Tag};
 use registry_model::Level;
 
 /// An item of a list.
-#[derive(Drop)]
 pub enum Item {
     Repo {
         name: RepoName,
@@ -33,6 +32,27 @@ pub enum Item {
         token: String,
         level: Level,
     },
+}
+
+// (written out, so that where one is dropped it is by a call)
+impl Drop for Item {
+    fn drop(self) {
+        match self {
+            Item::Repo { name: _ } => {}
+            Item::Tag { tag: _, digest: _ } => {}
+            Item::Blob {
+                digest: _,
+                size: _,
+                manifests: _,
+            } => {}
+            Item::Unnamed { digest: _ } => {}
+            Item::Grant {
+                name: _,
+                token: _,
+                level: _,
+            } => {}
+        }
+    }
 }
 
 /// The number of a level: 1 pull, 2 push, 3 delete.

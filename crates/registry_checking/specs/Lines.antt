@@ -13,10 +13,14 @@ words_of OtherSize = codes "not as many bytes as it is told to have"
 words_of NoManifest = codes "no manifest"
 words_of Unreadable = codes "cannot be read"
 
+-- a repository, a digest or a tag, and what is said of it
+abbrev pub line : Text → Text → Text → Text
+line repo what words = repo ++ 32 ∷ what ++ codes ": " ++ words
+
 -- the repository, a digest or a tag, and what is wrong with it; the line's end is not of it
 abbrev pub line_of : Wrong → Text
-line_of (Content repo digest flaw) = repo ++ 32 ∷ digest ++ codes ": " ++ words_of flaw
-line_of (Tag repo tag) = repo ++ 32 ∷ tag ++ codes ": a tag of no manifest"
+line_of (Content repo digest flaw) = line repo digest (words_of flaw)
+line_of (Tag repo tag) = line repo tag (codes "a tag of no manifest")
 
 abbrev pub newline : Text
 newline = 10 ∷ []

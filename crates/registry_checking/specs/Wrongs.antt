@@ -1,7 +1,7 @@
 -- What is wrong in a world, content by content and tag by tag, as it is looked up (profile).
 use Rattle.std.specs.Prelude.{◌≡◌, ◌≢◌, ℕ, ◌==◌, ◌&&◌, ◌++◌, Bool, true, List, [], Option, Some, None, Result, Ok, Err, if◌then◌else◌, length, is_some, IsOk, ⊤}
 use Rattle.std.specs.Option.{option_and_then}
-use Rattle.std.specs.List.{filter_map, flat_map}
+use Rattle.std.specs.List.{filter_map, flat_map, cons_option}
 use Rattle.std.specs.FinMap.{get}
 use Rattle.oci_names.specs.Text.{Text}
 use Rattle.oci_names.specs.Digest.{is_verified, matches}
@@ -13,6 +13,8 @@ use Rattle.oci_manifest.specs.Manifest.{ManifestShown, manifest_in}
 use Rattle.registry_model.specs.World.{Repo, World}
 use Rattle.registry_model.specs.Keeping.{State}
 use Rattle.registry_model.specs.Lookups.{blob_at, blob_size_at, blob_digests_at, manifest_at, manifest_size_at, manifest_digests_at, tag_at, page_at, usages_of}
+use Rattle.registry_checking.specs.declared.looking.Kept.{Kept}
+use Rattle.registry_checking.specs.declared.looking.Kept.TheVariants.{Blob, Manifest}
 use Rattle.registry_checking.specs.declared.wrong.Wrong.{Wrong}
 use Rattle.registry_checking.specs.declared.wrong.Wrong.TheVariants.{Content, Tag}
 use Rattle.registry_checking.specs.declared.wrong.Flaw.TheVariants.{OtherBytes, OtherSize, NoManifest}
@@ -61,6 +63,11 @@ abbrev pub wrong_manifest_at : World → Text → Text → Option Wrong
 wrong_manifest_at w repo digest =
     wrong_manifest repo digest (manifest_at w repo digest) (manifest_size_at w repo digest)
 
+-- of either
+abbrev pub wrong_at : Kept → World → Text → Text → Option Wrong
+wrong_at Blob w repo digest = wrong_blob_at w repo digest
+wrong_at Manifest w repo digest = wrong_manifest_at w repo digest
+
 abbrev pub wrong_tag_at : World → Text → Text → Option Wrong
 wrong_tag_at w repo tag =
     option_and_then (λ digest. untied repo tag (manifest_size_at w repo digest)) (tag_at w repo tag)
@@ -93,6 +100,13 @@ abbrev pub Notes : Result (Unit {0}) Fault → List Wrong → List Wrong → Lis
 Notes (Ok v) found old new s s' = (new ≡ old ++ found) × (s' ≡ s)
 Notes (Err Memory) found old new s s' = s' ≡ s
 Notes (Err Storage) found old new s s' = ⊤
+
+-- what a read found was put behind the others, or memory for that was wanting, or its fault was passed on
+abbrev pub IsNoted : Result (Option Wrong) Fault → Result (Unit {0}) Fault → List Wrong → List Wrong → Type 0
+IsNoted (Ok found) (Ok v) old new = new ≡ old ++ cons_option found []
+IsNoted (Ok found) (Err fault) old new = fault ≡ Memory
+IsNoted (Err e) (Ok v) old new = ⊥
+IsNoted (Err e) (Err fault) old new = fault ≡ e
 
 -- ---- what holds where nothing is wrong
 

@@ -33,12 +33,12 @@ fn wrong_bytes(
         (λ fault. fault ≡ Fault.Memory) }
 {
     if size != bytes.len() as u64 {
-        return Ok(Some(content(repo, digest, Flaw::OtherSize)?));
+        return content(repo, digest, Flaw::OtherSize);
     }
     if is_of(digest, bytes) {
         return Ok(None);
     }
-    Ok(Some(content(repo, digest, Flaw::OtherBytes)?))
+    content(repo, digest, Flaw::OtherBytes)
 }
 
 /// What is wrong with a blob, by its bytes and its size.
@@ -72,7 +72,7 @@ fn wrong_reading(
         Ok(_) => Ok(None),
         Err(fault) => match fault {
             ManifestFault::Memory => Err(Fault::Memory),
-            _ => Ok(Some(content(repo, digest, Flaw::NoManifest)?)),
+            _ => content(repo, digest, Flaw::NoManifest),
         },
     }
 }

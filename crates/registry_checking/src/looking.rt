@@ -1,13 +1,15 @@
 //! What is wrong in a registry, found over a keeper.
+ghost use Rattle.std.specs.Prelude.{◌≡◌, false};
+ghost use Rattle.std.specs.List.{filter_map, flat_map};
 ghost use Rattle.registry_model.specs.Keeping.{Reads, Spends};
-ghost use Rattle.registry_checking.specs.Wrongs.{Notes, wrong_blob_at, wrong_manifest_at, wrong_tag_at, wrong_blobs_at, wrong_manifests_at, wrong_tags_at, wrongs_at, wrongs_of};
+ghost use Rattle.registry_checking.specs.Wrongs.{Notes, wrong_blob_at, wrong_manifest_at, wrong_at, wrong_tag_at, wrong_blobs_at, wrong_manifests_at, wrong_tags_at, wrongs_at, wrongs_of};
 
 use crate::contents::{wrong_blob, wrong_manifest};
-use crate::notes::{note_unreadable, push};
+use crate::notes::{note, push_read};
 use crate::progress::{Progress, Watch};
 use crate::wrong::Wrong;
 use oci_names::{Digest, Fault, RepoName, Tag};
-use registry_model::Keeper;
+use registry_model::{Keeper, Usage};
 use std::alloc::Global;
 
 /// What is wrong with a blob.
@@ -25,8 +27,7 @@ fn look_at_blob<K: Keeper>(
 {
     let bytes = keeper.blob(alloc, repo, digest)?;
     let size = keeper.blob_size(repo, digest)?;
-    let found = wrong_blob(repo, digest, bytes, size)?;
-    Ok(found)
+    wrong_blob(repo, digest, bytes, size)
 }
 
 /// What is wrong with a manifest.
@@ -44,8 +45,7 @@ fn look_at_manifest<K: Keeper>(
 {
     let kept = keeper.manifest(alloc, repo, digest)?;
     let sized = keeper.manifest_size(repo, digest)?;
-    let found = wrong_manifest(alloc, repo, digest, kept, sized)?;
-    Ok(found)
+    wrong_manifest(alloc, repo, digest, kept, sized)
 }
 
 /// What is wrong with a tag.
@@ -74,7 +74,59 @@ fn look_at_tag<K: Keeper>(
     Ok(Some(Wrong::Tag { repo, tag }))
 }
 
-/// Notes what is wrong with the blobs of a repository. One is held at a time.
+/// What is kept under a digest.
+#[derive(Clone, Copy)]
+enum Kept {
+    Blob,
+    Manifest,
+}
+
+/// What is wrong with it.
+fn look_at_one<K: Keeper>(
+    alloc: Global,
+    keeper: &mut K,
+    repo: &RepoName,
+    kept: Kept,
+    digest: &Digest,
+) -> Result<Option<Wrong>, Fault>
+    ensures found { K.is_honest keeper.new
+        → Reads result (wrong_at kept (K.state keeper.old).world repo.now digest.now)
+        (K.state keeper.old) (K.state keeper.new) }
+    ensures spends { Spends result (K.state keeper.old) (K.state keeper.new) }
+    ensures honest { K.is_honest keeper.new → K.is_honest keeper.old }
+{
+    match kept {
+        Kept::Blob => look_at_blob(alloc, keeper, repo, digest),
+        Kept::Manifest => look_at_manifest(alloc, keeper, repo, digest),
+    }
+}
+
+/// Notes what is wrong with what is kept under digests. One is held at a time.
+fn look_at_all<K: Keeper, W: Watch>(
+    alloc: Global,
+    keeper: &mut K,
+    repo: &RepoName,
+    kept: Kept,
+    digests: &[Digest],
+    progress: &mut Progress<'_, W>,
+    wrongs: &mut Vec<Wrong>,
+) -> Result<(), Fault>
+    requires { (K.state keeper.old).spent ≡ false }
+    ensures found { K.is_honest keeper.new
+        → Notes result (filter_map (wrong_at kept (K.state keeper.old).world repo.now) digests.now)
+        wrongs.old.items wrongs.new.items (K.state keeper.old) (K.state keeper.new) }
+    ensures spends { Spends result (K.state keeper.old) (K.state keeper.new) }
+    ensures honest { K.is_honest keeper.new → K.is_honest keeper.old }
+{
+    for digest in digests {
+        let found = look_at_one(alloc, keeper, repo, kept, digest);
+        note(wrongs, repo, digest, found)?;
+        progress.step();
+    }
+    Ok(())
+}
+
+/// Notes what is wrong with the blobs of a repository.
 fn look_at_blobs<K: Keeper, W: Watch>(
     alloc: Global,
     keeper: &mut K,
@@ -89,18 +141,10 @@ fn look_at_blobs<K: Keeper, W: Watch>(
     ensures honest { K.is_honest keeper.new → K.is_honest keeper.old }
 {
     let digests = keeper.blob_digests(alloc, repo)?;
-    for digest in digests {
-        let found = match look_at_blob(alloc, keeper, repo, &digest) {
-            Ok(found) => found,
-            Err(fault) => return Err(note_unreadable(wrongs, repo, &digest, fault)),
-        };
-        push(wrongs, found)?;
-        progress.step();
-    }
-    Ok(())
+    look_at_all(alloc, keeper, repo, Kept::Blob, &digests, progress, wrongs)
 }
 
-/// Notes what is wrong with the manifests of a repository. One is held at a time.
+/// Notes what is wrong with the manifests of a repository.
 fn look_at_manifests<K: Keeper, W: Watch>(
     alloc: Global,
     keeper: &mut K,
@@ -115,15 +159,15 @@ fn look_at_manifests<K: Keeper, W: Watch>(
     ensures honest { K.is_honest keeper.new → K.is_honest keeper.old }
 {
     let digests = keeper.manifest_digests(alloc, repo)?;
-    for digest in digests {
-        let found = match look_at_manifest(alloc, keeper, repo, &digest) {
-            Ok(found) => found,
-            Err(fault) => return Err(note_unreadable(wrongs, repo, &digest, fault)),
-        };
-        push(wrongs, found)?;
-        progress.step();
-    }
-    Ok(())
+    look_at_all(
+        alloc,
+        keeper,
+        repo,
+        Kept::Manifest,
+        &digests,
+        progress,
+        wrongs,
+    )
 }
 
 /// Notes what is wrong with the tags of a repository.
@@ -141,8 +185,8 @@ fn look_at_tags<K: Keeper>(
 {
     let (tags, _) = keeper.tags_after(alloc, repo, "", None)?;
     for tag in tags {
-        let found = look_at_tag(alloc, keeper, repo, tag)?;
-        push(wrongs, found)?;
+        let found = look_at_tag(alloc, keeper, repo, tag);
+        push_read(wrongs, found)?;
     }
     Ok(())
 }
@@ -163,7 +207,27 @@ fn look_at_repo<K: Keeper, W: Watch>(
 {
     look_at_blobs(alloc, keeper, repo, progress, wrongs)?;
     look_at_manifests(alloc, keeper, repo, progress, wrongs)?;
-    look_at_tags(alloc, keeper, repo, wrongs)?;
+    look_at_tags(alloc, keeper, repo, wrongs)
+}
+
+/// Notes what is wrong in repositories.
+fn look_at_repos<K: Keeper, W: Watch>(
+    alloc: Global,
+    keeper: &mut K,
+    usages: &[(RepoName, Usage)],
+    progress: &mut Progress<'_, W>,
+    wrongs: &mut Vec<Wrong>,
+) -> Result<(), Fault>
+    requires { (K.state keeper.old).spent ≡ false }
+    ensures found { K.is_honest keeper.new
+        → Notes result (flat_map (λ u. wrongs_at (K.state keeper.old).world u.0) usages.now)
+        wrongs.old.items wrongs.new.items (K.state keeper.old) (K.state keeper.new) }
+    ensures spends { Spends result (K.state keeper.old) (K.state keeper.new) }
+    ensures honest { K.is_honest keeper.new → K.is_honest keeper.old }
+{
+    for (repo, _) in usages {
+        look_at_repo(alloc, keeper, repo, progress, wrongs)?;
+    }
     Ok(())
 }
 
@@ -184,8 +248,5 @@ pub fn look<K: Keeper, W: Watch>(
 {
     let usages = keeper.usages(alloc)?;
     let mut progress = Progress::new(watch, &usages);
-    for (repo, _) in usages {
-        look_at_repo(alloc, keeper, &repo, &mut progress, wrongs)?;
-    }
-    Ok(())
+    look_at_repos(alloc, keeper, &usages, &mut progress, wrongs)
 }

@@ -1,4 +1,6 @@
 pub mod JudgingLemmas
+pub mod SizingLemmas
+pub mod TokenLemmas
 pub mod DoingLemmas
 pub mod RunLemmas
 pub mod ServingLemmas

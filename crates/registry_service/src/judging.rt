@@ -5,10 +5,10 @@ ghost use Rattle.registry_model.specs.World.{repo_at};
 ghost use Rattle.registry_model.specs.Form.{form_of};
 ghost use Rattle.registry_model.specs.Answer.{answer_of, refused};
 ghost use Rattle.registry_model.specs.Ask.{ask_of, text_in};
-ghost use Rattle.registry_model.specs.Operation.{addressed, valid_name};
-ghost use Rattle.registry_model.specs.Judging.{operate, not_allowed, at_base, decide, served, reply_to, after_request};
+ghost use Rattle.registry_model.specs.Operation.{addressed, operation_of, valid_name};
+ghost use Rattle.registry_model.specs.Judging.{operate, not_allowed, at_base, granted, decide, served, decision, reply_to, after_request};
 ghost use Rattle.registry_model.specs.Keeping.{Spends, WritesBy};
-ghost use Rattle.operation_parts.specs.Operating.{ComesOn, HasRepo, IsUnspent, Answers, Carries, OperatesWith};
+ghost use Rattle.operation_parts.specs.Operating.{Comes, ComesOn, HasRepo, IsUnspent, Answers, Carries, OperatesWith};
 ghost use Rattle.registry_service.specs.Operations.{shown_operation};
 ghost use Rattle.registry_service.specs.Serving.{beside, name_at, token_in};
 
@@ -109,7 +109,35 @@ fn not_allowed(route: &Route) -> Reply
     reply
 }
 
-/// The reply to a request of a known token, by the name, the method and the level.
+/// The reply to a request in the repository of a name, by the method and the level.
+fn decide_in<K: Keeper>(
+    keeper: &mut K,
+    alloc: Global,
+    token: &Token,
+    name: &RepoName,
+    request: &Request,
+) -> Result<Reply, Fault>
+    requires { IsUnspent (K.state keeper.old) }
+    ensures comes { K.is_honest keeper.new → Comes result name.now
+        (granted ((K.state keeper.old).world.grants token.now) (repo_at (K.state keeper.old).world) name.now
+        (form_of request.now.route) (operation_of (ask_of request.now)) request.now.body.now)
+        (K.state keeper.old) (K.state keeper.new) }
+    ensures answers { Answers result }
+    ensures carries { is_head request.now.method ≡ false → Carries result }
+    ensures spends { Spends result (K.state keeper.old) (K.state keeper.new) }
+    ensures honest { K.is_honest keeper.new → K.is_honest keeper.old }
+{
+    let Some(operation) = find_operation(request) else {
+        return Ok(not_allowed(&request.route));
+    };
+    let level = keeper.level(token, name)?;
+    if !allows(level, &operation) {
+        return Ok(Reply::refusal(Refusal::AccessDenied));
+    }
+    operate(keeper, alloc, token, name, operation, request.body)
+}
+
+/// The reply to a request of a known token, by the name and what is asked in its repository.
 fn decide<K: Keeper>(
     keeper: &mut K,
     alloc: Global,
@@ -126,21 +154,13 @@ fn decide<K: Keeper>(
     ensures spends { Spends result (K.state keeper.old) (K.state keeper.new) }
     ensures honest { K.is_honest keeper.new → K.is_honest keeper.old }
 {
-    let name = match RepoName::parse(alloc, name) {
-        Ok(name) => name,
+    match RepoName::parse(alloc, name) {
+        Ok(name) => decide_in(keeper, alloc, token, &name, request),
         Err(fault) => match fault {
-            NameFault::Memory => return Err(Fault::Memory),
-            _ => return Ok(Reply::refusal(Refusal::InvalidName)),
+            NameFault::Memory => Err(Fault::Memory),
+            _ => Ok(Reply::refusal(Refusal::InvalidName)),
         },
-    };
-    let Some(operation) = find_operation(request) else {
-        return Ok(not_allowed(&request.route));
-    };
-    let level = keeper.level(token, &name)?;
-    if !allows(level, &operation) {
-        return Ok(Reply::refusal(Refusal::AccessDenied));
     }
-    operate(keeper, alloc, token, &name, operation, request.body)
 }
 
 /// The reply to a known token that asks for the base.
@@ -221,6 +241,28 @@ fn find_token(alloc: Global, text: Option<&str>) -> Result<Option<Token>, Fault>
     }
 }
 
+/// The reply to a request of a token.
+fn serve_token<K: Keeper>(
+    keeper: &mut K,
+    alloc: Global,
+    token: &Token,
+    request: &Request,
+) -> Result<Reply, Fault>
+    requires { IsUnspent (K.state keeper.old) }
+    ensures comes { K.is_honest keeper.new → ComesOn result (addressed (form_of request.now.route))
+        (decision ((K.state keeper.old).world.grants token.now) (repo_at (K.state keeper.old).world)
+        (ask_of request.now)) (K.state keeper.old) (K.state keeper.new) }
+    ensures answers { Answers result }
+    ensures carries { is_head request.now.method ≡ false → Carries result }
+    ensures spends { Spends result (K.state keeper.old) (K.state keeper.new) }
+    ensures honest { K.is_honest keeper.new → K.is_honest keeper.old }
+{
+    if !keeper.known(token)? {
+        return Ok(Reply::refusal(Refusal::TokenRequired));
+    }
+    serve(keeper, alloc, token, request)
+}
+
 /// The reply to a request, or why there is none.
 pub fn judge<K: Keeper>(keeper: &mut K, alloc: Global, request: &Request) -> Result<Reply, Fault>
     ensures comes { K.is_honest keeper.new → WritesBy answer_of result
@@ -237,11 +279,8 @@ pub fn judge<K: Keeper>(keeper: &mut K, alloc: Global, request: &Request) -> Res
     if keeper.spent() {
         return Err(Fault::Storage);
     }
-    let Some(token) = find_token(alloc, request.token)? else {
-        return Ok(Reply::refusal(Refusal::TokenRequired));
-    };
-    if !keeper.known(&token)? {
-        return Ok(Reply::refusal(Refusal::TokenRequired));
+    match find_token(alloc, request.token)? {
+        Some(token) => serve_token(keeper, alloc, &token, request),
+        None => Ok(Reply::refusal(Refusal::TokenRequired)),
     }
-    serve(keeper, alloc, &token, request)
 }

@@ -1,13 +1,25 @@
-use Rattle.std.proofs.Common.{◌∙◌, sym, ap, rules}
-use Rattle.std.specs.Prelude.{option_map}
+use Rattle.std.proofs.Common.{refl}
+use Rattle.registry_model.specs.World.{repo_at}
 use Rattle.registry_model.specs.Ask.{ask_of}
-use Rattle.registry_service.specs.Operations.{shown_operation}
-use Rattle.registry_service.proofs.JudgingLemmas.{decided}
+use Rattle.registry_service.proofs.JudgingLemmas.{named, misnamed, not_named}
 use Rattle.registry_service.proofs.judging.decide.Goals as goal
 
-pub returns-clause-comes : goal.returns-clause-comes
-returns-clause-comes g c honest =
-    let found = c.in_ok-level.ensures.found (c.operate.ensures.honest honest) in
-    let read = c.in-Ok.ensures.read in
-    decided c.operate.result _ c.args.token.now c.args.name.now (ask_of c.args.request.now) (shown_operation c.in-Some.operation) _ _ c.in-Ok.name c.in_ok-level.level
-    read.0 read.1 (sym c.find_operation.ensures ∙ ap (option_map shown_operation) c.in-Some.is) found.0 (sym c.allows.ensures ∙ search rules) found.1 (c.operate.ensures.comes honest)
+pub returns-in-Ok : goal.returns-in-Ok
+returns-in-Ok g c = record {
+  comes = λ honest.
+      let s = g.K.Keeper.state c.args.keeper.now in
+      named c.decide_in.result (s.world.grants c.args.token.now) (repo_at s.world) c.in-Ok.name c.args.name.now (ask_of c.args.request.now) s _ c.in-Ok.ensures.read.0 c.in-Ok.ensures.read.1
+      (c.decide_in.ensures.comes honest);
+  answers = c.decide_in.ensures.answers;
+  carries = c.decide_in.ensures.carries;
+  spends = c.decide_in.ensures.spends;
+  honest = c.decide_in.ensures.honest;
+}
+
+pub returns-in-Memory : goal.returns-in-Memory
+returns-in-Memory g c = record { comes = λ _. refl; answers = tt; carries = λ _. tt; spends = (c.requires, c.requires); honest = λ honest. honest }
+
+pub returns-in_default : goal.returns-in_default
+returns-in_default g c =
+    misnamed c.refusal.result c.args.token.now c.args.name.now (ask_of c.args.request.now) _ (g.K.Keeper.state c.args.keeper.now) _ c.refusal.ensures c.requires
+    (not_named c.in-Err.fault c.args.name.now c.in_default.not-Memory c.in-Err.ensures.read)

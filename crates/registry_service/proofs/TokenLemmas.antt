@@ -1,0 +1,48 @@
+-- A request by the token that it names.
+use Rattle.std.proofs.Common.{◌≡◌, Bool, true, false, cond, Option, Some, None, refl, sym, ap, subst}
+use Rattle.std.proofs.lemmas.Option.{same_Some}
+use Rattle.std.specs.Prelude.{Result}
+use Rattle.oci_names.specs.Text.{Text}
+use Rattle.oci_names.specs.Token.{is_token}
+use Rattle.oci_names.specs.declared.fault.Fault.{Fault}
+use Rattle.registry_model.specs.declared.reply.Reply.{Reply}
+use Rattle.registry_model.specs.declared.refusal.Refusal.TheVariants.{TokenRequired}
+use Rattle.registry_model.specs.World.{World, Repo, Grants, repo_at, is_known}
+use Rattle.registry_model.specs.Answer.{refused}
+use Rattle.registry_model.specs.Ask.{Ask}
+use Rattle.registry_model.specs.Decision.{Decision, refuses, tells}
+use Rattle.registry_model.specs.Judging.{served, decision, judged}
+use Rattle.registry_model.specs.Operation.{addressed}
+use Rattle.registry_model.specs.Keeping.{State}
+use Rattle.operation_parts.specs.Operating.{ComesOn}
+use Rattle.registry_service.specs.Serving.{token_in}
+
+by_text : (b : Bool) (text token : Text) (d : Text → Decision) (other : Decision) → Some token ≡ cond b (Some text) None → cond b (d text) other ≡ d token
+by_text true text token d other e = ap d (sym (same_Some token text e))
+by_text false text token d other e = absurd (cc)
+
+pub by_token : (w : World) (o : Option Text) (token : Text) (q : Ask) → Some token ≡ token_in o → judged w o q ≡ decision (w.grants token) (repo_at w) q
+by_token w None token q e = absurd (cc)
+by_token w (Some text) token q e = by_text (is_token text) text token (λ t. decision (w.grants t) (repo_at w) q) (refuses TokenRequired) e
+
+by_no_text : (b : Bool) (text : Text) (d other : Decision) → None ≡ cond b (Some text) None → cond b d other ≡ other
+by_no_text true text d other e = absurd (cc)
+by_no_text false text d other e = refl
+
+pub by_none : (w : World) (o : Option Text) (q : Ask) → None ≡ token_in o → judged w o q ≡ tells (refused TokenRequired)
+by_none w None q e = refl
+by_none w (Some text) q e = by_no_text (is_token text) text (decision (w.grants text) (repo_at w) q) (refuses TokenRequired) e
+
+module _ (g : Grants) (f : Text → Option Repo) (q : Ask) where
+  pub unknown : is_known g ≡ false → decision g f q ≡ tells (refused TokenRequired)
+  unknown e = ap (λ b. cond b (served g f q) (refuses TokenRequired)) e
+
+  known : is_known g ≡ true → decision g f q ≡ served g f q
+  known e = ap (λ b. cond b (served g f q) (refuses TokenRequired)) e
+
+-- a known token is served, after it was looked up
+pub known_served : (r : Result Reply Fault) (token : Text) (q : Ask) (s t s' : State) → t ≡ s → is_known (s.world.grants token) ≡ true
+    → ComesOn r (addressed q.form) (served (t.world.grants token) (repo_at t.world) q) t s' → ComesOn r (addressed q.form) (decision (s.world.grants token) (repo_at s.world) q) s s'
+known_served r token q s t s' same is h =
+    subst (λ d. ComesOn r (addressed q.form) d s s') (sym (known (s.world.grants token) (repo_at s.world) q is))
+    (subst (λ (x : State). ComesOn r (addressed q.form) (served (x.world.grants token) (repo_at x.world) q) x s') same h)
