@@ -1,27 +1,32 @@
 //! The program with its subcommands.
-ghost use Rattle.std.specs.Prelude.{◌≡◌, ◌∷◌, [], true, IfOk};
-ghost use Rattle.clap.specs.Words.{App, Shape};
+ghost use Rattle.std.specs.Prelude.{◌∷◌, [], map, IfOk};
+ghost use Rattle.clap.specs.Words.{App};
 ghost use Rattle.command_line.specs.CommandLine as spec;
-ghost use Rattle.command_line.specs.CommandLine.{IsApp, IsSub};
+ghost use Rattle.command_line.specs.CommandLine.{IsApp};
+ghost use Rattle.command_line.specs.Options.{rule_shown};
 
-use crate::results::both;
-use crate::subcommands::{
-    grant, listing, listing_of_grants, listing_of_repo, ordering, over_database, over_quota,
-    over_repo, prune, revoke, serve, stdio, stop,
+use crate::options::{
+    GRANT, LISTING, LISTING_OF_GRANTS, LISTING_OF_REPO, ORDERING, OVER_DATABASE, OVER_QUOTA,
+    OVER_REPO, PRUNE, REVOKE, SERVE, STDIO, STOP, SubOption,
 };
+use crate::results::both;
+use crate::subcommands::with_options;
 use clap::Command;
 use std::alloc::{AllocError, Global};
 
 /// The command with one more subcommand. A chain of these has no `?`, each of which would make a function
 /// dearer to prove.
 fn with<'a>(
+    alloc: Global,
     command: Result<Command<'a>, AllocError>,
-    made: Result<Command<'a>, AllocError>,
+    word: &'a str,
+    about: &'a str,
+    options: &[SubOption<'a>],
 ) -> Result<Command<'a>, AllocError>
-    ensures { (app : App) (sub : Shape) → IfOk command.entry (IsApp app) → IfOk made.entry (IsSub sub)
-        → sub.is_plain ≡ true → IfOk result (IsApp (spec.with_subcommands (sub ∷ []) app)) }
+    ensures { (app : App) → IfOk command.entry (IsApp app) → IfOk result (IsApp
+        (spec.with_subcommands (spec.subcommand word.entry.now (map rule_shown options.now) ∷ []) app)) }
 {
-    let (command, made) = both(command, made)?;
+    let (command, made) = both(command, with_options(alloc, word, about, options))?;
     command.subcommand(made)
 }
 
@@ -31,16 +36,18 @@ fn with_repo_commands<'a>(
 ) -> Result<Command<'a>, AllocError>
     ensures { IfOk command.entry (IsApp spec.serving) → IfOk result (IsApp spec.over_repos) }
 {
-    let command = with(command, over_quota(alloc, "repo", "Make a repository"));
-    let command = with(
-        command,
-        over_quota(alloc, "quota", "Set a repository's quota"),
-    );
+    let over_quota = &OVER_QUOTA;
+    let command = with(alloc, command, "repo", "Make a repository", over_quota);
+    let setting = "Set a repository's quota";
+    let command = with(alloc, command, "quota", setting, over_quota);
+    let over_repo = &OVER_REPO;
     let dropping = "Drop a repository with its grants";
-    let command = with(command, over_repo(alloc, "drop", dropping));
+    let command = with(alloc, command, "drop", dropping, over_repo);
     let ending = "End a repository's open uploads";
-    let command = with(command, over_repo(alloc, "sessions", ending));
-    with(command, prune(alloc))
+    let command = with(alloc, command, "sessions", ending, over_repo);
+    let pruning =
+        "Take away the blobs of a repository that none of its manifests names; clear then frees their bytes";
+    with(alloc, command, "prune", pruning, &PRUNE)
 }
 
 fn with_lists<'a>(
@@ -49,30 +56,48 @@ fn with_lists<'a>(
 ) -> Result<Command<'a>, AllocError>
     ensures { IfOk command.entry (IsApp spec.over_repos) → IfOk result (IsApp spec.showing) }
 {
-    let command = with(command, listing(alloc, "repos", "List the repositories"));
+    let command = with(alloc, command, "repos", "List the repositories", &LISTING);
+    let of_repo = &LISTING_OF_REPO;
     let tags = "List the tags of a repository, and the digests that they name";
-    let command = with(command, listing_of_repo(alloc, "tags", tags));
+    let command = with(alloc, command, "tags", tags, of_repo);
     let blobs = "List the blobs of a repository, their sizes, and the manifests that name them";
-    let command = with(command, listing_of_repo(alloc, "blobs", blobs));
-    with(command, listing_of_grants(alloc))
+    let command = with(alloc, command, "blobs", blobs, of_repo);
+    let grants = "List the levels of tokens on repositories";
+    with(alloc, command, "grants", grants, &LISTING_OF_GRANTS)
+}
+
+fn with_levels<'a>(
+    alloc: Global,
+    command: Result<Command<'a>, AllocError>,
+) -> Result<Command<'a>, AllocError>
+    ensures { IfOk command.entry (IsApp spec.showing) → IfOk result
+        (IsApp (spec.with_subcommands (spec.grant ∷ spec.revoke ∷ []) spec.showing)) }
+{
+    let granting = "Give a token a level on a repository";
+    let command = with(alloc, command, "grant", granting, &GRANT);
+    let revoking = "Take a token's level on a repository away; without --name, all its levels";
+    with(alloc, command, "revoke", revoking, &REVOKE)
 }
 
 fn with_other_commands<'a>(
     alloc: Global,
     command: Result<Command<'a>, AllocError>,
 ) -> Result<Command<'a>, AllocError>
-    ensures { IfOk command.entry (IsApp spec.showing) → IfOk result (IsApp spec.registry) }
+    ensures { IfOk command.entry
+        (IsApp (spec.with_subcommands (spec.grant ∷ spec.revoke ∷ []) spec.showing))
+        → IfOk result (IsApp spec.registry) }
 {
-    let command = with(with(command, grant(alloc)), revoke(alloc));
+    let ordering = &ORDERING;
     let clearing = "Free what no repository holds any more";
-    let command = with(command, ordering(alloc, "clear", clearing));
+    let command = with(alloc, command, "clear", clearing, ordering);
     let listing = "List what the repositories hold";
-    let command = with(command, ordering(alloc, "usage", listing));
+    let command = with(alloc, command, "usage", listing, ordering);
+    let over_database = &OVER_DATABASE;
     let checking = "Read all that a database holds, and say what is wrong";
-    let command = with(command, over_database(alloc, "check", checking));
+    let command = with(alloc, command, "check", checking, over_database);
     let migrating = "Take over a database of schema 1, once";
-    let command = with(command, over_database(alloc, "migrate", migrating));
-    with(command, stop(alloc))
+    let command = with(alloc, command, "migrate", migrating, over_database);
+    with(alloc, command, "stop", "End a server", &STOP)
 }
 
 /// The program by itself, with no subcommand.
@@ -87,11 +112,20 @@ fn program<'a>(alloc: Global) -> Result<Command<'a>, AllocError>
         .bin_name("registry")
 }
 
+/// The program with what serves.
+fn serving<'a>(alloc: Global) -> Result<Command<'a>, AllocError>
+    ensures { IfOk result (IsApp spec.serving) }
+{
+    let command = with(alloc, program(alloc), "serve", "Serve connections", &SERVE);
+    let stdio = "Serve standard input as one connection";
+    with(alloc, command, "stdio", stdio, &STDIO)
+}
+
 /// The command line of the program, with all its subcommands. The error is want of memory.
 pub fn command<'a>(alloc: Global) -> Result<Command<'a>, AllocError>
     ensures { IfOk result (IsApp spec.registry) }
 {
-    let command = with(with(program(alloc), serve(alloc)), stdio(alloc));
-    let command = with_repo_commands(alloc, command);
-    with_other_commands(alloc, with_lists(alloc, command))
+    let command = with_repo_commands(alloc, serving(alloc));
+    let command = with_levels(alloc, with_lists(alloc, command));
+    with_other_commands(alloc, command)
 }

@@ -1,4 +1,5 @@
-//! The options of subcommands, in tables: each with its word, what it takes and its help.
+//! The options of subcommands, in tables: each with its word, what it takes and its help. The tables are
+//! statics: a constant is written out, row by row, in each function that names it.
 
 /// The largest number that an option takes: also the largest quota, and the most connections.
 const MOST: u64 = 9_223_372_036_854_775_807;
@@ -90,7 +91,7 @@ const JSON: SubOption<'static> = SubOption {
     help: "As one JSON array",
 };
 
-pub const STDIO: [SubOption<'static>; 4] = [
+pub static STDIO: [SubOption<'static>; 4] = [
     DATABASE,
     SubOption {
         word: "memory",
@@ -110,7 +111,7 @@ pub const STDIO: [SubOption<'static>; 4] = [
 ];
 
 /// Of one that serves connections within limits.
-pub const SERVE: [SubOption<'static>; 9] = [
+pub static SERVE: [SubOption<'static>; 9] = [
     DATABASE_WANTED,
     SubOption {
         word: "listen",
@@ -174,23 +175,23 @@ pub const SERVE: [SubOption<'static>; 9] = [
     },
 ];
 
-pub const STOP: [SubOption<'static>; 1] = [SubOption {
+pub static STOP: [SubOption<'static>; 1] = [SubOption {
     word: "orders",
     takes: Takes::Required("PATH"),
     help: "The socket at which it takes orders",
 }];
 
 /// Of one over a database that no server holds.
-pub const OVER_DATABASE: [SubOption<'static>; 1] = [DATABASE_WANTED];
+pub static OVER_DATABASE: [SubOption<'static>; 1] = [DATABASE_WANTED];
 
 /// Of one that orders something, of a database or of the server that holds it.
-pub const ORDERING: [SubOption<'static>; 2] = [DATABASE, ORDERS];
+pub static ORDERING: [SubOption<'static>; 2] = [DATABASE, ORDERS];
 
 /// Of one over a repository.
-pub const OVER_REPO: [SubOption<'static>; 3] = [DATABASE, ORDERS, NAME];
+pub static OVER_REPO: [SubOption<'static>; 3] = [DATABASE, ORDERS, NAME];
 
 /// Of one that sets the repository's quota.
-pub const OVER_QUOTA: [SubOption<'static>; 4] = [
+pub static OVER_QUOTA: [SubOption<'static>; 4] = [
     DATABASE,
     ORDERS,
     NAME,
@@ -206,7 +207,7 @@ pub const OVER_QUOTA: [SubOption<'static>; 4] = [
 ];
 
 /// Of one that takes away what no manifest names, or lists it.
-pub const PRUNE: [SubOption<'static>; 4] = [
+pub static PRUNE: [SubOption<'static>; 4] = [
     DATABASE,
     ORDERS,
     NAME,
@@ -218,13 +219,13 @@ pub const PRUNE: [SubOption<'static>; 4] = [
 ];
 
 /// Of one that lists something.
-pub const LISTING: [SubOption<'static>; 3] = [DATABASE, ORDERS, JSON];
+pub static LISTING: [SubOption<'static>; 3] = [DATABASE, ORDERS, JSON];
 
 /// Of one that lists something of a repository.
-pub const LISTING_OF_REPO: [SubOption<'static>; 4] = [DATABASE, ORDERS, NAME, JSON];
+pub static LISTING_OF_REPO: [SubOption<'static>; 4] = [DATABASE, ORDERS, NAME, JSON];
 
 /// Of one that lists the levels of one token or of all, on one repository or on all.
-pub const LISTING_OF_GRANTS: [SubOption<'static>; 7] = [
+pub static LISTING_OF_GRANTS: [SubOption<'static>; 7] = [
     DATABASE,
     ORDERS,
     TOKEN,
@@ -238,7 +239,7 @@ pub const LISTING_OF_GRANTS: [SubOption<'static>; 7] = [
     JSON,
 ];
 
-pub const GRANT: [SubOption<'static>; 6] = [
+pub static GRANT: [SubOption<'static>; 6] = [
     DATABASE,
     ORDERS,
     TOKEN,
@@ -256,4 +257,4 @@ pub const GRANT: [SubOption<'static>; 6] = [
 ];
 
 /// Of one that takes a level away, or all of a token's levels.
-pub const REVOKE: [SubOption<'static>; 5] = [DATABASE, ORDERS, TOKEN, TOKEN_FILE, NAME_IF];
+pub static REVOKE: [SubOption<'static>; 5] = [DATABASE, ORDERS, TOKEN, TOKEN_FILE, NAME_IF];

@@ -2,6 +2,7 @@
 use Rattle.std.proofs.Common.{◌≡◌, ◌∙◌, suc, List, [], ◌∷◌, map, length, Bool, true, false, cond, None, Some, refl, sym, ap, subst}
 use Rattle.std.specs.Prelude.{Option, option_map, is_some, bytes_eq, filter, T, ◌&&◌, Result, Ok, Err, IfOk, Vec}
 use Rattle.std.specs.declared.alloc.Global.{Global}
+use Rattle.std.specs.declared.alloc.AllocError.{AllocError}
 use Rattle.std.specs.declared.cmp.Ordering.{Ordering}
 use Rattle.std.specs.declared.cmp.Ordering.TheVariants.{Less, Equal}
 use Rattle.std.specs.Ordering.{is_eq, is_lt, eq_by_cmp, nat_cmp}
@@ -20,7 +21,7 @@ use Rattle.std.proofs.lemmas.Cmp.{nat_cmp_total}
 use Rattle.std.proofs.lemmas.Map.Text.{is_eq-slice_cmp}
 use Rattle.oci_names.specs.Text.{Text}
 use Rattle.registry_model.specs.World.{text_cmp}
-use Rattle.registry_maps.specs.Maps.{seen}
+use Rattle.registry_maps.specs.Maps.{seen, Makes, Puts}
 use Rattle.registry_model.proofs.TextOrder.{text_total}
 
 pub number_total : IsTotalOrder nat_cmp
@@ -119,6 +120,12 @@ module _ {K X Y : Type 0} {R : K → K → Ordering} (o : IsTotalOrder R) (exact
       → seen R show n.entries ≡ seen R show m.entries
   seen_stays k m n u v h there same = seen_put k m n v h
       ∙ insert_same o exact (seen R show m.entries) k (show v) (get_seen m k ∙ ap (option_map show) there ∙ ap Some (sym same))
+
+  -- a value was put, or nothing changed, in what is made of the map
+  pub makes_put : {B : Type 0} (k : K) (v : X) (m n : BTreeMap K X) (r : Result (Unit {0}) AllocError) (whole : FinMap R Y → B) (made : B)
+      → Puts R r k v m n → whole (insert (seen R show m.entries) k (show v)) ≡ made → Makes r made (whole (seen R show m.entries)) (whole (seen R show n.entries))
+  makes_put k v m n (Ok x) whole made h e = ap whole (seen_put k m n v h) ∙ e
+  makes_put k v m n (Err x) whole made h e = ap (λ es. whole (seen R show es)) h
 
   below : (x : K) (es : List (K × X)) → AllByRecursion (λ y. R x y ≡ Less) (keys_of es) → T (below_all R x (map (λ e. (e.0, show e.1)) es))
   below x [] h = tt

@@ -16,10 +16,10 @@ use Rattle.oci_names.specs.Text.{Text}
 use Rattle.oci_names.specs.declared.fault.Fault.{Fault}
 use Rattle.registry_model.specs.declared.level.Level.{Level}
 use Rattle.registry_maps.specs.declared.repository.Repository.{Repository}
-use Rattle.registry_model.specs.World.{text_cmp, Repo, Grants, repo_at, is_known, new_repo, update_repo, with_grants}
+use Rattle.registry_model.specs.World.{text_cmp, Repo, Grants, World, repo_at, is_known, new_repo, update_repo, with_grants}
 use Rattle.registry_model.specs.Command.{set_repo, drop_repo, grant, revoke, revoke_all}
 use Rattle.registry_model.specs.Keeping.{State, ReadsBy, ReadsSo, Writes, WritesBy, Spends}
-use Rattle.registry_maps.specs.Maps.{seen, repo_of, levels_in, grants_in, world_of, state_of, Makes, or_memory}
+use Rattle.registry_maps.specs.Maps.{seen, repo_of, levels_in, grants_in, world_of, state_of, Makes, Puts, or_memory}
 use Rattle.registry_model.proofs.TextOrder.{text_total, exact_texts, bytes_same}
 use Rattle.registry_maps.proofs.SeenMaps.{same_test, get_seen, seen_put, seen_removed, seen_stays, at_some, at_none, remove_empty}
 
@@ -47,6 +47,11 @@ reads_so_memory IsSo (Err x) q s e h = subst (λ x. ReadsSo IsSo x s s) (sym e) 
 pub spends_memory : {A : Type 0} (r : Result A AllocError) (q : Result A Fault) (s t : State) → q ≡ or_memory r → s.spent ≡ false → t.spent ≡ false → Spends q s t
 spends_memory (Ok v) q s t e h k = subst (λ x. Spends x s t) (sym e) (h, k)
 spends_memory (Err x) q s t e h k = subst (λ x. Spends x s t) (sym e) (h, k)
+
+pub writes_memory : (m n : Repos) (g h : Granted) (r : Result (Unit {0}) AllocError) (q : Result (Unit {0}) Fault) (w : World) → q ≡ or_memory r
+    → Makes r w (world_of m g) (world_of n h) → Writes q w (state_of m g) (state_of n h)
+writes_memory m n g h (Ok v) q w e made = subst (λ x. Writes x w (state_of m g) (state_of n h)) (sym e) (ap {A = World} {B = State} (λ x. record { world = x; spent = false }) made)
+writes_memory m n g h (Err x) q w e made = subst (λ y. Writes y w (state_of m g) (state_of n h)) (sym e) (ap {A = World} {B = State} (λ y. record { world = y; spent = false }) made)
 
 module _ (m : Repos) (g : Granted) (name : Text) where
   pub repo_some : (given : Option (Bor Repository)) (b : Bor Repository) → given ≡ Some b → option_copied given ≡ btree.get text_cmp m name → repo_at (world_of m g) name ≡ Some (repo_of b.now)
@@ -94,6 +99,11 @@ module _ (m n : Repos) (g : Granted) (name : Text) (old new : Repository)
   write_made (Ok v) q change e made = subst (λ x. Writes x (update_repo (world_of m g) name change (repo_at (world_of m g) name)) (state_of m g) (state_of n g)) (sym e) (changed_by change made)
   write_made (Err x) q change e made = subst (λ x. Writes x (update_repo (world_of m g) name change (repo_at (world_of m g) name)) (state_of m g) (state_of n g)) (sym e) (stays_so made)
 
+  pub world_made : (r : Result (Unit {0}) AllocError) (change : Repo → Repo) → Makes r (change (repo_of old)) (repo_of old) (repo_of new)
+      → Makes r (update_repo (world_of m g) name change (repo_at (world_of m g) name)) (world_of m g) (world_of n g)
+  world_made (Ok v) change made = ap (λ (s : State). s.world) (changed_by change made)
+  world_made (Err x) change made = ap (λ (s : State). s.world) (stays_so made)
+
   pub number_made : (r : Result ℕ AllocError) (q : Result ℕ Fault) (value : ℕ) (change : Repo → Repo) → q ≡ or_memory r → IfOk r (λ v. v ≡ value) → Makes r (change (repo_of old)) (repo_of old) (repo_of new)
       → WritesBy (λ v. v) q value (update_repo (world_of m g) name change (repo_at (world_of m g) name)) (state_of m g) (state_of n g)
   number_made (Ok v) q value change e is made = subst (λ x. WritesBy (λ v. v) x value (update_repo (world_of m g) name change (repo_at (world_of m g) name)) (state_of m g) (state_of n g)) (sym e) (is, changed_by change made)
@@ -109,6 +119,16 @@ pub repo_made : (m n : Repos) (g : Granted) (name : Text) (new : Repository) (qu
     → Updates text_cmp m n name (Some new) → repo_of new ≡ new_repo quota → state_of n g ≡ record { world = set_repo (world_of m g) name quota; spent = false }
 repo_made m n g name new quota none h e = rw (repo_unlent m g name none)
     (ap (λ r. record { world = record { repos = r; grants = grants_in g }; spent = false }) (seen_put text_total exact_texts repo_of name m n new h ∙ ap (insert (seen text_cmp repo_of m.entries) name) e))
+
+pub repo_puts : (m n : Repos) (g : Granted) (name key : Text) (new : Repository) (quota : ℕ) (r : Result (Unit {0}) AllocError) (q : Result (Unit {0}) Fault)
+    → None ≡ btree.get text_cmp m name → key ≡ name → Puts text_cmp r key new m n → repo_of new ≡ new_repo quota → q ≡ or_memory r
+    → Writes q (set_repo (world_of m g) name quota) (state_of m g) (state_of n g)
+repo_puts m n g name key new quota (Ok x) q none is h e told =
+    subst (λ y. Writes y (set_repo (world_of m g) name quota) (state_of m g) (state_of n g)) (sym told)
+    (repo_made m n g name new quota none (subst (λ k. Updates text_cmp m n k (Some new)) is h) e)
+repo_puts m n g name key new quota (Err x) q none is h e told =
+    subst (λ y. Writes y (set_repo (world_of m g) name quota) (state_of m g) (state_of n g)) (sym told)
+    (ap (λ es. record { world = record { repos = seen text_cmp repo_of es; grants = grants_in g }; spent = false }) h)
 
 -- ---- grants
 
@@ -172,6 +192,21 @@ module _ (m : Repos) (g n : Granted) (token : Text) (levels : Levels) (h : Updat
       (granted_so (insert (grants_in g token) name level) (made ∙ ap (λ x. insert x name level) (sym (granted g token old there))))
   grant_writes (Err x) q old name level there e made = subst (λ x. Writes x (grant (world_of m g) token name level) (state_of m g) (state_of m n)) (sym e)
       (grants_stay (made ∙ sym (granted g token old there)))
+
+-- a token without grants is given one level
+pub first_grant : (m : Repos) (g n : Granted) (token key name : Text) (level : Level) (levels : Levels) (r : Result (Unit {0}) AllocError) (q : Result (Unit {0}) Fault)
+    → None ≡ btree.get text_cmp g token → key ≡ token → Puts text_cmp r key levels g n → levels_in levels.entries ≡ insert empty name level → q ≡ or_memory r
+    → Writes q (grant (world_of m g) token name level) (state_of m g) (state_of m n)
+first_grant m g n token key name level levels (Ok x) q none is h e told =
+    subst (λ y. Writes y (grant (world_of m g) token name level) (state_of m g) (state_of m n)) (sym told)
+    (granted_so m g n token levels (subst (λ k. Updates text_cmp g n k (Some levels)) is h) (insert (grants_in g token) name level)
+    (e ∙ sym (ap (λ x. insert x name level) (ungranted g token none))))
+first_grant m g n token key name level levels (Err x) q none is h e told =
+    subst (λ y. Writes y (grant (world_of m g) token name level) (state_of m g) (state_of m n)) (sym told)
+    (ap {A = List (Text × Levels)} {B = State} (λ es. record {
+      world = record { repos = seen text_cmp repo_of m.entries; grants = λ t. option_map_or (λ (l : Levels). levels_in l.entries) (lookup (is_at (text_cmp t)) es) empty };
+      spent = false;
+    }) h)
 
 -- a token without grants has no level to take
 pub nothing_revoked : (m : Repos) (g : Granted) (token name : Text) → None ≡ btree.get text_cmp g token

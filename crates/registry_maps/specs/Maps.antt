@@ -1,5 +1,5 @@
 -- The world that ordered maps stand for.
-use Rattle.std.specs.Prelude.{◌≡◌, ℕ, false, List, map, Result, Ok, Err, Vec}
+use Rattle.std.specs.Prelude.{◌≡◌, ℕ, false, List, map, Some, Result, Ok, Err, Vec}
 use Rattle.std.specs.Option.{option_map_or}
 use Rattle.std.specs.declared.cmp.Ordering.{Ordering}
 use Rattle.std.specs.Ordering.{nat_cmp}
@@ -58,6 +58,12 @@ state_of repos grants = record { world = world_of repos grants; spent = false }
 abbrev pub Makes : {A B : Type 0} → Result A AllocError → B → B → B → Type 0
 Makes (Ok v) made old new = new ≡ made
 Makes (Err e) made old new = new ≡ old
+
+-- a value is put at a key, or nothing changes
+abbrev pub Puts : {K X : Type 0} → (K → K → Ordering) → Result (Unit {0}) AllocError → K → X
+    → BTreeMap K X → BTreeMap K X → Type 0
+Puts R (Ok v) k x m n = btree.Updates R m n k (Some x)
+Puts R (Err e) k x m n = n.entries ≡ m.entries
 
 abbrev pub or_memory : {A : Type 0} → Result A AllocError → Result A Fault
 or_memory (Ok v) = Ok v

@@ -3,6 +3,7 @@ ghost use Rattle.std.specs.Prelude.{◌≡◌, true};
 ghost use Rattle.std.specs.FinMap.{insert, remove};
 ghost use Rattle.registry_maps.specs.Maps.{levels_in, Makes};
 
+use crate::putting::put;
 use oci_names::RepoName;
 use registry_model::Level;
 use std::alloc::AllocError;
@@ -18,8 +19,7 @@ pub fn set_level(
         (levels_in levels.old.entries) (levels_in levels.new.entries) }
 {
     let key = name.clone()?;
-    levels.insert(key, level)?;
-    Ok(())
+    put(levels, key, level)
 }
 
 /// Takes the level on a repository away; the other levels are to stay.

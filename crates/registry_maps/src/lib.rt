@@ -6,6 +6,7 @@ mod kept_manifest;
 mod levels;
 mod map_keeper;
 mod memory;
+mod putting;
 mod repository;
 
 pub use map_keeper::MapKeeper;

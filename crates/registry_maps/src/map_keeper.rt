@@ -5,10 +5,12 @@ ghost use Rattle.registry_model.specs.Doing.{keeps};
 ghost use Rattle.registry_model.specs.Limits.{largest};
 ghost use Rattle.registry_maps.specs.Maps.{world_of};
 
+mod blobs;
 mod listing;
 
 use crate::levels::{set_level, take_level};
 use crate::memory::or_memory;
+use crate::putting::put;
 use crate::repository::Repository;
 use oci_manifest::{Kind, Manifest};
 use oci_names::{Digest, Fault, RepoName, Tag, Token};
@@ -17,11 +19,21 @@ use std::alloc::Global;
 use std::collections::BTreeMap;
 
 /// A keeper over ordered maps, whose bytes lie in memory. It never answers `Fault::Storage`.
-#[derive(Drop)]
 pub struct MapKeeper {
     alloc: Global,
     repos: BTreeMap<RepoName, Repository>,
     grants: BTreeMap<Token, BTreeMap<RepoName, Level>>,
+}
+
+// (written out, so that where one is dropped it is by a call)
+impl Drop for MapKeeper {
+    fn drop(self) {
+        let MapKeeper {
+            alloc: _,
+            repos: _,
+            grants: _,
+        } = self;
+    }
 }
 
 impl MapKeeper {
@@ -87,10 +99,7 @@ impl Keeper for MapKeeper {
         repo: &RepoName,
         digest: &Digest,
     ) -> Result<Option<Vec<u8>>, Fault> {
-        match self.repos.get(repo) {
-            Some(repository) => or_memory(repository.blob(alloc, digest)),
-            None => Ok(None),
-        }
+        or_memory(self.copy_of_blob(alloc, repo, digest))
     }
 
     fn blob_size(&mut self, repo: &RepoName, digest: &Digest) -> Result<Option<u64>, Fault> {
@@ -225,11 +234,7 @@ impl Keeper for MapKeeper {
     }
 
     fn put_blob(&mut self, repo: &RepoName, digest: &Digest, bytes: &[u8]) -> Result<(), Fault> {
-        let alloc = self.alloc;
-        match self.repos.get_mut(repo) {
-            Some(repository) => or_memory(repository.put_blob(alloc, digest, bytes)),
-            None => Ok(()),
-        }
+        or_memory(self.add_blob(repo, digest, bytes))
     }
 
     fn open_session(&mut self, repo: &RepoName) -> Result<u64, Fault> {
@@ -272,19 +277,10 @@ impl Keeper for MapKeeper {
     }
 
     fn mount(&mut self, from: &RepoName, to: &RepoName, digest: &Digest) -> Result<(), Fault> {
-        let alloc = self.alloc;
-        let Some(source) = self.repos.get(from) else {
-            return Ok(());
-        };
-        let Ok(found) = source.blob(alloc, digest) else {
-            return Err(Fault::Memory);
-        };
-        let Some(bytes) = found else {
-            return Ok(());
-        };
-        match self.repos.get_mut(to) {
-            Some(repository) => or_memory(repository.put_blob(alloc, digest, &bytes)),
-            None => Ok(()),
+        match self.copy_of_blob(self.alloc, from, digest) {
+            Ok(Some(bytes)) => or_memory(self.add_blob(to, digest, &bytes)),
+            Ok(None) => Ok(()),
+            Err(_) => Err(Fault::Memory),
         }
     }
 
@@ -341,10 +337,8 @@ impl Keeper for MapKeeper {
         let Ok(key) = name.clone() else {
             return Err(Fault::Memory);
         };
-        match self.repos.insert(key, Repository::new(self.alloc, quota)) {
-            Ok(_) => Ok(()),
-            Err(_) => Err(Fault::Memory),
-        }
+        let made = Repository::new(self.alloc, quota);
+        or_memory(put(&mut self.repos, key, made))
     }
 
     fn drop_repo(&mut self, name: &RepoName) -> Result<(), Fault> {
@@ -364,10 +358,7 @@ impl Keeper for MapKeeper {
         let Ok(()) = set_level(&mut levels, name, level) else {
             return Err(Fault::Memory);
         };
-        match self.grants.insert(key, levels) {
-            Ok(_) => Ok(()),
-            Err(_) => Err(Fault::Memory),
-        }
+        or_memory(put(&mut self.grants, key, levels))
     }
 
     fn revoke(&mut self, token: &Token, name: &RepoName) -> Result<(), Fault> {

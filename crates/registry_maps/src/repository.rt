@@ -18,6 +18,7 @@ mod digests;
 mod reads;
 
 use crate::kept_manifest::KeptManifest;
+use crate::putting::put;
 use oci_manifest::Manifest;
 use oci_names::{Digest, Tag};
 use registry_model::Quota;
@@ -78,8 +79,7 @@ impl Repository {
         }
         let key = digest.clone()?;
         let copy = bytes.to_vec(alloc)?;
-        self.blobs.insert(key, copy)?;
-        Ok(())
+        put(&mut self.blobs, key, copy)
     }
 
     pub fn delete_blob(&mut self, digest: &Digest)
@@ -104,7 +104,7 @@ impl Repository {
         ensures made { Makes result (opened (repo_of self.old)) (repo_of self.old) (repo_of self.new) }
     {
         let number = self.last + 1;
-        self.sessions.insert(number, Vec::new(alloc))?;
+        put(&mut self.sessions, number, Vec::new(alloc))?;
         self.last = number;
         Ok(number)
     }
@@ -166,7 +166,7 @@ impl Repository {
         }
         let key = digest.clone()?;
         let kept = KeptManifest::new(alloc, bytes, manifest)?;
-        self.manifests.insert(key, kept)?;
+        put(&mut self.manifests, key, kept)?;
         Ok(true)
     }
 
@@ -177,8 +177,7 @@ impl Repository {
     {
         let key = tag.clone()?;
         let digest = digest.clone()?;
-        self.tags.insert(key, digest)?;
-        Ok(())
+        put(&mut self.tags, key, digest)
     }
 
     /// Adds a manifest and sets a tag to it. Where there is no memory for the tag, a manifest that was

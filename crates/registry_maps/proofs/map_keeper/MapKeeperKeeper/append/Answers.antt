@@ -12,21 +12,26 @@ append-requires c =
     let there = lent_some k.repos c.args.repo.now c.get_mut.result c.in-Some.repository c.in-Some.is c.get_mut.ensures.value in
     rw (repo_lent k.repos k.grants c.args.repo.now c.in-Some.repository.now there) at (c.requires.open tt refl)
 
-pub returns-in-Some-clause-made : goal.returns-in-Some-clause-made
-returns-in-Some-clause-made c honest =
-    let k = c.args.self.now in
-    let new = c.append.new.self in
-    let there = lent_some k.repos c.args.repo.now c.get_mut.result c.in-Some.repository c.in-Some.is c.get_mut.ensures.value in
-    let updates = (c.get_mut.follows.holds new).3 (search rules) in
-    write_made k.repos (c.get_mut.follows.lender new) k.grants c.args.repo.now c.in-Some.repository.now new there updates
-    c.append.result c.or_memory.result (λ r. appended r c.args.number (bytes_or_none (get r.sessions c.args.number) ++ c.args.bytes.now)) c.or_memory.ensures c.append.ensures
+pub returns-in-Some : goal.returns-in-Some
+returns-in-Some c = record {
+  made = λ honest.
+      let k = c.args.self.now in
+      let new = c.append.new.self in
+      let there = lent_some k.repos c.args.repo.now c.get_mut.result c.in-Some.repository c.in-Some.is c.get_mut.ensures.value in
+      let updates = (c.get_mut.follows.holds new).3 (search rules) in
+      write_made k.repos (c.get_mut.follows.lender new) k.grants c.args.repo.now c.in-Some.repository.now new there updates
+      c.append.result c.or_memory.result (λ r. appended r c.args.number (bytes_or_none (get r.sessions c.args.number) ++ c.args.bytes.now)) c.or_memory.ensures c.append.ensures;
+  spends = spends_memory c.append.result c.or_memory.result _ _ c.or_memory.ensures refl refl;
+  honest = λ honest. honest;
+}
 
-pub returns-in-Some-clause-spends : goal.returns-in-Some-clause-spends
-returns-in-Some-clause-spends c = spends_memory c.append.result c.or_memory.result _ _ c.or_memory.ensures refl refl
-
-pub returns-in-None-clause-made : goal.returns-in-None-clause-made
-returns-in-None-clause-made c honest =
-    let k = c.args.self.now in
-    let none = lent_none k.repos c.args.repo.now c.get_mut.result c.in-None.is c.get_mut.ensures.value in
-    ap (λ m. state_of m k.grants) c.get_mut.follows.holds-at-none
-    ∙ nothing_made k.repos k.grants c.args.repo.now (λ r. appended r c.args.number (bytes_or_none (get r.sessions c.args.number) ++ c.args.bytes.now)) none
+pub returns-in-None : goal.returns-in-None
+returns-in-None c = record {
+  made = λ honest.
+      let k = c.args.self.now in
+      let none = lent_none k.repos c.args.repo.now c.get_mut.result c.in-None.is c.get_mut.ensures.value in
+      ap (λ m. state_of m k.grants) c.get_mut.follows.holds-at-none
+      ∙ nothing_made k.repos k.grants c.args.repo.now (λ r. appended r c.args.number (bytes_or_none (get r.sessions c.args.number) ++ c.args.bytes.now)) none;
+  spends = (refl, refl);
+  honest = λ honest. honest;
+}

@@ -1,17 +1,11 @@
 use Rattle.std.proofs.Common.{refl}
 use Rattle.registry_model.specs.Keeping.{bytes_in}
-use Rattle.registry_maps.proofs.SeenWorlds.{repo_some, repo_none, reads_memory, spends_memory}
+use Rattle.registry_maps.proofs.SeenWorlds.{reads_memory, spends_memory}
 use Rattle.registry_maps.proofs.map_keeper.MapKeeperKeeper.blob.Goals as goal
 
-pub returns-in-Some-clause-found : goal.returns-in-Some-clause-found
-returns-in-Some-clause-found c honest =
-    let k = c.args.self.now in
-    reads_memory bytes_in c.blob.result c.or_memory.result _ _ c.or_memory.ensures (rw (repo_some k.repos k.grants c.args.repo.now c.get.result c.in-Some.repository c.in-Some.is c.get.ensures.value) c.blob.ensures)
-
-pub returns-in-Some-clause-spends : goal.returns-in-Some-clause-spends
-returns-in-Some-clause-spends c = spends_memory c.blob.result c.or_memory.result _ _ c.or_memory.ensures refl refl
-
-pub returns-in-None-clause-found : goal.returns-in-None-clause-found
-returns-in-None-clause-found c honest =
-    let k = c.args.self.now in
-    rw (repo_none k.repos k.grants c.args.repo.now c.get.result c.in-None.is c.get.ensures.value) (refl, refl)
+pub returns : goal.returns
+returns c = record {
+  found = λ honest. reads_memory bytes_in c.copy_of_blob.result c.or_memory.result _ _ c.or_memory.ensures c.copy_of_blob.ensures;
+  spends = spends_memory c.copy_of_blob.result c.or_memory.result _ _ c.or_memory.ensures refl refl;
+  honest = λ honest. honest;
+}

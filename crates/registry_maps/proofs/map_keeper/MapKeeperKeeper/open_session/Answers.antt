@@ -10,22 +10,27 @@ open_session-requires c =
     let there = lent_some k.repos c.args.repo.now c.get_mut.result c.in-Some.repository c.in-Some.is c.get_mut.ensures.value in
     rw (repo_lent k.repos k.grants c.args.repo.now c.in-Some.repository.now there) at (c.requires.below tt refl)
 
-pub returns-in-Some-clause-made : goal.returns-in-Some-clause-made
-returns-in-Some-clause-made c honest =
-    let k = c.args.self.now in
-    let new = c.open_session.new.self in
-    let there = lent_some k.repos c.args.repo.now c.get_mut.result c.in-Some.repository c.in-Some.is c.get_mut.ensures.value in
-    let updates = (c.get_mut.follows.holds new).3 (search rules) in
-    number_made k.repos (c.get_mut.follows.lender new) k.grants c.args.repo.now c.in-Some.repository.now new there updates
-    c.open_session.result c.or_memory.result _ opened c.or_memory.ensures
-    (rw (repo_lent k.repos k.grants c.args.repo.now c.in-Some.repository.now there) c.open_session.ensures.number) c.open_session.ensures.made
+pub returns-in-Some : goal.returns-in-Some
+returns-in-Some c = record {
+  made = λ honest.
+      let k = c.args.self.now in
+      let new = c.open_session.new.self in
+      let there = lent_some k.repos c.args.repo.now c.get_mut.result c.in-Some.repository c.in-Some.is c.get_mut.ensures.value in
+      let updates = (c.get_mut.follows.holds new).3 (search rules) in
+      number_made k.repos (c.get_mut.follows.lender new) k.grants c.args.repo.now c.in-Some.repository.now new there updates
+      c.open_session.result c.or_memory.result _ opened c.or_memory.ensures
+      (rw (repo_lent k.repos k.grants c.args.repo.now c.in-Some.repository.now there) c.open_session.ensures.number) c.open_session.ensures.made;
+  spends = spends_memory c.open_session.result c.or_memory.result _ _ c.or_memory.ensures refl refl;
+  honest = λ honest. honest;
+}
 
-pub returns-in-Some-clause-spends : goal.returns-in-Some-clause-spends
-returns-in-Some-clause-spends c = spends_memory c.open_session.result c.or_memory.result _ _ c.or_memory.ensures refl refl
-
-pub returns-in-None-clause-made : goal.returns-in-None-clause-made
-returns-in-None-clause-made c honest =
-    let k = c.args.self.now in
-    let none = lent_none k.repos c.args.repo.now c.get_mut.result c.in-None.is c.get_mut.ensures.value in
-    let e = sym (ap is_some (repo_unlent k.repos k.grants c.args.repo.now none)) ∙ c.requires.there tt refl in
-    absurd (cc)
+pub returns-in-None : goal.returns-in-None
+returns-in-None c = record {
+  made = λ honest.
+      let k = c.args.self.now in
+      let none = lent_none k.repos c.args.repo.now c.get_mut.result c.in-None.is c.get_mut.ensures.value in
+      let e = sym (ap is_some (repo_unlent k.repos k.grants c.args.repo.now none)) ∙ c.requires.there tt refl in
+      absurd (cc);
+  spends = (refl, refl);
+  honest = λ honest. honest;
+}

@@ -1,23 +1,13 @@
-use Rattle.std.proofs.Common.{◌∙◌, ap, refl, rules}
-use Rattle.registry_maps.specs.Maps.{state_of}
-use Rattle.registry_model.specs.Blobs.{with_blob}
-use Rattle.registry_maps.proofs.SeenWorlds.{lent_some, lent_none, write_made, nothing_made, spends_memory}
+use Rattle.std.proofs.Common.{refl}
+use Rattle.registry_maps.proofs.SeenWorlds.{writes_memory, spends_memory}
 use Rattle.registry_maps.proofs.map_keeper.MapKeeperKeeper.put_blob.Goals as goal
 
-pub returns-in-Some-clause-made : goal.returns-in-Some-clause-made
-returns-in-Some-clause-made c honest =
-    let k = c.args.self.now in
-    let new = c.put_blob.new.self in
-    let there = lent_some k.repos c.args.repo.now c.get_mut.result c.in-Some.repository c.in-Some.is c.get_mut.ensures.value in
-    let updates = (c.get_mut.follows.holds new).3 (search rules) in
-    write_made k.repos (c.get_mut.follows.lender new) k.grants c.args.repo.now c.in-Some.repository.now new there updates
-    c.put_blob.result c.or_memory.result (λ r. with_blob r c.args.digest.now c.args.bytes.now) c.or_memory.ensures c.put_blob.ensures
-
-pub returns-in-Some-clause-spends : goal.returns-in-Some-clause-spends
-returns-in-Some-clause-spends c = spends_memory c.put_blob.result c.or_memory.result _ _ c.or_memory.ensures refl refl
-
-pub returns-in-None-clause-made : goal.returns-in-None-clause-made
-returns-in-None-clause-made c honest =
-    let k = c.args.self.now in
-    let none = lent_none k.repos c.args.repo.now c.get_mut.result c.in-None.is c.get_mut.ensures.value in
-    ap (λ m. state_of m k.grants) c.get_mut.follows.holds-at-none ∙ nothing_made k.repos k.grants c.args.repo.now (λ r. with_blob r c.args.digest.now c.args.bytes.now) none
+pub returns : goal.returns
+returns c = record {
+  made = λ honest.
+      let k = c.args.self.now in
+      let new = c.add_blob.new.self in
+      writes_memory k.repos new.repos k.grants new.grants c.add_blob.result c.or_memory.result _ c.or_memory.ensures c.add_blob.ensures;
+  spends = spends_memory c.add_blob.result c.or_memory.result _ _ c.or_memory.ensures refl refl;
+  honest = λ honest. honest;
+}

@@ -2,12 +2,20 @@ use Rattle.std.proofs.Common.{refl}
 use Rattle.registry_maps.proofs.SeenWorlds.{repo_some, repo_none}
 use Rattle.registry_maps.proofs.map_keeper.MapKeeperKeeper.sessions_open.Goals as goal
 
-pub returns-in-Some-clause-found : goal.returns-in-Some-clause-found
-returns-in-Some-clause-found c honest =
-    let k = c.args.self.now in
-    rw (repo_some k.repos k.grants c.args.repo.now c.get.result c.in-Some.repository c.in-Some.is c.get.ensures.value) (c.sessions_open.ensures, refl)
+pub returns-in-Some : goal.returns-in-Some
+returns-in-Some c = record {
+  found = λ honest.
+      let k = c.args.self.now in
+      rw (repo_some k.repos k.grants c.args.repo.now c.get.result c.in-Some.repository c.in-Some.is c.get.ensures.value) (c.sessions_open.ensures, refl);
+  spends = (refl, refl);
+  honest = λ honest. honest;
+}
 
-pub returns-in-None-clause-found : goal.returns-in-None-clause-found
-returns-in-None-clause-found c honest =
-    let k = c.args.self.now in
-    rw (repo_none k.repos k.grants c.args.repo.now c.get.result c.in-None.is c.get.ensures.value) (refl, refl)
+pub returns-in-None : goal.returns-in-None
+returns-in-None c = record {
+  found = λ honest.
+      let k = c.args.self.now in
+      rw (repo_none k.repos k.grants c.args.repo.now c.get.result c.in-None.is c.get.ensures.value) (refl, refl);
+  spends = (refl, refl);
+  honest = λ honest. honest;
+}

@@ -23,7 +23,7 @@ returns c =
     let kept : c.in_ok-kept.kept ≡ c.args.bytes.now = search rules in
     record {
       made = ap (λ x. record (repo_of r) { manifests = x })
-          (seen_put text_total exact_texts (λ (t : Text). t) c.in_ok-key.key r.manifests c.insert.new.self c.in_ok-kept.kept c.in_ok-insert.ensures.updates ∙ (λ i. insert (names_in r.manifests.entries) (key i) (kept i)))
+          (seen_put text_total exact_texts (λ (t : Text). t) c.in_ok-key.key r.manifests c.put.new.map c.in_ok-kept.kept c.in_ok-put.ensures ∙ (λ i. insert (names_in r.manifests.entries) (key i) (kept i)))
           ∙ sym (ap (λ t. cond t (repo_of r) (record (repo_of r) { manifests = insert (names_in r.manifests.entries) c.args.digest.now c.args.bytes.now })) absent);
       added = sym (ap not absent);
     }

@@ -13,5 +13,5 @@ returns-clause-made c =
     let none : c.new.result.items ≡ [] = search rules in
     (λ i. record (repo_of r) {
       last = r.last + 1;
-      sessions = (seen_put number_total exact_numbers (λ (v : Vec ℕ Global). v.items) (r.last + 1) r.sessions c.insert.new.self c.new.result c.in_ok-insert.ensures.updates ∙ ap (insert (sessions_in r.sessions.entries) (r.last + 1)) none) i;
+      sessions = (seen_put number_total exact_numbers (λ (v : Vec ℕ Global). v.items) (r.last + 1) r.sessions c.put.new.map c.new.result c.in_ok-put.ensures ∙ ap (insert (sessions_in r.sessions.entries) (r.last + 1)) none) i;
     })

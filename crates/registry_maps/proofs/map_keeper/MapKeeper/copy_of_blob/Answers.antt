@@ -1,0 +1,13 @@
+use Rattle.std.proofs.Common.{refl}
+use Rattle.registry_maps.proofs.SeenWorlds.{repo_some, repo_none}
+use Rattle.registry_maps.proofs.map_keeper.MapKeeper.copy_of_blob.Goals as goal
+
+pub returns-in-Some : goal.returns-in-Some
+returns-in-Some c =
+    let k = c.args.self.now in
+    rw (repo_some k.repos k.grants c.args.repo.now c.get.result c.in-Some.repository c.in-Some.is c.get.ensures.value) c.blob.ensures
+
+pub returns-in-None : goal.returns-in-None
+returns-in-None c =
+    let k = c.args.self.now in
+    rw (repo_none k.repos k.grants c.args.repo.now c.get.result c.in-None.is c.get.ensures.value) refl
