@@ -1,12 +1,11 @@
 -- A content is known by its digest alone.
-use Rattle.std.proofs.Common.{◌≡◌, ◌⊎◌, ℕ, ℤ, List, [], ◌∷◌, map, Bool, true, false, None, Some, Ok, Err, Result, IfOk, IfErr, refl, sym, ap, subst, ◌∙◌}
+use Rattle.std.proofs.Common.{◌≡◌, ◌⊎◌, ℕ, ℤ, List, [], ◌∷◌, map, Bool, true, false, None, Some, Ok, Err, IfOk, IfErr, refl, sym, ap, subst, ◌∙◌}
 use Rattle.std.specs.Prelude.{filter, find, Option, option_map, bytes_eq}
 use Rattle.std.specs.Ordering.{int_eq}
 use Rattle.std.specs.List.{list_any}
 use Rattle.std.specs.List.Sorted.{IsPermutation}
 use Rattle.std.proofs.lemmas.List.Sorted.{list_any-IsPermutation}
 use Rattle.sqlite.specs.declared.types.Value.TheVariants.{Int, Text}
-use Rattle.sqlite.specs.declared.error.Error.{Error}
 use Rattle.sqlite.specs.Order.{Row, column}
 use Rattle.sqlite.specs.Tree.{has_rowid, rowid}
 use Rattle.sqlite.specs.Effect.{Database}
@@ -81,10 +80,5 @@ module _ (db : Database) (is : HoldsContents db) (id : ℤ) (sha256 : List ℕ) 
   both_so false true f g = g refl
   both_so false false f g = refl
 
-  hash_is : (rows : List Row) → IsPermutation (map id_of (filter (has_sha256 sha256) table)) rows → list_any (shows_id id) rows ≡ has_hash (bytes_in db id) sha256
+  pub hash_is : (rows : List Row) → IsPermutation (map id_of (filter (has_sha256 sha256) table)) rows → list_any (shows_id id) rows ≡ has_hash (bytes_in db id) sha256
   hash_is rows same = sym (list_any-IsPermutation (shows_id id) _ rows same) ∙ both_so _ _ is_there (is_shown (find (has_rowid id) table) refl)
-
-  -- the same of a call's result
-  pub hash_told : (rows : List Row) (r : Result Bool Error) → IsPermutation (map id_of (filter (has_sha256 sha256) table)) rows → IfOk r (λ found. found ≡ list_any (shows_id id) rows) → IfOk r (λ found. found ≡ has_hash (bytes_in db id) sha256)
-  hash_told rows (Ok found) same e = e ∙ hash_is rows same
-  hash_told rows (Err e) same h = tt

@@ -1,3 +1,4 @@
+pub mod Reading
 pub mod Fresh
 pub mod InsideLemmas
 pub mod SearchLemmas

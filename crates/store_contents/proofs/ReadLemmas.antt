@@ -1,11 +1,11 @@
 -- The bytes of a content are read.
-use Rattle.std.proofs.Common.{◌≡◌, ◌⊎◌, inl, inr, ℕ, ℤ, List, [], ◌∷◌, map, None, Some, Ok, Err, IfOk, IfErr, OnOk, slice_get, refl, sym, ap, subst, ◌∙◌}
+use Rattle.std.proofs.Common.{◌≡◌, ◌⊎◌, inl, inr, ℕ, ℤ, List, [], ◌∷◌, map, None, Some, Ok, Err, IfOk, IfErr, OnOk, refl, sym, ap, subst, ◌∙◌}
 use Rattle.std.specs.Prelude.{find, Option, option_map, Vec, Result}
 use Rattle.std.specs.declared.alloc.Global.{Global}
 use Rattle.std.specs.Option.{option_to_list}
 use Rattle.std.specs.List.Sorted.{IsPermutation}
 use Rattle.sqlite_trees.specs.declared.store.Store as store
-use Rattle.sqlite.specs.declared.types.Value.TheVariants.{Int, Blob}
+use Rattle.sqlite.specs.declared.types.Value.TheVariants.{Int}
 use Rattle.sqlite.specs.Order.{Row, column}
 use Rattle.sqlite.specs.Tree.{has_rowid}
 use Rattle.sqlite.specs.declared.error.Error.{Error}
@@ -22,7 +22,7 @@ use Rattle.store_schema.proofs.Ids.{only_id, found_has}
 use Rattle.store_schema.proofs.Selects.{Answer, chosen, shows, shows_first}
 use Rattle.store_contents.specs.Texts.{read_text, by_id}
 use Rattle.store_contents.specs.Contents.{HoldsContents, IsContentRow, content_rows, bytes_in}
-use Rattle.store_contents.specs.Search.{blob_of, next_bytes, GivesBytes}
+use Rattle.store_contents.specs.Search.{blob_of, first_bytes, next_bytes, GivesBytes}
 use Rattle.store_contents.proofs.RemoveLemmas.{by_id_passes}
 
 abbrev pub bytes_shown : Option Row → List Row
@@ -45,15 +45,9 @@ reads old new id (Err e) is h = tt
 reads old new id (Ok rows) is h = read_shown old new id rows.items is h
 
 -- the first of the rows has the bytes
-pub first_bytes : (o : Option Row) (rows : List Row) (row : Row) (bytes : List ℕ) → rows ≡ bytes_shown o → Some row ≡ slice_get rows 0 → column row 0 ≡ Blob bytes → Some bytes ≡ option_map (λ r. bytes_at r 4) o
-first_bytes None rows row bytes e f b = absurd (let x = f ∙ ap (λ l. slice_get l 0) e in cc)
-first_bytes (Some r) rows row bytes e f b =
-    let is : row ≡ column r 4 ∷ [] = (let x = f ∙ ap (λ l. slice_get l 0) e in cc) in
-    ap (λ v. Some (Rattle.sqlite.specs.Order.bytes v)) (sym b ∙ ap (λ w. column w 0) is)
-
-pub no_bytes : (o : Option Row) (rows : List Row) → rows ≡ bytes_shown o → None ≡ slice_get rows 0 → None ≡ option_map (λ r. bytes_at r 4) o
-no_bytes None rows e f = refl
-no_bytes (Some r) rows e f = absurd (let x = f ∙ ap (λ l. slice_get l 0) e in cc)
+pub bytes_first : (o : Option Row) (rows : List Row) → rows ≡ bytes_shown o → first_bytes rows ≡ option_map (λ r. bytes_at r 4) o
+bytes_first None rows e = ap first_bytes e
+bytes_first (Some r) rows e = ap first_bytes e
 
 -- ---- one row at a time
 

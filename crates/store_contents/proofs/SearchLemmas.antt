@@ -1,5 +1,5 @@
 -- A content is looked for by the digest, and then by its bytes.
-use Rattle.std.proofs.Common.{◌≡◌, ◌≢◌, inl, inr, ◌<◌, ℕ, ℤ, List, [], ◌∷◌, map, Bool, true, false, None, Some, Ok, Err, IfOk, length, get_or, refl, sym, ap, subst, ◌∙◌, true≢false}
+use Rattle.std.proofs.Common.{◌≡◌, ◌≢◌, inl, inr, ◌<◌, ℕ, ℤ, List, [], ◌∷◌, map, Bool, true, false, None, Some, Ok, Err, Result, IfOk, length, get_or, refl, sym, ap, subst, ◌∙◌, true≢false}
 use Rattle.std.specs.Prelude.{filter, find, Option, option_map, MatchOption, IfSome, ◌&&◌}
 use Rattle.std.specs.Ordering.{is_eq}
 use Rattle.std.specs.List.{list_any}
@@ -13,6 +13,7 @@ use Rattle.sqlite.specs.declared.types.Value.TheVariants.{Int, Text}
 use Rattle.sqlite.specs.Order.{Row, column, value_cmp}
 use Rattle.sqlite.specs.Tree.{has_rowid}
 use Rattle.sqlite.specs.Effect.{Database}
+use Rattle.sqlite.specs.declared.error.Error.{Error}
 use Rattle.sqlite.specs.State.{State, Shown}
 use Rattle.sqlite_trees.proofs.ListLemmas.{filter_same, all_weaker}
 use Rattle.sqlite_rules.specs.Lists.{Has}
@@ -24,7 +25,7 @@ use Rattle.store_schema.proofs.Ids.{find_id, found_has, rowid_passed}
 use Rattle.store_schema.proofs.Selects.{Answer, chosen, shows, is_text, one_test}
 use Rattle.store_contents.specs.Texts.{find_text, find_terms}
 use Rattle.store_contents.specs.Contents.{HoldsContents, IsContentRow, AreContentRows, content_rows, has_bytes, bytes_in, sha256_text}
-use Rattle.store_contents.specs.Search.{has_sha256, found_columns, is_blob, shows_bytes, shows_content}
+use Rattle.store_contents.specs.Search.{has_sha256, found_columns, is_blob, shows_bytes, shows_content, ShowsFirst}
 
 -- ---- by the digest
 
@@ -97,3 +98,7 @@ found_is db sha256 bytes rows (Some id) is e same none some =
     let tests = parts _ _ (subst (λ x. shows_content id bytes x ≡ true) from.2 shown.2) in
     let named = rowid_passed table r id is.ids has tests.0 in
     ap (option_map (λ x. bytes_at x 4)) (find_id table r id is.ids has named) ∙ ap Some (bytes_eq_true _ _ (sym (blob_shown bytes r it) ∙ tests.1))
+
+pub shows_first : (bytes : List ℕ) (rows : List Row) (r : Result (Option ℤ) Error) → IfOk r (λ o. o ≡ None → list_any (shows_bytes bytes) rows ≡ false) → IfOk r (λ o. IfSome o (λ id. list_any (shows_content id bytes) rows ≡ true)) → IfOk r (ShowsFirst bytes rows)
+shows_first bytes rows (Ok o) none some = record { none = none; some = some }
+shows_first bytes rows (Err e) none some = tt

@@ -3,3 +3,4 @@ pub mod Contents
 pub mod Search
 pub mod Hashed
 pub mod Linked
+pub mod Read

@@ -1,5 +1,6 @@
 -- How a content is looked for: by the digest, and then by its bytes.
-use Rattle.std.specs.Prelude.{◌≡◌, ◌&&◌, ℕ, ℤ, Bool, false, List, [], ◌∷◌, bytes_eq, Option, Some, None}
+use Rattle.std.specs.Prelude.{◌≡◌, ◌&&◌, ℕ, ℤ, Bool, true, false, List, [], ◌∷◌, bytes_eq, slice_get, Option, Some, None, option_map, IfSome}
+use Rattle.std.specs.List.{list_any}
 use Rattle.std.specs.Ordering.{is_eq}
 use Rattle.sqlite.specs.declared.types.Value.{Value}
 use Rattle.sqlite.specs.declared.types.Value.TheVariants.{Int, Blob}
@@ -44,6 +45,15 @@ shows_bytes bytes row = is_blob bytes (column row 1)
 
 abbrev pub shows_content : ℤ → List ℕ → Row → Bool
 shows_content id bytes row = is_eq (value_cmp (column row 0) (Int id)) && shows_bytes bytes row
+
+-- a row shows these bytes, with this id, or none does
+pub record ShowsFirst (bytes : List ℕ) (rows : List Row) (o : Option ℤ) : Type 0 where
+  pub none : o ≡ None → list_any (shows_bytes bytes) rows ≡ false
+  pub some : IfSome o (λ id. list_any (shows_content id bytes) rows ≡ true)
+
+-- of the one row that a read shows, if there is one
+abbrev pub first_bytes : List Row → Option (List ℕ)
+first_bytes rows = option_map (λ r. bytes_at r 0) (slice_get rows 0)
 
 -- what an error of the database is to a caller
 abbrev pub fault_by : Error → Fault

@@ -1,4 +1,4 @@
-ghost use Rattle.std.specs.Prelude.{◌≡◌};
+ghost use Rattle.std.specs.Prelude.{◌≡◌, Ok, Err, IsOk, MatchResult, OnOk};
 ghost use Rattle.store_contents.specs.Search.{fault_by};
 
 use oci_names::Fault;
@@ -11,5 +11,25 @@ pub fn fault_of(error: Error) -> Fault
     match error {
         Error::SqliteFailure(ErrorCode::OutOfMemory) => Fault::Memory,
         _ => Fault::Storage,
+    }
+}
+
+/// Whether it was done, without how many rows that were.
+pub(crate) fn done(ran: Result<usize, Error>) -> Result<(), Fault>
+    ensures { OnOk result (IsOk ran) }
+{
+    match ran {
+        Ok(_) => Ok(()),
+        Err(error) => Err(fault_of(error)),
+    }
+}
+
+/// The value, or what the error is to a caller.
+pub(crate) fn told<T>(found: Result<T, Error>) -> Result<T, Fault>
+    ensures { MatchResult found (λ value. result ≡ Ok value) (λ error. result ≡ Err (fault_by error)) }
+{
+    match found {
+        Ok(value) => Ok(value),
+        Err(error) => Err(fault_of(error)),
     }
 }

@@ -1,41 +1,16 @@
 //! Whether a content has a digest, without its bytes.
-ghost use Rattle.std.specs.Prelude.{◌≡◌, ◌⊎◌, ◌∷◌, [], map, filter, IfOk, IfErr, OnOk, ⊤};
+ghost use Rattle.std.specs.Prelude.{◌≡◌, ◌⊎◌, IfOk, IfErr, OnOk, ⊤};
 ghost use Rattle.std.specs.List.{list_any};
-ghost use Rattle.std.specs.List.Sorted.{IsPermutation};
 ghost use Rattle.sqlite.specs.State.{HasCleanDisk, IsUnchanged, IsRolledBack, Survives};
 ghost use Rattle.sqlite.specs.Held.{state};
-ghost use Rattle.sqlite.specs.Order.{column};
-ghost use Rattle.store_contents.specs.Contents.{HoldsContents, content_rows, bytes_in};
-ghost use Rattle.store_contents.specs.Search.{has_sha256};
+ghost use Rattle.store_contents.specs.Contents.{HoldsContents, bytes_in};
 ghost use Rattle.store_contents.specs.Hashed.{shows_id, has_hash};
+ghost use Rattle.store_contents.specs.Read.{IsRead};
 
 use crate::content_id::ContentId;
-use crate::fault::fault_of;
+use crate::fault::{fault_of, told};
 use oci_names::Fault;
 use sqlite::{Alter, Connection, Error, Row, params};
-
-/// The ids of the contents whose digest is this. The index has both columns, so no content is read.
-fn ids_hashed<S: Alter>(conn: &mut Connection<S>, sha256: &str) -> Result<Vec<Row>, Error>
-    ensures shown { HasCleanDisk (state S.Store conn.new) → HoldsContents (state S.Store conn.old).now
-        → IfOk result
-        (λ rows. IsPermutation
-        (map (λ r. column r 0 ∷ [])
-        (filter (has_sha256 sha256.now) (content_rows (state S.Store conn.old).now))) rows.items) }
-    ensures same { HasCleanDisk (state S.Store conn.new) → HoldsContents (state S.Store conn.old).now
-        → OnOk result (IsUnchanged (state S.Store conn.old) (state S.Store conn.new)) }
-    ensures failed { HasCleanDisk (state S.Store conn.new) → HoldsContents (state S.Store conn.old).now
-        → IfErr result
-        (λ _. IsUnchanged (state S.Store conn.old) (state S.Store conn.new) ⊎ IsRolledBack
-        (state S.Store conn.old) (state S.Store conn.new)) }
-    ensures survives { (HasCleanDisk (state S.Store conn.old) → HoldsContents (state S.Store conn.old).now)
-        → Survives (state S.Store conn.old) (state S.Store conn.new) (λ _. ⊥) }
-    ensures lasts { Survives (state S.Store conn.old) (state S.Store conn.new) (λ _. ⊤) }
-{
-    conn.query_all(
-        "SELECT id FROM registry_contents WHERE sha256 = ?1",
-        params![sha256],
-    )
-}
 
 /// Whether one of the rows shows the id.
 fn show_id(rows: &[Row], id: i64) -> Result<bool, Error>
@@ -50,21 +25,14 @@ fn show_id(rows: &[Row], id: i64) -> Result<bool, Error>
     Ok(false)
 }
 
-fn select<S: Alter>(conn: &mut Connection<S>, id: i64, sha256: &str) -> Result<bool, Error>
-    ensures found { HasCleanDisk (state S.Store conn.new) → HoldsContents (state S.Store conn.old).now
-        → IfOk result (λ is. is ≡ has_hash (bytes_in (state S.Store conn.old).now id) sha256.now) }
-    ensures same { HasCleanDisk (state S.Store conn.new) → HoldsContents (state S.Store conn.old).now
-        → OnOk result (IsUnchanged (state S.Store conn.old) (state S.Store conn.new)) }
-    ensures failed { HasCleanDisk (state S.Store conn.new) → HoldsContents (state S.Store conn.old).now
-        → IfErr result
-        (λ _. IsUnchanged (state S.Store conn.old) (state S.Store conn.new) ⊎ IsRolledBack
-        (state S.Store conn.old) (state S.Store conn.new)) }
-    ensures survives { (HasCleanDisk (state S.Store conn.old) → HoldsContents (state S.Store conn.old).now)
-        → Survives (state S.Store conn.old) (state S.Store conn.new) (λ _. ⊥) }
-    ensures lasts { Survives (state S.Store conn.old) (state S.Store conn.new) (λ _. ⊤) }
+/// The same of what a query gave.
+fn any_shown(shown: Result<Vec<Row>, Error>, id: ContentId) -> Result<bool, Fault>
+    ensures { IsRead shown result (λ rows found. found ≡ list_any (shows_id id.id) rows) }
 {
-    let rows = ids_hashed(conn, sha256)?;
-    show_id(&rows, id)
+    match shown {
+        Ok(rows) => told(show_id(&rows, id.get())),
+        Err(error) => Err(fault_of(error)),
+    }
 }
 
 /// Whether the bytes of the content have the SHA-256 of these 64 lower-case hexadecimal digits; `false` also
@@ -87,8 +55,10 @@ pub fn is_hashed<S: Alter>(
         → Survives (state S.Store conn.old) (state S.Store conn.new) (λ _. ⊥) }
     ensures lasts { Survives (state S.Store conn.old) (state S.Store conn.new) (λ _. ⊤) }
 {
-    match select(conn, id.get(), sha256) {
-        Ok(found) => Ok(found),
-        Err(error) => Err(fault_of(error)),
-    }
+    // the index has both columns, so no content is read
+    let shown = conn.query_all(
+        "SELECT id FROM registry_contents WHERE sha256 = ?1",
+        params![sha256],
+    );
+    any_shown(shown, id)
 }

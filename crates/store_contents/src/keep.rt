@@ -6,7 +6,6 @@ ghost use Rattle.store_contents.specs.Contents.{IsInside, FindsOrAdds, sha256_te
 
 use crate::add::add;
 use crate::content_id::ContentId;
-use crate::fault::fault_of;
 use crate::search::find;
 use oci_names::Fault;
 use sha2::{Digest, Sha256};
@@ -62,6 +61,6 @@ pub fn find_or_add_hashed<S: Alter>(
     match find(tx, sha256, bytes) {
         Ok(Some(id)) => Ok(ContentId::new(id)),
         Ok(None) => add(tx, sha256, bytes),
-        Err(error) => Err(fault_of(error)),
+        Err(fault) => Err(fault),
     }
 }

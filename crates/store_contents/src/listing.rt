@@ -3,35 +3,16 @@ ghost use Rattle.std.specs.Prelude.{◌≡◌, ◌∷◌, ◌++◌, [], map, fil
 ghost use Rattle.std.specs.List.Sorted.{IsPermutation};
 ghost use Rattle.sqlite.specs.State.{HasCleanDisk, IsUnchanged, KeepsCommit, Survives};
 ghost use Rattle.sqlite.specs.Held.{state};
-ghost use Rattle.sqlite.specs.Order.{column};
-ghost use Rattle.store_contents.specs.Contents.{HoldsContents, content_rows};
+ghost use Rattle.store_contents.specs.Contents.{HoldsContents};
 ghost use Rattle.store_contents.specs.Linked.{is_linked, id_shown, ids_of};
+ghost use Rattle.store_contents.specs.Read.{IsRead};
 
 use crate::content_id::ContentId;
-use crate::fault::fault_of;
+use crate::fault::{fault_of, told};
 use oci_names::Fault;
 use sqlite::{Alter, Error, ErrorCode, Row, Transaction};
 use std::alloc::Global;
 use std::collections::BTreeSet;
-
-/// The id of each content.
-fn list<S: Alter>(tx: &mut Transaction<'_, S>) -> Result<Vec<Row>, Error>
-    ensures shown { HasCleanDisk (state S.Store tx.new.conn.now)
-        → HoldsContents (state S.Store tx.old.conn.now).now
-        → IfOk result
-        (λ rows. IsPermutation
-        (map (λ r. column r 0 ∷ []) (content_rows (state S.Store tx.old.conn.now).now)) rows.items) }
-    ensures same { HasCleanDisk (state S.Store tx.new.conn.now)
-        → HoldsContents (state S.Store tx.old.conn.now).now
-        → OnOk result (IsUnchanged (state S.Store tx.old.conn.now) (state S.Store tx.new.conn.now)) }
-    ensures kept { HasCleanDisk (state S.Store tx.new.conn.now)
-        → HoldsContents (state S.Store tx.old.conn.now).now
-        → KeepsCommit (state S.Store tx.old.conn.now) (state S.Store tx.new.conn.now) }
-    ensures same_reference { tx.new.conn.ghost_name ≡ tx.old.conn.ghost_name }
-    ensures survives { Survives (state S.Store tx.old.conn.now) (state S.Store tx.new.conn.now) (λ _. ⊥) }
-{
-    tx.query_all("SELECT id FROM registry_contents", &[])
-}
 
 /// Appends the id where the set lacks it.
 fn push_if_lacking(
@@ -68,29 +49,19 @@ fn lacking(
     Ok(ids)
 }
 
-fn select<S: Alter>(
+/// The same of what a query gave.
+fn all_lacking(
     alloc: Global,
-    tx: &mut Transaction<'_, S>,
+    shown: Result<Vec<Row>, Error>,
     linked: &BTreeSet<ContentId>,
-) -> Result<Vec<ContentId>, Error>
-    ensures ids { HasCleanDisk (state S.Store tx.new.conn.now)
-        → HoldsContents (state S.Store tx.old.conn.now).now
-        → IfOk result
-        (λ ids. IsPermutation
-        (filter (λ id. not (is_linked linked.now id)) (ids_of (state S.Store tx.old.conn.now).now))
-        ids.items) }
-    ensures same { HasCleanDisk (state S.Store tx.new.conn.now)
-        → HoldsContents (state S.Store tx.old.conn.now).now
-        → OnOk result (IsUnchanged (state S.Store tx.old.conn.now) (state S.Store tx.new.conn.now)) }
-    ensures kept { HasCleanDisk (state S.Store tx.new.conn.now)
-        → HoldsContents (state S.Store tx.old.conn.now).now
-        → KeepsCommit (state S.Store tx.old.conn.now) (state S.Store tx.new.conn.now) }
-    ensures same_reference { tx.new.conn.ghost_name ≡ tx.old.conn.ghost_name }
-    ensures survives { Survives (state S.Store tx.old.conn.now) (state S.Store tx.new.conn.now) (λ _. ⊥) }
+) -> Result<Vec<ContentId>, Fault>
+    ensures { IsRead shown result
+        (λ rows ids. ids.items ≡ filter (λ id. not (is_linked linked.now id)) (map id_shown rows)) }
 {
-    let rows = list(tx)?;
-    let ids = lacking(alloc, &rows, linked)?;
-    Ok(ids)
+    match shown {
+        Ok(rows) => told(lacking(alloc, &rows, linked)),
+        Err(error) => Err(fault_of(error)),
+    }
 }
 
 /// The ids of the contents that are not in the set, each once, in any order. Nothing changes.
@@ -116,8 +87,9 @@ pub fn unlinked<S: Alter>(
     ensures same_reference { tx.new.conn.ghost_name ≡ tx.old.conn.ghost_name }
     ensures survives { Survives (state S.Store tx.old.conn.now) (state S.Store tx.new.conn.now) (λ _. ⊥) }
 {
-    match select(alloc, tx, linked) {
-        Ok(ids) => Ok(ids),
-        Err(error) => Err(fault_of(error)),
-    }
+    all_lacking(
+        alloc,
+        tx.query_all("SELECT id FROM registry_contents", &[]),
+        linked,
+    )
 }

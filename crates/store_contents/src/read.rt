@@ -1,63 +1,39 @@
 //! The bytes of a content.
-ghost use Rattle.std.specs.Prelude.{◌≡◌, ◌⊎◌, ◌∷◌, [], false, map, find, option_map, IfOk, IfErr, OnOk, ⊤};
-ghost use Rattle.std.specs.Option.{option_to_list};
+ghost use Rattle.std.specs.Prelude.{◌≡◌, ◌⊎◌, false, option_map, IfOk, IfErr, OnOk, ⊤};
 ghost use Rattle.sqlite.specs.State.{HasCleanDisk, IsUnchanged, IsRolledBack, KeepsCommit, Survives};
 ghost use Rattle.sqlite.specs.Held.{state};
 ghost use Rattle.sqlite.specs.Order.{column};
-ghost use Rattle.sqlite.specs.Tree.{has_rowid};
-ghost use Rattle.store_contents.specs.Contents.{HoldsContents, content_rows, bytes_in};
-ghost use Rattle.store_contents.specs.Search.{blob_of, GivesBytes};
+ghost use Rattle.store_contents.specs.Contents.{HoldsContents, bytes_in};
+ghost use Rattle.store_contents.specs.Read.{IsRead};
+ghost use Rattle.store_contents.specs.Search.{blob_of, first_bytes, GivesBytes};
 
 use crate::content_id::ContentId;
-use crate::fault::fault_of;
+use crate::fault::{fault_of, told};
 use oci_names::Fault;
 use sqlite::types::ValueRef;
 use sqlite::{Alter, Connection, Error, ErrorCode, Row, Rows, Transaction, params};
 use std::alloc::Global;
 
-/// The bytes under the id: one row, or none.
-fn shown<S: Alter>(tx: &mut Transaction<'_, S>, id: i64) -> Result<Vec<Row>, Error>
-    ensures shown { HasCleanDisk (state S.Store tx.new.conn.now)
-        → HoldsContents (state S.Store tx.old.conn.now).now
-        → IfOk result
-        (λ rows. rows.items ≡ map (λ r. column r 4 ∷ [])
-        (option_to_list (find (has_rowid id) (content_rows (state S.Store tx.old.conn.now).now)))) }
-    ensures same { HasCleanDisk (state S.Store tx.new.conn.now)
-        → HoldsContents (state S.Store tx.old.conn.now).now
-        → OnOk result (IsUnchanged (state S.Store tx.old.conn.now) (state S.Store tx.new.conn.now)) }
-    ensures kept { HasCleanDisk (state S.Store tx.new.conn.now)
-        → HoldsContents (state S.Store tx.old.conn.now).now
-        → KeepsCommit (state S.Store tx.old.conn.now) (state S.Store tx.new.conn.now) }
-    ensures same_reference { tx.new.conn.ghost_name ≡ tx.old.conn.ghost_name }
-    ensures survives { Survives (state S.Store tx.old.conn.now) (state S.Store tx.new.conn.now) (λ _. ⊥) }
+/// The bytes that the first row shows, if there is a row.
+fn bytes_shown(rows: &[Row]) -> Result<Option<Vec<u8>>, Error>
+    ensures { IfOk result (λ o. option_map (λ bytes. bytes.items) o ≡ first_bytes rows.now) }
 {
-    tx.query_all(
-        "SELECT bytes FROM registry_contents WHERE id = ?1",
-        params![id],
-    )
-}
-
-fn select<S: Alter>(tx: &mut Transaction<'_, S>, id: i64) -> Result<Option<Vec<u8>>, Error>
-    ensures found { HasCleanDisk (state S.Store tx.new.conn.now)
-        → HoldsContents (state S.Store tx.old.conn.now).now
-        → IfOk result
-        (λ o. option_map (λ bytes. bytes.items) o ≡ bytes_in (state S.Store tx.old.conn.now).now id) }
-    ensures same { HasCleanDisk (state S.Store tx.new.conn.now)
-        → HoldsContents (state S.Store tx.old.conn.now).now
-        → OnOk result (IsUnchanged (state S.Store tx.old.conn.now) (state S.Store tx.new.conn.now)) }
-    ensures kept { HasCleanDisk (state S.Store tx.new.conn.now)
-        → HoldsContents (state S.Store tx.old.conn.now).now
-        → KeepsCommit (state S.Store tx.old.conn.now) (state S.Store tx.new.conn.now) }
-    ensures same_reference { tx.new.conn.ghost_name ≡ tx.old.conn.ghost_name }
-    ensures survives { Survives (state S.Store tx.old.conn.now) (state S.Store tx.new.conn.now) (λ _. ⊥) }
-{
-    let rows = shown(tx, id)?;
     match rows.first() {
         Some(row) => {
             let bytes: Vec<u8> = row.get(0)?;
             Ok(Some(bytes))
         }
         None => Ok(None),
+    }
+}
+
+/// The same of what a query gave.
+fn all_bytes(shown: Result<Vec<Row>, Error>) -> Result<Option<Vec<u8>>, Fault>
+    ensures { IsRead shown result (λ rows o. option_map (λ bytes. bytes.items) o ≡ first_bytes rows) }
+{
+    match shown {
+        Ok(rows) => told(bytes_shown(&rows)),
+        Err(error) => Err(fault_of(error)),
     }
 }
 
@@ -81,10 +57,10 @@ pub fn bytes_of<S: Alter>(
     ensures same_reference { tx.new.conn.ghost_name ≡ tx.old.conn.ghost_name }
     ensures survives { Survives (state S.Store tx.old.conn.now) (state S.Store tx.new.conn.now) (λ _. ⊥) }
 {
-    match select(tx, id.get()) {
-        Ok(found) => Ok(found),
-        Err(error) => Err(fault_of(error)),
-    }
+    all_bytes(tx.query_all(
+        "SELECT bytes FROM registry_contents WHERE id = ?1",
+        params![id.get()],
+    ))
 }
 
 /// The bytes that the row shows.
@@ -173,8 +149,5 @@ pub fn read_bytes<S: Alter>(
         → Survives (state S.Store conn.old) (state S.Store conn.new) (λ _. ⊥) }
     ensures lasts { Survives (state S.Store conn.old) (state S.Store conn.new) (λ _. ⊤) }
 {
-    match peek(alloc, conn, id.get()) {
-        Ok(found) => Ok(found),
-        Err(error) => Err(fault_of(error)),
-    }
+    told(peek(alloc, conn, id.get()))
 }

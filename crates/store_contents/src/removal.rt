@@ -5,22 +5,9 @@ ghost use Rattle.sqlite.specs.Held.{state};
 ghost use Rattle.store_contents.specs.Contents.{IsInside, Removes};
 
 use crate::content_id::ContentId;
-use crate::fault::fault_of;
+use crate::fault::done;
 use oci_names::Fault;
-use sqlite::{Alter, Error, Transaction, params};
-
-fn remove_row<S: Alter>(tx: &mut Transaction<'_, S>, id: i64) -> Result<usize, Error>
-    ensures removed { HasCleanDisk (state S.Store tx.new.conn.now) → IsInside (state S.Store tx.old.conn.now)
-        → OnOk result (Removes (state S.Store tx.old.conn.now).now (state S.Store tx.new.conn.now).now id) }
-    ensures inside { HasCleanDisk (state S.Store tx.new.conn.now) → IsInside (state S.Store tx.old.conn.now)
-        → OnOk result (IsInside (state S.Store tx.new.conn.now)) }
-    ensures kept { HasCleanDisk (state S.Store tx.new.conn.now) → IsInside (state S.Store tx.old.conn.now)
-        → KeepsCommit (state S.Store tx.old.conn.now) (state S.Store tx.new.conn.now) }
-    ensures same_reference { tx.new.conn.ghost_name ≡ tx.old.conn.ghost_name }
-    ensures survives { Survives (state S.Store tx.old.conn.now) (state S.Store tx.new.conn.now) (λ _. ⊥) }
-{
-    tx.execute("DELETE FROM registry_contents WHERE id = ?1", params![id])
-}
+use sqlite::{Alter, Transaction, params};
 
 /// Takes the content out, where it is there. No other content changes, nor does any other table; whether
 /// something names it is the caller's to know.
@@ -37,8 +24,8 @@ pub fn remove<S: Alter>(tx: &mut Transaction<'_, S>, id: ContentId) -> Result<()
     ensures same_reference { tx.new.conn.ghost_name ≡ tx.old.conn.ghost_name }
     ensures survives { Survives (state S.Store tx.old.conn.now) (state S.Store tx.new.conn.now) (λ _. ⊥) }
 {
-    match remove_row(tx, id.get()) {
-        Ok(_) => Ok(()),
-        Err(error) => Err(fault_of(error)),
-    }
+    done(tx.execute(
+        "DELETE FROM registry_contents WHERE id = ?1",
+        params![id.get()],
+    ))
 }

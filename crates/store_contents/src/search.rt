@@ -1,38 +1,16 @@
 //! The content that has some bytes.
-ghost use Rattle.std.specs.Prelude.{◌≡◌, true, false, map, filter, IfOk, OnOk, IfSome, MatchOption, ℤ, ◌≢◌, None, Some};
+ghost use Rattle.std.specs.Prelude.{◌≡◌, true, false, IfOk, OnOk, IfSome, MatchOption, ℤ, ◌≢◌, None, Some};
 ghost use Rattle.std.specs.List.{list_any};
-ghost use Rattle.std.specs.List.Sorted.{IsPermutation};
 ghost use Rattle.sqlite.specs.State.{HasCleanDisk, IsUnchanged, KeepsCommit, Survives};
 ghost use Rattle.sqlite.specs.Held.{state};
-ghost use Rattle.store_contents.specs.Contents.{HoldsContents, content_rows, bytes_in, sha256_text};
-ghost use Rattle.store_contents.specs.Search.{has_sha256, found_columns, shows_bytes, shows_content};
+ghost use Rattle.store_contents.specs.Contents.{HoldsContents, bytes_in, sha256_text};
+ghost use Rattle.store_contents.specs.Read.{IsRead};
+ghost use Rattle.store_contents.specs.Search.{shows_bytes, shows_content, ShowsFirst};
 
+use crate::fault::{fault_of, told};
+use oci_names::Fault;
 use sqlite::types::ValueRef;
 use sqlite::{Alter, Error, Row, Transaction, params};
-
-/// The contents whose digest is this, with their bytes.
-fn candidates<S: Alter>(tx: &mut Transaction<'_, S>, sha256: &str) -> Result<Vec<Row>, Error>
-    ensures shown { HasCleanDisk (state S.Store tx.new.conn.now)
-        → HoldsContents (state S.Store tx.old.conn.now).now
-        → IfOk result
-        (λ rows. IsPermutation
-        (map found_columns
-        (filter (has_sha256 sha256.now) (content_rows (state S.Store tx.old.conn.now).now)))
-        rows.items) }
-    ensures same { HasCleanDisk (state S.Store tx.new.conn.now)
-        → HoldsContents (state S.Store tx.old.conn.now).now
-        → OnOk result (IsUnchanged (state S.Store tx.old.conn.now) (state S.Store tx.new.conn.now)) }
-    ensures kept { HasCleanDisk (state S.Store tx.new.conn.now)
-        → HoldsContents (state S.Store tx.old.conn.now).now
-        → KeepsCommit (state S.Store tx.old.conn.now) (state S.Store tx.new.conn.now) }
-    ensures same_reference { tx.new.conn.ghost_name ≡ tx.old.conn.ghost_name }
-    ensures survives { Survives (state S.Store tx.old.conn.now) (state S.Store tx.new.conn.now) (λ _. ⊥) }
-{
-    tx.query_all(
-        "SELECT id, bytes FROM registry_contents WHERE sha256 = ?1",
-        params![sha256],
-    )
-}
 
 /// The bytes are compared where the row has them.
 fn shows(row: &Row, bytes: &[u8]) -> bool
@@ -58,12 +36,22 @@ fn id_among(rows: &[Row], bytes: &[u8]) -> Result<Option<i64>, Error>
     Ok(None)
 }
 
+/// The same of what a query gave.
+fn first_with(shown: Result<Vec<Row>, Error>, bytes: &[u8]) -> Result<Option<i64>, Fault>
+    ensures { IsRead shown result (ShowsFirst bytes.now) }
+{
+    match shown {
+        Ok(rows) => told(id_among(&rows, bytes)),
+        Err(error) => Err(fault_of(error)),
+    }
+}
+
 /// The id of the content that has the bytes, if there is one.
 pub(crate) fn find<S: Alter>(
     tx: &mut Transaction<'_, S>,
     sha256: &str,
     bytes: &[u8],
-) -> Result<Option<i64>, Error>
+) -> Result<Option<i64>, Fault>
     requires hashed { sha256.now ≡ sha256_text bytes.now }
     ensures found { HasCleanDisk (state S.Store tx.new.conn.now)
         → HoldsContents (state S.Store tx.old.conn.now).now
@@ -79,7 +67,11 @@ pub(crate) fn find<S: Alter>(
     ensures same_reference { tx.new.conn.ghost_name ≡ tx.old.conn.ghost_name }
     ensures survives { Survives (state S.Store tx.old.conn.now) (state S.Store tx.new.conn.now) (λ _. ⊥) }
 {
-    let rows = candidates(tx, sha256)?;
-    let found = id_among(&rows, bytes)?;
-    Ok(found)
+    first_with(
+        tx.query_all(
+            "SELECT id, bytes FROM registry_contents WHERE sha256 = ?1",
+            params![sha256],
+        ),
+        bytes,
+    )
 }

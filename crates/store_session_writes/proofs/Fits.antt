@@ -1,10 +1,14 @@
 -- Numbers that fit a column.
 use Rattle.std.proofs.Common.{◌≡◌, ◌∙◌, ◌<◌, ◌≤◌, ◌+◌, ◌^◌, ℕ, Bool, true, Fits, w64, sym, arith}
 use Rattle.std.specs.Prelude.{nat_lt}
+use Rattle.registry_model.specs.Limits.{largest_blob}
 use borrow.Author.Tests.{ltb-true}
 
 pub not_above : (n : ℕ) → n ≤ 9223372036854775807 → n < 2 ^ 63
 not_above n h = omega (arith, h)
+
+pub blob_fits : (n : ℕ) → n ≤ largest_blob → n < 2 ^ 63
+blob_fits n h = omega (arith, h)
 
 -- there was room
 pub has_room_is : (n : ℕ) (room : Bool) → room ≡ nat_lt n (2 ^ 63) → room ≡ true → n < 2 ^ 63

@@ -4,24 +4,24 @@ ghost use Rattle.sqlite.specs.State.{HasCleanDisk};
 ghost use Rattle.sqlite.specs.Held.{state};
 ghost use Rattle.registry_model.specs.Closing.{session_matches, finish_as_is};
 ghost use Rattle.store_world.specs.Keys.{has_key};
-ghost use Rattle.store_statements.specs.Between.{CommitsStep, Finds, GoesBack, MakesWorld, StaysOnMemory};
+ghost use Rattle.store_statements.specs.Between.{Finds, MakesWorld, StaysOnMemory};
 ghost use Rattle.store_statements.specs.Clauses.{KeepsInside, Lasts, LastsUncommitted, TablesHave};
 ghost use Rattle.store_statements.specs.Held.{IsSettled};
 ghost use Rattle.store_session_writes.specs.Whole.{known_link, WholeEnds, DoneWhereSo};
 ghost use Rattle.store_statements.specs.StepsFrom.{StepsFrom};
 
-use crate::session_changes::{take_session, take_session_alone};
+use crate::change::Change;
+use crate::changing::make;
+use crate::session_changes::take_session;
 use crate::whole_sessions::find_known;
 use oci_names::{Digest, Fault, RepoName};
 use sqlite::{Alter, Connection, Transaction};
 use std::alloc::Global;
-use store_statements::alone;
 use store_statements::blobs::{BlobLink, add_blob_link, find_blob_link};
 use store_statements::numbers::LARGEST;
-use store_statements::telling::checked;
 
 /// Takes a session out, and puts a link to its content in that the repository has not.
-fn end_whole<S: Alter>(
+pub(crate) fn end_whole<S: Alter>(
     tx: &mut Transaction<'_, S>,
     repo: &str,
     number: u64,
@@ -43,26 +43,6 @@ fn end_whole<S: Alter>(
     }
 }
 
-/// Takes a session out and links its content, in a transaction of their own.
-fn end_whole_alone<S: Alter>(
-    conn: &mut Connection<S>,
-    repo: &str,
-    number: u64,
-    digest: &str,
-    link: BlobLink,
-) -> Result<(), Fault>
-    requires number_fits { number < 2 ^ 63 }
-    requires fits { link.size < 2 ^ 63 }
-    ensures made { TablesHave S.Store conn.old (λ t. find (has_key repo.now digest.now) t.blobs ≡ None)
-        → CommitsStep S.Store conn.old conn.new result
-        (λ t u. WholeEnds t u repo.now number digest.now link) }
-    ensures back { TablesHave S.Store conn.old (λ t. find (has_key repo.now digest.now) t.blobs ≡ None)
-        → GoesBack S.Store conn.old conn.new result }
-    ensures survives { Lasts S.Store conn.old conn.new }
-{
-    alone!(conn, tx, end_whole(&mut tx, repo, number, digest, link))
-}
-
 /// Ends a session whose link is known; a digest that is there keeps its bytes.
 fn finish_whole<S: Alter>(
     conn: &mut Connection<S>,
@@ -79,15 +59,17 @@ fn finish_whole<S: Alter>(
     ensures survives { Lasts S.Store conn.old conn.new }
 {
     match find_blob_link(conn, repo, digest) {
-        Ok(Some(_)) => {
-            let done = take_session_alone(conn, repo, number);
-            checked(conn, done)
-        }
+        Ok(Some(_)) => make(conn, Change::Take { repo, number }),
         // each size that a row has fits
-        Ok(None) if link.size <= LARGEST => {
-            let done = end_whole_alone(conn, repo, number, digest, link);
-            checked(conn, done)
-        }
+        Ok(None) if link.size <= LARGEST => make(
+            conn,
+            Change::Link {
+                repo,
+                number,
+                digest,
+                link,
+            },
+        ),
         Ok(None) => Err(Fault::Storage),
         Err(fault) => Err(fault),
     }

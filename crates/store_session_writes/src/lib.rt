@@ -1,6 +1,8 @@
 //! Each change of upload sessions as one transaction over the tables.
 #![tactic(auto)]
 
+mod change;
+mod changing;
 mod known_finish;
 mod session_appends;
 mod session_changes;

@@ -3,18 +3,18 @@ ghost use Rattle.std.specs.Prelude.{◌≡◌, ◌<◌, ◌+◌, ◌^◌, true, 
 ghost use Rattle.registry_model.specs.Lookups.{append, session_at};
 ghost use Rattle.store_world.specs.Keys.{has_start};
 ghost use Rattle.store_statements.specs.StepsFrom.{StepsFrom};
-ghost use Rattle.store_statements.specs.Between.{CommitsStep, GoesBack, MakesWorld, StaysOnMemory};
-ghost use Rattle.store_statements.specs.Clauses.{KeepsInside, Lasts, LastsUncommitted, TablesHave, WorldHas};
+ghost use Rattle.store_statements.specs.Between.{MakesWorld, StaysOnMemory};
+ghost use Rattle.store_statements.specs.Clauses.{KeepsInside, Lasts, LastsUncommitted, WorldHas};
 ghost use Rattle.store_statements.specs.Steps.{PieceStored, Appended};
 
+use crate::change::Change;
+use crate::changing::make;
 use oci_names::{Fault, RepoName};
 use sqlite::{Alter, Connection, Transaction};
 use std::alloc::Global;
-use store_statements::alone;
 use store_statements::contents::keep;
 use store_statements::numbers::{LARGEST, has_room};
 use store_statements::pieces::add_piece;
-use store_statements::telling::checked;
 use store_statements::uploads::{find_upload, set_size};
 
 /// Puts a piece in where none of the session begins. `start` is in bytes.
@@ -42,7 +42,7 @@ fn store_piece<S: Alter>(
 }
 
 /// Puts bytes behind those of a session that has `size` bytes.
-fn add_bytes<S: Alter>(
+pub(crate) fn add_bytes<S: Alter>(
     alloc: Global,
     tx: &mut Transaction<'_, S>,
     repo: &str,
@@ -63,31 +63,6 @@ fn add_bytes<S: Alter>(
         Ok(_) => store_piece(alloc, tx, repo, number, size, bytes),
         Err(fault) => Err(fault),
     }
-}
-
-/// Puts bytes behind those of a session that has `size` bytes, in a transaction of its own.
-fn add_bytes_alone<S: Alter>(
-    alloc: Global,
-    conn: &mut Connection<S>,
-    repo: &str,
-    number: u64,
-    size: u64,
-    bytes: &[u8],
-) -> Result<(), Fault>
-    requires number_fits { number < 2 ^ 63 }
-    requires fits { size + length bytes.now < 2 ^ 63 }
-    ensures made { TablesHave S.Store conn.old (λ t. find (has_start repo.now number size) t.pieces ≡ None)
-        → CommitsStep S.Store conn.old conn.new result
-        (λ t u. Appended t u repo.now number size bytes.now) }
-    ensures back { TablesHave S.Store conn.old (λ t. find (has_start repo.now number size) t.pieces ≡ None)
-        → GoesBack S.Store conn.old conn.new result }
-    ensures survives { Lasts S.Store conn.old conn.new }
-{
-    alone!(
-        conn,
-        tx,
-        add_bytes(alloc, &mut tx, repo, number, size, bytes)
-    )
 }
 
 /// The size that was found of a session, where there is room for so many bytes more.
@@ -124,10 +99,16 @@ pub fn append<S: Alter>(
     }
     let repo = repo.as_str();
     match with_room(find_upload(conn, repo, number), bytes.len() as u64) {
-        Ok(size) => {
-            let done = add_bytes_alone(alloc, conn, repo, number, size, bytes);
-            checked(conn, done)
-        }
+        Ok(size) => make(
+            conn,
+            Change::Append {
+                alloc,
+                repo,
+                number,
+                size,
+                bytes,
+            },
+        ),
         Err(fault) => Err(fault),
     }
 }

@@ -6,23 +6,22 @@ ghost use Rattle.registry_model.specs.Lookups.{open_session, last_number_at};
 ghost use Rattle.registry_model.specs.Command.{drop_sessions};
 ghost use Rattle.store_world.specs.Keys.{of_first, of_session};
 ghost use Rattle.store_statements.specs.StepsFrom.{StepsFrom};
-ghost use Rattle.store_statements.specs.Between.{CommitsStep, CommitsTables, GoesBack, MakesWorld, StaysOnMemory};
-ghost use Rattle.store_statements.specs.Clauses.{Changes, KeepsInside, Lasts, LastsUncommitted, TablesHave};
+ghost use Rattle.store_statements.specs.Between.{MakesWorld, StaysOnMemory};
+ghost use Rattle.store_statements.specs.Clauses.{Changes, KeepsInside, Lasts, LastsUncommitted};
 ghost use Rattle.store_statements.specs.Held.{IsSettled, SettlesOn, world_in};
 ghost use Rattle.store_statements.specs.Steps.{sessions_without, SessionOpened};
 
+use crate::change::Change;
+use crate::changing::make;
 use oci_names::{Fault, RepoName};
 use sqlite::{Alter, Connection, Transaction};
-use store_statements::alone;
 use store_statements::numbers::LARGEST;
-use store_statements::open_check::checked_fault;
 use store_statements::pieces::{take_pieces, take_pieces_of};
 use store_statements::repos::{find_repo, set_last};
-use store_statements::telling::checked;
 use store_statements::uploads::{add_upload, take_upload, take_uploads};
 
 /// Takes all sessions of the repository out, with their pieces.
-fn take_sessions<S: Alter>(tx: &mut Transaction<'_, S>, repo: &str) -> Result<(), Fault>
+pub(crate) fn take_sessions<S: Alter>(tx: &mut Transaction<'_, S>, repo: &str) -> Result<(), Fault>
     ensures taken { Changes S.Store tx.old.conn.now tx.new.conn.now result
         (sessions_without (of_first repo.now)) }
     ensures kept { KeepsInside S.Store tx.old.conn.now tx.new.conn.now }
@@ -35,23 +34,14 @@ fn take_sessions<S: Alter>(tx: &mut Transaction<'_, S>, repo: &str) -> Result<()
     }
 }
 
-/// Takes all sessions of the repository out, in a transaction of its own.
-fn take_sessions_alone<S: Alter>(conn: &mut Connection<S>, repo: &str) -> Result<(), Fault>
-    ensures made { CommitsTables S.Store conn.old conn.new result (sessions_without (of_first repo.now)) }
-    ensures back { GoesBack S.Store conn.old conn.new result }
-    ensures survives { Lasts S.Store conn.old conn.new }
-{
-    alone!(conn, tx, take_sessions(&mut tx, repo))
-}
-
 /// Ends all upload sessions of the repository; their bytes are given up.
 pub fn drop_sessions<S: Alter>(conn: &mut Connection<S>, repo: &RepoName) -> Result<(), Fault>
     ensures made { MakesWorld S.Store conn.old conn.new result (λ w. drop_sessions w repo.now) }
     ensures memory { StaysOnMemory S.Store conn.old conn.new result }
     ensures survives { Lasts S.Store conn.old conn.new }
 {
-    let done = take_sessions_alone(conn, repo.as_str());
-    checked(conn, done)
+    let repo = repo.as_str();
+    make(conn, Change::TakeAll { repo })
 }
 
 /// Takes a session out, with its pieces.
@@ -73,23 +63,12 @@ pub(crate) fn take_session<S: Alter>(
     }
 }
 
-/// Takes a session out, in a transaction of its own.
-pub(crate) fn take_session_alone<S: Alter>(
-    conn: &mut Connection<S>,
+/// Puts an empty session in under a number that none has, which becomes the repository's last.
+pub(crate) fn add_session<S: Alter>(
+    tx: &mut Transaction<'_, S>,
     repo: &str,
     number: u64,
 ) -> Result<(), Fault>
-    requires fits { number < 2 ^ 63 }
-    ensures made { CommitsTables S.Store conn.old conn.new result
-        (sessions_without (of_session repo.now number)) }
-    ensures back { GoesBack S.Store conn.old conn.new result }
-    ensures survives { Lasts S.Store conn.old conn.new }
-{
-    alone!(conn, tx, take_session(&mut tx, repo, number))
-}
-
-/// Puts an empty session in under a number that none has, which becomes the repository's last.
-fn add_session<S: Alter>(tx: &mut Transaction<'_, S>, repo: &str, number: u64) -> Result<(), Fault>
     requires fits { number < 2 ^ 63 }
     ensures opened { StepsFrom S.Store tx.old.conn.now tx.new.conn.now result
         (λ t. find (of_session repo.now number) t.uploads ≡ None) (λ t u. SessionOpened t u repo.now number) }
@@ -103,22 +82,6 @@ fn add_session<S: Alter>(tx: &mut Transaction<'_, S>, repo: &str, number: u64) -
     }
 }
 
-/// Puts an empty session in, in a transaction of its own.
-fn add_session_alone<S: Alter>(
-    conn: &mut Connection<S>,
-    repo: &str,
-    number: u64,
-) -> Result<(), Fault>
-    requires fits { number < 2 ^ 63 }
-    ensures made { TablesHave S.Store conn.old (λ t. find (of_session repo.now number) t.uploads ≡ None)
-        → CommitsStep S.Store conn.old conn.new result (λ t u. SessionOpened t u repo.now number) }
-    ensures back { TablesHave S.Store conn.old (λ t. find (of_session repo.now number) t.uploads ≡ None)
-        → GoesBack S.Store conn.old conn.new result }
-    ensures survives { Lasts S.Store conn.old conn.new }
-{
-    alone!(conn, tx, add_session(&mut tx, repo, number))
-}
-
 /// Opens an empty session under the number behind the repository's last, and answers it.
 pub fn open_session<S: Alter>(conn: &mut Connection<S>, repo: &RepoName) -> Result<u64, Fault>
     ensures made { HasCleanDisk (state S.Store conn.new) → IsSettled (state S.Store conn.old)
@@ -130,10 +93,13 @@ pub fn open_session<S: Alter>(conn: &mut Connection<S>, repo: &RepoName) -> Resu
 {
     let repo = repo.as_str();
     match find_repo(conn, repo) {
-        Ok(Some(row)) if row.last < LARGEST => match add_session_alone(conn, repo, row.last + 1) {
-            Ok(()) => Ok(row.last + 1),
-            Err(fault) => Err(checked_fault(conn, fault)),
-        },
+        Ok(Some(row)) if row.last < LARGEST => {
+            let number = row.last + 1;
+            match make(conn, Change::Open { repo, number }) {
+                Ok(()) => Ok(number),
+                Err(fault) => Err(fault),
+            }
+        }
         Ok(_) => Err(Fault::Storage),
         Err(fault) => Err(fault),
     }

@@ -5,22 +5,22 @@ ghost use Rattle.registry_model.specs.Limits.{largest_blob};
 ghost use Rattle.registry_model.specs.Lookups.{finish, session_at};
 ghost use Rattle.store_world.specs.Keys.{has_key};
 ghost use Rattle.store_statements.specs.StepsFrom.{StepsFrom};
-ghost use Rattle.store_statements.specs.Between.{CommitsStep, GoesBack, MakesWorld, StaysOnMemory};
-ghost use Rattle.store_statements.specs.Clauses.{KeepsInside, Lasts, LastsUncommitted, TablesHave, WorldHas};
+ghost use Rattle.store_statements.specs.Between.{MakesWorld, StaysOnMemory};
+ghost use Rattle.store_statements.specs.Clauses.{KeepsInside, Lasts, LastsUncommitted, WorldHas};
 ghost use Rattle.store_statements.specs.Steps.{Finished};
 
-use crate::session_changes::{take_session, take_session_alone};
+use crate::change::Change;
+use crate::changing::make;
+use crate::session_changes::take_session;
 use oci_names::{Digest, Fault, RepoName};
 use sqlite::{Alter, Connection, Transaction};
 use std::alloc::Global;
-use store_statements::alone;
 use store_statements::blob_storing::store_blob;
 use store_statements::blobs::find_blob_link;
 use store_statements::numbers::LARGEST;
-use store_statements::telling::checked;
 
 /// Takes a session out, and puts a blob in that the repository has not.
-fn end_session<S: Alter>(
+pub(crate) fn end_session<S: Alter>(
     alloc: Global,
     tx: &mut Transaction<'_, S>,
     repo: &str,
@@ -42,32 +42,6 @@ fn end_session<S: Alter>(
         Ok(()) => store_blob(alloc, tx, repo, digest, bytes),
         Err(fault) => Err(fault),
     }
-}
-
-/// Takes a session out and puts a blob in, in a transaction of their own.
-fn end_session_alone<S: Alter>(
-    alloc: Global,
-    conn: &mut Connection<S>,
-    repo: &str,
-    number: u64,
-    digest: &str,
-    bytes: &[u8],
-) -> Result<(), Fault>
-    requires number_fits { number < 2 ^ 63 }
-    requires matching { matches digest.now bytes.now ≡ true }
-    requires fits { length bytes.now < 2 ^ 63 }
-    ensures made { TablesHave S.Store conn.old (λ t. find (has_key repo.now digest.now) t.blobs ≡ None)
-        → CommitsStep S.Store conn.old conn.new result
-        (λ t u. Finished t u repo.now number digest.now bytes.now) }
-    ensures back { TablesHave S.Store conn.old (λ t. find (has_key repo.now digest.now) t.blobs ≡ None)
-        → GoesBack S.Store conn.old conn.new result }
-    ensures survives { Lasts S.Store conn.old conn.new }
-{
-    alone!(
-        conn,
-        tx,
-        end_session(alloc, &mut tx, repo, number, digest, bytes)
-    )
 }
 
 /// Ends an open session and puts its whole bytes in as a blob; a digest that is there keeps its bytes.
@@ -93,14 +67,17 @@ pub fn finish<S: Alter>(
     let repo = repo.as_str();
     let digest = digest.as_str();
     match find_blob_link(conn, repo, digest) {
-        Ok(Some(_)) => {
-            let done = take_session_alone(conn, repo, number);
-            checked(conn, done)
-        }
-        Ok(None) => {
-            let done = end_session_alone(alloc, conn, repo, number, digest, bytes);
-            checked(conn, done)
-        }
+        Ok(Some(_)) => make(conn, Change::Take { repo, number }),
+        Ok(None) => make(
+            conn,
+            Change::Finish {
+                alloc,
+                repo,
+                number,
+                digest,
+                bytes,
+            },
+        ),
         Err(fault) => Err(fault),
     }
 }

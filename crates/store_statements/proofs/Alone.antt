@@ -1,21 +1,19 @@
 -- What a change leaves that is one transaction: its work begins where the store was settled, and then it ends.
 use Rattle.std.proofs.Common.{◌≡◌, true, Ok, Err, Result, OnOk, OnErr, sym, subst, refl}
-use Rattle.std.specs.Prelude.{IsOk, ⊤}
+use Rattle.std.specs.Prelude.{IsOk}
 use Rattle.sqlite_trees.specs.declared.store.Store.{Ghosts}
-use Rattle.sqlite.specs.State.{State, HasCleanDisk, KeepsCommit, Survives}
+use Rattle.sqlite.specs.State.{State, HasCleanDisk, KeepsCommit}
 use Rattle.sqlite.specs.Held.{Held, state}
 use Rattle.sqlite.proofs.Callers.{survives_begin}
 use Rattle.oci_names.specs.declared.fault.Fault.{Fault}
-use Rattle.oci_names.specs.declared.fault.Fault.TheVariants.{Storage}
 use Rattle.store_world.specs.Tables.{Tables}
-use Rattle.store_statements.specs.Between.{CommitsStep, CommitsTables, GoesBack, IsCommitted, Relates}
-use Rattle.store_statements.specs.Clauses.{Changes, GoesOn, KeepsInside, Lasts, LastsUncommitted, RelatesInside, StepsInside, TablesHave}
+use Rattle.store_statements.specs.Between.{CommitsStep, GoesBack}
+use Rattle.store_statements.specs.Clauses.{KeepsInside, Lasts, LastsUncommitted, TablesHave}
 use Rattle.store_statements.specs.Held.{IsReady, IsSettled, Commits, IsBack, held}
 use Rattle.store_statements.proofs.Transactions.{ready, back_dropped, survives_all}
 use Rattle.store_statements.specs.Ends.{Ends}
 use Rattle.store_statements.specs.StepsFrom.{StepsFrom}
 use Rattle.store_statements.proofs.CleanBefore.{was_clean}
-use Rattle.store_statements.proofs.Checks.{survives_here}
 
 -- ---- of results
 
@@ -31,10 +29,6 @@ less (Err e) f p = tt
 less_err : {A E P Q : Type 0} (r : Result A E) → (P → Q) → OnErr r P → OnErr r Q
 less_err (Ok x) f p = tt
 less_err (Err e) f p = f p
-
-pub pair : {A E : Type 0} (P Q : Type 0) (r : Result A E) → OnOk r P → OnOk r Q → OnOk r (P × Q)
-pair P Q (Ok x) p q = (p, q)
-pair P Q (Err e) p q = tt
 
 -- ---- a change
 
@@ -82,41 +76,3 @@ module _ {S : Type 0} {g : Ghosts S} (old : Held S) {first mid new : Held S} {A 
       λ free clean is. went_back (kept (was_clean ends.survives clean) (set is)) clean is (less done (λ h. h.0) (done_so free clean is)),
       lasts worked,
     )
-
-    -- the same, told in two
-    pub alone_from_apart : (TablesHave g old Q → IsCommitted g old new r) × (TablesHave g old Q → Relates g old new r P) × (TablesHave g old Q → GoesBack g old new r) × Lasts g old new
-    alone_from_apart = (
-      λ free clean is. less r (λ h. h.0) (alone_from.0 free clean is),
-      λ free clean is. less r (λ h. h.1) (alone_from.0 free clean is),
-      alone_from.1,
-      alone_from.2,
-    )
-
-  -- ---- a step
-  pub alone_step : (P : Tables → Tables → Type 0) → StepsInside g first mid done P → KeepsInside g first mid → LastsUncommitted g first mid → CommitsStep g old new r P × GoesBack g old new r × Lasts g old new
-  alone_step P work kept worked =
-      let it = alone_from (λ _. ⊤) P (λ clean is free. work clean is) kept worked in
-      (it.0 (λ clean. tt), it.1 (λ clean. tt), it.2)
-
-  -- the same, told in two
-  pub alone_apart : (P : Tables → Tables → Type 0) → GoesOn g first mid done → RelatesInside g first mid done P → KeepsInside g first mid → LastsUncommitted g first mid
-      → IsCommitted g old new r × Relates g old new r P × GoesBack g old new r × Lasts g old new
-  alone_apart P goes work kept worked =
-      let it = alone_step P (λ clean is. pair _ _ done (goes clean is) (work clean is)) kept worked in
-      (λ clean is. less r (λ h. h.0) (it.0 clean is), λ clean is. less r (λ h. h.1) (it.0 clean is), it.1, it.2)
-
-  -- ---- the tables are this of those before
-  pub alone_tables_from : (Q : Tables → Type 0) (f : Tables → Tables) → StepsFrom g first mid done Q (λ t u. u ≡ f t) → KeepsInside g first mid → LastsUncommitted g first mid
-      → (TablesHave g old Q → CommitsTables g old new r f) × (TablesHave g old Q → GoesBack g old new r) × Lasts g old new
-  alone_tables_from Q f work kept worked =
-      let it = alone_from Q (λ t u. u ≡ f t) work kept worked in
-      (λ free clean is. less r (λ h. commits_as (state g new) _ h.0 h.1) (it.0 free clean is), it.1, it.2)
-
-  pub alone_tables : (f : Tables → Tables) → Changes g first mid done f → KeepsInside g first mid → LastsUncommitted g first mid → CommitsTables g old new r f × GoesBack g old new r × Lasts g old new
-  alone_tables f work kept worked =
-      let it = alone_tables_from (λ _. ⊤) f (λ clean is free. work clean is) kept worked in
-      (it.0 (λ clean. tt), it.1 (λ clean. tt), it.2)
-
--- ---- a transaction is open, and none was begun
-pub none_begun : (s : State) → OnErr {T = Unit {0}} {E = Fault} (Err Storage) (IsBack s s) × Survives s s (λ _. ⊤)
-none_begun s = (λ is_open. (refl, refl), survives_here s)

@@ -5,16 +5,11 @@ use Rattle.sqlite_trees.specs.declared.store.Store.{Ghosts}
 use Rattle.sqlite.specs.State.{State, HasCleanDisk}
 use Rattle.sqlite.specs.Held.{Held, state}
 use Rattle.oci_names.specs.declared.fault.Fault.{Fault}
-use Rattle.registry_model.specs.World.{World}
-use Rattle.store_world.specs.Tables.{Tables}
-use Rattle.store_world.specs.Registry.{IsRegistry}
-use Rattle.store_world.specs.World.{world_of}
-use Rattle.store_statements.specs.Between.{CommitsTables, GoesBack, IsCommitted, MakesWorld, Relates, StaysOnMemory}
+use Rattle.store_statements.specs.Between.{GoesBack, StaysOnMemory}
 use Rattle.store_statements.specs.Clauses.{Lasts}
-use Rattle.store_statements.specs.Held.{SettlesOn, held, world_in}
-use Rattle.store_statements.proofs.Transactions.{makes, registry, stays_back, survives_all}
+use Rattle.store_statements.proofs.Transactions.{stays_back, survives_all}
 use Rattle.store_statements.specs.Told.{Checked}
-use Rattle.store_statements.proofs.Alone.{less, pair}
+use Rattle.store_statements.proofs.Alone.{less}
 use Rattle.store_statements.proofs.CleanBefore.{was_clean}
 
 both : {A E : Type 0} (P Q : Type 0) (d r : Result A E) → IfOk r (λ v. (d ≡ Ok v) × Q) → OnOk d P → OnOk r (P × Q)
@@ -38,18 +33,3 @@ module _ {S : Type 0} {g : Ghosts S} (old : Held S) {mid new : Held S} {A : Type
   told_memory back clean is memory =
       let it = checks.memory clean memory in
       stays_back (state g old) (state g mid) (state g new) is (failed done it.0 (back (was_clean checks.survives clean) is)) it.1
-
-  -- ---- what the change made of the tables, told of the world
-  pub told_tables : (f : Tables → Tables) (w : World → World) → CommitsTables g old mid done f → GoesBack g old mid done → Lasts g old mid
-      → ((t : Tables) → IsRegistry t → (world_of (f t) ≡ w (world_of t)) × IsRegistry (f t)) → MakesWorld g old new r w × StaysOnMemory g old new r × Lasts g old new
-  told_tables f w made back worked so = (
-    λ clean is. told_so (λ (s : State). SettlesOn s (w (world_in (state g old)))) clean (λ late. less done (λ c. makes (state g mid) _ _ c (so (held (state g old)) (registry (state g old) is))) (made late is)),
-    told_memory back,
-    told_lasts worked,
-  )
-
-  pub told_apart : (P : Tables → Tables → Type 0) (w : World → World) → IsCommitted g old mid done → Relates g old mid done P → Lasts g old mid
-      → (HasCleanDisk (state g old) → IsRegistry (held (state g old)) → P (held (state g old)) (held (state g mid)) → (world_of (held (state g mid)) ≡ w (world_in (state g old))) × IsRegistry (held (state g mid)))
-      → MakesWorld g old new r w
-  told_apart P w committed put worked so clean is =
-      told_so (λ (s : State). SettlesOn s (w (world_in (state g old)))) clean (λ late. less done (λ h. makes (state g mid) _ _ h.0 (so (was_clean worked late) (registry (state g old) is) h.1)) (pair _ _ done (committed late is) (put late is)))

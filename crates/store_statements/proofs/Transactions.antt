@@ -1,8 +1,8 @@
 -- What a transaction that does one piece of work leaves.
-use Rattle.std.proofs.Common.{◌≡◌, ◌∙◌, inl, inr, false, true, true≢false, [], Ok, Err, Result, OnOk, OnErr, IfErr, sym, ap, subst, refl}
+use Rattle.std.proofs.Common.{◌≡◌, ◌∙◌, inl, inr, false, true, true≢false, Ok, Err, Result, OnErr, sym, ap, subst, refl}
 use Rattle.std.specs.Prelude.{IsTrue, ⊤}
 use Rattle.sqlite.specs.declared.error.Error.{Error}
-use Rattle.sqlite.specs.State.{State, IsRolledBack, KeepsCommit, KeepsCounts, Shows, Survives}
+use Rattle.sqlite.specs.State.{State, IsRolledBack, KeepsCommit, Shows, Survives}
 use Rattle.sqlite.specs.Steps.{FailsToCommit}
 use Rattle.sqlite.specs.Tree.{Trees}
 use Rattle.sqlite.proofs.StateLemmas.{survives_then}
@@ -46,9 +46,6 @@ failed_back old first mid end e clean same kept inside (inr late) = absurd (true
 pub back_dropped : (old first mid end : State) → IsSettled old → first.committed ≡ old.committed → KeepsCommit first mid → IsRolledBack mid end → IsBack old end
 back_dropped old first mid end s same kept undone = undone_back old first mid end s.committed same kept undone
 
-pub back_failed : (old first mid end : State) (e : Error) → IsSettled old → first.committed ≡ old.committed → KeepsCommit first mid → IsTrue mid.in_transaction → FailsToCommit mid end e → IsBack old end
-back_failed old first mid end e s same kept inside failed = failed_back old first mid end e s.committed same kept inside failed
-
 -- a store that survived all of it survives, whatever was committed
 pub survives_all : (a b c : State) (P Q : Trees → Type 0) → Survives a b P → Survives b c Q → Survives a c (λ _. ⊤)
 survives_all a b c P Q p q = survives_then a b c P Q (λ _. ⊤) (λ clean db x. tt) (λ clean db x. tt) p q
@@ -56,15 +53,6 @@ survives_all a b c P Q p q = survives_then a b c P Q (λ _. ⊤) (λ clean db x.
 -- a transaction that begins
 pub ready : (s : State) → IsSettled s → IsReady (record s { in_transaction = true })
 ready s settled = record { inside = refl; holds = settled.holds }
-
--- the same of the commit's result
-pub commits_if : {A : Type 0} (mid end : State) (t : Tables) (r : Result A Error) → Becomes mid t → OnOk r (IsTrue mid.in_transaction × Shows mid end mid.now mid.now false × KeepsCounts mid end × (end.marks ≡ [])) → OnOk r (Commits end t)
-commits_if mid end t (Ok x) b h = commits mid end t b h.1
-commits_if mid end t (Err e) b h = tt
-
-pub back_if : {A : Type 0} (old first mid end : State) (r : Result A Error) → IsSettled old → first.committed ≡ old.committed → KeepsCommit first mid → IsTrue mid.in_transaction → IfErr r (FailsToCommit mid end) → OnErr r (IsBack old end)
-back_if old first mid end (Ok x) s same kept inside h = tt
-back_if old first mid end (Err e) s same kept inside h = back_failed old first mid end e s same kept inside h
 
 -- what the store's caller is told
 

@@ -2,14 +2,12 @@
 use Rattle.std.proofs.Common.{◌≡◌, ◌∙◌, false, Option, Some, None, Err, Result, refl, ap}
 use Rattle.std.specs.Prelude.{option_map}
 use Rattle.sqlite.specs.Effect.{Database}
-use Rattle.sqlite.specs.State.{State, Shows}
+use Rattle.sqlite.specs.State.{State}
 use Rattle.oci_names.specs.declared.fault.Fault.{Fault}
 use Rattle.oci_names.specs.declared.fault.Fault.TheVariants.{Memory, Storage}
 use Rattle.registry_model.specs.World.{World}
 use Rattle.store_world.specs.World.{world_of}
-use Rattle.store_statements.specs.Held.{StaysSettled, SettlesOn, IsBack, is_storage, held, world_in, tables_in}
-use Rattle.store_statements.proofs.Transactions.{stays_back}
-use Rattle.store_statements.proofs.SettledAfter.{stays_then}
+use Rattle.store_statements.specs.Held.{StaysSettled, SettlesOn, is_storage, held, world_in, tables_in}
 
 pub none_found : {A B : Type 0} (f : A → B) (o : Option A) → None ≡ option_map f o → o ≡ None
 none_found f None e = refl
@@ -28,10 +26,6 @@ same_world a b s = ap (λ (db : Database). world_of (tables_in db)) s.1
 -- it was there: nothing was written, and the world is what the write makes of it
 pub makes_same : (old mid : State) (w : World) → StaysSettled old mid → world_in old ≡ w → SettlesOn mid w
 makes_same old mid w stays e = (stays.0, ap (λ (db : Database). world_of (tables_in db)) stays.1 ∙ e)
-
--- the write failed, and then the connection was seen to be open
-pub stays_after : (old mid late new : State) → StaysSettled old mid → IsBack mid late → Shows late new late.now late.now false → StaysSettled old new
-stays_after old mid late new stays back shows = stays_then old mid new stays (stays_back mid late new stays.0 back shows)
 
 -- want of memory does not spend the store
 pub memory_told : {A : Type 0} (B : Type 0) (f : Fault) → ◌≡◌ {A = Result A Fault} (Err f) (Err Memory) → is_storage {A = B} (Err f) ≡ false

@@ -52,23 +52,11 @@ module _ {S : Type 0} (g : Ghosts S) (old new : Held S) where
       HasCleanDisk (state g new) → IsSettled (state g old)
       → OnOk r (SettlesOn (state g new) (f (world_in (state g old))))
 
-  -- what was committed is this of the tables before
-  abbrev pub CommitsTables : {A E : Type 0} → Result A E → (Tables → Tables) → Type 0
-  CommitsTables r f =
-      HasCleanDisk (state g new) → IsSettled (state g old)
-      → OnOk r (Commits (state g new) (f (held (state g old))))
-
   -- it was committed, and this is so of the tables before and after
   abbrev pub CommitsStep : {A E : Type 0} → Result A E → (Tables → Tables → Type 0) → Type 0
   CommitsStep r P =
       HasCleanDisk (state g new) → IsSettled (state g old)
       → OnOk r (Commits (state g new) (held (state g new)) × P (held (state g old)) (held (state g new)))
-
-  -- it was committed
-  abbrev pub IsCommitted : {A E : Type 0} → Result A E → Type 0
-  IsCommitted r =
-      HasCleanDisk (state g new) → IsSettled (state g old)
-      → OnOk r (Commits (state g new) (held (state g new)))
 
   -- this is so of the tables before and after
   abbrev pub Relates : {A E : Type 0} → Result A E → (Tables → Tables → Type 0) → Type 0

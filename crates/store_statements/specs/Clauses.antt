@@ -65,13 +65,3 @@ module _ {S : Type 0} (g : Ghosts S) (old new : Held S) where
   StepsInside r P =
       HasCleanDisk (state g new) → IsReady (state g old)
       → OnOk r (IsReady (state g new) × P (held (state g old)) (held (state g new)))
-
-  -- the transaction goes on
-  abbrev pub GoesOn : {A E : Type 0} → Result A E → Type 0
-  GoesOn r = HasCleanDisk (state g new) → IsReady (state g old) → OnOk r (IsReady (state g new))
-
-  -- this is so of the tables before and after
-  abbrev pub RelatesInside : {A E : Type 0} → Result A E → (Tables → Tables → Type 0) → Type 0
-  RelatesInside r P =
-      HasCleanDisk (state g new) → IsReady (state g old)
-      → OnOk r (P (held (state g old)) (held (state g new)))

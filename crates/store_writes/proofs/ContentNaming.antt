@@ -1,6 +1,7 @@
 -- Sets of contents, and which of them the tables name.
 use Rattle.std.proofs.Common.{◌≡◌, ◌∙◌, ◌<◌, ◌+◌, inl, inr, ℕ, ℤ, List, [], ◌∷◌, map, length, take, get_or, Bool, true, false, Ordering, Less, Equal, Greater, Ok, Err, Result, OnOk, refl, sym, ap}
-use Rattle.std.specs.Prelude.{◌||◌}
+use Rattle.std.specs.Prelude.{◌||◌, IfOk, IsOk, Vec}
+use Rattle.std.specs.declared.alloc.Global.{Global}
 use Rattle.std.specs.List.Sorted.{IsPermutation}
 use Rattle.std.specs.Ordering.{int_eq, match_ordering}
 use Rattle.std.specs.BTreeSet.{insert_key}
@@ -65,11 +66,11 @@ has_in_column at [] r h = absurd h
 has_in_column at (x ∷ xs) r (inl e) = ap (λ b. b || is_in_column at xs (integer_at r at)) (ap (λ (y : Row). int_eq (integer_at r at) (integer_at y at)) (sym e) ∙ int_eq_itself (integer_at r at))
 has_in_column at (x ∷ xs) r (inr h) = ap (λ b. int_eq (integer_at r at) (integer_at x at) || b) (has_in_column at xs r h) ∙ or_turned (int_eq (integer_at r at) (integer_at x at)) true
 
--- all the ids of a column were put into a set
-pub column_inserted : {A E : Type 0} (r : Result A E) (olds news ids : List ContentId) (at : ℕ) (rows : List Row) → IsPermutation (map (content_named at) rows) ids
-    → OnOk r ((i : ℤ) → is_among news i ≡ (is_among olds i || is_among ids i)) → OnOk r ((i : ℤ) → is_among news i ≡ (is_among olds i || is_in_column at rows i))
-column_inserted (Ok x) olds news ids at rows same h = λ i. h i ∙ ap (λ b. is_among olds i || b) (sym (list_any-IsPermutation (λ (other : ContentId). int_eq i other.id) _ ids same) ∙ among_column at rows i)
-column_inserted (Err e) olds news ids at rows same h = tt
+-- all the ids that were found in a column were put into a set
+pub column_inserted : {E : Type 0} (found : Result (Vec ContentId Global) E) (olds news : List ContentId) (at : ℕ) (rows : List Row) → IsOk found → IfOk found (λ ids. IsPermutation (map (content_named at) rows) ids.items)
+    → IfOk found (λ ids. (i : ℤ) → is_among news i ≡ (is_among olds i || is_among ids.items i)) → (i : ℤ) → is_among news i ≡ (is_among olds i || is_in_column at rows i)
+column_inserted (Ok ids) olds news at rows was same h i = h i ∙ ap (λ b. is_among olds i || b) (sym (list_any-IsPermutation (λ (other : ContentId). int_eq i other.id) _ ids.items same) ∙ among_column at rows i)
+column_inserted (Err e) olds news at rows was same h i = absurd cc
 
 -- those of all three columns, into an empty one
 pub all_inserted : (t : Tables) (none some more all : List ContentId) → none ≡ [] → ((i : ℤ) → is_among some i ≡ (is_among none i || is_in_column 4 t.blobs i))
@@ -84,3 +85,8 @@ all_inserted t none some more all empty blobs manifests pieces i =
 pub always_ok : {A E P : Type 0} (r : Result A E) → P → OnOk r P
 always_ok (Ok x) p = p
 always_ok (Err e) p = tt
+
+-- it did well
+pub was_ok : {A E P : Type 0} (r : Result A E) → IsOk r → OnOk r P → P
+was_ok (Ok x) was p = p
+was_ok (Err e) was p = absurd cc

@@ -1,3 +1,5 @@
+pub mod Fitting
+pub mod Transacted
 pub mod PutLemmas
 pub mod MountLemmas
 pub mod StatementSequences

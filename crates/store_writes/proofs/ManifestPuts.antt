@@ -2,9 +2,7 @@
 use Rattle.std.proofs.Common.{◌≡◌, ◌∙◌, ℕ, ℤ, List, true, None, Some, Ok, Err, Result, OnOk, length, sym, ap, subst, refl}
 use Rattle.std.specs.Prelude.{find, is_some, Option, option_map, false}
 use Rattle.sqlite.specs.Order.{Row}
-use Rattle.sqlite_trees.specs.declared.store.Store.{Ghosts}
-use Rattle.sqlite.specs.State.{State, HasCleanDisk, KeepsCommit}
-use Rattle.sqlite.specs.Held.{Held, state}
+use Rattle.sqlite.specs.State.{State}
 use Rattle.sqlite.specs.Effect.{Database}
 use Rattle.oci_names.specs.declared.fault.Fault.{Fault}
 use Rattle.oci_names.specs.declared.fault.Fault.TheVariants.{Memory, Storage}
@@ -26,16 +24,10 @@ use Rattle.store_world.proofs.Repos.{has_repo_found}
 use Rattle.store_world.proofs.Stored.{manifest_stored}
 use Rattle.store_world.proofs.Tags.{tag_set, tag_added}
 use Rattle.store_world.proofs.Updates.{update_twice}
-use Rattle.store_statements.specs.Held.{IsReady, IsSettled, Becomes, SettlesOn, held, tables_in, world_in, is_storage}
-use Rattle.store_statements.specs.Between.{GoesBack, MakesWorld}
-use Rattle.store_statements.specs.Clauses.{Lasts, LastsUncommitted, TablesHave}
+use Rattle.store_statements.specs.Held.{IsReady, Becomes, SettlesOn, held, tables_in, is_storage}
 use Rattle.store_statements.specs.Steps.{tags_changed, TagComes, ManifestComes, ContentKept}
 use Rattle.store_writes.specs.Worlds.{IsWhole, Turns, tagged}
 use Rattle.store_writes.proofs.RowCounts.{none_changed}
-use Rattle.store_statements.proofs.Transactions.{makes}
-use Rattle.store_statements.specs.Ends.{Ends}
-use Rattle.store_statements.proofs.Alone.{at_begin, before_begin, committed_so, went_back, lasts, less}
-use Rattle.store_statements.proofs.CleanBefore.{was_clean}
 
 pub registry_inside : (s : State) → IsWhole s → IsRegistry (held s)
 registry_inside s is = record { tables = is.ready.holds.tables; agree = is.agree }
@@ -107,37 +99,6 @@ tagged_put old mid new repo digest bytes tag first second = record {
 -- the repository has the digest: the tag alone
 pub tagged_there : (t : Tables) (repo digest bytes : List ℕ) (tag : Option Text) (there : Row) → find (has_key repo digest) t.manifests ≡ Some there → tagged (world_of t) repo tag digest ≡ put_manifest (world_of t) repo digest bytes tag
 tagged_there t repo digest bytes tag there found = ap (λ w. tagged w repo tag digest) (sym (manifest_there t repo digest bytes there found)) ∙ put_tagged (world_of t) repo digest bytes tag
-
--- ---- the whole of a transaction
-
-whole : (s : State) → IsSettled s → IsWhole (record s { in_transaction = true })
-whole s settled = record { ready = record { inside = refl; holds = settled.holds }; agree = settled.agree }
-
-module _ {S : Type 0} {g : Ghosts S} (old : Held S) {first mid new : Held S} {A B : Type 0} {done : Result A Fault} {r : Result B Fault}
-    (begun : first ≡ record old { in_transaction = true }) (ends : Ends g mid new done r) (Q : Tables → Type 0) (f : World → World)
-    (work : HasCleanDisk (state g mid) → IsWhole (state g first) → Q (held (state g first)) → OnOk done (Turns (state g first) (state g mid) (f (world_in (state g first)))))
-    (kept : HasCleanDisk (state g mid) → IsWhole (state g first) → Q (held (state g first)) → KeepsCommit (state g first) (state g mid))
-    (worked : LastsUncommitted g first mid) where
-  so_first : TablesHave g old Q → HasCleanDisk (state g mid) → Q (held (state g first))
-  so_first free late = at_begin old begun ends (λ (s : State). Q (held s)) (free (before_begin old begun ends HasCleanDisk (was_clean worked late)))
-
-  whole_first : IsSettled (state g old) → IsWhole (state g first)
-  whole_first is = at_begin old begun ends IsWhole (whole (state g old) is)
-
-  turned_so : TablesHave g old Q → HasCleanDisk (state g new) → IsSettled (state g old)
-      → OnOk done (IsReady (state g mid) × (world_of (held (state g mid)) ≡ f (world_in (state g old))) × IsRegistry (held (state g mid)))
-  turned_so free clean is =
-      let late = was_clean ends.survives clean in
-      before_begin old begun ends (λ (s : State). OnOk done (IsReady (state g mid) × (world_of (held (state g mid)) ≡ f (world_in s)) × IsRegistry (held (state g mid))))
-      (less done (λ h. (h.whole.ready, h.world, registry_inside (state g mid) h.whole)) (work late (whole_first is) (so_first free late)))
-
-  pub alone_turned : (TablesHave g old Q → MakesWorld g old new r f) × (TablesHave g old Q → GoesBack g old new r) × Lasts g old new
-  alone_turned = (
-    λ free clean is. less r (λ h. makes (state g new) (held (state g new)) _ h.0 h.1)
-        (committed_so old begun ends (λ t. (world_of t ≡ f (world_in (state g old))) × IsRegistry t) clean (less done (λ h. (h.0, (h.1, h.2))) (turned_so free clean is))),
-    λ free clean is. let late = was_clean ends.survives clean in went_back old begun ends (kept late (whole_first is) (so_first free late)) clean is (less done (λ h. h.0) (turned_so free clean is)),
-    lasts old begun ends worked,
-  )
 
 pub then_ok : {A E P Q : Type 0} (r : Result A E) → (P → Q) → OnOk r P → OnOk r Q
 then_ok (Ok x) f p = f p

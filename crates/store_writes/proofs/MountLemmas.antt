@@ -33,10 +33,6 @@ pub found_row : (o : Option Row) (link : BlobLink) → Some link ≡ option_map 
 found_row None link e = absurd cc
 found_row (Some r) link e = (r, refl, cc)
 
-pub found_none : (o : Option Row) → None ≡ option_map blob_link o → o ≡ None
-found_none None e = refl
-found_none (Some r) e = absurd cc
-
 -- the link came into a transaction's tables
 pub mounts : (first read end : State) (from to digest : List ℕ) (link : BlobLink) → IsSettled first → StaysSettled first read → has_repo (world_in first) to ≡ true → Some link ≡ option_map blob_link (find (has_key from digest) (held first).blobs)
     → find (has_key to digest) (held first).blobs ≡ None → Commits end (held end) → LinkIsPut (held read) (held end) to digest link.size link.content.id → SettlesOn end (mount (world_in first) from to digest)

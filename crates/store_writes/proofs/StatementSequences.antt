@@ -1,9 +1,37 @@
--- Two statements, one after the other.
+-- Statements, one after the other.
 use Rattle.std.proofs.Common.{Result, OnOk, subst}
-use Rattle.sqlite.specs.State.{State}
+use Rattle.sqlite_trees.specs.declared.store.Store.{Ghosts}
+use Rattle.sqlite.specs.State.{HasCleanDisk}
+use Rattle.sqlite.specs.Held.{Held, state}
+use Rattle.oci_names.specs.declared.fault.Fault.{Fault}
+use Rattle.store_schema.proofs.Selects.{commit_then, survives_both}
 use Rattle.store_world.specs.Tables.{Tables}
-use Rattle.store_statements.specs.Held.{Becomes, held}
+use Rattle.store_statements.specs.Clauses.{Changes, KeepsInside, LastsUncommitted}
+use Rattle.store_statements.specs.Held.{IsReady, Becomes, held}
+use Rattle.store_statements.proofs.CleanBefore.{was_clean}
 
--- what is said of the tables between them is said of those before
-pub then_becomes : {X E : Type 0} (mid new : State) (t : Tables) (f : Tables → Tables) (r : Result X E) → Becomes mid t → OnOk r (Becomes new (f (held mid))) → OnOk r (Becomes new (f t))
-then_becomes mid new t f r b h = subst (λ u. OnOk r (Becomes new (f u))) b.1 h
+module _ {S : Type 0} (g : Ghosts S) where
+  -- the first was done
+  abbrev pub Became : Held S → Held S → (Tables → Tables) → Type 0
+  Became old new f = HasCleanDisk (state g new) → IsReady (state g old) → Becomes (state g new) (f (held (state g old)))
+
+  pub both_kept : (old mid new : Held S) (f : Tables → Tables) → Became old mid f → KeepsInside g old mid → KeepsInside g mid new → LastsUncommitted g mid new → KeepsInside g old new
+  both_kept old mid new f first kept kept_then then_lasts clean is =
+      let early : HasCleanDisk (state g mid) = was_clean then_lasts clean in
+      commit_then (state g old) (state g mid) (state g new) (kept early is) (kept_then clean (first early is).0)
+
+  pub both_last : (old mid new : Held S) → LastsUncommitted g old mid → LastsUncommitted g mid new → LastsUncommitted g old new
+  both_last old mid new lasts then_lasts = survives_both (state g old) (state g mid) (state g new) lasts then_lasts
+
+  pub both_change : {A : Type 0} (old mid new : Held S) (r : Result A Fault) (f h : Tables → Tables) → Became old mid f → Changes g mid new r h → LastsUncommitted g mid new → Changes g old new r (λ t. h (f t))
+  both_change old mid new r f h first second then_lasts clean is =
+      let early : HasCleanDisk (state g mid) = was_clean then_lasts clean in
+      let it = first early is in
+      subst (λ t. OnOk r (Becomes (state g new) (h t))) it.1 (second clean it.0)
+
+  -- the second as well
+  pub both_became : (old mid new : Held S) (f h : Tables → Tables) → Became old mid f → Became mid new h → LastsUncommitted g mid new → Became old new (λ t. h (f t))
+  both_became old mid new f h first second then_lasts clean is =
+      let early : HasCleanDisk (state g mid) = was_clean then_lasts clean in
+      let it = first early is in
+      subst (λ t. Becomes (state g new) (h t)) it.1 (second clean it.0)

@@ -2,3 +2,4 @@ pub mod Puts
 pub mod Worlds
 pub mod Naming
 pub mod Deleting
+pub mod Changing

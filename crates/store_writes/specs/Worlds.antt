@@ -7,6 +7,7 @@ use Rattle.oci_names.specs.Text.{Text}
 use Rattle.registry_model.specs.World.{World, repo_at, update_repo}
 use Rattle.registry_model.specs.Manifests.{with_tag}
 use Rattle.store_world.specs.Keys.{has_key}
+use Rattle.store_world.specs.Tables.{Tables}
 use Rattle.store_world.specs.Registry.{Agree, is_repo}
 use Rattle.store_world.specs.World.{world_of}
 use Rattle.store_statements.specs.Held.{IsReady, held}
@@ -21,6 +22,10 @@ pub record Turns (old new : State) (w : World) : Type 0 where
   pub whole : IsWhole new
   pub world : world_of (held new) ≡ w
   pub repos : (held new).repos ≡ (held old).repos
+
+-- tables that agree stand for this world
+abbrev pub StandsFor : Tables → World → Type 0
+StandsFor t w = Agree t × (world_of t ≡ w)
 
 -- the tag, if there is one, names the digest
 abbrev pub tagged : World → Text → Option Text → Text → World

@@ -1,21 +1,21 @@
 //! What nothing names is freed.
-ghost use Rattle.std.specs.Prelude.{◌≡◌, ◌||◌, ◌∷◌, [], ℤ, None, OnOk, if◌then◌else◌};
+ghost use Rattle.std.specs.Prelude.{◌≡◌, ◌||◌, ◌∷◌, [], ℤ, None, OnOk, IfOk, IsOk, if◌then◌else◌};
 ghost use Rattle.std.specs.BTreeSet.{keys};
 ghost use Rattle.std.specs.Ordering.{int_eq};
-ghost use Rattle.store_statements.specs.Between.{CommitsStep, GoesBack, MakesWorld, Relates, StaysOnMemory};
-ghost use Rattle.store_statements.specs.Clauses.{ChangesNothingInside, FindsInside, KeepsInside, Lasts, LastsUncommitted, RelatesInside, StepsInside};
-ghost use Rattle.store_writes.specs.Naming.{is_among, is_in_column, is_named, ContentsGone, Cleared};
+ghost use Rattle.store_statements.specs.Between.{MakesWorld, Relates, StaysOnMemory};
+ghost use Rattle.store_statements.specs.Clauses.{ChangesNothingInside, FindsInside, KeepsInside, Lasts, LastsUncommitted, StepsInside};
+ghost use Rattle.store_writes.specs.Naming.{is_among, is_named, ContentsGone, Cleared};
 
+use crate::change::Change;
+use crate::changing::make;
 use oci_names::Fault;
 use sqlite::{Alter, Connection, Transaction};
 use std::alloc::Global;
 use std::collections::BTreeSet;
 use store_contents::{ContentId, remove, unlinked};
-use store_statements::alone;
 use store_statements::blobs::blob_contents;
 use store_statements::manifests::manifest_contents;
 use store_statements::pieces::piece_contents;
-use store_statements::telling::checked;
 
 fn insert(set: &mut BTreeSet<ContentId>, id: ContentId) -> Result<(), Fault>
     ensures { OnOk result
@@ -37,58 +37,19 @@ fn insert_all(set: &mut BTreeSet<ContentId>, ids: &[ContentId]) -> Result<(), Fa
     Ok(())
 }
 
-/// Adds the contents that blobs' links name. Nothing of the tables changes.
-fn insert_blobs<S: Alter>(
-    alloc: Global,
-    tx: &mut Transaction<'_, S>,
+/// Adds the contents that were found.
+fn insert_found(
     set: &mut BTreeSet<ContentId>,
+    found: Result<Vec<ContentId>, Fault>,
 ) -> Result<(), Fault>
-    ensures inserted { RelatesInside S.Store tx.old.conn.now tx.new.conn.now result
-        (λ t _. (i : ℤ)
-        → is_among (keys set.new) i ≡ (is_among (keys set.old) i || is_in_column 4 t.blobs i)) }
-    ensures same { ChangesNothingInside S.Store tx.old.conn.now tx.new.conn.now result }
-    ensures kept { KeepsInside S.Store tx.old.conn.now tx.new.conn.now }
-    ensures same_reference { tx.new.conn.ghost_name ≡ tx.old.conn.ghost_name }
-    ensures survives { LastsUncommitted S.Store tx.old.conn.now tx.new.conn.now }
+    ensures inserted { OnOk result (IfOk found (λ ids. (i : ℤ)
+        → is_among (keys set.new) i ≡ (is_among (keys set.old) i || is_among ids.items i))) }
+    ensures was_found { OnOk result (IsOk found) }
 {
-    let ids = blob_contents(alloc, tx)?;
-    insert_all(set, &ids)
-}
-
-/// Adds the contents that manifests' links name. Nothing of the tables changes.
-fn insert_manifests<S: Alter>(
-    alloc: Global,
-    tx: &mut Transaction<'_, S>,
-    set: &mut BTreeSet<ContentId>,
-) -> Result<(), Fault>
-    ensures inserted { RelatesInside S.Store tx.old.conn.now tx.new.conn.now result
-        (λ t _. (i : ℤ)
-        → is_among (keys set.new) i ≡ (is_among (keys set.old) i || is_in_column 6 t.manifests i)) }
-    ensures same { ChangesNothingInside S.Store tx.old.conn.now tx.new.conn.now result }
-    ensures kept { KeepsInside S.Store tx.old.conn.now tx.new.conn.now }
-    ensures same_reference { tx.new.conn.ghost_name ≡ tx.old.conn.ghost_name }
-    ensures survives { LastsUncommitted S.Store tx.old.conn.now tx.new.conn.now }
-{
-    let ids = manifest_contents(alloc, tx)?;
-    insert_all(set, &ids)
-}
-
-/// Adds the contents that the pieces of upload sessions name. Nothing of the tables changes.
-fn insert_pieces<S: Alter>(
-    alloc: Global,
-    tx: &mut Transaction<'_, S>,
-    set: &mut BTreeSet<ContentId>,
-) -> Result<(), Fault>
-    ensures inserted { RelatesInside S.Store tx.old.conn.now tx.new.conn.now result
-        (λ t _. (i : ℤ)
-        → is_among (keys set.new) i ≡ (is_among (keys set.old) i || is_in_column 5 t.pieces i)) }
-    ensures same { ChangesNothingInside S.Store tx.old.conn.now tx.new.conn.now result }
-    ensures kept { KeepsInside S.Store tx.old.conn.now tx.new.conn.now }
-    ensures same_reference { tx.new.conn.ghost_name ≡ tx.old.conn.ghost_name }
-    ensures survives { LastsUncommitted S.Store tx.old.conn.now tx.new.conn.now }
-{
-    let ids = piece_contents(alloc, tx)?;
-    insert_all(set, &ids)
+    match found {
+        Ok(ids) => insert_all(set, &ids),
+        Err(fault) => Err(fault),
+    }
 }
 
 /// The contents that something names. Nothing of the tables changes.
@@ -101,9 +62,9 @@ fn named<S: Alter>(alloc: Global, tx: &mut Transaction<'_, S>) -> Result<BTreeSe
     ensures survives { LastsUncommitted S.Store tx.old.conn.now tx.new.conn.now }
 {
     let mut set = BTreeSet::new(alloc);
-    insert_blobs(alloc, tx, &mut set)?;
-    insert_manifests(alloc, tx, &mut set)?;
-    insert_pieces(alloc, tx, &mut set)?;
+    insert_found(&mut set, blob_contents(alloc, tx))?;
+    insert_found(&mut set, manifest_contents(alloc, tx))?;
+    insert_found(&mut set, piece_contents(alloc, tx))?;
     Ok(set)
 }
 
@@ -133,7 +94,10 @@ fn take_contents<S: Alter>(tx: &mut Transaction<'_, S>, ids: &[ContentId]) -> Re
 }
 
 /// Takes out each content that nothing names.
-fn clear_contents<S: Alter>(alloc: Global, tx: &mut Transaction<'_, S>) -> Result<(), Fault>
+pub(crate) fn clear_contents<S: Alter>(
+    alloc: Global,
+    tx: &mut Transaction<'_, S>,
+) -> Result<(), Fault>
     ensures cleared { StepsInside S.Store tx.old.conn.now tx.new.conn.now result (λ t u. Cleared t u) }
     ensures kept { KeepsInside S.Store tx.old.conn.now tx.new.conn.now }
     ensures same_reference { tx.new.conn.ghost_name ≡ tx.old.conn.ghost_name }
@@ -142,15 +106,6 @@ fn clear_contents<S: Alter>(alloc: Global, tx: &mut Transaction<'_, S>) -> Resul
     let set = named(alloc, tx)?;
     let ids = unlinked(alloc, tx, &set)?;
     take_contents(tx, &ids)
-}
-
-/// The same, in a transaction of its own.
-fn clear_contents_alone<S: Alter>(alloc: Global, conn: &mut Connection<S>) -> Result<(), Fault>
-    ensures made { CommitsStep S.Store conn.old conn.new result (λ t u. Cleared t u) }
-    ensures back { GoesBack S.Store conn.old conn.new result }
-    ensures survives { Lasts S.Store conn.old conn.new }
-{
-    alone!(conn, tx, clear_contents(alloc, &mut tx))
 }
 
 /// Frees each content that no blob, manifest or upload session names: exactly the others stay, and the
@@ -162,6 +117,5 @@ pub fn clear<S: Alter>(alloc: Global, conn: &mut Connection<S>) -> Result<(), Fa
     ensures memory { StaysOnMemory S.Store conn.old conn.new result }
     ensures survives { Lasts S.Store conn.old conn.new }
 {
-    let done = clear_contents_alone(alloc, conn);
-    checked(conn, done)
+    make(conn, Change::Clear { alloc })
 }

@@ -3,6 +3,8 @@
 
 mod blob_mounts;
 mod blob_puts;
+mod change;
+mod changing;
 mod content_clearing;
 mod deletions;
 mod grant_changes;

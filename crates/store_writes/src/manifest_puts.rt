@@ -11,19 +11,19 @@ ghost use Rattle.registry_model.specs.World.{has_repo};
 ghost use Rattle.store_world.specs.Keys.{has_key};
 ghost use Rattle.store_world.specs.Registry.{is_repo};
 ghost use Rattle.store_writes.specs.Worlds.{KeepsWhole, TurnsFresh, TurnsThere, IsWhole, tagged};
-ghost use Rattle.store_statements.specs.Between.{GoesBack, MakesWorld, StaysOnMemory};
-ghost use Rattle.store_statements.specs.Clauses.{Lasts, LastsUncommitted, TablesHave, WorldHas};
+ghost use Rattle.store_statements.specs.Between.{MakesWorld, StaysOnMemory};
+ghost use Rattle.store_statements.specs.Clauses.{Lasts, LastsUncommitted, WorldHas};
 ghost use Rattle.store_statements.specs.Held.{held};
 
+use crate::change::Change;
+use crate::changing::make;
 use oci_manifest::Manifest;
 use oci_names::{Digest, Fault, RepoName, Tag};
 use sqlite::{Alter, Connection, Transaction};
 use std::alloc::Global;
-use store_statements::alone;
 use store_statements::contents::keep_matching;
 use store_statements::manifests::{add_manifest_link, find_manifest_link};
 use store_statements::tags::{add_tag, set_tag};
-use store_statements::telling::checked;
 
 /// Sets the tag to the digest, where it is there, and else adds it.
 fn put_tag<S: Alter>(
@@ -47,7 +47,7 @@ fn put_tag<S: Alter>(
 }
 
 /// The same, where there is a tag.
-fn put_tag_if<S: Alter>(
+pub(crate) fn put_tag_if<S: Alter>(
     tx: &mut Transaction<'_, S>,
     repo: &str,
     tag: Option<&Tag>,
@@ -107,7 +107,7 @@ fn add_manifest<S: Alter>(
 }
 
 /// Adds a manifest whose digest the repository has not, and sets the tag, if there is one, to it.
-fn add_tagged<S: Alter>(
+pub(crate) fn add_tagged<S: Alter>(
     alloc: Global,
     tx: &mut Transaction<'_, S>,
     repo: &str,
@@ -132,96 +132,6 @@ fn add_tagged<S: Alter>(
     put_tag_if(tx, repo, tag, digest)
 }
 
-/// The same, in a transaction of its own.
-fn add_tagged_alone<S: Alter>(
-    alloc: Global,
-    conn: &mut Connection<S>,
-    repo: &str,
-    digest: &str,
-    bytes: &[u8],
-    manifest: &Manifest,
-    tag: Option<&Tag>,
-) -> Result<(), Fault>
-    requires matching { matches digest.now bytes.now ≡ true }
-    requires reads { manifest_in bytes.now ≡ Ok (shown manifest.now) }
-    requires fits { length bytes.now ≤ largest_manifest }
-    ensures made { TablesHave S.Store conn.old (λ t. is_repo t.repos repo.now ≡ true)
-        → TablesHave S.Store conn.old (λ t. find (has_key repo.now digest.now) t.manifests ≡ None)
-        → MakesWorld S.Store conn.old conn.new result
-        (λ w. put_manifest w repo.now digest.now bytes.now (text_in tag.entry)) }
-    ensures back { TablesHave S.Store conn.old (λ t. is_repo t.repos repo.now ≡ true)
-        → TablesHave S.Store conn.old (λ t. find (has_key repo.now digest.now) t.manifests ≡ None)
-        → GoesBack S.Store conn.old conn.new result }
-    ensures survives { Lasts S.Store conn.old conn.new }
-{
-    alone!(
-        conn,
-        tx,
-        add_tagged(alloc, &mut tx, repo, digest, bytes, manifest, tag)
-    )
-}
-
-/// Sets the tag, if there is one, to a digest that the repository has, in a transaction of its own.
-fn put_tag_alone<S: Alter>(
-    conn: &mut Connection<S>,
-    repo: &str,
-    tag: Option<&Tag>,
-    digest: &str,
-) -> Result<(), Fault>
-    ensures made { TablesHave S.Store conn.old (λ t. is_repo t.repos repo.now ≡ true)
-        → MakesWorld S.Store conn.old conn.new result
-        (λ w. tagged w repo.now (text_in tag.entry) digest.now) }
-    ensures back { TablesHave S.Store conn.old (λ t. is_repo t.repos repo.now ≡ true)
-        → GoesBack S.Store conn.old conn.new result }
-    ensures survives { Lasts S.Store conn.old conn.new }
-{
-    alone!(conn, tx, put_tag_if(&mut tx, repo, tag, digest))
-}
-
-/// The same, and a failure is told as the store's caller sees it.
-fn tag_there<S: Alter>(
-    conn: &mut Connection<S>,
-    repo: &str,
-    tag: Option<&Tag>,
-    digest: &str,
-) -> Result<(), Fault>
-    ensures made { TablesHave S.Store conn.old (λ t. is_repo t.repos repo.now ≡ true)
-        → MakesWorld S.Store conn.old conn.new result
-        (λ w. tagged w repo.now (text_in tag.entry) digest.now) }
-    ensures memory { TablesHave S.Store conn.old (λ t. is_repo t.repos repo.now ≡ true)
-        → StaysOnMemory S.Store conn.old conn.new result }
-    ensures survives { Lasts S.Store conn.old conn.new }
-{
-    let done = put_tag_alone(conn, repo, tag, digest);
-    checked(conn, done)
-}
-
-/// As `add_tagged_alone`, and a failure is told as the store's caller sees it.
-fn put_new<S: Alter>(
-    alloc: Global,
-    conn: &mut Connection<S>,
-    repo: &str,
-    digest: &str,
-    bytes: &[u8],
-    manifest: &Manifest,
-    tag: Option<&Tag>,
-) -> Result<(), Fault>
-    requires matching { matches digest.now bytes.now ≡ true }
-    requires reads { manifest_in bytes.now ≡ Ok (shown manifest.now) }
-    requires fits { length bytes.now ≤ largest_manifest }
-    ensures made { TablesHave S.Store conn.old (λ t. is_repo t.repos repo.now ≡ true)
-        → TablesHave S.Store conn.old (λ t. find (has_key repo.now digest.now) t.manifests ≡ None)
-        → MakesWorld S.Store conn.old conn.new result
-        (λ w. put_manifest w repo.now digest.now bytes.now (text_in tag.entry)) }
-    ensures memory { TablesHave S.Store conn.old (λ t. is_repo t.repos repo.now ≡ true)
-        → TablesHave S.Store conn.old (λ t. find (has_key repo.now digest.now) t.manifests ≡ None)
-        → StaysOnMemory S.Store conn.old conn.new result }
-    ensures survives { Lasts S.Store conn.old conn.new }
-{
-    let done = add_tagged_alone(alloc, conn, repo, digest, bytes, manifest, tag);
-    checked(conn, done)
-}
-
 /// Adds a manifest, where the repository has not its digest, and sets the tag to it, if one is given.
 /// `manifest` is what the bytes read as; they are at most 4,194,304.
 pub fn put_manifest<S: Alter>(
@@ -243,16 +153,20 @@ pub fn put_manifest<S: Alter>(
         → StaysOnMemory S.Store conn.old conn.new result }
     ensures survives { Lasts S.Store conn.old conn.new }
 {
-    match find_manifest_link(conn, repo.as_str(), digest.as_str()) {
-        Ok(Some(_)) => tag_there(conn, repo.as_str(), tag, digest.as_str()),
-        Ok(None) => put_new(
-            alloc,
+    let repo = repo.as_str();
+    let digest = digest.as_str();
+    match find_manifest_link(conn, repo, digest) {
+        Ok(Some(_)) => make(conn, Change::SetTag { repo, tag, digest }),
+        Ok(None) => make(
             conn,
-            repo.as_str(),
-            digest.as_str(),
-            bytes,
-            manifest,
-            tag,
+            Change::AddManifest {
+                alloc,
+                repo,
+                digest,
+                bytes,
+                manifest,
+                tag,
+            },
         ),
         Err(fault) => Err(fault),
     }

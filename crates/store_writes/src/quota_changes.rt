@@ -1,22 +1,25 @@
 //! A repository is made, or its quota is set.
 ghost use Rattle.std.specs.Prelude.{◌≡◌, ◌<◌, ◌^◌};
 ghost use Rattle.registry_model.specs.Command.{set_repo};
-ghost use Rattle.store_statements.specs.Between.{GoesBack, IsCommitted, MakesWorld, Relates, StaysOnMemory};
-ghost use Rattle.store_statements.specs.Clauses.{GoesOn, KeepsInside, Lasts, LastsUncommitted, RelatesInside};
+ghost use Rattle.store_statements.specs.Between.{MakesWorld, StaysOnMemory};
+ghost use Rattle.store_statements.specs.Clauses.{KeepsInside, Lasts, LastsUncommitted, StepsInside};
 ghost use Rattle.store_writes.specs.Puts.{QuotaIsPut};
 
+use crate::change::Change;
+use crate::changing::make;
 use oci_names::{Fault, RepoName};
 use registry_model::Quota;
 use sqlite::{Alter, Connection, Transaction};
-use store_statements::alone;
 use store_statements::repos::{add_repo, set_quota};
-use store_statements::telling::checked;
 
 /// Sets the quota, where the repository is there, and else adds it.
-fn put_quota<S: Alter>(tx: &mut Transaction<'_, S>, name: &str, quota: u64) -> Result<(), Fault>
+pub(crate) fn put_quota<S: Alter>(
+    tx: &mut Transaction<'_, S>,
+    name: &str,
+    quota: u64,
+) -> Result<(), Fault>
     requires fits { quota < 2 ^ 63 }
-    ensures ready { GoesOn S.Store tx.old.conn.now tx.new.conn.now result }
-    ensures put { RelatesInside S.Store tx.old.conn.now tx.new.conn.now result
+    ensures put { StepsInside S.Store tx.old.conn.now tx.new.conn.now result
         (λ t u. QuotaIsPut t u name.now quota) }
     ensures kept { KeepsInside S.Store tx.old.conn.now tx.new.conn.now }
     ensures same_reference { tx.new.conn.ghost_name ≡ tx.old.conn.ghost_name }
@@ -30,17 +33,6 @@ fn put_quota<S: Alter>(tx: &mut Transaction<'_, S>, name: &str, quota: u64) -> R
     }
 }
 
-/// Sets the quota or adds the repository, in a transaction of its own.
-fn put_quota_alone<S: Alter>(conn: &mut Connection<S>, name: &str, quota: u64) -> Result<(), Fault>
-    requires fits { quota < 2 ^ 63 }
-    ensures committed { IsCommitted S.Store conn.old conn.new result }
-    ensures put { Relates S.Store conn.old conn.new result (λ t u. QuotaIsPut t u name.now quota) }
-    ensures back { GoesBack S.Store conn.old conn.new result }
-    ensures survives { Lasts S.Store conn.old conn.new }
-{
-    alone!(conn, tx, put_quota(&mut tx, name, quota))
-}
-
 /// Makes an empty repository, or sets the quota of one that is there and changes nothing else. The quota is
 /// in bytes.
 pub fn set_repo<S: Alter>(
@@ -52,6 +44,11 @@ pub fn set_repo<S: Alter>(
     ensures memory { StaysOnMemory S.Store conn.old conn.new result }
     ensures survives { Lasts S.Store conn.old conn.new }
 {
-    let done = put_quota_alone(conn, name.as_str(), quota.bytes);
-    checked(conn, done)
+    make(
+        conn,
+        Change::SetRepo {
+            repo: name.as_str(),
+            quota: quota.bytes,
+        },
+    )
 }

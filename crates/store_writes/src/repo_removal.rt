@@ -3,22 +3,22 @@ ghost use Rattle.std.specs.Prelude.{◌≡◌, OnOk};
 ghost use Rattle.sqlite.specs.State.{HasCleanDisk};
 ghost use Rattle.sqlite.specs.Held.{state};
 ghost use Rattle.registry_model.specs.Command.{drop_repo};
-ghost use Rattle.store_statements.specs.Between.{CommitsTables, GoesBack, MakesWorld, StaysOnMemory};
+ghost use Rattle.store_statements.specs.Between.{MakesWorld, StaysOnMemory};
 ghost use Rattle.store_statements.specs.Clauses.{Changes, KeepsInside, Lasts, LastsUncommitted};
 ghost use Rattle.store_world.specs.Tables.{IsEmptyBeside};
 ghost use Rattle.store_statements.specs.Held.{IsReady, Becomes, held};
 ghost use Rattle.store_statements.specs.Drops.{dropped, without_links, without_sessions, without_children};
 
+use crate::change::Change;
+use crate::changing::make;
 use oci_names::{Fault, RepoName};
 use sqlite::{Alter, Connection, Transaction};
-use store_statements::alone;
 use store_statements::blobs::take_blob_links;
 use store_statements::grants::take_grants;
 use store_statements::manifests::take_manifest_links;
 use store_statements::pieces::take_pieces;
 use store_statements::repos::take_repo;
 use store_statements::tags::take_tags;
-use store_statements::telling::checked;
 use store_statements::uploads::take_uploads;
 
 /// Takes the tags of the repository out, and its links to manifests and blobs.
@@ -71,21 +71,16 @@ pub(crate) fn drop_rows<S: Alter>(tx: &mut Transaction<'_, S>, name: &str) -> Re
     take_repo(tx, name)
 }
 
-/// The same, in a transaction of its own.
-fn drop_rows_alone<S: Alter>(conn: &mut Connection<S>, name: &str) -> Result<(), Fault>
-    ensures made { CommitsTables S.Store conn.old conn.new result (dropped name.now) }
-    ensures back { GoesBack S.Store conn.old conn.new result }
-    ensures survives { Lasts S.Store conn.old conn.new }
-{
-    alone!(conn, tx, drop_rows(&mut tx, name))
-}
-
 /// Takes a repository away, with what it holds and every level on it.
 pub fn drop_repo<S: Alter>(conn: &mut Connection<S>, name: &RepoName) -> Result<(), Fault>
     ensures made { MakesWorld S.Store conn.old conn.new result (λ w. drop_repo w name.now) }
     ensures memory { StaysOnMemory S.Store conn.old conn.new result }
     ensures survives { Lasts S.Store conn.old conn.new }
 {
-    let done = drop_rows_alone(conn, name.as_str());
-    checked(conn, done)
+    make(
+        conn,
+        Change::DropRepo {
+            repo: name.as_str(),
+        },
+    )
 }

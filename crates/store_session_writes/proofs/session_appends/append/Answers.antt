@@ -9,12 +9,10 @@ use Rattle.store_statements.specs.Held.{held}
 use Rattle.store_statements.proofs.Transactions.{survives_all}
 use Rattle.store_statements.proofs.WritesAfterReads.{memory_told}
 use Rattle.store_statements.proofs.CleanBefore.{was_clean}
-use Rattle.sqlite.specs.State.{State}
 use Rattle.oci_names.specs.declared.fault.Fault.{Fault}
 use Rattle.store_statements.specs.Held.{IsSettled, StaysSettled, SettlesOn, world_in, is_storage}
 use Rattle.store_statements.proofs.SettledAfter.{stays_then}
 use Rattle.store_statements.proofs.Alone.{less}
-use Rattle.store_statements.proofs.ChangesTold.{told_so, told_memory, told_lasts}
 use Rattle.registry_model.specs.Lookups as Lookups
 use Rattle.store_statements.proofs.Checks.{fault_is, never_done, never_storage}
 use Rattle.store_statements.proofs.Checks.{survives_here}
@@ -27,8 +25,8 @@ as_str-repo-requires g c = tt
 pub find_upload-requires : goal.find_upload-requires
 find_upload-requires g c = record { fits = not_above c.args.number c.if-number-gt-LARGEST.false }
 
-pub add_bytes_alone-done-requires : goal.add_bytes_alone-done-requires
-add_bytes_alone-done-requires g c = record { number_fits = not_above c.args.number c.if-number-gt-LARGEST.false; fits = c.in-Ok.ensures.room }
+pub make-requires : goal.make-requires
+make-requires g c = record { fits = (not_above c.args.number c.if-number-gt-LARGEST.false, c.in-Ok.ensures.room) }
 
 pub returns-then-is_empty : goal.returns-then-is_empty
 returns-then-is_empty g c = record {
@@ -56,23 +54,21 @@ pub returns-in-Ok : goal.returns-in-Ok
 returns-in-Ok g c =
     let old = state g.S.Store c.args.conn.now in
     let mid = state g.S.Store c.find_upload.new.conn in
-    let end = state g.S.Store c.add_bytes_alone-done.new.conn in
-    let early : HasCleanDisk end → HasCleanDisk mid = was_clean c.add_bytes_alone-done.ensures.survives in
+    let end = state g.S.Store c.make.new.conn in
+    let early : HasCleanDisk end → HasCleanDisk mid = was_clean c.make.ensures.survives in
     let stays : HasCleanDisk mid → IsSettled old → StaysSettled old mid = λ clean is. c.find_upload.ensures.settled clean is (ap (λ (r : Result (Option ℕ) Fault). is_storage r) c.in-Ok.ensures.same) in
     let sized : HasCleanDisk mid → IsSettled old → Some c.in-Ok.size ≡ option_map (λ r. natural_at r 3) (find (of_session c.as_str-repo.result.now c.args.number) (held old).uploads) =
     λ clean is. subst (λ r. IfOk r (λ o. o ≡ option_map (λ r. natural_at r 3) (find (of_session c.as_str-repo.result.now c.args.number) (held old).uploads))) c.in-Ok.ensures.same (c.find_upload.ensures.found clean is) in
     record {
       made = λ is_open clean is.
-          told_so c.args.conn.now {new = c.checked.new.conn} c.checked.ensures.told (λ (s : State). SettlesOn s (Lookups.append (world_in old) c.args.repo.now c.args.number c.args.bytes.now)) clean
-          (λ clean.
           let late = early clean in
           let more : 0 < length c.args.bytes.now = more_than_none (length c.args.bytes.now) (sym c.is_empty.ensures ∙ c.if-is_empty.false) in
-          less c.add_bytes_alone-done.result
+          less c.make.result
           (λ it. subst (λ name. SettlesOn end (Lookups.append (world_in old) name c.args.number c.args.bytes.now)) c.as_str-repo.ensures.text (appends old mid end c.as_str-repo.result.now c.args.number c.in-Ok.size c.args.bytes.now is (stays late is) (sized late is) more it))
-          (c.add_bytes_alone-done.ensures.made (λ clean. piece_free old mid c.as_str-repo.result.now c.args.number c.in-Ok.size is (stays clean is) (sized clean is)) clean (stays late is).0));
+          (c.make.ensures.made (λ clean. piece_free old mid c.as_str-repo.result.now c.args.number c.in-Ok.size is (stays clean is) (sized clean is)) clean (stays late is).0);
       memory = λ clean is memory.
-          let late = early (was_clean c.checked.ensures.told.survives clean) in
-          stays_then old mid (state g.S.Store c.checked.new.conn) (stays late is)
-          (told_memory c.find_upload.new.conn {new = c.checked.new.conn} c.checked.ensures.told (c.add_bytes_alone-done.ensures.back (λ clean. piece_free old mid c.as_str-repo.result.now c.args.number c.in-Ok.size is (stays clean is) (sized clean is))) clean (stays late is).0 memory);
-      survives = told_lasts c.args.conn.now {new = c.checked.new.conn} c.checked.ensures.told (survives_all old mid end _ _ c.find_upload.ensures.survives c.add_bytes_alone-done.ensures.survives);
+          let late = early clean in
+          stays_then old mid end (stays late is)
+          (c.make.ensures.memory (λ clean. piece_free old mid c.as_str-repo.result.now c.args.number c.in-Ok.size is (stays clean is) (sized clean is)) clean (stays late is).0 memory);
+      survives = survives_all old mid end _ _ c.find_upload.ensures.survives c.make.ensures.survives;
     }

@@ -1,12 +1,19 @@
-use Rattle.registry_model.specs.Command.{drop_sessions}
-use Rattle.store_world.specs.Keys.{of_first}
-use Rattle.store_statements.specs.Steps.{sessions_without}
+use Rattle.sqlite.specs.Held.{state}
 use Rattle.store_world.proofs.Sessions.{sessions_dropped}
-use Rattle.store_statements.proofs.ChangesTold.{told_tables}
+use Rattle.store_statements.specs.Held.{held}
+use Rattle.store_statements.proofs.Alone.{commits_as, less}
+use Rattle.store_statements.proofs.Transactions.{makes, registry}
 use Rattle.store_session_writes.proofs.session_changes.drop_sessions.Goals as goal
 
 pub returns : goal.returns
-returns g c =
-    let it = told_tables c.args.conn.now {new = c.checked.new.conn} c.checked.ensures.told (sessions_without (of_first c.args.repo.now)) (λ w. drop_sessions w c.args.repo.now) (rw c.as_str.ensures.text at c.take_sessions_alone-done.ensures.made) c.take_sessions_alone-done.ensures.back c.take_sessions_alone-done.ensures.survives
-    (λ t is. sessions_dropped t c.args.repo.now is) in
-    record { made = it.0; memory = it.1; survives = it.2 }
+returns g c = record {
+  made = λ clean is.
+      let old = state g.S.Store c.args.conn.now in
+      let new = state g.S.Store c.make.new.conn in
+      less c.make.result (λ it. makes new _ _ (commits_as new _ it.0 (rw c.as_str-repo.ensures.text at it.1)) (sessions_dropped (held old) c.args.repo.now (registry old is))) (c.make.ensures.made (λ early. tt) clean is);
+  memory = c.make.ensures.memory (λ early. tt);
+  survives = c.make.ensures.survives;
+}
+
+pub make-requires : goal.make-requires
+make-requires g c = record { fits = tt }

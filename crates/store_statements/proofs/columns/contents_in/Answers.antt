@@ -1,4 +1,6 @@
-use Rattle.std.proofs.Common.{◌≡◌, ◌<◌, ◌∙◌, length, ap, sym, arith, rules, SFits, w64}
+use Rattle.std.proofs.Common.{◌≡◌, ◌<◌, ◌∙◌, length, ap, sym, arith, rules, SFits, w64, map}
+use Rattle.std.proofs.lemmas.List.{take_all}
+use Rattle.std.proofs.lemmas.Result.{IfOk-from_err}
 use Rattle.std.proofs.lemmas.Int.{to_z-of_z}
 use Rattle.store_schema.specs.Rows.{integer}
 use Rattle.store_statements.specs.Shown.{content_named}
@@ -11,3 +13,9 @@ loop-row-preserved c =
     let range : SFits w64 c.in_ok-id.id = search rules in
     let named : c.new.result ≡ content_named 0 c.row-item.result = ap (λ n. record { id = n }) (c.new.ensures ∙ to_z-of_z w64 c.in_ok-id.id range ∙ ap integer (sym c.in_ok-id.ensures.ok.1)) in
     contents_more c.args.rows.now c.loop-row.row-index c.row-item.result c.new.result c.loop-row.ids.items _ low c.row-item.is named c.loop-row.invariant c.in_ok-push.ensures.items
+
+pub returns : goal.returns
+returns c = c.loop-row.invariant ∙ ap (map (content_named 0)) (take_all c.loop-row.row-index c.args.rows.now (omega arith))
+
+pub returns-in_err-id : goal.returns-in_err-id
+returns-in_err-id c = IfOk-from_err c.from_residual.result _ c.from_residual.ensures.0

@@ -1,4 +1,6 @@
-use Rattle.std.proofs.Common.{◌<◌, length, arith}
+use Rattle.std.proofs.Common.{◌<◌, length, arith, ◌∙◌, map, ap}
+use Rattle.std.proofs.lemmas.List.{take_all}
+use Rattle.std.proofs.lemmas.Result.{IfOk-from_err}
 use Rattle.store_schema.specs.Rows.{bytes_at}
 use Rattle.store_statements.proofs.SelectedRows.{mapped_more}
 use Rattle.store_statements.proofs.tag_pages.tags_in.Goals as goal
@@ -7,3 +9,9 @@ pub loop-row-preserved : goal.loop-row-preserved
 loop-row-preserved c =
     let low : c.loop-row.row-index < length c.args.rows.now = omega arith in
     mapped_more (λ row. bytes_at row 0) c.args.rows.now c.loop-row.row-index c.row-item.result c.in_ok-tag.tag c.loop-row.tags.items _ low c.row-item.is c.in_ok-tag.ensures c.loop-row.invariant c.in-Ok.ensures.items
+
+pub returns : goal.returns
+returns c = c.loop-row.invariant ∙ ap (map (λ row. bytes_at row 0)) (take_all c.loop-row.row-index c.args.rows.now (omega arith))
+
+pub returns-in_err-tag : goal.returns-in_err-tag
+returns-in_err-tag c = IfOk-from_err c.from_residual.result _ c.from_residual.ensures.0

@@ -1,94 +1,89 @@
+use Rattle.std.proofs.Common.{◌∙◌}
+use Rattle.std.proofs.lemmas.Result.{IfOk-from_err}
 use Rattle.std.specs.BTreeSet.{keys}
 use Rattle.sqlite.specs.State.{HasCleanDisk}
 use Rattle.sqlite.specs.Held.{state}
 use Rattle.sqlite.proofs.Callers.{unchanged_then}
 use Rattle.store_schema.proofs.Selects.{commit_then, survives_both}
-use Rattle.store_writes.proofs.ContentsFreed.{still_ready, named_read}
+use Rattle.store_statements.specs.Held.{held}
 use Rattle.store_statements.proofs.CleanBefore.{was_clean}
-use Rattle.std.proofs.Common.{◌∙◌}
-use Rattle.std.proofs.lemmas.Result.{IfOk-from_err}
+use Rattle.store_writes.proofs.ContentNaming.{column_inserted, was_ok}
+use Rattle.store_writes.proofs.ContentsFreed.{still_ready, named_read}
 use Rattle.store_writes.proofs.content_clearing.named.Goals as goal
 
-pub returns-in_err-insert_pieces-clause-kept : goal.returns-in_err-insert_pieces-clause-kept
-returns-in_err-insert_pieces-clause-kept g c clean is =
+pub returns : goal.returns
+returns g c =
     let s0 = state g.S.Store c.args.tx.now.conn.now in
-    let s1 = state g.S.Store c.insert_blobs.new.tx.conn.now in
-    let s2 = state g.S.Store c.insert_manifests.new.tx.conn.now in
-    let clean-2 : HasCleanDisk s2 = was_clean c.insert_pieces.ensures.survives clean in
-    let clean-1 : HasCleanDisk s1 = was_clean c.insert_manifests.ensures.survives clean-2 in
-    let ready-1 = still_ready s0 s1 is (c.in_ok-insert_blobs.ensures.same clean-1 is) in
-    let ready-2 = still_ready s1 s2 ready-1 (c.in_ok-insert_manifests.ensures.same clean-2 ready-1) in
-    commit_then s0 s2 (state g.S.Store c.insert_pieces.new.tx.conn.now) (commit_then s0 s1 s2 (c.insert_blobs.ensures.kept clean-1 is) (c.insert_manifests.ensures.kept clean-2 ready-1)) (c.insert_pieces.ensures.kept clean ready-2)
+    let s1 = state g.S.Store c.blob_contents.new.tx.conn.now in
+    let s2 = state g.S.Store c.manifest_contents.new.tx.conn.now in
+    let s3 = state g.S.Store c.piece_contents.new.tx.conn.now in
+    let clean-2 : HasCleanDisk s3 → HasCleanDisk s2 = was_clean c.piece_contents.ensures.survives in
+    let clean-1 : HasCleanDisk s2 → HasCleanDisk s1 = was_clean c.manifest_contents.ensures.survives in
+    record {
+      named = λ clean is.
+          let late = clean-2 clean in
+          let same-1 = was_ok c.blob_contents.result c.in_ok-insert_found.ensures.was_found (c.blob_contents.ensures.same (clean-1 late) is) in
+          let ready-1 = still_ready s0 s1 is same-1 in
+          let same-2 = was_ok c.manifest_contents.result c.in_ok-insert_found-2.ensures.was_found (c.manifest_contents.ensures.same late ready-1) in
+          let ready-2 = still_ready s1 s2 ready-1 same-2 in
+          named_read s0 s1 s2 (keys c.new-set.result) (keys c.insert_found.new.set) (keys c.insert_found-2.new.set) (keys c.insert_found-3.new.set) same-1 same-2 c.new-set.ensures.empty
+          (column_inserted c.blob_contents.result (keys c.new-set.result) (keys c.insert_found.new.set) 4 (held s0).blobs c.in_ok-insert_found.ensures.was_found (c.blob_contents.ensures.found (clean-1 late) is) c.in_ok-insert_found.ensures.inserted)
+          (column_inserted c.manifest_contents.result (keys c.insert_found.new.set) (keys c.insert_found-2.new.set) 6 (held s1).manifests c.in_ok-insert_found-2.ensures.was_found (c.manifest_contents.ensures.found late ready-1) c.in_ok-insert_found-2.ensures.inserted)
+          (column_inserted c.piece_contents.result (keys c.insert_found-2.new.set) (keys c.insert_found-3.new.set) 5 (held s2).pieces c.in_ok-insert_found-3.ensures.was_found (c.piece_contents.ensures.found clean ready-2) c.in_ok-insert_found-3.ensures.inserted);
+      same = λ clean is.
+          let late = clean-2 clean in
+          let same-1 = was_ok c.blob_contents.result c.in_ok-insert_found.ensures.was_found (c.blob_contents.ensures.same (clean-1 late) is) in
+          let ready-1 = still_ready s0 s1 is same-1 in
+          let same-2 = was_ok c.manifest_contents.result c.in_ok-insert_found-2.ensures.was_found (c.manifest_contents.ensures.same late ready-1) in
+          unchanged_then s0 s2 s3 (unchanged_then s0 s1 s2 same-1 same-2) (was_ok c.piece_contents.result c.in_ok-insert_found-3.ensures.was_found (c.piece_contents.ensures.same clean (still_ready s1 s2 ready-1 same-2)));
+      kept = λ clean is.
+          let late = clean-2 clean in
+          let ready-1 = still_ready s0 s1 is (was_ok c.blob_contents.result c.in_ok-insert_found.ensures.was_found (c.blob_contents.ensures.same (clean-1 late) is)) in
+          let ready-2 = still_ready s1 s2 ready-1 (was_ok c.manifest_contents.result c.in_ok-insert_found-2.ensures.was_found (c.manifest_contents.ensures.same late ready-1)) in
+          commit_then s0 s2 s3 (commit_then s0 s1 s2 (c.blob_contents.ensures.kept (clean-1 late) is) (c.manifest_contents.ensures.kept late ready-1)) (c.piece_contents.ensures.kept clean ready-2);
+      same_reference = c.piece_contents.ensures.same_reference ∙ c.manifest_contents.ensures.same_reference ∙ c.blob_contents.ensures.same_reference;
+      survives = survives_both s0 s2 s3 (survives_both s0 s1 s2 c.blob_contents.ensures.survives c.manifest_contents.ensures.survives) c.piece_contents.ensures.survives;
+    }
 
-pub returns-in_err-insert_pieces-clause-survives : goal.returns-in_err-insert_pieces-clause-survives
-returns-in_err-insert_pieces-clause-survives g c =
-    survives_both (state g.S.Store c.args.tx.now.conn.now) (state g.S.Store c.insert_manifests.new.tx.conn.now) (state g.S.Store c.insert_pieces.new.tx.conn.now) (survives_both (state g.S.Store c.args.tx.now.conn.now) (state g.S.Store c.insert_blobs.new.tx.conn.now) (state g.S.Store c.insert_manifests.new.tx.conn.now) c.insert_blobs.ensures.survives c.insert_manifests.ensures.survives) c.insert_pieces.ensures.survives
-
-pub returns-clause-named : goal.returns-clause-named
-returns-clause-named g c clean is =
-    let s0 = state g.S.Store c.args.tx.now.conn.now in
-    let s1 = state g.S.Store c.insert_blobs.new.tx.conn.now in
-    let s2 = state g.S.Store c.insert_manifests.new.tx.conn.now in
-    let clean-2 : HasCleanDisk s2 = was_clean c.insert_pieces.ensures.survives clean in
-    let clean-1 : HasCleanDisk s1 = was_clean c.insert_manifests.ensures.survives clean-2 in
-    let same-1 = c.in_ok-insert_blobs.ensures.same clean-1 is in
-    let ready-1 = still_ready s0 s1 is same-1 in
-    let same-2 = c.in_ok-insert_manifests.ensures.same clean-2 ready-1 in
-    named_read s0 s1 s2 (keys c.new-set.result) (keys c.insert_blobs.new.set) (keys c.insert_manifests.new.set) (keys c.insert_pieces.new.set) same-1 same-2 c.new-set.ensures.empty
-    (c.in_ok-insert_blobs.ensures.inserted clean-1 is) (c.in_ok-insert_manifests.ensures.inserted clean-2 ready-1) (c.in_ok-insert_pieces.ensures.inserted clean (still_ready s1 s2 ready-1 same-2))
-
-pub returns-clause-same : goal.returns-clause-same
-returns-clause-same g c clean is =
-    let s0 = state g.S.Store c.args.tx.now.conn.now in
-    let s1 = state g.S.Store c.insert_blobs.new.tx.conn.now in
-    let s2 = state g.S.Store c.insert_manifests.new.tx.conn.now in
-    let clean-2 : HasCleanDisk s2 = was_clean c.insert_pieces.ensures.survives clean in
-    let clean-1 : HasCleanDisk s1 = was_clean c.insert_manifests.ensures.survives clean-2 in
-    let same-1 = c.in_ok-insert_blobs.ensures.same clean-1 is in
-    let ready-1 = still_ready s0 s1 is same-1 in
-    let same-2 = c.in_ok-insert_manifests.ensures.same clean-2 ready-1 in
-    unchanged_then s0 s2 (state g.S.Store c.insert_pieces.new.tx.conn.now) (unchanged_then s0 s1 s2 same-1 same-2) (c.in_ok-insert_pieces.ensures.same clean (still_ready s1 s2 ready-1 same-2))
-
-pub returns-clause-kept : goal.returns-clause-kept
-returns-clause-kept g c clean is =
-    let s0 = state g.S.Store c.args.tx.now.conn.now in
-    let s1 = state g.S.Store c.insert_blobs.new.tx.conn.now in
-    let s2 = state g.S.Store c.insert_manifests.new.tx.conn.now in
-    let clean-2 : HasCleanDisk s2 = was_clean c.insert_pieces.ensures.survives clean in
-    let clean-1 : HasCleanDisk s1 = was_clean c.insert_manifests.ensures.survives clean-2 in
-    let ready-1 = still_ready s0 s1 is (c.in_ok-insert_blobs.ensures.same clean-1 is) in
-    let ready-2 = still_ready s1 s2 ready-1 (c.in_ok-insert_manifests.ensures.same clean-2 ready-1) in
-    commit_then s0 s2 (state g.S.Store c.insert_pieces.new.tx.conn.now) (commit_then s0 s1 s2 (c.insert_blobs.ensures.kept clean-1 is) (c.insert_manifests.ensures.kept clean-2 ready-1)) (c.insert_pieces.ensures.kept clean ready-2)
-
-pub returns-clause-survives : goal.returns-clause-survives
-returns-clause-survives g c =
-    survives_both (state g.S.Store c.args.tx.now.conn.now) (state g.S.Store c.insert_manifests.new.tx.conn.now) (state g.S.Store c.insert_pieces.new.tx.conn.now) (survives_both (state g.S.Store c.args.tx.now.conn.now) (state g.S.Store c.insert_blobs.new.tx.conn.now) (state g.S.Store c.insert_manifests.new.tx.conn.now) c.insert_blobs.ensures.survives c.insert_manifests.ensures.survives) c.insert_pieces.ensures.survives
-
-pub returns-in_err-insert_manifests-clause-kept : goal.returns-in_err-insert_manifests-clause-kept
-returns-in_err-insert_manifests-clause-kept g c clean is =
-    let s0 = state g.S.Store c.args.tx.now.conn.now in
-    let s1 = state g.S.Store c.insert_blobs.new.tx.conn.now in
-    let clean-1 : HasCleanDisk s1 = was_clean c.insert_manifests.ensures.survives clean in
-    commit_then s0 s1 (state g.S.Store c.insert_manifests.new.tx.conn.now) (c.insert_blobs.ensures.kept clean-1 is) (c.insert_manifests.ensures.kept clean (still_ready s0 s1 is (c.in_ok-insert_blobs.ensures.same clean-1 is)))
-
-pub returns-in_err-insert_manifests-clause-survives : goal.returns-in_err-insert_manifests-clause-survives
-returns-in_err-insert_manifests-clause-survives g c =
-    survives_both (state g.S.Store c.args.tx.now.conn.now) (state g.S.Store c.insert_blobs.new.tx.conn.now) (state g.S.Store c.insert_manifests.new.tx.conn.now) c.insert_blobs.ensures.survives c.insert_manifests.ensures.survives
-
-pub returns-in_err-insert_blobs : goal.returns-in_err-insert_blobs
-returns-in_err-insert_blobs g c = record {
+pub returns-in_err-insert_found : goal.returns-in_err-insert_found
+returns-in_err-insert_found g c = record {
   named = λ clean is. IfOk-from_err c.from_residual.result _ c.from_residual.ensures.0;
   same = λ clean is. IfOk-from_err c.from_residual.result _ c.from_residual.ensures.0;
-  kept = c.insert_blobs.ensures.kept;
-  same_reference = c.insert_blobs.ensures.same_reference;
-  survives = c.insert_blobs.ensures.survives;
+  kept = c.blob_contents.ensures.kept;
+  same_reference = c.blob_contents.ensures.same_reference;
+  survives = c.blob_contents.ensures.survives;
 }
 
-pub returns-clause-same_reference : goal.returns-clause-same_reference
-returns-clause-same_reference g c = c.insert_pieces.ensures.same_reference ∙ c.insert_manifests.ensures.same_reference ∙ c.insert_blobs.ensures.same_reference
+pub returns-in_err-insert_found-2 : goal.returns-in_err-insert_found-2
+returns-in_err-insert_found-2 g c =
+    let s0 = state g.S.Store c.args.tx.now.conn.now in
+    let s1 = state g.S.Store c.blob_contents.new.tx.conn.now in
+    let s2 = state g.S.Store c.manifest_contents.new.tx.conn.now in
+    record {
+      named = λ clean is. IfOk-from_err c.from_residual-in_err-insert_found-2.result _ c.from_residual-in_err-insert_found-2.ensures.0;
+      same = λ clean is. IfOk-from_err c.from_residual-in_err-insert_found-2.result _ c.from_residual-in_err-insert_found-2.ensures.0;
+      kept = λ clean is.
+          let clean-1 : HasCleanDisk s1 = was_clean c.manifest_contents.ensures.survives clean in
+          commit_then s0 s1 s2 (c.blob_contents.ensures.kept clean-1 is) (c.manifest_contents.ensures.kept clean (still_ready s0 s1 is (was_ok c.blob_contents.result c.in_ok-insert_found.ensures.was_found (c.blob_contents.ensures.same clean-1 is))));
+      same_reference = c.manifest_contents.ensures.same_reference ∙ c.blob_contents.ensures.same_reference;
+      survives = survives_both s0 s1 s2 c.blob_contents.ensures.survives c.manifest_contents.ensures.survives;
+    }
 
-pub returns-in_err-insert_manifests-clause-same_reference : goal.returns-in_err-insert_manifests-clause-same_reference
-returns-in_err-insert_manifests-clause-same_reference g c = c.insert_manifests.ensures.same_reference ∙ c.insert_blobs.ensures.same_reference
-
-pub returns-in_err-insert_pieces-clause-same_reference : goal.returns-in_err-insert_pieces-clause-same_reference
-returns-in_err-insert_pieces-clause-same_reference g c = c.insert_pieces.ensures.same_reference ∙ c.insert_manifests.ensures.same_reference ∙ c.insert_blobs.ensures.same_reference
+pub returns-in_err-insert_found-3 : goal.returns-in_err-insert_found-3
+returns-in_err-insert_found-3 g c =
+    let s0 = state g.S.Store c.args.tx.now.conn.now in
+    let s1 = state g.S.Store c.blob_contents.new.tx.conn.now in
+    let s2 = state g.S.Store c.manifest_contents.new.tx.conn.now in
+    let s3 = state g.S.Store c.piece_contents.new.tx.conn.now in
+    record {
+      named = λ clean is. IfOk-from_err c.from_residual-in_err-insert_found-3.result _ c.from_residual-in_err-insert_found-3.ensures.0;
+      same = λ clean is. IfOk-from_err c.from_residual-in_err-insert_found-3.result _ c.from_residual-in_err-insert_found-3.ensures.0;
+      kept = λ clean is.
+          let clean-2 : HasCleanDisk s2 = was_clean c.piece_contents.ensures.survives clean in
+          let clean-1 : HasCleanDisk s1 = was_clean c.manifest_contents.ensures.survives clean-2 in
+          let ready-1 = still_ready s0 s1 is (was_ok c.blob_contents.result c.in_ok-insert_found.ensures.was_found (c.blob_contents.ensures.same clean-1 is)) in
+          let ready-2 = still_ready s1 s2 ready-1 (was_ok c.manifest_contents.result c.in_ok-insert_found-2.ensures.was_found (c.manifest_contents.ensures.same clean-2 ready-1)) in
+          commit_then s0 s2 s3 (commit_then s0 s1 s2 (c.blob_contents.ensures.kept clean-1 is) (c.manifest_contents.ensures.kept clean-2 ready-1)) (c.piece_contents.ensures.kept clean ready-2);
+      same_reference = c.piece_contents.ensures.same_reference ∙ c.manifest_contents.ensures.same_reference ∙ c.blob_contents.ensures.same_reference;
+      survives = survives_both s0 s2 s3 (survives_both s0 s1 s2 c.blob_contents.ensures.survives c.manifest_contents.ensures.survives) c.piece_contents.ensures.survives;
+    }

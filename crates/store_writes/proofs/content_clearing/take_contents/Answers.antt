@@ -22,30 +22,22 @@ loop-id-preserved g c =
       same_reference = c.take_content.ensures.same_reference ∙ c.loop-id.invariant.same_reference;
     }
 
-pub returns-clause-taken : goal.returns-clause-taken
-returns-clause-taken g c clean is =
-    let it = c.loop-id.invariant.gone.gone clean is in
-    (it.0, subst (ContentsGone (held (state g.S.Store c.args.tx.now.conn.now)) (held (state g.S.Store c.loop-id.tx.conn.now))) (take_all c.loop-id.id-index c.args.ids.now (omega arith)) it.1)
+pub returns : goal.returns
+returns g c = record {
+  taken = λ clean is.
+      let it = c.loop-id.invariant.gone.gone clean is in
+      (it.0, subst (ContentsGone (held (state g.S.Store c.args.tx.now.conn.now)) (held (state g.S.Store c.loop-id.tx.conn.now))) (take_all c.loop-id.id-index c.args.ids.now (omega arith)) it.1);
+  kept = λ clean is. c.loop-id.invariant.gone.kept clean is;
+  same_reference = c.loop-id.invariant.same_reference;
+  survives = c.loop-id.invariant.gone.survives;
+}
 
-pub returns-in_err-take_content-clause-taken : goal.returns-in_err-take_content-clause-taken
-returns-in_err-take_content-clause-taken g c clean is = IfOk-from_err c.from_residual.result _ c.from_residual.ensures.0
-
-pub returns-in_err-take_content-clause-kept : goal.returns-in_err-take_content-clause-kept
-returns-in_err-take_content-clause-kept g c clean is =
-    let early : HasCleanDisk (state g.S.Store c.loop-id.tx.conn.now) = was_clean c.take_content.ensures.survives clean in
-    commit_then (state g.S.Store c.args.tx.now.conn.now) (state g.S.Store c.loop-id.tx.conn.now) (state g.S.Store c.take_content.new.tx.conn.now) (c.loop-id.invariant.gone.kept early is) (c.take_content.ensures.kept clean (c.loop-id.invariant.gone.gone early is).0)
-
-pub returns-in_err-take_content-clause-same_reference : goal.returns-in_err-take_content-clause-same_reference
-returns-in_err-take_content-clause-same_reference g c = c.take_content.ensures.same_reference ∙ c.loop-id.invariant.same_reference
-
-pub returns-in_err-take_content-clause-survives : goal.returns-in_err-take_content-clause-survives
-returns-in_err-take_content-clause-survives g c = survives_both (state g.S.Store c.args.tx.now.conn.now) (state g.S.Store c.loop-id.tx.conn.now) (state g.S.Store c.take_content.new.tx.conn.now) c.loop-id.invariant.gone.survives c.take_content.ensures.survives
-
-pub returns-clause-kept : goal.returns-clause-kept
-returns-clause-kept g c clean is = c.loop-id.invariant.gone.kept clean is
-
-pub returns-clause-same_reference : goal.returns-clause-same_reference
-returns-clause-same_reference g c = c.loop-id.invariant.same_reference
-
-pub returns-clause-survives : goal.returns-clause-survives
-returns-clause-survives g c = c.loop-id.invariant.gone.survives
+pub returns-in_err-take_content : goal.returns-in_err-take_content
+returns-in_err-take_content g c = record {
+  taken = λ clean is. IfOk-from_err c.from_residual.result _ c.from_residual.ensures.0;
+  kept = λ clean is.
+      let early : HasCleanDisk (state g.S.Store c.loop-id.tx.conn.now) = was_clean c.take_content.ensures.survives clean in
+      commit_then (state g.S.Store c.args.tx.now.conn.now) (state g.S.Store c.loop-id.tx.conn.now) (state g.S.Store c.take_content.new.tx.conn.now) (c.loop-id.invariant.gone.kept early is) (c.take_content.ensures.kept clean (c.loop-id.invariant.gone.gone early is).0);
+  same_reference = c.take_content.ensures.same_reference ∙ c.loop-id.invariant.same_reference;
+  survives = survives_both (state g.S.Store c.args.tx.now.conn.now) (state g.S.Store c.loop-id.tx.conn.now) (state g.S.Store c.take_content.new.tx.conn.now) c.loop-id.invariant.gone.survives c.take_content.ensures.survives;
+}

@@ -22,29 +22,20 @@ loop-digest-preserved g c =
       same_reference = c.take_blob_link.ensures.same_reference ∙ c.loop-digest.invariant.same_reference;
     }
 
-pub returns-clause-taken : goal.returns-clause-taken
-returns-clause-taken g c clean is =
-    subst (λ l. Becomes (state g.S.Store c.loop-digest.tx.conn.now) (without_blob_links c.args.repo.now l (held (state g.S.Store c.args.tx.now.conn.now)))) (take_all c.loop-digest.digest-index c.args.digests.now (omega arith)) (c.loop-digest.invariant.taken.taken clean is)
+pub returns : goal.returns
+returns g c = record {
+  taken = λ clean is. subst (λ l. Becomes (state g.S.Store c.loop-digest.tx.conn.now) (without_blob_links c.args.repo.now l (held (state g.S.Store c.args.tx.now.conn.now)))) (take_all c.loop-digest.digest-index c.args.digests.now (omega arith)) (c.loop-digest.invariant.taken.taken clean is);
+  kept = λ clean is. c.loop-digest.invariant.taken.kept clean is;
+  same_reference = c.loop-digest.invariant.same_reference;
+  survives = c.loop-digest.invariant.taken.survives;
+}
 
-pub returns-in_err-take_blob_link-clause-taken : goal.returns-in_err-take_blob_link-clause-taken
-returns-in_err-take_blob_link-clause-taken g c clean is = IfOk-from_err c.from_residual.result _ c.from_residual.ensures.0
-
-pub returns-in_err-take_blob_link-clause-kept : goal.returns-in_err-take_blob_link-clause-kept
-returns-in_err-take_blob_link-clause-kept g c clean is =
-    let early : HasCleanDisk (state g.S.Store c.loop-digest.tx.conn.now) = was_clean c.take_blob_link.ensures.survives clean in
-    commit_then (state g.S.Store c.args.tx.now.conn.now) (state g.S.Store c.loop-digest.tx.conn.now) (state g.S.Store c.take_blob_link.new.tx.conn.now) (c.loop-digest.invariant.taken.kept early is) (c.take_blob_link.ensures.kept clean (c.loop-digest.invariant.taken.taken early is).0)
-
-pub returns-in_err-take_blob_link-clause-same_reference : goal.returns-in_err-take_blob_link-clause-same_reference
-returns-in_err-take_blob_link-clause-same_reference g c = c.take_blob_link.ensures.same_reference ∙ c.loop-digest.invariant.same_reference
-
-pub returns-in_err-take_blob_link-clause-survives : goal.returns-in_err-take_blob_link-clause-survives
-returns-in_err-take_blob_link-clause-survives g c = survives_both (state g.S.Store c.args.tx.now.conn.now) (state g.S.Store c.loop-digest.tx.conn.now) (state g.S.Store c.take_blob_link.new.tx.conn.now) c.loop-digest.invariant.taken.survives c.take_blob_link.ensures.survives
-
-pub returns-clause-kept : goal.returns-clause-kept
-returns-clause-kept g c clean is = c.loop-digest.invariant.taken.kept clean is
-
-pub returns-clause-same_reference : goal.returns-clause-same_reference
-returns-clause-same_reference g c = c.loop-digest.invariant.same_reference
-
-pub returns-clause-survives : goal.returns-clause-survives
-returns-clause-survives g c = c.loop-digest.invariant.taken.survives
+pub returns-in_err-take_blob_link : goal.returns-in_err-take_blob_link
+returns-in_err-take_blob_link g c = record {
+  taken = λ clean is. IfOk-from_err c.from_residual.result _ c.from_residual.ensures.0;
+  kept = λ clean is.
+      let early : HasCleanDisk (state g.S.Store c.loop-digest.tx.conn.now) = was_clean c.take_blob_link.ensures.survives clean in
+      commit_then (state g.S.Store c.args.tx.now.conn.now) (state g.S.Store c.loop-digest.tx.conn.now) (state g.S.Store c.take_blob_link.new.tx.conn.now) (c.loop-digest.invariant.taken.kept early is) (c.take_blob_link.ensures.kept clean (c.loop-digest.invariant.taken.taken early is).0);
+  same_reference = c.take_blob_link.ensures.same_reference ∙ c.loop-digest.invariant.same_reference;
+  survives = survives_both (state g.S.Store c.args.tx.now.conn.now) (state g.S.Store c.loop-digest.tx.conn.now) (state g.S.Store c.take_blob_link.new.tx.conn.now) c.loop-digest.invariant.taken.survives c.take_blob_link.ensures.survives;
+}

@@ -1,12 +1,16 @@
 use Rattle.registry_model.specs.Command.{revoke_all}
 use Rattle.store_world.specs.Keys.{of_first}
-use Rattle.store_statements.specs.Steps.{grants_without}
 use Rattle.store_world.proofs.Grants.{token_taken}
-use Rattle.store_statements.proofs.ChangesTold.{told_tables}
+use Rattle.store_statements.specs.Steps.{grants_without}
+use Rattle.store_writes.proofs.Transacted.{made_tables}
 use Rattle.store_writes.proofs.grant_changes.revoke_all.Goals as goal
 
 pub returns : goal.returns
-returns g c =
-    let it = told_tables c.args.conn.now c.checked.ensures.told (grants_without (of_first c.args.token.now)) (λ w. revoke_all w c.args.token.now) (rw c.as_str.ensures.text at c.take_token_alone-done.ensures.made) c.take_token_alone-done.ensures.back c.take_token_alone-done.ensures.survives
-    (λ t is. token_taken t c.args.token.now is) in
-    record { made = it.0; memory = it.1; survives = it.2 }
+returns g c = record {
+  made = made_tables g.S.Store c.args.conn.now c.make.new.conn c.make.result (λ w. revoke_all w c.args.token.now) (grants_without (of_first c.args.token.now)) (rw c.as_str.ensures.text at (c.make.ensures.made (λ clean. tt))) (λ t is. token_taken t c.args.token.now is);
+  memory = c.make.ensures.memory (λ clean. tt);
+  survives = c.make.ensures.survives;
+}
+
+pub make-requires : goal.make-requires
+make-requires g c = record { fits = tt }

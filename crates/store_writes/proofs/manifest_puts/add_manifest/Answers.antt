@@ -9,28 +9,6 @@ use Rattle.std.proofs.Common.{◌∙◌}
 use Rattle.std.proofs.lemmas.Result.{IfOk-from_err}
 use Rattle.store_writes.proofs.manifest_puts.add_manifest.Goals as goal
 
-pub returns-clause-made : goal.returns-clause-made
-returns-clause-made g c clean is there fresh =
-    let old = state g.S.Store c.args.tx.now.conn.now in
-    let mid = state g.S.Store c.keep_matching.new.tx.conn.now in
-    let early : HasCleanDisk mid = was_clean c.add_manifest_link.ensures.survives clean in
-    let found = c.in_ok-content.ensures.content early is.ready in
-    then_ok c.add_manifest_link.result
-    (manifest_came old mid (state g.S.Store c.add_manifest_link.new.tx.conn.now) c.in_ok-content.content.id c.args.repo.now c.args.digest.now c.args.bytes.now is there fresh found.1
-    (shown c.args.manifest.now) c.requires.reads (text_in c.subject_of.result) c.subject_of.ensures)
-    (c.add_manifest_link.ensures.added clean found.0 (fresh_manifest old mid c.in_ok-content.content.id c.args.repo.now c.args.digest.now c.args.bytes.now found.1 fresh))
-
-pub returns-clause-kept : goal.returns-clause-kept
-returns-clause-kept g c clean is =
-    let old = state g.S.Store c.args.tx.now.conn.now in
-    let mid = state g.S.Store c.keep_matching.new.tx.conn.now in
-    let early : HasCleanDisk mid = was_clean c.add_manifest_link.ensures.survives clean in
-    commit_then old mid (state g.S.Store c.add_manifest_link.new.tx.conn.now)
-    (c.keep_matching.ensures.kept early is.ready) (c.add_manifest_link.ensures.kept clean (c.in_ok-content.ensures.content early is.ready).0)
-
-pub returns-clause-survives : goal.returns-clause-survives
-returns-clause-survives g c = survives_both (state g.S.Store c.args.tx.now.conn.now) (state g.S.Store c.keep_matching.new.tx.conn.now) (state g.S.Store c.add_manifest_link.new.tx.conn.now) c.keep_matching.ensures.survives c.add_manifest_link.ensures.survives
-
 pub returns-in_err-content : goal.returns-in_err-content
 returns-in_err-content g c = record {
   made = λ clean is there fresh. IfOk-from_err c.from_residual.result _ c.from_residual.ensures.0;
@@ -39,5 +17,23 @@ returns-in_err-content g c = record {
   survives = c.keep_matching.ensures.survives;
 }
 
-pub returns-clause-same_reference : goal.returns-clause-same_reference
-returns-clause-same_reference g c = c.add_manifest_link.ensures.same_reference ∙ c.keep_matching.ensures.same_reference
+pub returns : goal.returns
+returns g c = record {
+  made = λ clean is there fresh.
+      let old = state g.S.Store c.args.tx.now.conn.now in
+      let mid = state g.S.Store c.keep_matching.new.tx.conn.now in
+      let early : HasCleanDisk mid = was_clean c.add_manifest_link.ensures.survives clean in
+      let found = c.in_ok-content.ensures.content early is.ready in
+      then_ok c.add_manifest_link.result
+      (manifest_came old mid (state g.S.Store c.add_manifest_link.new.tx.conn.now) c.in_ok-content.content.id c.args.repo.now c.args.digest.now c.args.bytes.now is there fresh found.1
+      (shown c.args.manifest.now) c.requires.reads (text_in c.subject_of.result) c.subject_of.ensures)
+      (c.add_manifest_link.ensures.added clean found.0 (fresh_manifest old mid c.in_ok-content.content.id c.args.repo.now c.args.digest.now c.args.bytes.now found.1 fresh));
+  kept = λ clean is.
+      let old = state g.S.Store c.args.tx.now.conn.now in
+      let mid = state g.S.Store c.keep_matching.new.tx.conn.now in
+      let early : HasCleanDisk mid = was_clean c.add_manifest_link.ensures.survives clean in
+      commit_then old mid (state g.S.Store c.add_manifest_link.new.tx.conn.now)
+      (c.keep_matching.ensures.kept early is.ready) (c.add_manifest_link.ensures.kept clean (c.in_ok-content.ensures.content early is.ready).0);
+  same_reference = c.add_manifest_link.ensures.same_reference ∙ c.keep_matching.ensures.same_reference;
+  survives = survives_both (state g.S.Store c.args.tx.now.conn.now) (state g.S.Store c.keep_matching.new.tx.conn.now) (state g.S.Store c.add_manifest_link.new.tx.conn.now) c.keep_matching.ensures.survives c.add_manifest_link.ensures.survives;
+}

@@ -10,22 +10,6 @@ use Rattle.store_statements.proofs.CleanBefore.{was_clean}
 use Rattle.std.proofs.lemmas.Result.{IfOk-from_err}
 use Rattle.store_writes.proofs.manifest_puts.add_tagged.Goals as goal
 
-pub returns-clause-made : goal.returns-clause-made
-returns-clause-made g c clean is there fresh =
-    let mid : HasCleanDisk (state g.S.Store c.add_manifest.new.tx.conn.now) = was_clean c.put_tag_if.ensures.survives clean in
-    let first = c.in_ok-add_manifest.ensures.made mid is there fresh in
-    let still : is_repo (held (state g.S.Store c.add_manifest.new.tx.conn.now)).repos c.args.repo.now ≡ true = ap (λ rows. is_repo rows c.args.repo.now) first.repos ∙ there in
-    then_ok c.put_tag_if.result (tagged_put (state g.S.Store c.args.tx.now.conn.now) (state g.S.Store c.add_manifest.new.tx.conn.now) (state g.S.Store c.put_tag_if.new.tx.conn.now) c.args.repo.now c.args.digest.now c.args.bytes.now (text_in c.args.tag) first)
-    (c.put_tag_if.ensures.made clean first.whole still)
-
-pub returns-clause-kept : goal.returns-clause-kept
-returns-clause-kept g c clean is there fresh =
-    let mid : HasCleanDisk (state g.S.Store c.add_manifest.new.tx.conn.now) = was_clean c.put_tag_if.ensures.survives clean in
-    commit_then (state g.S.Store c.args.tx.now.conn.now) (state g.S.Store c.add_manifest.new.tx.conn.now) (state g.S.Store c.put_tag_if.new.tx.conn.now) (c.add_manifest.ensures.kept mid is) (c.put_tag_if.ensures.kept clean (c.in_ok-add_manifest.ensures.made mid is there fresh).whole)
-
-pub returns-clause-survives : goal.returns-clause-survives
-returns-clause-survives g c = survives_both (state g.S.Store c.args.tx.now.conn.now) (state g.S.Store c.add_manifest.new.tx.conn.now) (state g.S.Store c.put_tag_if.new.tx.conn.now) c.add_manifest.ensures.survives c.put_tag_if.ensures.survives
-
 pub returns-in_err-add_manifest : goal.returns-in_err-add_manifest
 returns-in_err-add_manifest g c = record {
   made = λ clean is there fresh. IfOk-from_err c.from_residual.result _ c.from_residual.ensures.0;
@@ -34,8 +18,20 @@ returns-in_err-add_manifest g c = record {
   survives = c.add_manifest.ensures.survives;
 }
 
-pub returns-clause-same_reference : goal.returns-clause-same_reference
-returns-clause-same_reference g c = c.put_tag_if.ensures.same_reference ∙ c.add_manifest.ensures.same_reference
-
 pub add_manifest-requires : goal.add_manifest-requires
 add_manifest-requires g c = record { matching = c.requires.matching; reads = c.requires.reads; fits = c.requires.fits }
+
+pub returns : goal.returns
+returns g c = record {
+  made = λ clean is there fresh.
+      let mid : HasCleanDisk (state g.S.Store c.add_manifest.new.tx.conn.now) = was_clean c.put_tag_if.ensures.survives clean in
+      let first = c.in_ok-add_manifest.ensures.made mid is there fresh in
+      let still : is_repo (held (state g.S.Store c.add_manifest.new.tx.conn.now)).repos c.args.repo.now ≡ true = ap (λ rows. is_repo rows c.args.repo.now) first.repos ∙ there in
+      then_ok c.put_tag_if.result (tagged_put (state g.S.Store c.args.tx.now.conn.now) (state g.S.Store c.add_manifest.new.tx.conn.now) (state g.S.Store c.put_tag_if.new.tx.conn.now) c.args.repo.now c.args.digest.now c.args.bytes.now (text_in c.args.tag) first)
+      (c.put_tag_if.ensures.made clean first.whole still);
+  kept = λ clean is there fresh.
+      let mid : HasCleanDisk (state g.S.Store c.add_manifest.new.tx.conn.now) = was_clean c.put_tag_if.ensures.survives clean in
+      commit_then (state g.S.Store c.args.tx.now.conn.now) (state g.S.Store c.add_manifest.new.tx.conn.now) (state g.S.Store c.put_tag_if.new.tx.conn.now) (c.add_manifest.ensures.kept mid is) (c.put_tag_if.ensures.kept clean (c.in_ok-add_manifest.ensures.made mid is there fresh).whole);
+  same_reference = c.put_tag_if.ensures.same_reference ∙ c.add_manifest.ensures.same_reference;
+  survives = survives_both (state g.S.Store c.args.tx.now.conn.now) (state g.S.Store c.add_manifest.new.tx.conn.now) (state g.S.Store c.put_tag_if.new.tx.conn.now) c.add_manifest.ensures.survives c.put_tag_if.ensures.survives;
+}

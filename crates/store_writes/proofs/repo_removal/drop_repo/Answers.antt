@@ -1,11 +1,15 @@
 use Rattle.registry_model.specs.Command.{drop_repo}
-use Rattle.store_statements.specs.Drops.{dropped}
 use Rattle.store_world.proofs.Dropped.{repo_dropped}
-use Rattle.store_statements.proofs.ChangesTold.{told_tables}
+use Rattle.store_statements.specs.Drops.{dropped}
+use Rattle.store_writes.proofs.Transacted.{made_tables}
 use Rattle.store_writes.proofs.repo_removal.drop_repo.Goals as goal
 
 pub returns : goal.returns
-returns g c =
-    let it = told_tables c.args.conn.now c.checked.ensures.told (dropped c.args.name.now) (λ w. drop_repo w c.args.name.now) (rw c.as_str.ensures.text at c.drop_rows_alone-done.ensures.made) c.drop_rows_alone-done.ensures.back c.drop_rows_alone-done.ensures.survives
-    (λ t is. repo_dropped t c.args.name.now is) in
-    record { made = it.0; memory = it.1; survives = it.2 }
+returns g c = record {
+  made = made_tables g.S.Store c.args.conn.now c.make.new.conn c.make.result (λ w. drop_repo w c.args.name.now) (dropped c.args.name.now) (λ clean is. rw c.as_str.ensures.text at (c.make.ensures.made (λ early. is.agree.beside) clean is)) (λ t is. repo_dropped t c.args.name.now is);
+  memory = λ clean is. c.make.ensures.memory (λ early. is.agree.beside) clean is;
+  survives = c.make.ensures.survives;
+}
+
+pub make-requires : goal.make-requires
+make-requires g c = record { fits = tt }

@@ -1,0 +1,58 @@
+-- What each change asks of its values and of the tables, and what it makes of them.
+use Rattle.std.specs.Prelude.{◌≡◌, ◌<◌, ◌≤◌, ◌^◌, ⊤, true, find, length, None, Ok}
+use Rattle.oci_manifest.specs.Manifest.{shown, manifest_in}
+use Rattle.oci_names.specs.Digest.{matches}
+use Rattle.registry_model.specs.Ask.{text_in}
+use Rattle.registry_model.specs.Limits.{largest_manifest}
+use Rattle.registry_model.specs.Lookups.{put_manifest}
+use Rattle.store_world.specs.Keys.{of_first, has_key}
+use Rattle.store_world.specs.Tables.{Tables, IsEmptyBeside}
+use Rattle.store_world.specs.Registry.{Agree, is_repo}
+use Rattle.store_world.specs.World.{world_of}
+use Rattle.store_statements.specs.Drops.{dropped}
+use Rattle.store_statements.specs.Steps.{tags_without, grants_without, blobs_without, without_manifest, BlobStored}
+use Rattle.store_statements.specs.StepsFrom.{LinkIsPut}
+use Rattle.store_writes.specs.declared.change.Change.{Change}
+use Rattle.store_writes.specs.declared.change.Change.TheVariants.{AddBlob, AddLink, TakeBlob, TakeBlobs, AddManifest, SetTag, TakeManifest, TakeTag, SetLevel, TakeLevel, TakeLevels, SetRepo, DropRepo, Clear}
+use Rattle.store_writes.specs.Deleting.{without_blob_links}
+use Rattle.store_writes.specs.Naming.{Cleared}
+use Rattle.store_writes.specs.Puts.{LevelIsPut, QuotaIsPut}
+use Rattle.store_writes.specs.Worlds.{StandsFor, tagged}
+
+-- numbers fit a column, and bytes are what is said of them
+abbrev pub Fits : Change → Type 0
+Fits (AddBlob alloc repo digest bytes) = (matches digest.now bytes.now ≡ true) × (length bytes.now < 2 ^ 63)
+Fits (AddLink repo digest link) = link.size < 2 ^ 63
+Fits (AddManifest alloc repo digest bytes manifest tag) =
+    (matches digest.now bytes.now ≡ true) × (manifest_in bytes.now ≡ Ok (shown manifest.now))
+    × (length bytes.now ≤ largest_manifest)
+Fits (SetRepo repo quota) = quota < 2 ^ 63
+Fits _ = ⊤
+
+-- what comes is not there, and what is needed for it is
+abbrev pub Asks : Change → Tables → Type 0
+Asks (AddBlob alloc repo digest bytes) t = find (has_key repo.now digest.now) t.blobs ≡ None
+Asks (AddLink repo digest link) t = find (has_key repo.now digest.now) t.blobs ≡ None
+Asks (AddManifest alloc repo digest bytes manifest tag) t =
+    Agree t × (is_repo t.repos repo.now ≡ true) × (find (has_key repo.now digest.now) t.manifests ≡ None)
+Asks (SetTag repo tag digest) t = Agree t × (is_repo t.repos repo.now ≡ true)
+Asks (DropRepo repo) t = IsEmptyBeside t.beside
+Asks _ t = ⊤
+
+-- of the tables before and after
+abbrev pub Makes : Change → Tables → Tables → Type 0
+Makes (AddBlob alloc repo digest bytes) t u = BlobStored t u repo.now digest.now bytes.now
+Makes (AddLink repo digest link) t u = LinkIsPut t u repo.now digest.now link.size link.content.id
+Makes (TakeBlob repo digest) t u = u ≡ blobs_without (has_key repo.now digest.now) t
+Makes (TakeBlobs repo digests) t u = u ≡ without_blob_links repo.now digests.now t
+Makes (AddManifest alloc repo digest bytes manifest tag) t u =
+    StandsFor u (put_manifest (world_of t) repo.now digest.now bytes.now (text_in tag))
+Makes (SetTag repo tag digest) t u = StandsFor u (tagged (world_of t) repo.now (text_in tag) digest.now)
+Makes (TakeManifest repo digest) t u = u ≡ without_manifest repo.now digest.now t
+Makes (TakeTag repo tag) t u = u ≡ tags_without (has_key repo.now tag.now) t
+Makes (SetLevel token repo level) t u = LevelIsPut t u token.now repo.now level
+Makes (TakeLevel token repo) t u = u ≡ grants_without (has_key token.now repo.now) t
+Makes (TakeLevels token) t u = u ≡ grants_without (of_first token.now) t
+Makes (SetRepo repo quota) t u = QuotaIsPut t u repo.now quota
+Makes (DropRepo repo) t u = u ≡ dropped repo.now t
+Makes (Clear alloc) t u = Cleared t u

@@ -1,0 +1,97 @@
+//! Each change is one transaction.
+ghost use Rattle.std.specs.Prelude.{◌≡◌};
+ghost use Rattle.sqlite.specs.State.{HasCleanDisk, KeepsCommit};
+ghost use Rattle.sqlite.specs.Held.{state};
+ghost use Rattle.store_statements.specs.Between.{CommitsStep, GoesBack, StaysOnMemory};
+ghost use Rattle.store_statements.specs.Clauses.{Lasts, LastsUncommitted, TablesHave};
+ghost use Rattle.store_statements.specs.Held.{IsReady, held};
+ghost use Rattle.store_statements.specs.StepsFrom.{StepsFrom};
+ghost use Rattle.store_writes.specs.Changing.{Asks, Fits, Makes};
+
+use crate::change::Change;
+use crate::content_clearing::clear_contents;
+use crate::deletions::{take_links_to, take_manifest};
+use crate::grant_changes::put_level;
+use crate::manifest_puts::{add_tagged, put_tag_if};
+use crate::quota_changes::put_quota;
+use crate::repo_removal::drop_rows;
+use oci_names::Fault;
+use sqlite::{Alter, Connection, Transaction};
+use store_statements::alone;
+use store_statements::blob_storing::store_blob;
+use store_statements::blobs::{add_blob_link, take_blob_link};
+use store_statements::grants::{take_grant, take_token_grants};
+use store_statements::tags::take_tag;
+use store_statements::telling::checked;
+
+/// Makes a change inside a transaction.
+fn work<S: Alter>(tx: &mut Transaction<'_, S>, change: Change<'_>) -> Result<(), Fault>
+    requires fits { Fits change }
+    ensures made { StepsFrom S.Store tx.old.conn.now tx.new.conn.now result (Asks change.entry)
+        (Makes change.entry) }
+    ensures kept { HasCleanDisk (state S.Store tx.new.conn.now) → IsReady (state S.Store tx.old.conn.now)
+        → Asks change.entry (held (state S.Store tx.old.conn.now))
+        → KeepsCommit (state S.Store tx.old.conn.now) (state S.Store tx.new.conn.now) }
+    ensures same_reference { tx.new.conn.ghost_name ≡ tx.old.conn.ghost_name }
+    ensures survives { LastsUncommitted S.Store tx.old.conn.now tx.new.conn.now }
+{
+    match change {
+        Change::AddBlob {
+            alloc,
+            repo,
+            digest,
+            bytes,
+        } => store_blob(alloc, tx, repo, digest, bytes),
+        Change::AddLink { repo, digest, link } => add_blob_link(
+            tx,
+            repo,
+            digest,
+            link.size,
+            link.content,
+        ),
+        Change::TakeBlob { repo, digest } => take_blob_link(tx, repo, digest),
+        Change::TakeBlobs { repo, digests } => take_links_to(tx, repo, digests),
+        Change::AddManifest {
+            alloc,
+            repo,
+            digest,
+            bytes,
+            manifest,
+            tag,
+        } => add_tagged(alloc, tx, repo, digest, bytes, manifest, tag),
+        Change::SetTag { repo, tag, digest } => put_tag_if(tx, repo, tag, digest),
+        Change::TakeManifest { repo, digest } => take_manifest(tx, repo, digest),
+        Change::TakeTag { repo, tag } => take_tag(tx, repo, tag),
+        Change::SetLevel { token, repo, level } => put_level(tx, token, repo, level),
+        Change::TakeLevel { token, repo } => take_grant(tx, token, repo),
+        Change::TakeLevels { token } => take_token_grants(tx, token),
+        Change::SetRepo { repo, quota } => put_quota(tx, repo, quota),
+        Change::DropRepo { repo } => drop_rows(tx, repo),
+        Change::Clear { alloc } => clear_contents(alloc, tx),
+    }
+}
+
+/// Makes a change in a transaction of its own.
+fn make_alone<S: Alter>(conn: &mut Connection<S>, change: Change<'_>) -> Result<(), Fault>
+    requires fits { Fits change }
+    ensures made { TablesHave S.Store conn.old (Asks change.entry)
+        → CommitsStep S.Store conn.old conn.new result (Makes change.entry) }
+    ensures back { TablesHave S.Store conn.old (Asks change.entry)
+        → GoesBack S.Store conn.old conn.new result }
+    ensures survives { Lasts S.Store conn.old conn.new }
+{
+    alone!(conn, tx, work(&mut tx, change))
+}
+
+/// The same, and a failure is told as the store's caller sees it.
+pub(crate) fn make<S: Alter>(conn: &mut Connection<S>, change: Change<'_>) -> Result<(), Fault>
+    requires fits { Fits change }
+    ensures made { TablesHave S.Store conn.old (Asks change.entry)
+        → CommitsStep S.Store conn.old conn.new result (Makes change.entry) }
+    ensures memory { TablesHave S.Store conn.old (Asks change.entry)
+        → StaysOnMemory S.Store conn.old conn.new result }
+    ensures survives { Lasts S.Store conn.old conn.new }
+{
+    let done = make_alone(conn, change);
+    checked(conn, done)
+}
