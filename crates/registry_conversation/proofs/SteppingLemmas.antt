@@ -1,5 +1,5 @@
 -- What a turn comes to, from its parts.
-use Rattle.std.proofs.Common.{◌≡◌, ℕ, ◌<◌, ◌≤◌, ◌⊎◌, ◌==◌, inl, inr, Bool, true, false, [], ◌∷◌, ◌++◌, length, take, drop, Some, refl, sym, ap, ◌∙◌, subst, append-nil, append_assoc, length-append, arith}
+use Rattle.std.proofs.Common.{◌≡◌, ℕ, ◌+◌, ◌<◌, ◌≤◌, ◌⊎◌, ◌==◌, inl, inr, Bool, true, false, [], ◌∷◌, ◌++◌, length, take, drop, Some, refl, sym, ap, ◌∙◌, subst, append-nil, append_assoc, length-append, length-take, length-drop, le_of_eq, arith}
 use Rattle.std.proofs.lemmas.Bool.Decides.{nat_tests}
 use Rattle.std.proofs.lemmas.List.{drop-append-le}
 use Rattle.std.specs.Bool.{MatchBool}
@@ -25,7 +25,7 @@ use Rattle.registry_conversation.specs.declared.phase.Phase.{Phase}
 use Rattle.registry_conversation.specs.declared.phase.Phase.TheVariants as phase
 use Rattle.registry_conversation.specs.declared.phase.Step.{Step}
 use Rattle.registry_conversation.specs.declared.phase.Step.TheVariants as step
-use Rattle.registry_conversation.specs.Shown.{Shown, with_more, with_phase}
+use Rattle.registry_conversation.specs.Shown.{Shown, with_more, with_phase, coming_len}
 use Rattle.registry_conversation.specs.Headings.{BeginsAt}
 use Rattle.registry_conversation.specs.declared.heading.Heading.{Heading}
 use Rattle.registry_conversation.specs.declared.part.Part.{Part}
@@ -106,6 +106,30 @@ waited_closed found b before old new s w none unsaid is holds = by_flag old.fini
         subst (λ (k : Step). ActsAs k b before old.going s s new) (sym x.0)
         (subst (λ (c : Shown). ActsAs step.Waits b before old.going s s c) (sym x.1)
         (record { goes_on = e; cut = inl none; before_is = is; holds = holds; put = refl; same = refl }))
+
+-- ---- what is held grows in no turn
+
+pub none_left : (old new : Shown) → coming_len new ≡ 0 → coming_len new ≤ coming_len old
+none_left old new none = omega arith
+
+pub passed : (count : ℕ) (old : Shown) (taken unread : Text) → taken ≡ old.taken ++ take count old.unread → unread ≡ drop count old.unread
+    → length taken + length unread ≤ coming_len old
+passed count old taken unread front rest = omega (
+  arith,
+  ap length front,
+  ap length rest,
+  length-append old.taken (take count old.unread),
+  length-take count old.unread,
+  length-drop count old.unread,
+)
+
+pub waited_same : (found : Step) (e : End) (old new : Shown) → Waited found e old new → (new.finished ≡ old.finished) × (coming_len new ≤ coming_len old)
+waited_same found e old new w = by_flag old.finished w
+  where
+    by_flag : (f : Bool) → MatchBool f ((found ≡ step.Ended e) × (new ≡ with_phase old (phase.Ended e))) ((found ≡ step.Waits) × (new ≡ old))
+        → (new.finished ≡ old.finished) × (coming_len new ≤ coming_len old)
+    by_flag true x = (ap (λ (k : Shown). k.finished) x.1, le_of_eq (ap coming_len x.1))
+    by_flag false x = (ap (λ (k : Shown). k.finished) x.1, le_of_eq (ap coming_len x.1))
 
 -- ---- bytes came
 

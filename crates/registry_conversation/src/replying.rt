@@ -10,8 +10,8 @@ ghost use Rattle.registry_http.specs.ReplyText.{reply_text};
 ghost use Rattle.registry_http.specs.Reading.{HeadFits};
 ghost use Rattle.registry_conversation.specs.Headings.{IsTaken};
 
+use crate::answering::answer;
 use httparse::spans::{HeaderSpan, RequestSpans};
-use registry_connection::answering::answer;
 use registry_http::persistence::closes;
 use registry_http::target::is_head;
 use registry_http::{WriteFault, write_reply};

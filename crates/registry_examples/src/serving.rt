@@ -2,8 +2,7 @@
 
 use crate::requests::Request;
 use anyhow::{Result, bail};
-use registry_connection::serve_connection;
-use registry_conversation::{Conversation, Step};
+use registry_conversation::{Conversation, Step, serve_connection};
 use registry_model::Keeper;
 use registry_service::Service;
 use std::alloc::Global;

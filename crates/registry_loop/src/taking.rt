@@ -17,6 +17,17 @@ use std::io;
 use std::io::{ErrorKind, Write};
 use std::time::Clock;
 
+/// What came of a look for the next connection.
+#[derive(Clone, Copy)]
+enum Came {
+    /// None is there, or none may be taken now.
+    Nobody,
+    /// One was there, and another may be.
+    Somebody,
+    /// Likewise, but memory was wanting for it.
+    TurnedAway,
+}
+
 impl Sockets {
     /// Whether one more may be taken. Where there is no room, the one goes that has rested longest.
     fn has_room(&mut self, connections: &mut Connections, at_once: usize) -> bool
@@ -56,50 +67,47 @@ impl Sockets {
         }
     }
 
-    /// What it comes to that none was taken. An error is that none can be, and nobody is there.
-    fn none_taken(&mut self, error: io::Error) -> io::Result<bool> {
-        match error.kind() {
-            ErrorKind::WouldBlock => {
-                self.knocks = false;
-                Ok(false)
-            }
-            ErrorKind::ConnectionAborted | ErrorKind::Interrupted => Ok(true),
-            _ if self.peers.is_empty() => Err(error),
-            _ => Ok(false),
-        }
-    }
-}
-
-impl<'a, T: Clock, E: Write> Crowd<'a, T, E> {
     /// Takes a connection that came. Where memory is wanting for it, it is told so and closed, as where the
     /// system refuses it.
-    fn welcome(&mut self, alloc: Global, connections: &mut Connections, stream: TcpStream)
+    fn welcome(&mut self, alloc: Global, connections: &mut Connections, stream: TcpStream) -> Came
         ensures { Carries (connected connections.old) (connected connections.new) }
     {
         let mut stream = stream;
         let _ = stream.set_nodelay(true);
         let Ok(number) = connections.open(alloc) else {
             let _ = write_refusal(FramingRefusal::NoBufferMemory, &mut stream);
-            self.log.say_turned_away(alloc, self.clock);
-            return;
+            return Came::TurnedAway;
         };
-        if !self.sockets.keep(number, stream) {
-            let _ = connections.close(number);
+        if self.keep(number, stream) {
+            return Came::Somebody;
+        }
+        let _ = connections.close(number);
+        Came::Somebody
+    }
+
+    /// What it comes to that none was taken. An error is that none can be, and nobody is there.
+    fn none_taken(&mut self, error: io::Error) -> io::Result<Came> {
+        match error.kind() {
+            ErrorKind::WouldBlock => {
+                self.knocks = false;
+                Ok(Came::Nobody)
+            }
+            ErrorKind::ConnectionAborted | ErrorKind::Interrupted => Ok(Came::Somebody),
+            _ if self.peers.is_empty() => Err(error),
+            _ => Ok(Came::Nobody),
         }
     }
 
-    /// Takes the next one that came, and says whether another may be there. An error is that none can be
-    /// taken, and nobody is there.
-    fn accept_next(&mut self, alloc: Global, connections: &mut Connections) -> io::Result<bool>
+    /// Takes the next one that came. An error is that none can be taken, and nobody is there.
+    fn accept_next(&mut self, alloc: Global, connections: &mut Connections) -> io::Result<Came>
         ensures { Carries (connected connections.old) (connected connections.new) }
     {
-        match self.sockets.listener.accept() {
+        match self.listener.accept() {
             Ok((stream, _)) => {
-                self.sockets.left = self.sockets.left.saturating_sub(1);
-                self.welcome(alloc, connections, stream);
-                Ok(true)
+                self.left = self.left.saturating_sub(1);
+                Ok(self.welcome(alloc, connections, stream))
             }
-            Err(error) => self.sockets.none_taken(error),
+            Err(error) => self.none_taken(error),
         }
     }
 
@@ -109,17 +117,19 @@ impl<'a, T: Clock, E: Write> Crowd<'a, T, E> {
         alloc: Global,
         connections: &mut Connections,
         at_once: usize,
-    ) -> io::Result<bool>
+    ) -> io::Result<Came>
         ensures { Carries (connected connections.old) (connected connections.new) }
     {
-        if self.sockets.takes_next(connections, at_once) {
+        if self.takes_next(connections, at_once) {
             self.accept_next(alloc, connections)
         } else {
-            Ok(false)
+            Ok(Came::Nobody)
         }
     }
+}
 
-    /// Takes those who came, as far as they may be taken.
+impl<'a, T: Clock, E: Write> Crowd<'a, T, E> {
+    /// Takes those who came, as far as they may be taken, and says who was turned away.
     pub(crate) fn accept_all(
         &mut self,
         alloc: Global,
@@ -129,9 +139,10 @@ impl<'a, T: Clock, E: Write> Crowd<'a, T, E> {
         ensures { Carries (connected connections.old) (connected connections.new) }
     {
         for _ in 0..EVENTS {
-            let more = self.accept_one(alloc, connections, at_once)?;
-            if !more {
-                return Ok(());
+            match self.sockets.accept_one(alloc, connections, at_once)? {
+                Came::Somebody => {}
+                Came::TurnedAway => self.log.say_turned_away(alloc, self.clock),
+                Came::Nobody => return Ok(()),
             }
         }
         Ok(())

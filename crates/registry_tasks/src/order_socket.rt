@@ -59,6 +59,20 @@ fn settle(rt: &HostRuntime, listener: &UnixListener, beside: &str, path: &str) -
     fs::rename(rt, beside, path)
 }
 
+/// Listens at a path, by way of another one beside it. What a dead server left at either is taken away.
+fn listen_by(rt: &HostRuntime, beside: &str, path: &str) -> Result<UnixListener, Option<Cause>> {
+    clear(rt, path)?;
+    clear(rt, beside)?;
+    let listener = UnixListener::bind(rt, beside).map_err(cause_of_error)?;
+    match settle(rt, &listener, beside, path) {
+        Ok(()) => Ok(listener),
+        Err(error) => {
+            let _ = fs::remove_file(rt, beside);
+            Err(cause_of(error.kind()))
+        }
+    }
+}
+
 /// Listens for orders at a path. What a dead server left there is taken away. The socket is bound at the
 /// path with `.new` behind it, given mode 0600 there, and moved. An error has what is wrong with the path,
 /// as far as it can be seen; a path of more than 103 bytes is none of a socket.
@@ -67,18 +81,9 @@ pub fn listen_for_orders(
     alloc: Global,
     path: &str,
 ) -> Result<UnixListener, Option<Cause>> {
-    let Ok(beside) = format!(in alloc; "{path}.new") else {
-        return Err(None);
-    };
-    clear(rt, path)?;
-    clear(rt, beside.as_str())?;
-    let listener = UnixListener::bind(rt, beside.as_str()).map_err(cause_of_error)?;
-    match settle(rt, &listener, beside.as_str(), path) {
-        Ok(()) => Ok(listener),
-        Err(error) => {
-            let _ = fs::remove_file(rt, beside.as_str());
-            Err(cause_of(error.kind()))
-        }
+    match format!(in alloc; "{path}.new") {
+        Ok(beside) => listen_by(rt, beside.as_str(), path),
+        Err(_) => Err(None),
     }
 }
 

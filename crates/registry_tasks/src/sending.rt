@@ -80,24 +80,28 @@ fn read_all<R: Read + Drop>(alloc: Global, reader: R) -> Result<Vec<u8>, Failure
     }
 }
 
+/// What is answered over a stream to a line.
+fn answered(alloc: Global, stream: &UnixStream, line: &str) -> Result<Vec<u8>, Failure>
+    ensures { IfErr result IsOfSending }
+{
+    let mut writer = stream;
+    write_line(alloc, line, &mut writer)?;
+    match stream.shutdown(Shutdown::Write) {
+        Ok(()) => read_all(alloc, stream),
+        Err(_) => Err(Failure::ConnectionFailure),
+    }
+}
+
 /// What the server that takes orders at a path answers to a line.
 fn ask(rt: &HostRuntime, alloc: Global, path: &str, line: &str) -> Result<Vec<u8>, NoAnswer>
     ensures { IfErr result (λ none. IsOfSending none.failure) }
 {
-    let stream = match UnixStream::connect(rt, path) {
-        Ok(stream) => stream,
-        Err(error) => {
-            return Err(NoAnswer {
-                failure: Failure::ConnectionFailure,
-                cause: cause_of_connecting(error.kind()),
-            });
-        }
-    };
-    let mut writer = &stream;
-    write_line(alloc, line, &mut writer)?;
-    match stream.shutdown(Shutdown::Write) {
-        Ok(()) => Ok(read_all(alloc, &stream)?),
-        Err(_) => Err(NoAnswer::from(Failure::ConnectionFailure)),
+    match UnixStream::connect(rt, path) {
+        Ok(stream) => Ok(answered(alloc, &stream, line)?),
+        Err(error) => Err(NoAnswer {
+            failure: Failure::ConnectionFailure,
+            cause: cause_of_connecting(error.kind()),
+        }),
     }
 }
 

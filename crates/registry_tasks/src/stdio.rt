@@ -5,7 +5,7 @@ ghost use Rattle.registry_tasks.specs.Failures.{ended_as};
 ghost use Rattle.registry_tasks.specs.Program.{streams, ServesMemory, ServesSetUp, ServesStored};
 
 use order_carrying::Ended;
-use registry_connection::serve_connection;
+use registry_conversation::serve_connection;
 use registry_http::End;
 use registry_maps::MapKeeper;
 use registry_model::Keeper;

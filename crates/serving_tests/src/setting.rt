@@ -3,7 +3,7 @@
 
 use crate::texts::filled;
 use oci_names::{RepoName, Token};
-use registry_connection::serve_connection;
+use registry_conversation::serve_connection;
 use registry_http::End;
 use registry_maps::MapKeeper;
 use registry_model::{AdminCommand, Level, Quota};

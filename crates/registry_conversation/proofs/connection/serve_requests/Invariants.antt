@@ -1,7 +1,7 @@
 use Rattle.std.proofs.Common.{◌≡◌, []}
 use Rattle.registry_http.specs.Intaking.{taken, unread, weight}
 use Rattle.registry_http.proofs.ConnectionProgress.{Progress}
-use Rattle.registry_connection.proofs.connection.serve_connection.Given as goal
+use Rattle.registry_conversation.proofs.connection.serve_requests.Given as goal
 
 -- the requests so far are answered, and what is unread and what the reader has left follow them
 abbrev pub invariant-requests : goal.invariant-requests

@@ -1,11 +1,11 @@
-ghost use Rattle.std.specs.Prelude.{◌≡◌, ◌≤◌, length, take};
+ghost use Rattle.std.specs.Prelude.{◌≡◌, ◌≤◌, [], length, take};
 ghost use Rattle.registry_model.specs.Answer.{Answer};
 ghost use Rattle.registry_model.specs.Doing.{Does};
 ghost use Rattle.registry_http.specs.Asking.{ask_in};
 ghost use Rattle.registry_http.specs.Spelling.{Item};
 ghost use Rattle.registry_http.specs.Serving.{reply_for, Serves};
 ghost use Rattle.registry_http.specs.Sending.{SendsReply};
-ghost use Rattle.registry_http.specs.Intaking.{taken};
+ghost use Rattle.registry_http.specs.Intaking.{taken, unread};
 ghost use Rattle.registry_http.specs.Reading.{HeadFits, RequestIsReady};
 ghost use Rattle.registry_http.specs.Ending.{SendsRefusal, StopsWith};
 
@@ -71,6 +71,55 @@ fn finish<W: Write>(writer: &mut W, stop: Stop) -> End
     }
 }
 
+/// Reads requests into the room of a connection that has come to nothing yet, answers them one after the
+/// other, and writes the replies, to its end.
+fn serve_requests<R: Read, W: Write, K: Keeper>(
+    alloc: Global,
+    service: &mut Service<K>,
+    intake: &mut Intake,
+    reader: &mut R,
+    writer: &mut W,
+) -> End
+    requires unread { unread intake.old ≡ [] }
+    requires taken { taken intake.old ≡ [] }
+    ensures honest { K.is_honest service.new → K.is_honest service.old }
+    ensures serves { K.is_honest service.new → Serves result (record {
+      left = R.remaining reader.old;
+      left' = R.remaining reader.new;
+      held = W.contents writer.old;
+      held' = W.contents writer.new;
+      state = K.state service.old;
+      state' = K.state service.new;
+    }) }
+{
+    'requests: loop {
+        let ready = match intake.next_head(reader) {
+            Ok(ready) => ready,
+            Err(stop) => return finish(writer, stop),
+        };
+        match write_continue(ready.awaits, writer) {
+            Ok(()) => {}
+            Err(fault) => return End::WriteFailed {
+                written: fault.written,
+            },
+        }
+        match intake.read_body(reader, ready.spans.len, ready.framing) {
+            Ok(()) => {}
+            Err(stop) => return finish(writer, stop),
+        }
+        match reply_to(alloc, service, intake, &ready, writer) {
+            Ok(()) => {}
+            Err(fault) => return End::WriteFailed {
+                written: fault.written,
+            },
+        }
+        intake.discard();
+        if ready.closes {
+            return End::Closed;
+        }
+    }
+}
+
 /// Serves one connection to its end: reads requests, answers them one after the other, and writes
 /// the replies (RFC 9112; OCI Distribution Specification 1.1).
 ///
@@ -97,34 +146,12 @@ pub fn serve_connection<R: Read, W: Write, K: Keeper>(
       state' = K.state service.new;
     }) }
 {
-    let mut intake = match Intake::new(alloc) {
-        Ok(intake) => intake,
-        Err(_) => return refuse(writer, FramingRefusal::NoBufferMemory),
-    };
-    'requests: loop {
-        let ready = match intake.next_head(reader) {
-            Ok(ready) => ready,
-            Err(stop) => return finish(writer, stop),
-        };
-        match write_continue(ready.awaits, writer) {
-            Ok(()) => {}
-            Err(fault) => return End::WriteFailed {
-                written: fault.written,
-            },
+    match Intake::new(alloc) {
+        Ok(intake) => {
+            // Its room is let go in one place.
+            let mut intake = intake;
+            serve_requests(alloc, service, &mut intake, reader, writer)
         }
-        match intake.read_body(reader, ready.spans.len, ready.framing) {
-            Ok(()) => {}
-            Err(stop) => return finish(writer, stop),
-        }
-        match reply_to(alloc, service, &intake, &ready, writer) {
-            Ok(()) => {}
-            Err(fault) => return End::WriteFailed {
-                written: fault.written,
-            },
-        }
-        intake.discard();
-        if ready.closes {
-            return End::Closed;
-        }
+        Err(_) => refuse(writer, FramingRefusal::NoBufferMemory),
     }
 }

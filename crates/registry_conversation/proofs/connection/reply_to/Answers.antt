@@ -12,7 +12,7 @@ use Rattle.registry_http.specs.Intaking.{taken}
 use Rattle.registry_http.specs.Spelling.{closes}
 use Rattle.registry_http.specs.Sending.{SendsReply}
 use Rattle.registry_http.proofs.TextPlaces.{behind}
-use Rattle.registry_connection.proofs.connection.reply_to.Goals as goal
+use Rattle.registry_conversation.proofs.connection.reply_to.Goals as goal
 
 pub returns-clause-replies : goal.returns-clause-replies
 returns-clause-replies g c = λ honest i ready.
