@@ -4,12 +4,12 @@ use Rattle.std.proofs.lemmas.Bool.Decides.{nat_tests}
 use Rattle.std.specs.Prelude.{Result, Option, option_map, is_some, length, nat_lt, ◌&&◌}
 use Rattle.std.specs.Option.{option_and_then}
 use Rattle.std.specs.FinMap.{get}
-use Rattle.oci_names.specs.Text.{Text}
-use Rattle.oci_names.specs.Digest.{is_digest, is_verified, matches, verdict_of}
-use Rattle.oci_names.specs.declared.digest.Verdict.TheVariants.{Matches, Differs, Unsupported}
+use Rattle.oci_types.specs.Text.{Text}
+use Rattle.oci_types.specs.Digest.{is_digest, is_verified, matches, verdict_of}
+use Rattle.oci_types.specs.declared.digest.Verdict.TheVariants.{Matches, Differs, Unsupported}
 use Rattle.registry_model.specs.declared.refusal.Refusal.TheVariants.{BlobUnknown, InvalidDigest, DigestMismatch, ContentTooLarge, QuotaExceeded}
 use Rattle.registry_model.specs.declared.reply.Status.TheVariants.{Accepted}
-use Rattle.oci_names.specs.declared.fault.Fault.{Fault}
+use Rattle.oci_types.specs.declared.fault.Fault.{Fault}
 use Rattle.registry_model.specs.declared.reply.Reply.{Reply}
 use Rattle.operation_parts.specs.Operating.{Operates}
 use Rattle.registry_model.specs.World.{Repo, World, repo_at, has_repo, update_repo}

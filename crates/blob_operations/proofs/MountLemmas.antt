@@ -4,9 +4,9 @@ use Rattle.std.specs.Prelude.{Option, option_map, is_some, nat_lt}
 use Rattle.std.specs.Option.{option_and_then, option_map_or}
 use Rattle.std.specs.FinMap.{get}
 use Rattle.std.proofs.lemmas.Option.{same_Some}
-use Rattle.oci_names.specs.Text.{Text}
-use Rattle.oci_names.specs.Digest.{is_digest}
-use Rattle.oci_names.specs.RepoName.{is_repo_name}
+use Rattle.oci_types.specs.Text.{Text}
+use Rattle.oci_types.specs.Digest.{is_digest}
+use Rattle.oci_types.specs.RepoName.{is_repo_name}
 use Rattle.registry_model.specs.declared.refusal.Refusal.TheVariants.{InvalidDigest, QuotaExceeded}
 use Rattle.registry_model.specs.World.{Repo, World, repo_at}
 use Rattle.registry_model.specs.Decision.{refuses, makes}

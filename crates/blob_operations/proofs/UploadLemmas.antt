@@ -5,8 +5,8 @@ use Rattle.std.specs.Option.{option_and_then, option_map_or}
 use Rattle.std.specs.FinMap.{get, len}
 use Rattle.std.proofs.lemmas.Bool.Decides.{nat_tests}
 use Rattle.std.proofs.lemmas.Option.{same_Some}
-use Rattle.oci_names.specs.Text.{Text}
-use Rattle.oci_names.specs.SessionNumber.{session_number_of}
+use Rattle.oci_types.specs.Text.{Text}
+use Rattle.oci_types.specs.SessionNumber.{session_number_of}
 use Rattle.registry_model.specs.declared.range.RangeVerdict.{RangeVerdict}
 use Rattle.registry_model.specs.declared.range.RangeVerdict.TheVariants.{Fits, Malformed, OutOfOrder, Unequal}
 use Rattle.registry_model.specs.declared.refusal.Refusal.TheVariants.{ContentTooLarge, QuotaExceeded, UploadUnknown, TooManyUploads}

@@ -1,6 +1,6 @@
 -- Where a blob is mounted from, as it is looked up.
 use Rattle.std.specs.Prelude.{length, Option, Some, None, option_map}
-use Rattle.oci_names.specs.Text.{Text}
+use Rattle.oci_types.specs.Text.{Text}
 use Rattle.registry_model.specs.World.{World, repo_at}
 use Rattle.registry_model.specs.Mount.{source}
 use Rattle.blob_operations.specs.declared.mounting.Source.{Source}

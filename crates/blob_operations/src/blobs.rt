@@ -1,12 +1,12 @@
 ghost use Rattle.std.specs.Prelude.{◌≡◌, ◌≤◌, true, length};
-ghost use Rattle.oci_names.specs.Digest.{matches};
+ghost use Rattle.oci_types.specs.Digest.{matches};
 ghost use Rattle.registry_model.specs.Limits.{largest_blob};
 ghost use Rattle.registry_model.specs.Decision.{within_quota};
 ghost use Rattle.registry_model.specs.Blobs.{created_blob, with_blob, read_blob, size_blob, delete_blob, push_blob};
 ghost use Rattle.registry_model.specs.Keeping.{Spends};
 ghost use Rattle.operation_parts.specs.Operating.{Operates, IsUnspent, HasRepo, Answers, Carries};
 
-use oci_names::{Digest, Fault, RepoName, Verdict};
+use oci_types::{Digest, Fault, RepoName, Verdict};
 use operation_parts::digests::read_digest;
 use operation_parts::quota::blob_goes_over;
 use operation_parts::replies::{blob_location, created_blob, found};

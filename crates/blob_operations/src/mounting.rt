@@ -11,7 +11,7 @@ ghost use Rattle.blob_operations.specs.Mounting.{source_at};
 ghost use Rattle.operation_parts.specs.Finding.{Finds};
 
 use crate::uploads::open_session;
-use oci_names::{Digest, Fault, NameFault, RepoName, Token};
+use oci_types::{Digest, Fault, NameFault, RepoName, Token};
 use operation_parts::digests::read_digest;
 use operation_parts::quota::blob_goes_over;
 use operation_parts::replies::{blob_location, created_blob};

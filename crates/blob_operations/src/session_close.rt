@@ -1,7 +1,7 @@
 //! The end of an upload session: its bytes become a blob.
 
 ghost use Rattle.std.specs.Prelude.{◌≡◌, ◌≤◌, ◌+◌, ◌++◌, true, length};
-ghost use Rattle.oci_names.specs.Digest.{is_verified};
+ghost use Rattle.oci_types.specs.Digest.{is_verified};
 ghost use Rattle.registry_model.specs.Limits.{largest_blob};
 ghost use Rattle.registry_model.specs.Ask.{text_in};
 ghost use Rattle.registry_model.specs.Keeping.{Spends};
@@ -11,7 +11,7 @@ ghost use Rattle.operation_parts.specs.Operating.{Operates, IsUnspent, HasRepo, 
 ghost use Rattle.blob_operations.specs.Uploads.{bytes_so_far, finish_with, IsOpen};
 
 use crate::uploads::{Upload, chunk_refusal, find_upload};
-use oci_names::{Digest, Fault, RepoName};
+use oci_types::{Digest, Fault, RepoName};
 use operation_parts::digests::{has_digest, verifiable_digest};
 use operation_parts::quota::blob_goes_over;
 use operation_parts::replies::{blob_location, created_blob};

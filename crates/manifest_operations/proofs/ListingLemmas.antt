@@ -4,9 +4,9 @@ use Rattle.std.specs.Prelude.{Option, filter}
 use Rattle.std.specs.Option.{option_map_or}
 use Rattle.std.specs.List.{filter_map, cons_option, last_or, slice_get}
 use Rattle.std.proofs.lemmas.List.Elements.{filter_map-append, filter-append}
-use Rattle.oci_names.specs.Text.{Text}
-use Rattle.oci_names.specs.Digest.{is_digest}
-use Rattle.oci_manifest.specs.Referrers.{ReferrerShown}
+use Rattle.oci_types.specs.Text.{Text}
+use Rattle.oci_types.specs.Digest.{is_digest}
+use Rattle.oci_types.specs.Referrers.{ReferrerShown}
 use Rattle.registry_model.specs.declared.refusal.Refusal.TheVariants.{InvalidDigest, InvalidPageSize}
 use Rattle.registry_model.specs.World.{repo_at, has_repo}
 use Rattle.registry_model.specs.Answer.{Answer, refused}

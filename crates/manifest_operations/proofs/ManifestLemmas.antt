@@ -4,19 +4,19 @@ use Rattle.std.proofs.lemmas.Bool.{false≢true, false_from_ne_true}
 use Rattle.std.specs.Prelude.{Bool, Option, option_map, is_some, length, Result}
 use Rattle.std.specs.Option.{option_and_then}
 use Rattle.std.specs.FinMap.{get}
-use Rattle.oci_names.specs.Text.{Text}
-use Rattle.oci_names.specs.Tag.{is_tag}
-use Rattle.oci_names.specs.Digest.{is_digest}
-use Rattle.oci_names.specs.Reference.{is_reference}
-use Rattle.oci_names.specs.declared.fault.Fault.{Fault}
-use Rattle.oci_names.specs.declared.fault.NameFault.{NameFault}
-use Rattle.oci_names.specs.declared.fault.NameFault.TheVariants.{Memory, Reference as NoReference}
-use Rattle.oci_names.proofs.ReferenceLaw.{no_tag_is_digest}
-use Rattle.oci_manifest.specs.declared.kind.Kind.{Kind}
+use Rattle.oci_types.specs.Text.{Text}
+use Rattle.oci_types.specs.Tag.{is_tag}
+use Rattle.oci_types.specs.Digest.{is_digest}
+use Rattle.oci_types.specs.Reference.{is_reference}
+use Rattle.oci_types.specs.declared.fault.Fault.{Fault}
+use Rattle.oci_types.specs.declared.fault.NameFault.{NameFault}
+use Rattle.oci_types.specs.declared.fault.NameFault.TheVariants.{Memory, Reference as NoReference}
+use Rattle.oci_types.proofs.ReferenceLaw.{no_tag_is_digest}
+use Rattle.oci_types.specs.declared.kind.Kind.{Kind}
 use Rattle.registry_model.specs.declared.refusal.Refusal.TheVariants.{ManifestUnknown}
 use Rattle.registry_model.specs.declared.reply.Reply.{Reply}
 use Rattle.registry_model.specs.declared.reply.Status.TheVariants.{OK}
-use Rattle.oci_manifest.specs.Kind.{media_type_of}
+use Rattle.oci_types.specs.Kind.{media_type_of}
 use Rattle.registry_model.specs.World.{Repo, repo_at, has_repo}
 use Rattle.registry_model.specs.Answer.{Answer, Content, bare_answer, refused, sent, unsent}
 use Rattle.registry_model.specs.Decision.{Decision, refuses, tells}

@@ -14,8 +14,8 @@ use Rattle.std.proofs.Math.Seq.{take-suc}
 use Rattle.std.proofs.lemmas.List.{take_all}
 use Rattle.std.proofs.lemmas.List.Folds.{list_any-append}
 use Rattle.std.proofs.lemmas.Map.Text.{is_eq-slice_cmp}
-use Rattle.oci_names.specs.Text.{Text}
-use Rattle.oci_names.specs.declared.fault.Fault.{Fault}
+use Rattle.oci_types.specs.Text.{Text}
+use Rattle.oci_types.specs.declared.fault.Fault.{Fault}
 use Rattle.registry_model.specs.World.{World, Repo, text_cmp, repo_at, with_repo, update_repo}
 use Rattle.registry_model.specs.Lookups.{blob_digests_at, manifest_digests_at}
 use Rattle.registry_model.specs.Pruning.{names_in, is_among, is_named, pruned, prune, without_blobs, delete_blobs}

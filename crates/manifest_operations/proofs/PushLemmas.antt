@@ -6,17 +6,17 @@ use Rattle.std.specs.List.{list_all}
 use Rattle.std.specs.FinMap.{get}
 use Rattle.std.proofs.Math.Seq.{take-suc}
 use Rattle.std.proofs.lemmas.List.Folds.{list_all-append}
-use Rattle.oci_names.specs.Text.{Text}
-use Rattle.oci_names.specs.Tag.{is_tag}
-use Rattle.oci_names.specs.Digest.{is_digest, is_verified, matches, sha256_digest, verdict_of}
-use Rattle.oci_names.specs.Reference.{IsSaidBy}
-use Rattle.oci_names.specs.declared.reference.Reference.{Reference}
-use Rattle.oci_names.specs.declared.reference.Reference.TheVariants.{Tag, Digest}
-use Rattle.oci_names.specs.declared.fault.Fault.{Fault}
-use Rattle.oci_names.specs.declared.digest.Verdict.{Verdict}
-use Rattle.oci_names.specs.declared.digest.Verdict.TheVariants.{Matches, Differs, Unsupported}
-use Rattle.oci_manifest.specs.declared.fault.ManifestFault.{ManifestFault}
-use Rattle.oci_manifest.specs.Manifest.{ManifestShown, manifest_in}
+use Rattle.oci_types.specs.Text.{Text}
+use Rattle.oci_types.specs.Tag.{is_tag}
+use Rattle.oci_types.specs.Digest.{is_digest, is_verified, matches, sha256_digest, verdict_of}
+use Rattle.oci_types.specs.Reference.{IsSaidBy}
+use Rattle.oci_types.specs.declared.reference.Reference.{Reference}
+use Rattle.oci_types.specs.declared.reference.Reference.TheVariants.{Tag, Digest}
+use Rattle.oci_types.specs.declared.fault.Fault.{Fault}
+use Rattle.oci_types.specs.declared.digest.Verdict.{Verdict}
+use Rattle.oci_types.specs.declared.digest.Verdict.TheVariants.{Matches, Differs, Unsupported}
+use Rattle.oci_types.specs.declared.manifest_fault.ManifestFault.{ManifestFault}
+use Rattle.oci_types.specs.Manifest.{ManifestShown, manifest_in}
 use Rattle.registry_model.specs.declared.refusal.Refusal.TheVariants.{InvalidReference, ContentTooLarge, InvalidDigest, DigestMismatch, InvalidManifest, ManifestBlobUnknown, QuotaExceeded}
 use Rattle.registry_model.specs.declared.reply.Reply.{Reply}
 use Rattle.registry_model.specs.World.{Repo, World, repo_at, has_repo}

@@ -1,8 +1,8 @@
 -- The list of referrers, by the steps in which it is made.
 use Rattle.std.specs.Prelude.{List, [], ◌∷◌, Bool, true, Option, Some, None, filter, if◌then◌else◌}
 use Rattle.std.specs.List.{filter_map}
-use Rattle.oci_names.specs.Text.{Text}
-use Rattle.oci_manifest.specs.Referrers.{ReferrerShown}
+use Rattle.oci_types.specs.Text.{Text}
+use Rattle.oci_types.specs.Referrers.{ReferrerShown}
 use Rattle.registry_model.specs.Manifests.{is_text}
 use Rattle.registry_model.specs.Referrers.{referrer_in, is_wanted}
 

@@ -4,7 +4,7 @@ use Rattle.std.specs.Option.{option_map_or}
 use Rattle.std.specs.List.{list_any}
 use Rattle.std.specs.BTreeSet.{BTreeSet, contains}
 use Rattle.std.specs.FinMap.{keys}
-use Rattle.oci_names.specs.Text.{Text}
+use Rattle.oci_types.specs.Text.{Text}
 use Rattle.registry_model.specs.World.{Repo, World, text_cmp, repo_at}
 use Rattle.registry_model.specs.Lookups.{manifest_bytes_at}
 use Rattle.registry_model.specs.Pruning.{names_in, is_among, is_named}

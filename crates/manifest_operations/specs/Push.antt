@@ -2,15 +2,15 @@
 use Rattle.std.specs.Prelude.{List, Bool, not, Option, None, Some, is_some, if◌then◌else◌, Result, Ok, Err, String, string_bytes}
 use Rattle.std.specs.declared.alloc.Global.{Global}
 use Rattle.std.specs.List.{list_all}
-use Rattle.oci_names.specs.Text.{Text}
-use Rattle.oci_names.specs.declared.digest.Verdict.{Verdict}
-use Rattle.oci_names.specs.declared.digest.Verdict.TheVariants.{Matches, Differs, Unsupported}
-use Rattle.oci_manifest.specs.declared.fault.ManifestFault.{ManifestFault}
-use Rattle.oci_manifest.specs.Manifest.{ManifestShown, manifest_in}
+use Rattle.oci_types.specs.Text.{Text}
+use Rattle.oci_types.specs.declared.digest.Verdict.{Verdict}
+use Rattle.oci_types.specs.declared.digest.Verdict.TheVariants.{Matches, Differs, Unsupported}
+use Rattle.oci_types.specs.declared.manifest_fault.ManifestFault.{ManifestFault}
+use Rattle.oci_types.specs.Manifest.{ManifestShown, manifest_in}
 use Rattle.registry_model.specs.declared.refusal.Refusal.TheVariants.{InvalidDigest, DigestMismatch, InvalidManifest, ManifestBlobUnknown}
 use Rattle.registry_model.specs.declared.refusal.Refusal.{Refusal}
 use Rattle.registry_model.specs.declared.reply.Status.TheVariants.{Created}
-use Rattle.oci_names.specs.declared.fault.Fault.{Fault}
+use Rattle.oci_types.specs.declared.fault.Fault.{Fault}
 use Rattle.registry_model.specs.Answer.{Answer, refused, bare_answer}
 use Rattle.registry_model.specs.Judging.{changed}
 use Rattle.registry_model.specs.Keeping.{State, WritesBy}

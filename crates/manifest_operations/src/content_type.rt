@@ -5,7 +5,7 @@ ghost use Rattle.std.specs.List.{before_first, position_or_len, prefix_len, suff
 ghost use Rattle.registry_model.specs.Ask.{text_in};
 ghost use Rattle.registry_model.specs.Manifests.{is_blank, is_semicolon, without_blanks, content_type_fits};
 
-use oci_manifest::Kind;
+use oci_types::Kind;
 
 /// Whether the byte is a space or a tab (RFC 9110, section 5.6.3).
 fn is_blank(byte: u8) -> bool

@@ -7,13 +7,12 @@ ghost use Rattle.registry_model.specs.Ask.{text_in};
 ghost use Rattle.registry_model.specs.Keeping.{Spends, entries_shown};
 ghost use Rattle.registry_model.specs.TagPage.{size_in, text_or_empty, link_behind, tags_reply, list_tags};
 ghost use Rattle.registry_model.specs.Referrers.{referrer_in, filter_in, referrers_reply, list_referrers};
-ghost use Rattle.oci_manifest.specs.Referrers.{referrer_shown, referrers_shown};
+ghost use Rattle.oci_types.specs.Referrers.{referrer_shown, referrers_shown};
 ghost use Rattle.operation_parts.specs.Operating.{Operates, IsUnspent, HasRepo, Answers, Carries};
 ghost use Rattle.manifest_operations.specs.Listing.{lets_through, added_by, wanted_of};
 
 use oci_documents::{read_manifest, referrers_text, tags_text};
-use oci_manifest::{Kind, Manifest, ManifestFault, Referrer};
-use oci_names::{Digest, Fault, RepoName, Tag};
+use oci_types::{Digest, Fault, Kind, Manifest, ManifestFault, Referrer, RepoName, Tag};
 use operation_parts::digests::read_digest;
 use registry_model::numbers::number;
 use registry_model::{Body, Keeper, Refusal, Reply, Status, page_link};

@@ -2,8 +2,8 @@
 //! Pushing Manifests with Subject).
 
 ghost use Rattle.std.specs.Prelude.{◌≡◌, ◌≤◌, true, Some, Ok, length};
-ghost use Rattle.oci_names.specs.Digest.{matches, sha256_digest, verdict_of};
-ghost use Rattle.oci_manifest.specs.Manifest.{shown, manifest_in};
+ghost use Rattle.oci_types.specs.Digest.{matches, sha256_digest, verdict_of};
+ghost use Rattle.oci_types.specs.Manifest.{shown, manifest_in};
 ghost use Rattle.registry_model.specs.Limits.{largest_manifest};
 ghost use Rattle.registry_model.specs.Ask.{text_in};
 ghost use Rattle.registry_model.specs.Keeping.{Spends};
@@ -14,8 +14,9 @@ ghost use Rattle.operation_parts.specs.Finding.{Finds};
 
 use crate::content_type::content_type_fits;
 use oci_documents::read_manifest;
-use oci_manifest::{Manifest, ManifestFault};
-use oci_names::{Digest, Fault, NameFault, Reference, RepoName, Tag, Verdict};
+use oci_types::{
+    Digest, Fault, Manifest, ManifestFault, NameFault, Reference, RepoName, Tag, Verdict,
+};
 use operation_parts::quota::manifest_goes_over;
 use operation_parts::replies::{created_manifest, manifest_location};
 use registry_model::{Keeper, LARGEST_MANIFEST, Refusal, Reply};

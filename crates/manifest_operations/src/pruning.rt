@@ -1,7 +1,7 @@
 //! Taking away the blobs that no manifest names (profile).
 
 ghost use Rattle.std.specs.Prelude.{◌≡◌, ◌||◌, true, false, not, filter, IfErr, OnOk, MatchResult};
-ghost use Rattle.oci_names.specs.Text.{Text};
+ghost use Rattle.oci_types.specs.Text.{Text};
 ghost use Rattle.registry_model.specs.World.{has_repo};
 ghost use Rattle.registry_model.specs.Keeping.{ReadsBy, Writes, Spends, digests_shown};
 ghost use Rattle.registry_model.specs.Pruning.{names_in, is_among, prune, delete_blobs};
@@ -9,8 +9,7 @@ ghost use Rattle.registry_model.specs.World.{World};
 ghost use Rattle.manifest_operations.specs.Pruning.{names_at, is_named_at, unnamed_at, has};
 
 use oci_documents::read_manifest;
-use oci_manifest::{Manifest, ManifestFault};
-use oci_names::{Digest, Fault, RepoName};
+use oci_types::{Digest, Fault, Manifest, ManifestFault, RepoName};
 use registry_model::Keeper;
 use std::alloc::Global;
 use std::collections::BTreeSet;

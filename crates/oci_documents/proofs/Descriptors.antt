@@ -3,8 +3,8 @@ use Rattle.std.proofs.Common.{◌≡◌, ℕ, ◌<◌, ◌≤◌, ◌+◌, List,
 use Rattle.std.proofs.lemmas.List.{append-nil, drop_all}
 use Rattle.serde_json.specs.declared.value.Value.{Value}
 use Rattle.serde_json.specs.View.{view, items_view}
-use Rattle.oci_manifest.specs.Part.{◌>>=◌}
-use Rattle.oci_manifest.specs.Descriptor.{DescriptorShown, descriptor_of, descriptors_of}
+use Rattle.oci_types.specs.Part.{◌>>=◌}
+use Rattle.oci_types.specs.Descriptor.{DescriptorShown, descriptor_of, descriptors_of}
 
 -- what was read before, and then what is still read
 abbrev pub behind : List DescriptorShown → Option (List DescriptorShown) → Option (List DescriptorShown)

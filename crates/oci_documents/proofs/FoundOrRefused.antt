@@ -2,16 +2,16 @@
 use Rattle.std.proofs.Common.{◌≡◌, Option, Some, None, Result, Ok, Err, refl, sym, ap, ◌∙◌, subst}
 use Rattle.std.specs.Prelude.{◌≢◌, IfOk, IfErr, IsErrAnd, MatchResult}
 use Rattle.serde_json.specs.Data.{Data}
-use Rattle.oci_names.specs.Text.{Text}
-use Rattle.oci_manifest.specs.declared.fault.ManifestFault.{ManifestFault}
-use Rattle.oci_manifest.specs.declared.fault.ManifestFault.TheVariants as fault
-use Rattle.oci_manifest.specs.declared.manifest.Manifest.{Manifest}
-use Rattle.oci_manifest.specs.Rules.{◌>>=◌, or_fault, Gives}
-use Rattle.oci_manifest.specs.Manifest.{document_in, ManifestShown, shown, manifest_of, manifest_in}
-use Rattle.oci_manifest.specs.Reads.{ReadsAs}
-use Rattle.oci_manifest.specs.FirstFault.{Refuses}
-use Rattle.oci_manifest.proofs.ManifestLaws.{manifest_found, manifest_only}
-use Rattle.oci_manifest.proofs.FaultLaws.{refused_found}
+use Rattle.oci_types.specs.Text.{Text}
+use Rattle.oci_types.specs.declared.manifest_fault.ManifestFault.{ManifestFault}
+use Rattle.oci_types.specs.declared.manifest_fault.ManifestFault.TheVariants as fault
+use Rattle.oci_types.specs.declared.manifest.Manifest.{Manifest}
+use Rattle.oci_types.specs.Rules.{◌>>=◌, or_fault, Gives}
+use Rattle.oci_types.specs.Manifest.{document_in, ManifestShown, shown, manifest_of, manifest_in}
+use Rattle.oci_types.specs.Reads.{ReadsAs}
+use Rattle.oci_types.specs.FirstFault.{Refuses}
+use Rattle.oci_types.proofs.ManifestLaws.{manifest_found, manifest_only}
+use Rattle.oci_types.proofs.FaultLaws.{refused_found}
 
 -- ---- what the bytes read as
 

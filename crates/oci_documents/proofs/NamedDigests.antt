@@ -3,9 +3,9 @@ use Rattle.std.proofs.Common.{◌≡◌, List, [], ◌∷◌, ◌++◌, map, Boo
 use Rattle.std.specs.Prelude.{filter}
 use Rattle.std.proofs.lemmas.List.{append-nil, map-append}
 use Rattle.std.proofs.lemmas.List.Elements.{filter-append}
-use Rattle.oci_names.specs.Text.{Text}
-use Rattle.oci_manifest.specs.Descriptor.{DescriptorShown, digests_of, needed}
-use Rattle.oci_manifest.specs.Manifest.{ContentsShown, image_contents}
+use Rattle.oci_types.specs.Text.{Text}
+use Rattle.oci_types.specs.Descriptor.{DescriptorShown, digests_of, needed}
+use Rattle.oci_types.specs.Manifest.{ContentsShown, image_contents}
 use Rattle.oci_documents.specs.Shown.{with_digest, with_digests}
 
 abbrev digest : DescriptorShown → Text

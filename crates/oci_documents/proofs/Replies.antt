@@ -8,15 +8,15 @@ use Rattle.serde_json.specs.Data.{Data, string}
 use Rattle.serde_json.specs.View.{view, items_of}
 use Rattle.serde_json.specs.Written.{has_float, items_have_float, members_have_float, compact_text, items_text, members_text}
 use Rattle.serde_json.specs.declared.value.Value.{Value}
-use Rattle.oci_names.specs.declared.fault.Fault.{Fault}
-use Rattle.oci_names.specs.Text.{Text}
-use Rattle.oci_manifest.specs.declared.kind.Kind.{Kind}
-use Rattle.oci_manifest.specs.Json.{with_commas}
-use Rattle.oci_manifest.specs.Kind.{media_type_of}
-use Rattle.oci_manifest.specs.Member.{Pairs, text_items, text_members}
-use Rattle.oci_manifest.specs.Errors.{error_data, error_line}
-use Rattle.oci_manifest.specs.Tags.{tags_data, tags_line}
-use Rattle.oci_manifest.specs.Referrers.{ReferrerShown, pair_line, artifact_type_line, referrer_line, referrers_line, referrer_data, referrer_items, referrers_data}
+use Rattle.oci_types.specs.declared.fault.Fault.{Fault}
+use Rattle.oci_types.specs.Text.{Text}
+use Rattle.oci_types.specs.declared.kind.Kind.{Kind}
+use Rattle.oci_types.specs.Json.{with_commas}
+use Rattle.oci_types.specs.Kind.{media_type_of}
+use Rattle.oci_types.specs.Member.{Pairs, text_items, text_members}
+use Rattle.oci_types.specs.Errors.{error_data, error_line}
+use Rattle.oci_types.specs.Tags.{tags_data, tags_line}
+use Rattle.oci_types.specs.Referrers.{ReferrerShown, pair_line, artifact_type_line, referrer_line, referrers_line, referrer_data, referrer_items, referrers_data}
 
 -- ---- what is written
 

@@ -9,9 +9,9 @@ use Rattle.serde_json.specs.declared.value.Value.{Value}
 use Rattle.serde_json.specs.Find.{as_str}
 use Rattle.serde_json.specs.View.{view, items_view, members_view}
 use Rattle.serde_json.proofs.Views.{Entry}
-use Rattle.oci_names.specs.Text.{Text}
-use Rattle.oci_manifest.specs.Part.{◌>>=◌}
-use Rattle.oci_manifest.specs.Member.{Pairs, pairs_of, IsInByteOrder, has_items, texts_of}
+use Rattle.oci_types.specs.Text.{Text}
+use Rattle.oci_types.specs.Part.{◌>>=◌}
+use Rattle.oci_types.specs.Member.{Pairs, pairs_of, IsInByteOrder, has_items, texts_of}
 use Rattle.oci_documents.proofs.LastKey.{names, IsAbove, goes_last, above_front, names-append_one}
 
 pub filled : (vs : List Value) → 1 ≤ length vs → true ≡ has_items (items_view vs)

@@ -10,9 +10,9 @@ use Rattle.serde_json.specs.Data.{Data, string, object, Members, no_members, mem
 use Rattle.serde_json.specs.declared.value.Value.{Value}
 use Rattle.serde_json.specs.View.{view, members_view}
 use Rattle.serde_json.proofs.Views.{Entry}
-use Rattle.oci_names.specs.Text.{Text}
-use Rattle.oci_manifest.specs.Member.{pairs_of, text_members}
-use Rattle.oci_manifest.specs.Referrers.{put_texts}
+use Rattle.oci_types.specs.Text.{Text}
+use Rattle.oci_types.specs.Member.{pairs_of, text_members}
+use Rattle.oci_types.specs.Referrers.{put_texts}
 use Rattle.oci_documents.proofs.LastKey.{names, IsAbove, goes_last, above_front, names-append_one}
 use Rattle.oci_documents.proofs.Texts.{TextEntry}
 

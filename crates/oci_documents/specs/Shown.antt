@@ -1,9 +1,9 @@
 -- What was read of a document, as the definitions have it.
 use Rattle.std.specs.Prelude.{List, [], ◌∷◌, ◌++◌, map, Bool, cond, string_bytes, option_map}
 use Rattle.serde_json.specs.View.{view, items_view}
-use Rattle.oci_names.specs.Text.{Text}
-use Rattle.oci_manifest.specs.Descriptor.{DescriptorShown, digests_of, needed}
-use Rattle.oci_manifest.specs.Manifest.{BodyShown, image, index, ContentsShown}
+use Rattle.oci_types.specs.Text.{Text}
+use Rattle.oci_types.specs.Descriptor.{DescriptorShown, digests_of, needed}
+use Rattle.oci_types.specs.Manifest.{BodyShown, image, index, ContentsShown}
 use Rattle.oci_documents.specs.declared.descriptor.Descriptor.{Descriptor}
 use Rattle.oci_documents.specs.declared.body.Body.{Body}
 use Rattle.oci_documents.specs.declared.body.Body.TheVariants as body

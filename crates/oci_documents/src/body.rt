@@ -2,14 +2,13 @@
 
 ghost use Rattle.std.specs.Prelude.{◌≡◌, [], ◌∷◌, ◌++◌, cond, string_bytes, option_map, IfOk, OnOk};
 ghost use Rattle.serde_json.specs.View.{view};
-ghost use Rattle.oci_manifest.specs.Part.{Finds};
+ghost use Rattle.oci_types.specs.Part.{Finds};
 ghost use Rattle.oci_documents.specs.Shown.{body_shown, contents_shown, descriptor_shown, descriptors_shown, with_digest, with_digests};
-ghost use Rattle.oci_manifest.specs.Manifest.{body_kind, body_of, image_contents, contents_of};
+ghost use Rattle.oci_types.specs.Manifest.{body_kind, body_of, image_contents, contents_of};
 
 use crate::descriptor::{Descriptor, read_descriptor, read_descriptors};
 use crate::member;
-use oci_manifest::{Kind, ManifestFault};
-use oci_names::Digest;
+use oci_types::{Digest, Kind, ManifestFault};
 use serde_json::Value;
 use std::alloc::{AllocError, Global};
 

@@ -2,13 +2,12 @@
 
 ghost use Rattle.std.specs.Prelude.{◌≡◌};
 ghost use Rattle.serde_json.specs.View.{view, items_view};
-ghost use Rattle.oci_manifest.specs.Part.{Finds};
-ghost use Rattle.oci_manifest.specs.Descriptor.{type_at, digest_at, descriptor_of, descriptors_of};
+ghost use Rattle.oci_types.specs.Part.{Finds};
+ghost use Rattle.oci_types.specs.Descriptor.{type_at, digest_at, descriptor_of, descriptors_of};
 ghost use Rattle.oci_documents.specs.Shown.{descriptor_shown, descriptors_shown};
 
 use crate::member;
-use oci_manifest::ManifestFault;
-use oci_names::{Digest, NameFault};
+use oci_types::{Digest, ManifestFault, NameFault};
 use serde_json::Value;
 use std::alloc::Global;
 
@@ -78,7 +77,7 @@ fn read_digest(alloc: Global, fault: ManifestFault, value: &Value) -> Result<Dig
 }
 
 /// The descriptor that the value is. The fault is that of the rule which asks for it.
-#[tactic(auto, unfolding(oci_manifest::specs::Descriptor::descriptor_of))]
+#[tactic(auto, unfolding(oci_types::specs::Descriptor::descriptor_of))]
 pub(crate) fn read_descriptor(
     alloc: Global,
     fault: ManifestFault,

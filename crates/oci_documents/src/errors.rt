@@ -2,10 +2,10 @@
 
 ghost use Rattle.std.specs.Prelude.{◌≡◌, string_bytes, IfOk, IfErr};
 ghost use Rattle.serde_json.specs.View.{view};
-ghost use Rattle.oci_manifest.specs.Errors.{error_line, error_data};
+ghost use Rattle.oci_types.specs.Errors.{error_line, error_data};
 
 use crate::reply::written;
-use oci_names::Fault;
+use oci_types::Fault;
 use serde_json::{Value, json};
 use std::alloc::{AllocError, Global};
 

@@ -1,6 +1,6 @@
 //! The order of annotations. The function does nothing; it stands for its clause.
 
-ghost use Rattle.oci_manifest.specs.Member.{pairs_of, IsInByteOrder};
+ghost use Rattle.oci_types.specs.Member.{pairs_of, IsInByteOrder};
 
 use std::collections::BTreeMap;
 

@@ -1,6 +1,6 @@
 //! Image manifests and indexes read from bytes, and the JSON texts of a registry's replies.
 //!
-//! `read_manifest` answers exactly what `oci_manifest` says that the bytes spell, or the first rule that
+//! `read_manifest` answers exactly what `oci_types` says that the bytes spell, or the first rule that
 //! fails. `referrers_text`, `tags_text` and `error_text` give the exact bytes of the replies.
 #![tactic(auto)]
 

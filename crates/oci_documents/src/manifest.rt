@@ -2,17 +2,16 @@
 
 ghost use Rattle.std.specs.Prelude.{◌≡◌, ◌≢◌, option_map, string_bytes, IfOk, IfErr, MatchResult};
 ghost use Rattle.serde_json.specs.View.{view};
-ghost use Rattle.oci_manifest.specs.Part.{Finds};
-ghost use Rattle.oci_manifest.specs.Rules.{Gives};
-ghost use Rattle.oci_manifest.specs.Manifest.{document_in, version_of, own_type_of, subject_of, artifact_type_of, ManifestShown, shown, manifest_of, manifest_in};
-ghost use Rattle.oci_manifest.specs.Reads.{ReadsAs};
-ghost use Rattle.oci_manifest.specs.FirstFault.{Refuses};
+ghost use Rattle.oci_types.specs.Part.{Finds};
+ghost use Rattle.oci_types.specs.Rules.{Gives};
+ghost use Rattle.oci_types.specs.Manifest.{document_in, version_of, own_type_of, subject_of, artifact_type_of, ManifestShown, shown, manifest_of, manifest_in};
+ghost use Rattle.oci_types.specs.Reads.{ReadsAs};
+ghost use Rattle.oci_types.specs.FirstFault.{Refuses};
 
 use crate::body::{read_body, read_contents};
 use crate::descriptor::read_descriptor;
 use crate::member;
-use oci_manifest::{Kind, Manifest, ManifestFault};
-use oci_names::Digest;
+use oci_types::{Digest, Kind, Manifest, ManifestFault};
 use serde_json::Value;
 use std::alloc::{AllocError, Global};
 
@@ -93,7 +92,7 @@ fn choose_artifact_type(
 }
 
 /// The rules, in their order.
-#[tactic(auto, unfolding(oci_manifest::specs::Manifest::manifest_of))]
+#[tactic(auto, unfolding(oci_types::specs::Manifest::manifest_of))]
 fn read_rules(alloc: Global, value: &Value) -> Result<Manifest, ManifestFault>
     ensures { Gives shown result (manifest_of (view value.now)) }
 {
@@ -127,7 +126,7 @@ fn read_rules(alloc: Global, value: &Value) -> Result<Manifest, ManifestFault>
 /// of schema version 2; an image manifest or an index, and not both; with no other media type than that
 /// of its kind; all its descriptors are ones; and annotations, subject and artifact type have their
 /// forms. Members that no rule names are ignored.
-#[tactic(auto, unfolding(oci_manifest::specs::Manifest::manifest_in))]
+#[tactic(auto, unfolding(oci_types::specs::Manifest::manifest_in))]
 pub fn read_manifest(alloc: Global, bytes: &[u8]) -> Result<Manifest, ManifestFault>
     ensures exact { Gives shown result (manifest_in bytes.now) }
     ensures found { IfOk result (λ m. ReadsAs bytes.now (shown m)) }

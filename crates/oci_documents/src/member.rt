@@ -2,10 +2,10 @@
 
 ghost use Rattle.std.specs.Prelude.{◌≡◌, [], option_map};
 ghost use Rattle.serde_json.specs.View.{view, items_view, members_view};
-ghost use Rattle.oci_manifest.specs.Part.{Finds};
-ghost use Rattle.oci_manifest.specs.Member.{present_at, text_at, optional_text_at, list_at, size_at, all_texts, has_items, some_text, some_text_at, pairs_of, texts_of, texts_at};
+ghost use Rattle.oci_types.specs.Part.{Finds};
+ghost use Rattle.oci_types.specs.Member.{present_at, text_at, optional_text_at, list_at, size_at, all_texts, has_items, some_text, some_text_at, pairs_of, texts_of, texts_at};
 
-use oci_manifest::ManifestFault;
+use oci_types::ManifestFault;
 use serde_json::{Map, Value};
 use std::alloc::Global;
 use std::collections::BTreeMap;

@@ -2,12 +2,11 @@
 
 ghost use Rattle.std.specs.Prelude.{◌≡◌, [], codes, string_bytes, option_map, IfOk, IfErr, OnOk};
 ghost use Rattle.serde_json.specs.View.{view, items_view, members_view};
-ghost use Rattle.oci_manifest.specs.Member.{pairs_of, text_members};
-ghost use Rattle.oci_manifest.specs.Referrers.{referrer_shown, referrers_shown, referrers_line, put_texts, put_text, fixed_members, referrer_data, referrer_items, referrers_data};
+ghost use Rattle.oci_types.specs.Member.{pairs_of, text_members};
+ghost use Rattle.oci_types.specs.Referrers.{referrer_shown, referrers_shown, referrers_line, put_texts, put_text, fixed_members, referrer_data, referrer_items, referrers_data};
 
 use crate::reply::written;
-use oci_manifest::{Kind, Referrer};
-use oci_names::Fault;
+use oci_types::{Fault, Kind, Referrer};
 use serde_json::{Map, Value, json};
 use std::alloc::{AllocError, Global};
 use std::collections::BTreeMap;

@@ -4,7 +4,7 @@ ghost use Rattle.std.specs.Prelude.{◌≡◌, false, string_bytes, IfOk, IfErr,
 ghost use Rattle.serde_json.specs.View.{view};
 ghost use Rattle.serde_json.specs.Written.{has_float, compact_text};
 
-use oci_names::Fault;
+use oci_types::Fault;
 use serde_json::Value;
 use std::alloc::{AllocError, Global};
 

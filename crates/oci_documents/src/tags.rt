@@ -2,11 +2,11 @@
 
 ghost use Rattle.std.specs.Prelude.{◌≡◌, string_bytes, IfOk, IfErr};
 ghost use Rattle.serde_json.specs.View.{view, items_view};
-ghost use Rattle.oci_manifest.specs.Member.{text_items};
-ghost use Rattle.oci_manifest.specs.Tags.{tags_line, tags_data};
+ghost use Rattle.oci_types.specs.Member.{text_items};
+ghost use Rattle.oci_types.specs.Tags.{tags_line, tags_data};
 
 use crate::reply::written;
-use oci_names::{Fault, RepoName, Tag};
+use oci_types::{Fault, RepoName, Tag};
 use serde_json::{Value, json};
 use std::alloc::{AllocError, Global};
 

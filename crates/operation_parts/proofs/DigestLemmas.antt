@@ -1,9 +1,9 @@
 -- What reading a digest tells of the text.
 use Rattle.std.proofs.Common.{◌≡◌, ◌∙◌, Bool, true, false, cond, ◌&&◌, None, Some, refl, sym, ap}
 use Rattle.std.specs.Prelude.{Option}
-use Rattle.oci_names.specs.Text.{Text}
-use Rattle.oci_names.specs.Digest.{is_digest, is_verified}
-use Rattle.oci_names.specs.declared.digest.Verdict.TheVariants.{Matches, Differs, Unsupported}
+use Rattle.oci_types.specs.Text.{Text}
+use Rattle.oci_types.specs.Digest.{is_digest, is_verified}
+use Rattle.oci_types.specs.declared.digest.Verdict.TheVariants.{Matches, Differs, Unsupported}
 use Rattle.registry_model.specs.Blobs.{can_verify}
 use Rattle.operation_parts.specs.Digests.{digest_in, verifiable_in}
 

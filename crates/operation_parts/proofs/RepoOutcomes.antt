@@ -1,9 +1,9 @@
 -- What comes of an operation on a repository that is there.
 use Rattle.std.proofs.Common.{◌≡◌, ◌∙◌, true, false, None, Some, Ok, Err, refl, sym, ap, subst}
 use Rattle.std.specs.Prelude.{Option, Result, is_some}
-use Rattle.oci_names.specs.Text.{Text}
-use Rattle.oci_names.specs.declared.fault.Fault.{Fault}
-use Rattle.oci_names.specs.declared.fault.Fault.TheVariants.{Memory, Storage}
+use Rattle.oci_types.specs.Text.{Text}
+use Rattle.oci_types.specs.declared.fault.Fault.{Fault}
+use Rattle.oci_types.specs.declared.fault.Fault.TheVariants.{Memory, Storage}
 use Rattle.registry_model.specs.declared.reply.Reply.{Reply}
 use Rattle.registry_model.specs.World.{Repo, repo_at, update_repo}
 use Rattle.registry_model.specs.Answer.{Answer}

@@ -1,7 +1,7 @@
 -- The digest that a text is, if it is one.
 use Rattle.std.specs.Prelude.{Option, None, Some, if◌then◌else◌}
-use Rattle.oci_names.specs.Text.{Text}
-use Rattle.oci_names.specs.Digest.{is_digest}
+use Rattle.oci_types.specs.Text.{Text}
+use Rattle.oci_types.specs.Digest.{is_digest}
 use Rattle.registry_model.specs.Blobs.{can_verify}
 
 abbrev pub digest_in : Text → Option Text

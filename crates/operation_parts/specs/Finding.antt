@@ -1,8 +1,8 @@
 -- What is looked for in the world, and in the repository of a name.
 use Rattle.std.specs.Prelude.{Option, Result}
 use Rattle.std.specs.Option.{option_and_then}
-use Rattle.oci_names.specs.Text.{Text}
-use Rattle.oci_names.specs.declared.fault.Fault.{Fault}
+use Rattle.oci_types.specs.Text.{Text}
+use Rattle.oci_types.specs.declared.fault.Fault.{Fault}
 use Rattle.registry_model.specs.World.{World, Repo, repo_at}
 use Rattle.registry_model.specs.Keeping.{State, Reads}
 

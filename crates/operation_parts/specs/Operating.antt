@@ -1,7 +1,7 @@
 -- What an operation asks of its keeper, and what it comes to.
 use Rattle.std.specs.Prelude.{◌≡◌, true, false, Option, Some, Result, IfOk}
-use Rattle.oci_names.specs.Text.{Text}
-use Rattle.oci_names.specs.declared.fault.Fault.{Fault}
+use Rattle.oci_types.specs.Text.{Text}
+use Rattle.oci_types.specs.declared.fault.Fault.{Fault}
 use Rattle.registry_model.specs.declared.reply.Reply.{Reply}
 use Rattle.registry_model.specs.World.{World, Repo, repo_at, has_repo}
 use Rattle.registry_model.specs.Answer.{answer_of}

@@ -1,7 +1,7 @@
 -- When a change that adds bytes to a repository and takes bytes from it goes over the quota (profile).
 use Rattle.std.specs.Prelude.{ℕ, ◌+◌, Bool, ◌&&◌, nat_lt, Option, is_some, if◌then◌else◌}
 use Rattle.std.specs.Option.{option_map_or}
-use Rattle.oci_names.specs.Text.{Text}
+use Rattle.oci_types.specs.Text.{Text}
 use Rattle.registry_model.specs.World.{Repo, World, repo_at}
 use Rattle.registry_model.specs.Usage.{used}
 use Rattle.registry_model.specs.Lookups.{blob_at, manifest_bytes_at}

@@ -1,10 +1,10 @@
 //! The digests that requests name.
 
 ghost use Rattle.std.specs.Prelude.{◌≡◌, true, MatchResult};
-ghost use Rattle.oci_names.specs.Digest.{is_verified, matches};
+ghost use Rattle.oci_types.specs.Digest.{is_verified, matches};
 ghost use Rattle.operation_parts.specs.Digests.{digest_in, verifiable_in};
 
-use oci_names::{Digest, Fault, NameFault, Verdict};
+use oci_types::{Digest, Fault, NameFault, Verdict};
 use std::alloc::Global;
 
 /// The digest that the text is, if it is one.

@@ -7,7 +7,7 @@ ghost use Rattle.operation_parts.specs.Operating.{IsUnspent};
 ghost use Rattle.operation_parts.specs.Quota.{grows_over_at, blob_grows_over, manifest_grows_over};
 ghost use Rattle.operation_parts.specs.Finding.{Finds};
 
-use oci_names::{Digest, Fault, RepoName};
+use oci_types::{Digest, Fault, RepoName};
 use registry_model::{Keeper, Usage};
 
 /// Whether so many bytes more are more than the quota, where some are added. The used bytes may be

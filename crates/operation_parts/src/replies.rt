@@ -8,7 +8,7 @@ ghost use Rattle.registry_model.specs.Blobs.{blob_location, created_blob};
 ghost use Rattle.registry_model.specs.Manifests.{manifest_location};
 ghost use Rattle.registry_model.specs.Sessions.{session_location, session_range, session_reply, refuses_order};
 
-use oci_names::{Digest, RepoName};
+use oci_types::{Digest, RepoName};
 use registry_model::{Body, Refusal, Reply, Status};
 use std::alloc::{AllocError, Global};
 

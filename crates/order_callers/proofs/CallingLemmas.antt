@@ -5,10 +5,10 @@ use Rattle.std.proofs.lemmas.List.{map-append, map-set, set-get_or, take_more, t
 use Rattle.std.specs.Prelude.{MatchOption, OnErr}
 use Rattle.std.proofs.lemmas.Bool.Decides.{nat_tests}
 use Rattle.std.proofs.lemmas.List.Elements.{All-nil, All-cons, All-append}
-use Rattle.oci_names.specs.Text.{Text}
+use Rattle.oci_types.specs.Text.{Text}
 use Rattle.registry_model.specs.Keeping.{State}
 use Rattle.order_carrying.specs.Answering.{AnswersLine}
-use Rattle.order_messages.specs.Stopping.{stop_line, stop_answer}
+use Rattle.order_texts.specs.Stopping.{stop_line, stop_answer}
 use Rattle.order_callers.specs.Calling.{Called, fresh, line_in, CarriesOutLine, Obeys, Attends, AttendsAll, Come, Stay}
 use Rattle.order_callers.specs.declared.caller.Caller.{Caller}
 use Rattle.order_callers.specs.Calls.{called, all_called}

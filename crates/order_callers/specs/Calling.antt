@@ -1,10 +1,10 @@
 -- What those who give orders come to (profile).
 use Rattle.std.specs.Prelude.{◌≡◌, ◌≢◌, ◌⊎◌, ◌||◌, Bool, true, false, List, [], ◌∷◌, ◌++◌, ◌==◌, take, position, option_map, Option, Some, None, All}
 use Rattle.std.specs.List.{list_any}
-use Rattle.oci_names.specs.Text.{Text}
+use Rattle.oci_types.specs.Text.{Text}
 use Rattle.registry_model.specs.Keeping.{State}
 use Rattle.order_carrying.specs.Answering.{AnswersLine, IsOneStep}
-use Rattle.order_messages.specs.Stopping.{stop_line, stop_answer}
+use Rattle.order_texts.specs.Stopping.{stop_line, stop_answer}
 
 -- what came of a caller's line, whether it was carried out, the answer to it, whether there is nothing more
 -- to do, and whether the line asked the server to stop

@@ -1,7 +1,7 @@
 //! Somebody who gives one order over a socket, or asks the server to stop.
 ghost use Rattle.std.specs.Prelude.{◌≡◌, ◌≢◌, ◌==◌, true, false, position, MatchOption, IfOk, OnErr};
 ghost use Rattle.order_carrying.specs.Answering.{AnswersLine, IsOneStep};
-ghost use Rattle.order_messages.specs.Stopping.{stop_line, stop_answer};
+ghost use Rattle.order_texts.specs.Stopping.{stop_line, stop_answer};
 ghost use Rattle.order_callers.specs.Calling.{Attends, Obeys, fresh, line_in};
 ghost use Rattle.order_callers.specs.Calls.{called};
 
@@ -9,7 +9,7 @@ use mio::Token;
 use mio::event::Event;
 use mio::net::UnixStream;
 use order_carrying::answer_line;
-use order_messages::{LONGEST_LINE, is_stop, write_stopping};
+use order_texts::{LONGEST_LINE, is_stop, write_stopping};
 use registry_model::Keeper;
 use registry_service::Service;
 use std::alloc::{AllocError, Global};

@@ -1,7 +1,7 @@
 -- What carrying an order out leaves of the service, and what is answered.
 use Rattle.std.proofs.Common.{◌≡◌, ◌≢◌, ◌∙◌, false, [], ◌∷◌, ◌++◌, Option, None, Some, Result, Ok, Err, inl, inr, sym, refl, ap, append-nil}
 use Rattle.std.specs.Prelude.{OnErr}
-use Rattle.oci_names.specs.Text.{Text}
+use Rattle.oci_types.specs.Text.{Text}
 use Rattle.registry_model.specs.declared.admin.AdminCommand.{AdminCommand}
 use Rattle.registry_model.specs.declared.admin.AdminCommand.TheVariants as command
 use Rattle.registry_model.specs.declared.admin.AdminFault.{AdminFault}
@@ -18,9 +18,9 @@ use Rattle.registry_orders.specs.declared.orders.Order.TheVariants as order
 use Rattle.registry_orders.specs.Outputs.{Output, output}
 use Rattle.order_carrying.specs.Carrying.{CarriesOrder}
 use Rattle.registry_orders.specs.Orders.{told}
-use Rattle.list_texts.specs.Table.{table_of}
-use Rattle.order_messages.specs.Answers.{failure_text}
-use Rattle.order_messages.proofs.AnswerLemmas.{done_text}
+use Rattle.order_texts.specs.Table.{table_of}
+use Rattle.order_texts.specs.Answers.{failure_text}
+use Rattle.order_texts.proofs.AnswerLemmas.{done_text}
 use Rattle.order_carrying.specs.Answering.{IsAnswered, IsOneStep}
 
 -- it is one step

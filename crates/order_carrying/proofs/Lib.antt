@@ -1,2 +1,5 @@
+pub mod FailedReads
+pub mod ListLemmas
+pub mod GrantLemmas
 pub mod OrderStatuses
 pub mod AnsweringLemmas

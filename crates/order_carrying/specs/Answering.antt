@@ -1,6 +1,6 @@
 -- What answering a line comes to (profile).
 use Rattle.std.specs.Prelude.{◌≡◌, ◌≢◌, ◌⊎◌, [], ◌++◌, Some, Result, Ok, Err}
-use Rattle.oci_names.specs.Text.{Text}
+use Rattle.oci_types.specs.Text.{Text}
 use Rattle.registry_model.specs.declared.admin.AdminCommand.{AdminCommand}
 use Rattle.registry_model.specs.declared.admin.AdminFault.{AdminFault}
 use Rattle.registry_model.specs.Keeping.{State}
@@ -13,8 +13,8 @@ use Rattle.registry_orders.specs.Outputs.{output}
 use Rattle.order_carrying.specs.Carrying.{CarriesOrder}
 use Rattle.registry_orders.specs.Failures.{status_if, text_of}
 use Rattle.registry_orders.specs.Outputs.{newline}
-use Rattle.order_messages.specs.Answers.{answer_text, failure_text}
-use Rattle.order_messages.specs.Lines.{Spells, SpellsNone}
+use Rattle.order_texts.specs.Answers.{answer_text, failure_text}
+use Rattle.order_texts.specs.Lines.{Spells, SpellsNone}
 
 -- what the order wrote to standard output, or what is said of its failure on standard error
 abbrev pub said : Result (Unit {0}) Failure → Text → Text

@@ -1,7 +1,7 @@
 -- What carrying an order out comes to (profile).
 use Rattle.std.specs.Prelude.{◌≡◌, ℕ, true, Option, Some, None, Result, Ok, Err}
 use Rattle.std.specs.Io.KnownBytes.{Appends}
-use Rattle.oci_names.specs.Text.{Text}
+use Rattle.oci_types.specs.Text.{Text}
 use Rattle.registry_model.specs.Lookups.{usages_of}
 use Rattle.registry_model.specs.Keeping.{State}
 use Rattle.registry_orders.specs.declared.failure.Failure.{Failure}
@@ -11,8 +11,8 @@ use Rattle.registry_orders.specs.declared.orders.Order.TheVariants as asked
 use Rattle.registry_orders.specs.Failures.{status_if}
 use Rattle.registry_orders.specs.Orders.{Obeys}
 use Rattle.registry_orders.specs.Outputs.{Output, IsSilent}
-use Rattle.list_texts.specs.Table.{table_of}
-use Rattle.registry_lists.specs.Listed.{IsListText}
+use Rattle.order_texts.specs.Table.{table_of}
+use Rattle.order_carrying.specs.Listed.{IsListText}
 
 -- the table of the world was written; or memory was wanting, the storage failed or writing did; the world
 -- stays

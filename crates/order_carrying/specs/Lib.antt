@@ -1,2 +1,6 @@
+pub mod Lists
+pub mod Grants
+pub mod Listed
+pub mod Reading
 pub mod Carrying
 pub mod Answering

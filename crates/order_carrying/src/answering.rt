@@ -3,7 +3,7 @@ ghost use Rattle.std.specs.Prelude.{◌≡◌, IfOk, OnErr};
 ghost use Rattle.order_carrying.specs.Answering.{IsAnswered, AnswersLine, IsOneStep};
 
 use crate::carrying::carry_over;
-use order_messages::{Unread, read_order, write_failure};
+use order_texts::{Unread, read_order, write_failure};
 use registry_model::Keeper;
 use registry_orders::{Failure, Order};
 use registry_service::Service;

@@ -1,6 +1,6 @@
 ghost use Rattle.std.specs.Prelude.{◌≡◌, ◌≢◌, ℕ, ◌<◌, ◌≤◌, OnOk, IfErr};
 ghost use Rattle.std.specs.Io.KnownBytes.{Appends};
-ghost use Rattle.registry_lists.specs.Listed.{IsListText};
+ghost use Rattle.order_carrying.specs.Listed.{IsListText};
 ghost use Rattle.registry_orders.specs.Failures.{IsOfOrder};
 ghost use Rattle.registry_orders.specs.Orders.{Obeys};
 ghost use Rattle.registry_orders.specs.Outputs.{output};
@@ -8,9 +8,9 @@ ghost use Rattle.order_carrying.specs.Carrying.{Shows, ShowsList, CarriesOrder, 
 ghost use Rattle.registry_orders.specs.Outputs.{IsSilent};
 ghost use Rattle.order_carrying.specs.Carrying.{IsSilentUnlessBroken};
 
-use list_texts::write_table;
-use oci_names::Fault;
-use registry_lists::list_text;
+use crate::list_text;
+use oci_types::Fault;
+use order_texts::write_table;
 use registry_model::Keeper;
 use registry_orders::failure::{of_command, say};
 use registry_orders::{Change, Failure, Form, Listing, Order};

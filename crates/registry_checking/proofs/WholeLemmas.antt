@@ -6,11 +6,11 @@ use Rattle.std.specs.List.{filter_map, flat_map, cons_option, list_any}
 use Rattle.std.specs.Ordering.{is_lt, eq_by_cmp}
 use Rattle.std.specs.FinMap.{FinMap, get, keys, entries, contains_key-keys}
 use Rattle.std.proofs.lemmas.Bool.{eq-eqb}
-use Rattle.oci_names.specs.Text.{Text}
-use Rattle.oci_names.specs.Digest.{is_verified, matches}
-use Rattle.oci_names.proofs.Verdicts.{matches-cases}
-use Rattle.oci_manifest.specs.declared.fault.ManifestFault.{ManifestFault}
-use Rattle.oci_manifest.specs.Manifest.{ManifestShown, manifest_in}
+use Rattle.oci_types.specs.Text.{Text}
+use Rattle.oci_types.specs.Digest.{is_verified, matches}
+use Rattle.oci_types.proofs.Verdicts.{matches-cases}
+use Rattle.oci_types.specs.declared.manifest_fault.ManifestFault.{ManifestFault}
+use Rattle.oci_types.specs.Manifest.{ManifestShown, manifest_in}
 use Rattle.registry_model.specs.declared.quota.Usage.{Usage}
 use Rattle.registry_model.specs.World.{World, Repo, text_cmp, repo_at}
 use Rattle.registry_model.specs.Usage.{usage_of}

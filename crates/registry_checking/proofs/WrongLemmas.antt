@@ -6,9 +6,9 @@ use Rattle.std.specs.List.{filter_map, flat_map, cons_option}
 use Rattle.std.specs.Io.KnownBytes.{Appends}
 use Rattle.std.proofs.lemmas.List.{take_more, flat_map_more}
 use Rattle.std.proofs.lemmas.List.Elements.{filter_map-append}
-use Rattle.oci_names.specs.Text.{Text}
-use Rattle.oci_names.specs.declared.fault.Fault.{Fault}
-use Rattle.oci_names.specs.declared.fault.Fault.TheVariants.{Memory, Storage}
+use Rattle.oci_types.specs.Text.{Text}
+use Rattle.oci_types.specs.declared.fault.Fault.{Fault}
+use Rattle.oci_types.specs.declared.fault.Fault.TheVariants.{Memory, Storage}
 use Rattle.registry_model.specs.World.{World}
 use Rattle.registry_model.specs.Keeping.{State, Reads, Spends}
 use Rattle.registry_checking.specs.declared.wrong.Wrong.{Wrong}

@@ -1,7 +1,7 @@
 -- The lines of what is wrong (profile).
 use Rattle.std.specs.Prelude.{List, ◌∷◌, ◌++◌, [], codes}
 use Rattle.std.specs.List.{flat_map}
-use Rattle.oci_names.specs.Text.{Text}
+use Rattle.oci_types.specs.Text.{Text}
 use Rattle.registry_checking.specs.declared.wrong.Wrong.{Wrong}
 use Rattle.registry_checking.specs.declared.wrong.Wrong.TheVariants.{Content, Tag}
 use Rattle.registry_checking.specs.declared.wrong.Flaw.{Flaw}

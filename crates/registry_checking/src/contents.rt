@@ -1,14 +1,13 @@
 //! Whether what is kept under a digest is what it says.
 ghost use Rattle.std.specs.Prelude.{◌≡◌, MatchResult};
-ghost use Rattle.oci_manifest.specs.Manifest.{manifest_in};
+ghost use Rattle.oci_types.specs.Manifest.{manifest_in};
 ghost use Rattle.registry_model.specs.Keeping.{bytes_in, manifest_shown};
 ghost use Rattle.registry_checking.specs.Wrongs.{is_of, wrong_bytes, wrong_blob, wrong_reading, wrong_manifest};
 
 use crate::notes::content;
 use crate::wrong::{Flaw, Wrong};
 use oci_documents::read_manifest;
-use oci_manifest::{Kind, ManifestFault};
-use oci_names::{Digest, Fault, RepoName, Verdict};
+use oci_types::{Digest, Fault, Kind, ManifestFault, RepoName, Verdict};
 use std::alloc::Global;
 
 /// Whether the digest is that of the bytes.

@@ -1,6 +1,6 @@
 //! Laws of what is wrong.
 ghost use Rattle.std.specs.Prelude.{◌≡◌, [], Some};
-ghost use Rattle.oci_names.specs.Text.{Text};
+ghost use Rattle.oci_types.specs.Text.{Text};
 ghost use Rattle.registry_model.specs.World.{World, Repo, repo_at};
 ghost use Rattle.registry_model.specs.Soundness.{IsSound};
 ghost use Rattle.registry_checking.specs.Wrongs.{wrongs_of, IsWhole};

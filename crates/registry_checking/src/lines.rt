@@ -5,7 +5,7 @@ ghost use Rattle.std.specs.Io.KnownBytes.{Appends};
 ghost use Rattle.registry_checking.specs.Lines.{line, lines_of};
 
 use crate::wrong::Wrong;
-use oci_names::RepoName;
+use oci_types::RepoName;
 use std::io::Write;
 use std::{fmt, io};
 

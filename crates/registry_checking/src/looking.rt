@@ -8,7 +8,7 @@ use crate::contents::{wrong_blob, wrong_manifest};
 use crate::notes::{note, push_read};
 use crate::progress::{Progress, Watch};
 use crate::wrong::Wrong;
-use oci_names::{Digest, Fault, RepoName, Tag};
+use oci_types::{Digest, Fault, RepoName, Tag};
 use registry_model::{Keeper, Usage};
 use std::alloc::Global;
 

@@ -5,7 +5,7 @@ ghost use Rattle.registry_checking.specs.declared.wrong.Wrong.TheVariants as wro
 ghost use Rattle.registry_checking.specs.Wrongs.{IsNoted};
 
 use crate::wrong::{Flaw, Wrong};
-use oci_names::{Digest, Fault, RepoName};
+use oci_types::{Digest, Fault, RepoName};
 use std::alloc::AllocError;
 
 fn named(repo: &RepoName, digest: &Digest, flaw: Flaw) -> Result<Wrong, AllocError>

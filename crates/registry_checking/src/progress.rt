@@ -1,5 +1,5 @@
 //! How far a check is.
-use oci_names::RepoName;
+use oci_types::RepoName;
 use registry_model::Usage;
 
 /// Where somebody may be shown how far a check is.

@@ -2,7 +2,7 @@
 ghost use Rattle.std.specs.Prelude.{◌≡◌};
 ghost use Rattle.registry_checking.specs.Lines.{words_of};
 
-use oci_names::{Digest, RepoName, Tag};
+use oci_types::{Digest, RepoName, Tag};
 
 /// What is wrong with a blob or a manifest.
 #[derive(Clone, Copy, Debug, PartialEq, Eq)]

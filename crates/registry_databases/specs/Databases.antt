@@ -3,7 +3,7 @@ use Rattle.std.specs.Prelude.{◌≡◌, false}
 use Rattle.sqlite.specs.Effect.{Database}
 use Rattle.sqlite_wal.specs.Recovery.{Image}
 use Rattle.registry_model.specs.Keeping.{State}
-use Rattle.store_world.specs.World.{world_of}
+use Rattle.store_statements.specs.World.{world_of}
 use Rattle.store_statements.specs.Held.{tables_in}
 use Rattle.registry_store.specs.Opening.{OpensOn}
 

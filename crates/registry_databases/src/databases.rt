@@ -10,8 +10,8 @@ use registry_store::{OpenFault, Store, Written};
 use sqlite::{Alter, Connection, FileFrom, FileStore, Unknown};
 use sqlite_disk::Disk;
 use std::marker::PhantomData;
+use store_migration::migrate;
 use store_opening::let_go;
-use store_upgrade::migrate;
 
 /// Files of which the same is supposed each time that they are opened.
 pub trait Supposed: Written {

@@ -1,7 +1,6 @@
 //! How far a migration or a check is, shown on a terminal.
 use std::io::{IsTerminal, Stderr, Write};
-use store_moves::{OldTable, Watch};
-use store_upgrade::MovedRows;
+use store_migration::{MovedRows, OldTable, Watch};
 
 /// One line on standard error, written over itself; nothing where that is no terminal.
 #[derive(Drop)]

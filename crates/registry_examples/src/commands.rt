@@ -1,5 +1,5 @@
 use anyhow::{Result, bail};
-use oci_names::{Fault, RepoName, Token};
+use oci_types::{Fault, RepoName, Token};
 use registry_model::{AdminCommand, AdminFault, Keeper, Level, Quota, Usage};
 use registry_service::Service;
 use std::alloc::Global;

@@ -2,7 +2,7 @@
 
 use anyhow::Result;
 use oci_documents::read_manifest;
-use oci_manifest::Manifest;
+use oci_types::Manifest;
 use std::alloc::Global;
 use std::fmt::Write;
 

@@ -2,8 +2,8 @@
 
 use crate::requests::Request;
 use anyhow::{Result, bail};
-use registry_conversation::{Conversation, Step, serve_connection};
 use registry_model::Keeper;
+use registry_server::{Conversation, Step, serve_connection};
 use registry_service::Service;
 use std::alloc::Global;
 use std::io;

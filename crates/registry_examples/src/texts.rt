@@ -2,7 +2,7 @@
 
 use anyhow::{Result, bail};
 use oci_documents::{error_text, tags_text};
-use oci_names::{Digest, NameFault, Reference, RepoName, Tag, Token, session_number};
+use oci_types::{Digest, NameFault, Reference, RepoName, Tag, Token, session_number};
 use registry_model::{RangeVerdict, Route, number, range_fits};
 use std::alloc::{AllocError, Global};
 

@@ -1,7 +1,7 @@
 -- A body of a stated length, and one that is refused.
 use Rattle.std.proofs.Common.{◌≡◌, ℕ, ◌≤◌, inr, [], ◌++◌, length, take, drop, Option, refl, arith, length-take}
 use Rattle.std.proofs.KnownBytes.{Consumes-nil}
-use Rattle.oci_names.specs.Text.{Text}
+use Rattle.oci_types.specs.Text.{Text}
 use Rattle.registry_http.specs.declared.ending.FramingRefusal.{FramingRefusal}
 use Rattle.registry_http.specs.declared.ending.Stop.{Stop}
 use Rattle.registry_http.specs.declared.ending.Stop.TheVariants.{Refuse}

@@ -7,7 +7,7 @@ use Rattle.std.proofs.Math.Seq.{take-append-add, get_or-append_seam}
 use Rattle.httparse.specs.Grammar.{ChunkLine, print_chunk_line, chunk_size, ReadsChunkLine, Field, LineEnd, print_section, ReadsSection}
 use Rattle.httparse.proofs.ChunkLemmas.{chunk_line_unique}
 use Rattle.httparse.proofs.GrammarLemmas.{section_unique}
-use Rattle.oci_names.specs.Text.{Text}
+use Rattle.oci_types.specs.Text.{Text}
 use Rattle.registry_http.specs.declared.ending.FramingRefusal.{FramingRefusal}
 use Rattle.registry_http.specs.declared.framing.Framing.{Framing}
 use Rattle.registry_http.specs.declared.framing.Framing.TheVariants as framed

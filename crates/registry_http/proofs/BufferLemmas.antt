@@ -2,7 +2,7 @@
 use Rattle.std.proofs.Common.{◌≡◌, ℕ, ◌+◌, ◌-◌, ◌≤◌, zero, suc, [], ◌∷◌, ◌++◌, length, take, drop, slice_range, refl, sym, ap, ◌∙◌, arith, length-append, length-take, length-drop}
 use Rattle.std.proofs.lemmas.List.{drop-take, drop-drop, drop-append-le, take_at, drop_at}
 use Rattle.std.proofs.Math.Seq.{take-add}
-use Rattle.oci_names.specs.Text.{Text}
+use Rattle.oci_types.specs.Text.{Text}
 
 pub take_take : (m n : ℕ) (xs : Text) → m ≤ n → take m (take n xs) ≡ take m xs
 take_take zero n xs le = refl

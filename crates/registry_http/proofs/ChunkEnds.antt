@@ -3,7 +3,7 @@ use Rattle.std.proofs.Common.{◌≡◌, ℕ, ◌+◌, ◌≤◌, inl, inr, List
 use Rattle.std.proofs.lemmas.List.Elements.{All-head, All-tail}
 use Rattle.httparse.specs.Grammar.{ChunkLine, print_chunk_line, chunk_size, ReadsChunkLine, ReadsSection}
 use Rattle.httparse.proofs.ChunkLemmas.{chunk_line_unique}
-use Rattle.oci_names.specs.Text.{Text}
+use Rattle.oci_types.specs.Text.{Text}
 use Rattle.registry_http.specs.declared.ending.FramingRefusal.{FramingRefusal}
 use Rattle.registry_http.specs.Chunks.{limit, BeginsWithLine, LineIsCut, LineIsRefused, DataIsCut, HasBadEnd, Chunk, IsChunk, IsLast, print_chunk, print_chunks, data_of, ChunkIsCut, ChunkIsRefused, BehindChunks, BehindLast, TrailerIsCut, TrailerIsRefused, ChunksAreCut, ChunksAreRefused}
 use Rattle.registry_http.proofs.HeadLemmas.{take_whole}

@@ -5,7 +5,7 @@ use Rattle.std.proofs.lemmas.Grind.{common_steps}
 use Rattle.httparse.specs.Grammar.{ChunkLine, print_chunk_line, HasNoChunkLine, NeverHasChunkLine, MayBecomeChunkLine, ReadsChunkLine}
 use Rattle.httparse.specs.Spans.{IsChunkLineAt}
 use Rattle.httparse.proofs.ChunkLemmas.{ReadsChunkLine-append}
-use Rattle.oci_names.specs.Text.{Text}
+use Rattle.oci_types.specs.Text.{Text}
 use Rattle.registry_http.specs.declared.ending.FramingRefusal.TheVariants.{ChunksTooLarge}
 use Rattle.registry_http.specs.declared.ending.Stop.{Stop}
 use Rattle.registry_http.specs.declared.ending.Stop.TheVariants.{Refuse}

@@ -6,7 +6,7 @@ use Rattle.std.proofs.lemmas.List.Concat.{flat_map-cons}
 use Rattle.std.proofs.lemmas.List.Elements.{All-append, All-nil, All-from_recursion}
 use Rattle.std.proofs.KnownBytes.{Consumes-nil}
 use Rattle.httparse.specs.Grammar.{print_chunk_line}
-use Rattle.oci_names.specs.Text.{Text}
+use Rattle.oci_types.specs.Text.{Text}
 use Rattle.registry_http.specs.declared.ending.Stop.{Stop}
 use Rattle.registry_http.specs.declared.body.Next.TheVariants.{Data, Last}
 use Rattle.registry_http.specs.Chunks.{Chunk, IsChunk, print_chunk, print_chunks, data_of, BehindChunks, ChunkIsCut, ChunkIsRefused}

@@ -2,7 +2,7 @@
 use Rattle.std.proofs.Common.{◌≡◌, ◌⊎◌, inl, inr, [], ◌++◌, length, take, refl, sym, ap, subst, ◌∙◌, arith}
 use Rattle.httparse.specs.Grammar.{RequestHead, ReadsRequest, EndsInTarget}
 use Rattle.httparse.proofs.GrammarLemmas.{request_unique}
-use Rattle.oci_names.specs.Text.{Text}
+use Rattle.oci_types.specs.Text.{Text}
 use Rattle.registry_http.specs.Framing.{framing}
 use Rattle.registry_http.specs.declared.framing.Framing.{Framing}
 use Rattle.registry_http.specs.declared.framing.Framing.TheVariants as framed

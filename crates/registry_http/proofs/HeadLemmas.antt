@@ -11,7 +11,7 @@ use Rattle.httparse.specs.Spans.{RequestExceeds, IsRequestAt, IsRequestWithin, I
 use Rattle.httparse.specs.declared.spans.Span.{Span}
 use Rattle.httparse.specs.declared.spans.HeaderSpan.{HeaderSpan}
 use Rattle.httparse.specs.declared.spans.RequestSpans.{RequestSpans}
-use Rattle.oci_names.specs.Text.{Text}
+use Rattle.oci_types.specs.Text.{Text}
 use Rattle.registry_http.specs.Spelling.{HoldsNoHead}
 use Rattle.registry_http.specs.Reading.{HeadIsRead}
 

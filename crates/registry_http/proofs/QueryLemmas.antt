@@ -1,7 +1,7 @@
 -- The first pair of a key.
 use Rattle.std.proofs.Common.{◌≡◌, true, false, List, ◌∷◌, Some, sym, ap, ◌∙◌}
 use Rattle.std.specs.Prelude.{bytes_eq}
-use Rattle.oci_names.specs.Text.{Text}
+use Rattle.oci_types.specs.Text.{Text}
 use Rattle.registry_http.specs.Asking.{decoded, value_among}
 
 pub pair_found : (key name value nt vt : Text) (pairs others : List (Text × Text)) → pairs ≡ (name, value) ∷ others

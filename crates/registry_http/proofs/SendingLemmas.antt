@@ -5,7 +5,7 @@ use Rattle.std.specs.Io.KnownBytes.{Appends}
 use Rattle.std.proofs.KnownBytes.{Appends-trans}
 use Rattle.std.specs.Prelude.{codes, unwrap_or}
 use Rattle.http.specs.StatusCode.{code_digits, reason_phrase}
-use Rattle.oci_names.specs.Text.{Text}
+use Rattle.oci_types.specs.Text.{Text}
 use Rattle.registry_http.specs.ReplyText.{crlf, status_line}
 use Rattle.registry_http.specs.Sending.{CarriesAs}
 

@@ -5,7 +5,7 @@ use Rattle.std.proofs.lemmas.Str.{IsUtf8-from_ascii}
 use Rattle.std.specs.Prelude.{IsUtf8}
 use Rattle.httparse.specs.Grammar.{is_token_byte, is_uri_byte, IsToken, crlf, IsField, RequestHead, print_request, ReadsRequest}
 use Rattle.std.proofs.lemmas.List.{append-nil}
-use Rattle.oci_names.specs.Text.{Text}
+use Rattle.oci_types.specs.Text.{Text}
 
 abbrev slash : Text
 slash = 47 ∷ []

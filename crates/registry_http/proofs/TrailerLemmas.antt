@@ -6,7 +6,7 @@ use Rattle.httparse.specs.Grammar.{Field, LineEnd, lf, print_end, print_field, p
 use Rattle.httparse.specs.Spans.{SectionExceeds, IsSectionWithin, IsSectionAt, header_bytes, name_and_value}
 use Rattle.httparse.specs.declared.spans.HeaderSpan.{HeaderSpan}
 use Rattle.httparse.proofs.GrammarLemmas.{ReadsSection-append}
-use Rattle.oci_names.specs.Text.{Text}
+use Rattle.oci_types.specs.Text.{Text}
 use Rattle.registry_http.specs.declared.ending.Stop.{Stop}
 use Rattle.registry_http.specs.Reading.{Pulls}
 use Rattle.registry_http.specs.Chunks.{BeginsWithTrailer, HoldsNoTrailer, TrailerIsCut, TrailerIsRefused, print_chunks, data_of, ChunkedBody, IsChunkedBody, print_body, BehindChunks, BehindLast, ChunkIsCut, ChunkIsRefused, ChunksAreCut, ChunksAreRefused}

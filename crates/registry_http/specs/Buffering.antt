@@ -1,6 +1,6 @@
 -- The bytes that a buffer holds, around a place.
 use Rattle.std.specs.Prelude.{ℕ, ◌-◌, slice_range, vec_len}
-use Rattle.oci_names.specs.Text.{Text}
+use Rattle.oci_types.specs.Text.{Text}
 use Rattle.registry_http.specs.declared.buffer.Buffer.{Buffer}
 
 -- what was taken of the request in hand

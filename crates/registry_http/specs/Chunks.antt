@@ -3,7 +3,7 @@
 use Rattle.std.specs.Prelude.{◌≡◌, ◌≢◌, ℕ, ◌+◌, ◌<◌, ◌≤◌, ◌⊎◌, List, [], ◌∷◌, ◌++◌, length, take, slice_index, All}
 use Rattle.std.specs.List.{flat_map}
 use Rattle.httparse.specs.Grammar.{ChunkLine, print_chunk_line, IsChunkLine, ReadsChunkLine, HasNoChunkLine, NeverHasChunkLine, MayBecomeChunkLine, chunk_size, Field, IsField, LineEnd, print_section, ReadsSection, HasNoSection, NeverHasSection, MayBecomeSection}
-use Rattle.oci_names.specs.Text.{Text}
+use Rattle.oci_types.specs.Text.{Text}
 use Rattle.registry_model.specs.Limits.{largest_blob}
 use Rattle.registry_http.specs.Limits.{longest_head, most_fields, longest_chunk_line}
 use Rattle.registry_http.specs.declared.ending.FramingRefusal.{FramingRefusal}

@@ -1,7 +1,7 @@
 -- How a connection ends on which there is no further request.
 use Rattle.std.specs.Prelude.{◌≡◌, ◌<◌, length, take, Option}
 use Rattle.std.specs.Io.KnownBytes.{Appends}
-use Rattle.oci_names.specs.Text.{Text}
+use Rattle.oci_types.specs.Text.{Text}
 use Rattle.registry_http.specs.ReplyText.{refusal_text}
 use Rattle.registry_http.specs.declared.ending.FramingRefusal.{FramingRefusal}
 use Rattle.registry_http.specs.declared.ending.End.{End}

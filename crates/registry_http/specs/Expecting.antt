@@ -2,7 +2,7 @@
 use Rattle.std.specs.Prelude.{◌≡◌, ℕ, ◌≤◌, ◌⊎◌, ◌==◌, Bool, true, false, ◌&&◌, nat_lt, List, [], Option, Some, None, length, codes, if◌then◌else◌}
 use Rattle.std.specs.Str.{str_eq_ignore_ascii_case}
 use Rattle.httparse.specs.Grammar.{RequestHead}
-use Rattle.oci_names.specs.Text.{Text}
+use Rattle.oci_types.specs.Text.{Text}
 use Rattle.registry_http.specs.Limits.{most_fields}
 use Rattle.registry_http.specs.Fields.{NamedValue, fields_of, values, first}
 use Rattle.registry_http.specs.Framing.{framing}

@@ -1,6 +1,6 @@
 -- What a connection has read and not answered yet.
 use Rattle.std.specs.Prelude.{ℕ, ◌+◌, ◌*◌, length}
-use Rattle.oci_names.specs.Text.{Text}
+use Rattle.oci_types.specs.Text.{Text}
 use Rattle.registry_http.specs.Buffering.{before, behind}
 use Rattle.registry_http.specs.declared.intake.Intake.{Intake}
 

@@ -1,6 +1,6 @@
 -- The requests on a connection as steps, and their replies as outcomes (profile).
 use Rattle.std.specs.Prelude.{◌≡◌, List, [], ◌∷◌, map}
-use Rattle.oci_names.specs.Text.{Text}
+use Rattle.oci_types.specs.Text.{Text}
 use Rattle.registry_model.specs.Answer.{Answer}
 use Rattle.registry_model.specs.Keeping.{State}
 use Rattle.registry_model.specs.Team.{Step, asks}

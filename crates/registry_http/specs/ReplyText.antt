@@ -1,7 +1,7 @@
 -- The text of a reply (RFC 9112, sections 2.1 and 4; the order of the fields is the profile's).
 use Rattle.std.specs.Prelude.{ℕ, ◌==◌, Bool, [], ◌∷◌, ◌++◌, if◌then◌else◌, length, Option, Some, None, codes, decimal, unwrap_or}
 use Rattle.http.specs.StatusCode.{code_digits, reason_phrase}
-use Rattle.oci_names.specs.Text.{Text}
+use Rattle.oci_types.specs.Text.{Text}
 use Rattle.registry_model.specs.Answer.{Answer, Content, sent, unsent, code_of}
 use Rattle.registry_http.specs.Refusals.{refusal_code}
 use Rattle.registry_http.specs.declared.ending.FramingRefusal.{FramingRefusal}

@@ -1,7 +1,7 @@
 -- A text on its way to a writer.
 use Rattle.std.specs.Prelude.{◌≡◌, ℕ, ◌+◌, ◌<◌, Bool, true, false, ◌++◌, length, take, Option, Result, MatchResult}
 use Rattle.std.specs.Io.KnownBytes.{Appends}
-use Rattle.oci_names.specs.Text.{Text}
+use Rattle.oci_types.specs.Text.{Text}
 use Rattle.registry_http.specs.declared.outgoing.Outgoing.{Outgoing}
 use Rattle.registry_http.specs.declared.outgoing.WriteFault.{WriteFault}
 

@@ -2,7 +2,7 @@
 use Rattle.std.specs.Prelude.{◌≡◌, ℕ, ◌+◌, ◌≤◌, ◌⊎◌, List, [], ◌++◌, length, drop, All, Option, Result, MatchResult}
 use Rattle.std.specs.Io.KnownBytes.{Consumes, IsAtEnd}
 use Rattle.httparse.specs.Grammar.{ChunkLine, print_chunk_line, chunk_size, Field, LineEnd, print_section}
-use Rattle.oci_names.specs.Text.{Text}
+use Rattle.oci_types.specs.Text.{Text}
 use Rattle.registry_http.specs.Limits.{most_fields}
 use Rattle.registry_http.specs.Chunks.{limit, BeginsWithLine, LineIsCut, HoldsNoLine, Chunk, IsChunk, IsLast, print_chunk, print_chunks, data_of, BeginsWithTrailer, TrailerIsCut, HoldsNoTrailer}
 use Rattle.registry_http.specs.declared.ending.FramingRefusal.{FramingRefusal}

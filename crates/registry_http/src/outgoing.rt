@@ -1,5 +1,5 @@
 ghost use Rattle.std.specs.Prelude.{◌≡◌, false, [], Option};
-ghost use Rattle.oci_names.specs.Text.{Text};
+ghost use Rattle.oci_types.specs.Text.{Text};
 ghost use Rattle.registry_http.specs.Sending.{Sends, SendsReply, SendsBehind, Carries, GoesOn};
 
 use arrayvec::ArrayVec;

@@ -1,7 +1,7 @@
 //! Isolation on a connection.
 
 ghost use Rattle.std.specs.Prelude.{List, ◌++◌};
-ghost use Rattle.oci_names.specs.Text.{Text};
+ghost use Rattle.oci_types.specs.Text.{Text};
 ghost use Rattle.registry_model.specs.Keeping.{State};
 ghost use Rattle.registry_http.specs.Spelling.{Item};
 ghost use Rattle.registry_http.specs.Serving.{Run, Traffic, Serves, served};

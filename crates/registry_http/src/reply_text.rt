@@ -11,7 +11,7 @@ use crate::ending::FramingRefusal;
 use crate::outgoing::{Outgoing, WriteFault};
 use http::StatusCode;
 use itoa::Buffer;
-use oci_names::Digest;
+use oci_types::Digest;
 use registry_model::{Body, Reply, Status};
 use std::io::Write;
 

@@ -1,6 +1,6 @@
 //! What bytes spell is one thing.
 ghost use Rattle.std.specs.Prelude.{◌≡◌, List};
-ghost use Rattle.oci_names.specs.Text.{Text};
+ghost use Rattle.oci_types.specs.Text.{Text};
 ghost use Rattle.registry_http.specs.Spelling.{Item, Spells, AreOneEnd};
 ghost use Rattle.registry_http.specs.declared.ending.End.{End};
 

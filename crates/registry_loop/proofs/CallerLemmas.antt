@@ -1,6 +1,6 @@
 -- Those who give orders, beside connections.
 use Rattle.std.proofs.Common.{◌≡◌, inl, inr, Bool, true, false, List, [], ◌∷◌, refl, sym, subst}
-use Rattle.oci_names.specs.Text.{Text}
+use Rattle.oci_types.specs.Text.{Text}
 use Rattle.registry_model.specs.Keeping.{State}
 use Rattle.order_carrying.specs.Answering.{IsOneStep}
 use Rattle.order_callers.specs.Calling.{Called, CarriesOutLine, Obeys, Attends, AttendsAll, AttendsRound}

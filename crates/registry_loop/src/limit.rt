@@ -1,9 +1,9 @@
 //! Which limit a refused request met, as a log tells it. The statuses that say so are 413 (RFC 9110, section
 //! 15.5.14) and 429 (RFC 6585, section 4); the limits are those of `registry_model` (profile).
 
-use registry_conversation::Step;
 use registry_http::{End, FramingRefusal};
 use registry_model::{LARGEST_BLOB, LARGEST_MANIFEST, MOST_SESSIONS, Route};
+use registry_server::Step;
 
 /// A limit that a refused request met, and the repository for which it was met.
 #[derive(Clone, Copy)]

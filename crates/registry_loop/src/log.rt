@@ -2,8 +2,7 @@
 
 use crate::limit::{Limit, is_of_body, limit_met};
 use jiff::Timestamp;
-use registry_conversation::Step;
-use registry_server::{Connections, Turn};
+use registry_server::{Connections, Step, Turn};
 use std::alloc::{AllocError, Global};
 use std::io::Write;
 use std::time::{Clock, Duration};

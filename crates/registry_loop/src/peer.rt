@@ -6,9 +6,8 @@ ghost use Rattle.registry_server.specs.Events.{Carries};
 
 use mio::event::Event;
 use mio::net::TcpStream;
-use registry_conversation::{Step, Wants};
 use registry_http::End;
-use registry_server::{Connections, Receipt, Turn};
+use registry_server::{Connections, Receipt, Step, Turn, Wants};
 use std::alloc::Global;
 use std::io::{ErrorKind, Read, Write};
 use std::net::Shutdown;

@@ -12,7 +12,7 @@ use Rattle.std.specs.BTreeMap as btree
 use Rattle.std.specs.Cmp.{Equal-is}
 use Rattle.std.specs.FinMap.Entries.{below_all}
 use Rattle.std.specs.FinMap.{get, find, is_sorted, get-empty}
-use Rattle.oci_names.specs.Text.{Text}
+use Rattle.oci_types.specs.Text.{Text}
 use Rattle.registry_model.specs.declared.level.Level.{Level}
 use Rattle.registry_model.specs.World.{text_cmp, level_at}
 use Rattle.registry_model.specs.Lookups.{AreLevelsOn}

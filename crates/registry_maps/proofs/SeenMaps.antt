@@ -19,7 +19,7 @@ use Rattle.std.specs.FinMap.Entries.{below_all}
 use Rattle.std.specs.FinMap.{FinMap, get, insert, remove, retain_keys, empty, entries, len, find, is_sorted, from_entries, from_sorted, get-from_entries, get-from_sorted, entries-from_sorted, get-insert, get-remove, get-retain_keys, get-empty, get_tied, len-entries, same_map, IsAntisymmetric, nat_cmp-IsAntisymmetric}
 use Rattle.std.proofs.lemmas.Cmp.{nat_cmp_total}
 use Rattle.std.proofs.lemmas.Map.Text.{is_eq-slice_cmp}
-use Rattle.oci_names.specs.Text.{Text}
+use Rattle.oci_types.specs.Text.{Text}
 use Rattle.registry_model.specs.World.{text_cmp}
 use Rattle.registry_maps.specs.Maps.{seen, Makes, Puts}
 use Rattle.registry_model.proofs.TextOrder.{text_total}

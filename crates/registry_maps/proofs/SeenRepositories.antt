@@ -9,7 +9,7 @@ use Rattle.std.specs.declared.alloc.Global.{Global}
 use Rattle.std.specs.declared.alloc.AllocError.{AllocError}
 use Rattle.std.proofs.lemmas.Bool.Decides.{nat_tests}
 use Rattle.std.proofs.lemmas.List.Sums.{sum_by-cons}
-use Rattle.oci_names.specs.Text.{Text}
+use Rattle.oci_types.specs.Text.{Text}
 use Rattle.registry_model.specs.Usage.{in_64_bits}
 use Rattle.registry_maps.specs.declared.repository.Repository.{Repository}
 use Rattle.registry_model.specs.World.{text_cmp, Repo}

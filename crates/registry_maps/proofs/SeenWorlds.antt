@@ -12,8 +12,8 @@ use Rattle.std.specs.FinMap.{get, insert, remove, empty, len, empty_of_len, len-
 use Rattle.std.specs.Cmp.{eq_by_cmp_equiv}
 use Rattle.std.specs.declared.alloc.AllocError.{AllocError}
 use Rattle.std.proofs.lemmas.Map.Text.{is_eq-slice_cmp}
-use Rattle.oci_names.specs.Text.{Text}
-use Rattle.oci_names.specs.declared.fault.Fault.{Fault}
+use Rattle.oci_types.specs.Text.{Text}
+use Rattle.oci_types.specs.declared.fault.Fault.{Fault}
 use Rattle.registry_model.specs.declared.level.Level.{Level}
 use Rattle.registry_maps.specs.declared.repository.Repository.{Repository}
 use Rattle.registry_model.specs.World.{text_cmp, Repo, Grants, World, repo_at, is_known, new_repo, update_repo, with_grants}

@@ -1,11 +1,10 @@
 //! A manifest's bytes, with what look-ups ask of their reading.
 ghost use Rattle.std.specs.Prelude.{◌≡◌, length, Ok, IfOk};
-ghost use Rattle.oci_manifest.specs.Manifest.{shown, manifest_in};
+ghost use Rattle.oci_types.specs.Manifest.{shown, manifest_in};
 ghost use Rattle.registry_model.specs.Manifests.{kind_in, is_text};
 ghost use Rattle.registry_model.specs.Referrers.{subject_or_none};
 
-use oci_manifest::{Kind, Manifest};
-use oci_names::Digest;
+use oci_types::{Digest, Kind, Manifest};
 use std::alloc::{AllocError, Global};
 use std::marker::Model;
 
@@ -28,7 +27,7 @@ impl Drop for KeptManifest {
 
 impl Model for KeptManifest {
     ghost use Rattle.std.specs.Prelude.{◌≡◌, List, ℕ};
-    ghost use Rattle.oci_manifest.specs.Manifest.{manifest_in};
+    ghost use Rattle.oci_types.specs.Manifest.{manifest_in};
     ghost use Rattle.registry_model.specs.Manifests.{kind_in};
     ghost use Rattle.registry_model.specs.Referrers.{subject_or_none};
 

@@ -4,7 +4,7 @@ ghost use Rattle.std.specs.FinMap.{insert, remove};
 ghost use Rattle.registry_maps.specs.Maps.{levels_in, Makes};
 
 use crate::putting::put;
-use oci_names::RepoName;
+use oci_types::RepoName;
 use registry_model::Level;
 use std::alloc::AllocError;
 use std::collections::BTreeMap;

@@ -1,7 +1,7 @@
 ghost use Rattle.std.specs.Prelude.{◌≡◌};
 ghost use Rattle.registry_maps.specs.Maps.{or_memory};
 
-use oci_names::Fault;
+use oci_types::Fault;
 use std::alloc::AllocError;
 
 /// The only fault is want of memory.

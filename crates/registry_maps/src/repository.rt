@@ -2,7 +2,7 @@
 //! it held.
 ghost use Rattle.std.specs.Prelude.{◌≡◌, ◌<◌, ◌+◌, ◌++◌, true, not, is_some, Some, Ok, IfOk};
 ghost use Rattle.std.specs.FinMap.{get};
-ghost use Rattle.oci_manifest.specs.Manifest.{shown, manifest_in};
+ghost use Rattle.oci_types.specs.Manifest.{shown, manifest_in};
 ghost use Rattle.registry_model.specs.Ask.{text_in};
 ghost use Rattle.registry_model.specs.World.{new_repo};
 ghost use Rattle.registry_model.specs.Limits.{largest};
@@ -19,8 +19,7 @@ mod reads;
 
 use crate::kept_manifest::KeptManifest;
 use crate::putting::put;
-use oci_manifest::Manifest;
-use oci_names::{Digest, Tag};
+use oci_types::{Digest, Manifest, Tag};
 use registry_model::Quota;
 use std::alloc::{AllocError, Global};
 use std::collections::BTreeMap;

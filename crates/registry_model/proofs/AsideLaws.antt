@@ -4,8 +4,8 @@ use Rattle.std.specs.Prelude.{is_some, bytes_eq}
 use Rattle.std.specs.Ordering.{eq_by_cmp}
 use Rattle.std.specs.FinMap.{get, insert, remove, empty, get-empty, get-insert, get-remove}
 use Rattle.std.proofs.lemmas.Bool.Decides.{nat_tests}
-use Rattle.oci_names.specs.Text.{Text}
-use Rattle.oci_names.specs.Token.{is_token}
+use Rattle.oci_types.specs.Text.{Text}
+use Rattle.oci_types.specs.Token.{is_token}
 use Rattle.registry_model.specs.declared.level.Level.{Level}
 use Rattle.registry_model.specs.declared.admin.AdminCommand.{AdminCommand}
 use Rattle.registry_model.specs.declared.admin.AdminCommand.TheVariants.{AddRepo, SetQuota, DropRepo, Grant, Revoke, RevokeAll, DropSessions, Prune, Clear}

@@ -8,7 +8,7 @@ use Rattle.std.specs.FinMap.{FinMap, get, keys, contains_key-keys, get-remove, g
 use Rattle.std.proofs.lemmas.List.{take_more}
 use Rattle.std.proofs.lemmas.Map.Text.{is_eq-slice_cmp}
 use Rattle.std.proofs.lemmas.Map.Views.{any-filter_same}
-use Rattle.oci_names.specs.Text.{Text}
+use Rattle.oci_types.specs.Text.{Text}
 use Rattle.registry_model.specs.World.{text_cmp, Repo}
 use Rattle.registry_model.specs.Blobs.{without_blob}
 use Rattle.registry_model.specs.Pruning.{is_among, is_named, pruned, without_blobs}

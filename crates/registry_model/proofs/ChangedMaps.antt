@@ -10,7 +10,7 @@ use Rattle.std.specs.FinMap.{FinMap, get, insert, remove, empty, entries, values
 use Rattle.std.specs.FinMap.Entries.{put, find, by_order}
 use Rattle.std.proofs.lemmas.List.Sums.{sum_by-cons}
 use Rattle.std.proofs.lemmas.Slice.Eq.{bytes_eq-Decides}
-use Rattle.oci_names.specs.Text.{Text}
+use Rattle.oci_types.specs.Text.{Text}
 
 pub bytes_eq-itself : (t : Text) → bytes_eq t t ≡ true
 bytes_eq-itself t = (bytes_eq-Decides t t).1 refl

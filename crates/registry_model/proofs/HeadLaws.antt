@@ -1,9 +1,9 @@
 -- HEAD is answered as GET, without the content.
 use Rattle.std.proofs.Common.{◌≡◌, Bool, true, false, Option, None, Some, refl, ap, if◌then◌else◌}
 use Rattle.std.specs.Prelude.{option_map, length}
-use Rattle.oci_names.specs.Text.{Text}
-use Rattle.oci_names.specs.RepoName.{is_repo_name}
-use Rattle.oci_names.specs.Token.{is_token}
+use Rattle.oci_types.specs.Text.{Text}
+use Rattle.oci_types.specs.RepoName.{is_repo_name}
+use Rattle.oci_types.specs.Token.{is_token}
 use Rattle.registry_model.specs.declared.request.Verb.{Verb}
 use Rattle.registry_model.specs.declared.request.Verb.TheVariants.{Get, Head}
 use Rattle.registry_model.specs.World.{World, Grants, Repo, repo_at, is_known}

@@ -3,9 +3,9 @@ use Rattle.std.proofs.Common.{◌≡◌, ◌∙◌, ℕ, Bool, true, false, cond
 use Rattle.std.specs.Prelude.{is_some, option_map, length}
 use Rattle.std.specs.Option.{option_and_then}
 use Rattle.std.specs.FinMap.{get}
-use Rattle.oci_names.specs.Text.{Text}
-use Rattle.oci_names.specs.Digest.{is_digest}
-use Rattle.oci_names.specs.RepoName.{is_repo_name}
+use Rattle.oci_types.specs.Text.{Text}
+use Rattle.oci_types.specs.Digest.{is_digest}
+use Rattle.oci_types.specs.RepoName.{is_repo_name}
 use Rattle.registry_model.specs.declared.level.Level.{Level}
 use Rattle.registry_model.specs.declared.level.Level.TheVariants.{Pull, Push, Delete}
 use Rattle.registry_model.specs.declared.refusal.Refusal.TheVariants.{TokenRequired, InvalidName, AccessDenied, InvalidDigest}

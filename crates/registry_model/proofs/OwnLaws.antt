@@ -1,8 +1,8 @@
 -- A team's own requests, answered from what the team sees.
 use Rattle.std.proofs.Common.{◌≡◌, ◌∙◌, Bool, true, false, cond, nat_le, Option, Some, None, OnSome, refl, sym, ap}
 use Rattle.std.specs.Prelude.{is_some}
-use Rattle.oci_names.specs.Text.{Text}
-use Rattle.oci_names.specs.Token.{is_token}
+use Rattle.oci_types.specs.Text.{Text}
+use Rattle.oci_types.specs.Token.{is_token}
 use Rattle.registry_model.specs.declared.level.Level.{Level}
 use Rattle.registry_model.specs.declared.refusal.Refusal.TheVariants.{TokenRequired}
 use Rattle.registry_model.specs.World.{Repo, World, repo_at, level_at}

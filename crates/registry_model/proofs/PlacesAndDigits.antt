@@ -8,7 +8,7 @@ use Rattle.std.specs.Str.Parse.{digits_value}
 use Rattle.std.proofs.Math.Bool.{and-false}
 use Rattle.std.proofs.lemmas.List.Sums.{prefix_len-le-length}
 use Rattle.std.proofs.lemmas.Grind.{common_steps}
-use Rattle.oci_names.specs.Text.{Text}
+use Rattle.oci_types.specs.Text.{Text}
 use Rattle.registry_model.specs.declared.range.RangeVerdict.TheVariants.{Malformed}
 use Rattle.registry_model.specs.Numbers.{number_in}
 use Rattle.registry_model.specs.Range.{Positions, is_solidus, without_unit, is_whole_length, has_good_end, positions_of, range_in, positions_fit}

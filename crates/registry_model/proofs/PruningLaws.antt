@@ -6,9 +6,9 @@ use Rattle.std.specs.Ordering.{is_eq, eq_by_cmp}
 use Rattle.std.specs.Cmp.{eq_by_cmp_equiv}
 use Rattle.std.specs.FinMap.{get, entries, get-entries, get-insert}
 use Rattle.std.specs.FinMap.Entries.{find}
-use Rattle.oci_names.specs.Text.{Text}
-use Rattle.oci_manifest.specs.Manifest.{ManifestShown, manifest_in}
-use Rattle.oci_manifest.proofs.NeededNamed.{needs_named}
+use Rattle.oci_types.specs.Text.{Text}
+use Rattle.oci_types.specs.Manifest.{ManifestShown, manifest_in}
+use Rattle.oci_types.proofs.NeededNamed.{needs_named}
 use Rattle.registry_model.specs.World.{text_cmp, Repo, World, repo_at, update_repo}
 use Rattle.registry_model.specs.Manifests.{has_needs}
 use Rattle.registry_model.specs.Soundness.{IsSoundRepo}

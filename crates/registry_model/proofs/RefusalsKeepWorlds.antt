@@ -2,14 +2,14 @@
 use Rattle.std.proofs.Common.{◌≡◌, ◌∙◌, ℕ, ◌+◌, ◌≤◌, ◌++◌, length, Bool, true, false, cond, not, ◌||◌, nat_lt, Option, Some, None, Result, Ok, Err, refl, ap, arith}
 use Rattle.std.specs.Prelude.{is_some, option_map}
 use Rattle.std.specs.FinMap.{get}
-use Rattle.oci_names.specs.Text.{Text}
-use Rattle.oci_names.specs.Digest.{is_digest, is_verified, matches}
-use Rattle.oci_names.specs.Tag.{is_tag}
-use Rattle.oci_names.specs.RepoName.{is_repo_name}
-use Rattle.oci_names.specs.Token.{is_token}
-use Rattle.oci_names.specs.Reference.{is_reference}
-use Rattle.oci_manifest.specs.declared.fault.ManifestFault.{ManifestFault}
-use Rattle.oci_manifest.specs.Manifest.{ManifestShown, manifest_in}
+use Rattle.oci_types.specs.Text.{Text}
+use Rattle.oci_types.specs.Digest.{is_digest, is_verified, matches}
+use Rattle.oci_types.specs.Tag.{is_tag}
+use Rattle.oci_types.specs.RepoName.{is_repo_name}
+use Rattle.oci_types.specs.Token.{is_token}
+use Rattle.oci_types.specs.Reference.{is_reference}
+use Rattle.oci_types.specs.declared.manifest_fault.ManifestFault.{ManifestFault}
+use Rattle.oci_types.specs.Manifest.{ManifestShown, manifest_in}
 use Rattle.registry_model.specs.declared.range.RangeVerdict.{RangeVerdict}
 use Rattle.registry_model.specs.declared.range.RangeVerdict.TheVariants.{Fits, Malformed, OutOfOrder, Unequal}
 use Rattle.registry_model.specs.declared.request.Verb.{Verb}

@@ -4,13 +4,13 @@ use Rattle.std.specs.Prelude.{is_some, bytes_eq, option_map, IsOk}
 use Rattle.std.specs.Option.{option_and_then}
 use Rattle.std.specs.FinMap.{get}
 use Rattle.std.proofs.lemmas.Bool.Decides.{nat_tests}
-use Rattle.oci_names.specs.Text.{Text}
-use Rattle.oci_names.specs.Digest.{is_digest, is_verified, matches, sha256_digest, sha512_digest}
-use Rattle.oci_names.specs.Tag.{is_tag}
-use Rattle.oci_names.specs.Reference.{is_reference}
-use Rattle.oci_names.specs.SessionNumber.{session_number_of}
-use Rattle.oci_manifest.specs.declared.fault.ManifestFault.{ManifestFault}
-use Rattle.oci_manifest.specs.Manifest.{ManifestShown, manifest_in}
+use Rattle.oci_types.specs.Text.{Text}
+use Rattle.oci_types.specs.Digest.{is_digest, is_verified, matches, sha256_digest, sha512_digest}
+use Rattle.oci_types.specs.Tag.{is_tag}
+use Rattle.oci_types.specs.Reference.{is_reference}
+use Rattle.oci_types.specs.SessionNumber.{session_number_of}
+use Rattle.oci_types.specs.declared.manifest_fault.ManifestFault.{ManifestFault}
+use Rattle.oci_types.specs.Manifest.{ManifestShown, manifest_in}
 use Rattle.registry_model.specs.declared.refusal.Refusal.TheVariants.{QuotaExceeded}
 use Rattle.registry_model.specs.declared.range.RangeVerdict.{RangeVerdict}
 use Rattle.registry_model.specs.declared.range.RangeVerdict.TheVariants.{Fits, Malformed, OutOfOrder, Unequal}

@@ -5,9 +5,9 @@ use Rattle.std.specs.Ordering.{nat_cmp}
 use Rattle.std.specs.Cmp.{nat_cmp_total}
 use Rattle.std.specs.FinMap.{get, insert, remove, empty, len, contains_key, get-empty, get-retain_keys, len-empty, len-insert, len-remove, nat_cmp-IsAntisymmetric}
 use Rattle.std.proofs.lemmas.Bool.Decides.{nat_tests}
-use Rattle.oci_names.specs.Text.{Text}
-use Rattle.oci_names.specs.Digest.{matches}
-use Rattle.oci_manifest.specs.Manifest.{manifest_in}
+use Rattle.oci_types.specs.Text.{Text}
+use Rattle.oci_types.specs.Digest.{matches}
+use Rattle.oci_types.specs.Manifest.{manifest_in}
 use Rattle.registry_model.specs.World.{text_cmp, Repo, new_repo}
 use Rattle.registry_model.specs.Limits.{largest, largest_blob, most_sessions}
 use Rattle.registry_model.specs.Usage.{used, is_over}

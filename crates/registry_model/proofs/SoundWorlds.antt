@@ -2,9 +2,9 @@
 use Rattle.std.proofs.Common.{◌≡◌, ◌∙◌, inl, inr, ℕ, ◌≤◌, Bool, true, false, cond, List, [], ◌∷◌, Option, Some, None, IfSome, refl, sym, ap, subst, arith}
 use Rattle.std.specs.Prelude.{is_some, bytes_eq}
 use Rattle.std.specs.FinMap.{get, insert, remove, empty, get-empty}
-use Rattle.oci_names.specs.Text.{Text}
-use Rattle.oci_names.specs.RepoName.{is_repo_name}
-use Rattle.oci_names.specs.Token.{is_token}
+use Rattle.oci_types.specs.Text.{Text}
+use Rattle.oci_types.specs.RepoName.{is_repo_name}
+use Rattle.oci_types.specs.Token.{is_token}
 use Rattle.registry_model.specs.declared.level.Level.{Level}
 use Rattle.registry_model.specs.declared.quota.Quota.{Quota}
 use Rattle.registry_model.specs.declared.request.Verb.{Verb}

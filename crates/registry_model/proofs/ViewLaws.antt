@@ -2,7 +2,7 @@
 use Rattle.std.proofs.Common.{◌≡◌, ◌∙◌, Bool, true, false, cond, Option, Some, None, OnSome, refl, sym, ap}
 use Rattle.std.specs.Prelude.{is_some, bytes_eq}
 use Rattle.std.specs.FinMap.{get, remove, retain_keys, empty, get-retain_keys}
-use Rattle.oci_names.specs.Text.{Text}
+use Rattle.oci_types.specs.Text.{Text}
 use Rattle.registry_model.specs.declared.level.Level.{Level}
 use Rattle.registry_model.specs.World.{Repo, Grants, World, repo_at, update_repo, level_at, with_repo, with_grants}
 use Rattle.registry_model.specs.Judging.{changed}

@@ -6,8 +6,8 @@ use Rattle.std.specs.declared.cmp.Ordering.{Ordering}
 use Rattle.std.specs.Cmp.{IsTotalOrder, nat_cmp_total}
 use Rattle.std.specs.FinMap.{FinMap, get, insert, empty, len, entries, from_entries, entries-insert, get-from_entries, get-empty, len-empty, len-entries, empty_of_len, get-retain_keys, remove, len-insert, len-remove}
 use Rattle.std.specs.FinMap.Entries.{put}
-use Rattle.oci_names.specs.Text.{Text}
-use Rattle.oci_names.specs.Digest.{matches}
+use Rattle.oci_types.specs.Text.{Text}
+use Rattle.oci_types.specs.Digest.{matches}
 use Rattle.registry_model.specs.declared.level.Level.{Level}
 use Rattle.registry_model.specs.declared.level.Level.TheVariants.{Delete}
 use Rattle.registry_model.specs.declared.refusal.Refusal.TheVariants.{TokenRequired, AccessDenied, QuotaExceeded, DigestMismatch, TooManyUploads}

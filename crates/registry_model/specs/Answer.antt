@@ -2,7 +2,7 @@
 use Rattle.std.specs.Prelude.{ℕ, [], Option, Some, None, codes, String, string_bytes, option_map}
 use Rattle.std.specs.Borrow.{Bor}
 use Rattle.std.specs.declared.alloc.Global.{Global}
-use Rattle.oci_names.specs.Text.{Text}
+use Rattle.oci_types.specs.Text.{Text}
 use Rattle.registry_model.specs.declared.refusal.Refusal.{Refusal}
 use Rattle.registry_model.specs.declared.refusal.Refusal.TheVariants.{TokenRequired}
 use Rattle.registry_model.specs.declared.reply.Status.{Status}

@@ -1,7 +1,7 @@
 -- A request, as its writer sees it.
 use Rattle.std.specs.Prelude.{Option, option_map}
 use Rattle.std.specs.Borrow.{Bor}
-use Rattle.oci_names.specs.Text.{Text}
+use Rattle.oci_types.specs.Text.{Text}
 use Rattle.registry_model.specs.declared.request.Verb.{Verb}
 use Rattle.registry_model.specs.declared.request.Query.{Query}
 use Rattle.registry_model.specs.declared.request.Request.{Request}

@@ -2,8 +2,8 @@
 -- and Pushing a blob monolithically).
 use Rattle.std.specs.Prelude.{ℕ, ◌++◌, Bool, not, ◌&&◌, nat_lt, length, Option, Some, None, is_some, option_map, codes, if◌then◌else◌}
 use Rattle.std.specs.FinMap.{get, insert, remove}
-use Rattle.oci_names.specs.Text.{Text}
-use Rattle.oci_names.specs.Digest.{is_digest, is_verified, matches}
+use Rattle.oci_types.specs.Text.{Text}
+use Rattle.oci_types.specs.Digest.{is_digest, is_verified, matches}
 use Rattle.registry_model.specs.declared.refusal.Refusal.TheVariants.{BlobUnknown, InvalidDigest, DigestMismatch, ContentTooLarge}
 use Rattle.registry_model.specs.declared.reply.Status.TheVariants.{OK, Created, Accepted}
 use Rattle.registry_model.specs.World.{Repo}

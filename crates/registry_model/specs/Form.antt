@@ -1,7 +1,7 @@
 -- The forms of a request's path (OCI Distribution Specification 1.1, Endpoints).
 use Rattle.std.specs.Prelude.{ℕ, ◌==◌, ◌&&◌, ◌||◌, Bool, [], drop, codes, bytes_eq, nat_eq, if◌then◌else◌}
 use Rattle.std.specs.List.{before_last, after_last, starts_with}
-use Rattle.oci_names.specs.Text.{Text}
+use Rattle.oci_types.specs.Text.{Text}
 use Rattle.registry_model.specs.declared.route.Route.{Route}
 use Rattle.registry_model.specs.declared.route.Route.TheVariants as route
 

@@ -3,9 +3,9 @@
 -- look-ups of repositories gives it, so that two worlds in which these agree give one answer.
 use Rattle.std.specs.Prelude.{Bool, codes, Option, Some, None, nat_le, if◌then◌else◌}
 use Rattle.std.specs.FinMap.{get}
-use Rattle.oci_names.specs.Text.{Text}
-use Rattle.oci_names.specs.RepoName.{is_repo_name}
-use Rattle.oci_names.specs.Token.{is_token}
+use Rattle.oci_types.specs.Text.{Text}
+use Rattle.oci_types.specs.RepoName.{is_repo_name}
+use Rattle.oci_types.specs.Token.{is_token}
 use Rattle.registry_model.specs.declared.refusal.Refusal.TheVariants.{TokenRequired, NoEndpoint, InvalidName, MethodNotAllowed, AccessDenied}
 use Rattle.registry_model.specs.declared.request.Verb.{Verb}
 use Rattle.registry_model.specs.declared.request.Verb.TheVariants.{Get, Head}

@@ -1,10 +1,10 @@
 -- What the calls of a keeper say of the world that it keeps.
 use Rattle.std.specs.Prelude.{◌≡◌, ℕ, Bool, true, false, List, map, Option, Result, Ok, Err, ⊤, Vec, option_map}
 use Rattle.std.specs.declared.alloc.Global.{Global}
-use Rattle.oci_names.specs.Text.{Text}
-use Rattle.oci_names.specs.declared.fault.Fault.{Fault}
-use Rattle.oci_names.specs.declared.fault.Fault.TheVariants.{Memory, Storage}
-use Rattle.oci_manifest.specs.declared.kind.Kind.{Kind}
+use Rattle.oci_types.specs.Text.{Text}
+use Rattle.oci_types.specs.declared.fault.Fault.{Fault}
+use Rattle.oci_types.specs.declared.fault.Fault.TheVariants.{Memory, Storage}
+use Rattle.oci_types.specs.declared.kind.Kind.{Kind}
 use Rattle.registry_model.specs.declared.quota.Usage.{Usage}
 use Rattle.registry_model.specs.TagPage.{Page}
 use Rattle.registry_model.specs.World.{World}

@@ -1,4 +1,4 @@
-pub use Rattle.oci_names.specs.Text
+pub use Rattle.oci_types.specs.Text
 pub mod World
 pub mod Limits
 pub mod Usage

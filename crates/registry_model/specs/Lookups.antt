@@ -3,8 +3,8 @@
 use Rattle.std.specs.Prelude.{◌≡◌, ℕ, T, List, [], ◌++◌, map, false, Option, Some, None, length, option_map}
 use Rattle.std.specs.Option.{option_and_then, option_map_or}
 use Rattle.std.specs.FinMap.{get, len, keys, entries, find, is_sorted}
-use Rattle.oci_names.specs.Text.{Text}
-use Rattle.oci_manifest.specs.declared.kind.Kind.{Kind}
+use Rattle.oci_types.specs.Text.{Text}
+use Rattle.oci_types.specs.declared.kind.Kind.{Kind}
 use Rattle.registry_model.specs.declared.level.Level.{Level}
 use Rattle.registry_model.specs.declared.quota.Usage.{Usage}
 use Rattle.registry_model.specs.World.{Repo, World, repo_at, level_at, text_cmp, update_repo}

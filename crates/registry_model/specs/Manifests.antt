@@ -6,15 +6,15 @@ use Rattle.std.specs.Option.{option_and_then}
 use Rattle.std.specs.List.{before_first, list_all, prefix_len, suffix_len}
 use Rattle.std.specs.Str.{str_eq_ignore_ascii_case}
 use Rattle.std.specs.FinMap.{get, insert, remove, retain_keys}
-use Rattle.oci_names.specs.Text.{Text}
-use Rattle.oci_names.specs.Digest.{is_digest, is_verified, matches, sha256_digest}
-use Rattle.oci_names.specs.Tag.{is_tag}
-use Rattle.oci_names.specs.Reference.{is_reference}
-use Rattle.oci_manifest.specs.declared.fault.ManifestFault.{ManifestFault}
-use Rattle.oci_manifest.specs.declared.kind.Kind.{Kind}
-use Rattle.oci_manifest.specs.declared.kind.Kind.TheVariants.{Image}
-use Rattle.oci_manifest.specs.Kind.{media_type_of}
-use Rattle.oci_manifest.specs.Manifest.{ManifestShown, manifest_in}
+use Rattle.oci_types.specs.Text.{Text}
+use Rattle.oci_types.specs.Digest.{is_digest, is_verified, matches, sha256_digest}
+use Rattle.oci_types.specs.Tag.{is_tag}
+use Rattle.oci_types.specs.Reference.{is_reference}
+use Rattle.oci_types.specs.declared.manifest_fault.ManifestFault.{ManifestFault}
+use Rattle.oci_types.specs.declared.kind.Kind.{Kind}
+use Rattle.oci_types.specs.declared.kind.Kind.TheVariants.{Image}
+use Rattle.oci_types.specs.Kind.{media_type_of}
+use Rattle.oci_types.specs.Manifest.{ManifestShown, manifest_in}
 use Rattle.registry_model.specs.declared.refusal.Refusal.TheVariants.{ManifestUnknown, InvalidReference, ContentTooLarge, InvalidDigest, DigestMismatch, InvalidManifest, ManifestBlobUnknown}
 use Rattle.registry_model.specs.declared.reply.Status.TheVariants.{OK, Created, Accepted}
 use Rattle.registry_model.specs.World.{Repo}

@@ -3,9 +3,9 @@
 use Rattle.std.specs.Prelude.{Bool, not, ◌&&◌, Option, Some, None, is_some, if◌then◌else◌}
 use Rattle.std.specs.Option.{option_and_then}
 use Rattle.std.specs.FinMap.{get}
-use Rattle.oci_names.specs.Text.{Text}
-use Rattle.oci_names.specs.Digest.{is_digest}
-use Rattle.oci_names.specs.RepoName.{is_repo_name}
+use Rattle.oci_types.specs.Text.{Text}
+use Rattle.oci_types.specs.Digest.{is_digest}
+use Rattle.oci_types.specs.RepoName.{is_repo_name}
 use Rattle.registry_model.specs.declared.refusal.Refusal.TheVariants.{InvalidDigest}
 use Rattle.registry_model.specs.World.{Repo, Grants}
 use Rattle.registry_model.specs.Decision.{Decision, refuses, within_quota}

@@ -1,8 +1,8 @@
 -- What a request asks of the repository of its path (OCI Distribution Specification 1.1, Endpoints; the
 -- levels are the profile's).
 use Rattle.std.specs.Prelude.{ℕ, Option, Some, None, codes, if◌then◌else◌}
-use Rattle.oci_names.specs.Text.{Text}
-use Rattle.oci_names.specs.RepoName.{is_repo_name}
+use Rattle.oci_types.specs.Text.{Text}
+use Rattle.oci_types.specs.RepoName.{is_repo_name}
 use Rattle.registry_model.specs.declared.level.Level.{Level}
 use Rattle.registry_model.specs.declared.level.Level.TheVariants.{Pull, Push, Delete}
 use Rattle.registry_model.specs.declared.request.Verb.{Verb}

@@ -2,13 +2,13 @@
 use Rattle.std.specs.Prelude.{◌==◌, List, Bool, true, not, length, filter, Option, Some, None, codes, if◌then◌else◌, Result, Ok, Err}
 use Rattle.std.specs.List.{filter_map}
 use Rattle.std.specs.FinMap.{entries}
-use Rattle.oci_names.specs.Text.{Text}
-use Rattle.oci_names.specs.Digest.{is_digest}
-use Rattle.oci_manifest.specs.declared.fault.ManifestFault.{ManifestFault}
-use Rattle.oci_manifest.specs.declared.kind.Kind.TheVariants.{Index}
-use Rattle.oci_manifest.specs.Kind.{media_type_of}
-use Rattle.oci_manifest.specs.Manifest.{ManifestShown, manifest_in}
-use Rattle.oci_manifest.specs.Referrers.{ReferrerShown, referrers_line}
+use Rattle.oci_types.specs.Text.{Text}
+use Rattle.oci_types.specs.Digest.{is_digest}
+use Rattle.oci_types.specs.declared.manifest_fault.ManifestFault.{ManifestFault}
+use Rattle.oci_types.specs.declared.kind.Kind.TheVariants.{Index}
+use Rattle.oci_types.specs.Kind.{media_type_of}
+use Rattle.oci_types.specs.Manifest.{ManifestShown, manifest_in}
+use Rattle.oci_types.specs.Referrers.{ReferrerShown, referrers_line}
 use Rattle.registry_model.specs.declared.refusal.Refusal.TheVariants.{InvalidDigest}
 use Rattle.registry_model.specs.declared.reply.Status.TheVariants.{OK}
 use Rattle.registry_model.specs.World.{Repo}

@@ -1,7 +1,7 @@
 -- The refusals' statuses, codes and messages (OCI Distribution Specification 1.1, Error Codes; messages:
 -- profile).
 use Rattle.std.specs.Prelude.{◌++◌, codes}
-use Rattle.oci_names.specs.Text.{Text}
+use Rattle.oci_types.specs.Text.{Text}
 use Rattle.registry_model.specs.declared.refusal.Refusal.{Refusal}
 use Rattle.registry_model.specs.declared.refusal.Refusal.TheVariants as refusal
 use Rattle.registry_model.specs.declared.reply.Status.{Status}

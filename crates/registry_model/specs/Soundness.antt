@@ -1,9 +1,9 @@
 -- What holds of every world that the registry makes (profile).
 use Rattle.std.specs.Prelude.{◌≡◌, ℕ, ◌≤◌, true, length, is_some, IsOk, Some}
 use Rattle.std.specs.FinMap.{get, len}
-use Rattle.oci_names.specs.Text.{Text}
-use Rattle.oci_names.specs.Digest.{matches}
-use Rattle.oci_manifest.specs.Manifest.{manifest_in}
+use Rattle.oci_types.specs.Text.{Text}
+use Rattle.oci_types.specs.Digest.{matches}
+use Rattle.oci_types.specs.Manifest.{manifest_in}
 use Rattle.registry_model.specs.declared.level.Level.{Level}
 use Rattle.registry_model.specs.World.{Repo, World, repo_at, has_repo, level_at}
 use Rattle.registry_model.specs.Limits.{largest, largest_blob, most_sessions}

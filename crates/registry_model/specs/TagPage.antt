@@ -4,8 +4,8 @@ use Rattle.std.specs.Prelude.{ℕ, ◌==◌, List, [], ◌++◌, Bool, false, �
 use Rattle.std.specs.List.{last_or}
 use Rattle.std.specs.Ordering.{is_lt}
 use Rattle.std.specs.FinMap.{keys}
-use Rattle.oci_names.specs.Text.{Text}
-use Rattle.oci_manifest.specs.Tags.{tags_line}
+use Rattle.oci_types.specs.Text.{Text}
+use Rattle.oci_types.specs.Tags.{tags_line}
 use Rattle.registry_model.specs.declared.refusal.Refusal.TheVariants.{InvalidPageSize}
 use Rattle.registry_model.specs.declared.reply.Status.TheVariants.{OK}
 use Rattle.registry_model.specs.World.{text_cmp, Repo}

@@ -1,7 +1,7 @@
 -- A team, what it sees of a world, and which steps are its own or leave what it sees (profile).
 use Rattle.std.specs.Prelude.{◌≡◌, ◌≤◌, ◌⊎◌, Bool, true, false, if◌then◌else◌, List, Option, Some, None, is_some, IfSome, All, ⊤, bytes_eq}
 use Rattle.std.specs.FinMap.{retain_keys, empty}
-use Rattle.oci_names.specs.Text.{Text}
+use Rattle.oci_types.specs.Text.{Text}
 use Rattle.registry_model.specs.declared.request.Verb.{Verb}
 use Rattle.registry_model.specs.declared.request.Verb.TheVariants.{Get, Head}
 use Rattle.registry_model.specs.declared.admin.AdminCommand.{AdminCommand}

@@ -2,7 +2,7 @@
 -- level.
 use Rattle.std.specs.Prelude.{◌≡◌, ℕ, [], ◌∷◌, Option, Some, None, codes}
 use Rattle.std.specs.FinMap.{insert, empty, from_entries}
-use Rattle.oci_names.specs.Text.{Text}
+use Rattle.oci_types.specs.Text.{Text}
 use Rattle.registry_model.specs.declared.level.Level.TheVariants.{Delete}
 use Rattle.registry_model.specs.declared.reply.Status.{Status}
 use Rattle.registry_model.specs.declared.reply.Status.TheVariants.{Created}

@@ -1,5 +1,5 @@
 use crate::{Level, Quota};
-use oci_names::{RepoName, Token};
+use oci_types::{RepoName, Token};
 
 /// What an administrator asks for (profile).
 #[derive(Clone, Copy)]

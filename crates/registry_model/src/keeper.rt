@@ -1,6 +1,6 @@
 ghost use Rattle.std.specs.Prelude.{◌≡◌, ◌≤◌, ◌<◌, ◌+◌, ℕ, true, false, length, is_some, Option, Some, None, Result, Ok};
-ghost use Rattle.oci_names.specs.Digest.{matches};
-ghost use Rattle.oci_manifest.specs.Manifest.{shown, manifest_in};
+ghost use Rattle.oci_types.specs.Digest.{matches};
+ghost use Rattle.oci_types.specs.Manifest.{shown, manifest_in};
 ghost use Rattle.registry_model.specs.Limits.{largest, largest_blob, largest_manifest, most_sessions};
 ghost use Rattle.registry_model.specs.World.{is_known, has_repo, level_at};
 ghost use Rattle.registry_model.specs.Lookups.{AreLevelsOn, blob_at, blob_size_at, manifest_at, manifest_size_at, tag_at, page_at, manifests_on_at, session_at, session_size_at, sessions_open_at, last_number_at, usage_at, usages_of, blob_digests_at, manifest_digests_at, bytes_or_none, put_blob, open_session, append, finish, mount, put_manifest, delete_blob, delete_manifest, delete_tag};
@@ -11,8 +11,7 @@ ghost use Rattle.registry_model.specs.Keeping.{State, Reads, ReadsBy, ReadsSo, W
 ghost use Rattle.registry_model.specs.Closing.{session_matches, finish_as_is, WritesWhereSo};
 
 use crate::{Level, Quota, Usage};
-use oci_manifest::{Kind, Manifest};
-use oci_names::{Digest, Fault, RepoName, Tag, Token};
+use oci_types::{Digest, Fault, Kind, Manifest, RepoName, Tag, Token};
 use std::alloc::Global;
 
 /// What a read finds, or that it is not there.

@@ -2,8 +2,8 @@
 //! them.
 
 ghost use Rattle.std.specs.Prelude.{◌≡◌, ◌≢◌, ◌≤◌, ℕ, true, false, List, [], ◌∷◌, All, Some, None, Ok, is_some, option_map, length, take};
-ghost use Rattle.oci_names.specs.Text.{Text};
-ghost use Rattle.oci_manifest.specs.Manifest.{ManifestShown, manifest_in};
+ghost use Rattle.oci_types.specs.Text.{Text};
+ghost use Rattle.oci_types.specs.Manifest.{ManifestShown, manifest_in};
 ghost use Rattle.registry_model.specs.World.{World, Grants, Repo, repo_at};
 ghost use Rattle.registry_model.specs.declared.level.Level.{Level};
 ghost use Rattle.registry_model.specs.Lookups.{AreLevelsOn};

@@ -1,6 +1,6 @@
 //! The registry's limits (profile). `specs/Limits.antt` says them in definitions.
 
-pub use oci_names::LARGEST_SESSION_NUMBER;
+pub use oci_types::LARGEST_SESSION_NUMBER;
 
 /// The most bytes of a blob, and of an upload session.
 pub const LARGEST_BLOB: u64 = 67_108_864;

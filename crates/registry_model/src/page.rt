@@ -3,7 +3,7 @@
 ghost use Rattle.std.specs.Prelude.{◌≡◌, ◌++◌, IfOk, MatchResult, string_bytes, codes, decimal};
 ghost use Rattle.registry_model.specs.TagPage.{next_link};
 
-use oci_names::{Fault, RepoName, Tag};
+use oci_types::{Fault, RepoName, Tag};
 use std::alloc::{AllocError, Global};
 
 /// The pages of so many tags each.

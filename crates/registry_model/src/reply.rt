@@ -2,7 +2,7 @@ ghost use Rattle.std.specs.Prelude.{◌≡◌, Some, string_bytes};
 ghost use Rattle.registry_model.specs.Answer.{answer_of, busy_answer, failed_answer, refused, code_of, bare_answer, content_of};
 
 use crate::Refusal;
-use oci_names::Digest;
+use oci_types::Digest;
 
 /// A reply's status (RFC 9110, section 15; 429: RFC 6585).
 #[derive(Clone, Copy, Debug, PartialEq, Eq)]

@@ -3,10 +3,10 @@
 
 ghost use Rattle.std.specs.Prelude.{◌≡◌, [], ◌∷◌, true, false, Some, None, codes, replicate};
 ghost use Rattle.std.specs.FinMap.{empty, insert, len};
-ghost use Rattle.oci_names.specs.Text.{Text};
-ghost use Rattle.oci_names.specs.Digest.{matches};
-ghost use Rattle.oci_names.specs.RepoName.{is_repo_name};
-ghost use Rattle.oci_manifest.specs.Tags.{tags_line};
+ghost use Rattle.oci_types.specs.Text.{Text};
+ghost use Rattle.oci_types.specs.Digest.{matches};
+ghost use Rattle.oci_types.specs.RepoName.{is_repo_name};
+ghost use Rattle.oci_types.specs.Tags.{tags_line};
 ghost use Rattle.registry_model.specs.World.{World, Repo, repo_at, level_at, no_world, new_repo, with_repo};
 ghost use Rattle.registry_model.specs.Answer.{bare_answer, sent, unsent};
 ghost use Rattle.registry_model.specs.Form.{form_at, no_form, base, blob, uploads, session, manifest, tags, referrers};

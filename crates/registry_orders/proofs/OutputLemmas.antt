@@ -1,7 +1,7 @@
 -- What is appended in two steps.
 use Rattle.std.proofs.Common.{◌∙◌, ◌++◌, Option, None, Some, ap, append_assoc}
 use Rattle.std.specs.Io.KnownBytes.{Appends}
-use Rattle.oci_names.specs.Text.{Text}
+use Rattle.oci_types.specs.Text.{Text}
 
 pub appends_more : (a b c : Option Text) (x y : Text) → Appends a b x → Appends b c y → Appends a c (x ++ y)
 appends_more None b c x y first second = tt

@@ -3,7 +3,7 @@ use Rattle.std.proofs.Common.{◌≡◌, ◌≢◌, ◌≤◌, ℕ, zero, suc, O
 use Rattle.std.specs.Io.KnownBytes.{Consumes, IsAtEnd}
 use Rattle.std.proofs.KnownBytes.{Consumes-trans}
 use Rattle.clap.specs.Words.{Row}
-use Rattle.oci_names.specs.Text.{Text}
+use Rattle.oci_types.specs.Text.{Text}
 use Rattle.registry_orders.specs.declared.orders.TokenOrder.{TokenOrder}
 use Rattle.registry_orders.specs.declared.orders.TokenOrder.TheVariants.{Grant, Revoke, RevokeAll, Grants}
 use Rattle.registry_orders.specs.Outputs.{newline}

@@ -1,7 +1,7 @@
 -- The second line on standard error (profile).
 use Rattle.std.specs.Prelude.{◌≡◌, ◌⊎◌, ◌==◌, Bool, false, Option, None, Some, [], ◌++◌, codes, if◌then◌else◌}
 use Rattle.std.specs.List.{list_any}
-use Rattle.oci_names.specs.Text.{Text}
+use Rattle.oci_types.specs.Text.{Text}
 use Rattle.registry_orders.specs.declared.cause.Cause.{Cause}
 use Rattle.registry_orders.specs.declared.cause.Cause.TheVariants.{InUse, NoFolder, IsFolder, NoFileName, NoPlainFile, NoRightToRead, NoRightToWrite, ReadOnly, NoDatabase, Journal, DiskFull, NoRegistry, PortInUse, NoAddress, NoHost, Elsewhere, NoRightToPort, StdioOptions, TokenOptions, PlaceOptions, TogetherOptions, NoFile, Unreadable, NoToken, NoServer, ServerThere, NoSocket}
 use Rattle.registry_orders.specs.declared.failure.Failure.{Failure}

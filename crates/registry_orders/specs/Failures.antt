@@ -1,8 +1,8 @@
 -- The exit statuses and the messages of the program (profile).
 use Rattle.std.specs.Prelude.{ℕ, List, ◌++◌, Result, Ok, Err, codes, ⊤}
 use Rattle.std.specs.Fmt.{signed_decimal}
-use Rattle.oci_names.specs.declared.fault.NameFault.{NameFault}
-use Rattle.oci_names.specs.declared.fault.NameFault.TheVariants as text
+use Rattle.oci_types.specs.declared.fault.NameFault.{NameFault}
+use Rattle.oci_types.specs.declared.fault.NameFault.TheVariants as text
 use Rattle.registry_model.specs.declared.admin.AdminFault.{AdminFault}
 use Rattle.registry_model.specs.declared.admin.AdminFault.TheVariants as command
 use Rattle.registry_orders.specs.declared.failure.Failure.{Failure}

@@ -2,7 +2,7 @@
 use Rattle.std.specs.Prelude.{◌≡◌, ◌≢◌, ℕ, Option, Some, None, List, [], ◌∷◌, ◌++◌, unwrap_or, codes, slice_index, EachIndex, ⊤}
 use Rattle.std.specs.Str.Parse.{IsNumeral, digits_value, without_leading_plus}
 use Rattle.clap.specs.Words.{Row, all_of, one_of}
-use Rattle.oci_names.specs.Text.{Text}
+use Rattle.oci_types.specs.Text.{Text}
 use Rattle.registry_model.specs.declared.level.Level.{Level}
 use Rattle.registry_orders.specs.declared.options.RepoOption.{RepoOption}
 use Rattle.registry_orders.specs.declared.options.GrantOption.{GrantOption}

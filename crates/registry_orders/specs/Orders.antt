@@ -1,7 +1,7 @@
 -- What the administrator orders of a registry over a database (profile).
 use Rattle.std.specs.Prelude.{◌≡◌, ◌≢◌, List, Option, Some, None, Result, Ok, Err, codes}
 use Rattle.clap.specs.Words.{Row, first_of, one_of}
-use Rattle.oci_names.specs.Text.{Text}
+use Rattle.oci_types.specs.Text.{Text}
 use Rattle.registry_model.specs.declared.admin.AdminCommand.{AdminCommand}
 use Rattle.registry_model.specs.declared.admin.AdminCommand.TheVariants as command
 use Rattle.registry_model.specs.declared.admin.AdminFault.{AdminFault}

@@ -1,6 +1,6 @@
 -- Standard output, and what ends a line of it (profile).
 use Rattle.std.specs.Prelude.{◌≡◌, [], ◌∷◌, Option}
-use Rattle.oci_names.specs.Text.{Text}
+use Rattle.oci_types.specs.Text.{Text}
 
 abbrev pub newline : Text
 newline = 10 ∷ []

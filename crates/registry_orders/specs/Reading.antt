@@ -3,7 +3,7 @@ use Rattle.std.specs.Prelude.{◌≡◌, true, List, ⊤}
 use Rattle.clap.specs.Takes.{takes}
 use Rattle.clap.specs.Values.{kind_of}
 use Rattle.clap.specs.declared.error.kind.ErrorKind.TheVariants.{OutOfMemory}
-use Rattle.oci_names.specs.Text.{Text}
+use Rattle.oci_types.specs.Text.{Text}
 use Rattle.command_line.specs.CommandLine.{registry}
 use Rattle.registry_orders.specs.declared.unread.Told.{Told}
 use Rattle.registry_orders.specs.declared.unread.Told.TheVariants.{Failed, Options, Line}

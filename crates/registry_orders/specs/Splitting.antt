@@ -1,7 +1,7 @@
 -- The steps from the texts of `--repo` and `--grant` to a setup.
 use Rattle.std.specs.Prelude.{◌≡◌}
 use Rattle.std.specs.Borrow.{Bor}
-use Rattle.oci_names.specs.Text.{Text}
+use Rattle.oci_types.specs.Text.{Text}
 use Rattle.registry_model.specs.declared.level.Level.{Level}
 use Rattle.registry_model.specs.declared.quota.Quota.{Quota}
 use Rattle.registry_orders.specs.declared.options.RepoOption.{RepoOption}

@@ -1,7 +1,7 @@
 -- What the words of a command line ask for (profile).
 use Rattle.std.specs.Prelude.{◌≡◌, ◌↔◌, ◌||◌, ℕ, Bool, true, false, is_some, List, [], Option, Some, None, codes, option_map}
 use Rattle.clap.specs.Words.{Row, first_of, one_of, subcommand_of}
-use Rattle.oci_names.specs.Text.{Text}
+use Rattle.oci_types.specs.Text.{Text}
 use Rattle.registry_orders.specs.declared.beside.Beside.{Beside}
 use Rattle.registry_orders.specs.declared.tasks.Task.{Task}
 use Rattle.registry_orders.specs.declared.tasks.Task.TheVariants.{Memory, Stored, Server, Order, TokenOrder, Check, Migration, Stop}

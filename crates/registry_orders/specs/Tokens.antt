@@ -2,7 +2,7 @@
 use Rattle.std.specs.Prelude.{◌≡◌, ℕ, ◌⊎◌, Option, None, Some, List, [], ◌∷◌, ◌++◌, codes}
 use Rattle.std.specs.Io.KnownBytes.{Consumes, IsAtEnd}
 use Rattle.clap.specs.Words.{Row, first_of}
-use Rattle.oci_names.specs.Text.{Text}
+use Rattle.oci_types.specs.Text.{Text}
 use Rattle.registry_orders.specs.declared.tokens.TokenSource.{TokenSource}
 use Rattle.registry_orders.specs.declared.tokens.TokenSource.TheVariants.{Input, File}
 use Rattle.registry_orders.specs.Outputs.{newline}

@@ -1,7 +1,7 @@
 //! The second line on standard error: a place, and what is wrong there.
 ghost use Rattle.std.specs.Prelude.{◌≡◌, Option, OnOk};
 ghost use Rattle.std.specs.Io.KnownBytes.{Appends};
-ghost use Rattle.oci_names.specs.Text.{Text};
+ghost use Rattle.oci_types.specs.Text.{Text};
 ghost use Rattle.registry_orders.specs.declared.cause.Cause.{Cause};
 ghost use Rattle.registry_orders.specs.Failures.{status_of};
 ghost use Rattle.registry_orders.specs.Causes.{words_of, line_of, line_if, lines_of, IsAtMostOneLine};

@@ -1,7 +1,7 @@
 ghost use Rattle.std.specs.Prelude.{◌≡◌};
 ghost use Rattle.registry_orders.specs.Failures.{status_of, failure_of, failure_of_text};
 
-use oci_names::NameFault;
+use oci_types::NameFault;
 use registry_model::AdminFault;
 use std::alloc::AllocError;
 use std::fmt;

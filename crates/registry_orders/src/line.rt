@@ -1,7 +1,7 @@
 //! The words of a command line, read by its grammar.
 ghost use Rattle.std.specs.Prelude.{List, IfErr, IfOk, map};
 ghost use Rattle.clap.specs.Words.{subcommand_rows_of};
-ghost use Rattle.oci_names.specs.Text.{Text};
+ghost use Rattle.oci_types.specs.Text.{Text};
 ghost use Rattle.registry_orders.specs.Reading.{IsToldOfWords};
 ghost use Rattle.registry_orders.specs.Tasks.{IsTask, IsTaskOf};
 

@@ -1,6 +1,6 @@
 //! What an operator asks to see, and in which form.
 
-use oci_names::{RepoName, Token};
+use oci_types::{RepoName, Token};
 
 /// What is listed of a repository.
 #[derive(Clone, Copy)]

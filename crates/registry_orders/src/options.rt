@@ -5,7 +5,7 @@ ghost use Rattle.registry_orders.specs.Options.{EachPair, IsDecimal, SpellsSetup
 ghost use Rattle.registry_orders.specs.Splitting.{SplitsRepo, SplitsGrant, NamesRepo, NamesGrant, GivesToken};
 
 use crate::failure::{Failure, of_text};
-use oci_names::{RepoName, Token};
+use oci_types::{RepoName, Token};
 use registry_model::{Level, Quota};
 use std::alloc::Global;
 

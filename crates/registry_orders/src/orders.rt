@@ -11,7 +11,7 @@ use crate::listing::{Form, Held, Listing, Shown};
 use crate::options::{level_numbered, name_of, token_of};
 use crate::tokens::is_token_given;
 use clap::ArgMatches;
-use oci_names::{RepoName, Token};
+use oci_types::{RepoName, Token};
 use registry_model::{AdminCommand, Level, Quota};
 use std::alloc::Global;
 

@@ -8,7 +8,7 @@ use crate::failure::Failure;
 use crate::given::text_given;
 use crate::options::token_of;
 use clap::ArgMatches;
-use oci_names::Token;
+use oci_types::Token;
 use std::alloc::Global;
 use std::io::Read;
 

@@ -1,6 +1,6 @@
 //! Words that are not read, and how that is told.
 ghost use Rattle.std.specs.Prelude.{List};
-ghost use Rattle.oci_names.specs.Text.{Text};
+ghost use Rattle.oci_types.specs.Text.{Text};
 ghost use Rattle.registry_orders.specs.Failures.{IsOfWords};
 ghost use Rattle.registry_orders.specs.Reading.{IsToldOfWords};
 

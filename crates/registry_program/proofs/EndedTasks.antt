@@ -1,6 +1,6 @@
 -- What a task comes to is what the words come to that spell it.
 use Rattle.std.proofs.Common.{◌≢◌, ◌⊎◌, ℕ, List, inl, inr}
-use Rattle.oci_names.specs.Text.{Text}
+use Rattle.oci_types.specs.Text.{Text}
 use Rattle.registry_orders.specs.declared.tasks.Task.{Task}
 use Rattle.registry_orders.specs.declared.tasks.Task.TheVariants as task
 use Rattle.registry_orders.specs.declared.orders.TokenOrder.{TokenOrder}

@@ -1,6 +1,6 @@
 -- What words come to. `over` and `at` are as in `registry_tasks.specs.Opened`.
 use Rattle.std.specs.Prelude.{◌≡◌, ◌≢◌, ℕ, ◌⊎◌, ⊤, List, Result}
-use Rattle.oci_names.specs.Text.{Text}
+use Rattle.oci_types.specs.Text.{Text}
 use Rattle.registry_orders.specs.declared.failure.Failure.{Failure}
 use Rattle.registry_orders.specs.declared.failure.Failure.TheVariants.{OutOfMemory}
 use Rattle.registry_orders.specs.declared.limits.Limits.{Limits}

@@ -1,11 +1,11 @@
 -- From the clause of each call to its event, and of calls one after the other.
 use Rattle.std.proofs.Common.{◌≡◌, ℕ, ◌+◌, ◌<◌, ◌≤◌, Bool, true, false, List, [], ◌∷◌, ◌++◌, length, take, drop, refl, sym, ap, subst, ◌∙◌}
 use Rattle.std.proofs.lemmas.List.{length-take-le, take-append-drop}
-use Rattle.oci_names.specs.Text.{Text}
+use Rattle.oci_types.specs.Text.{Text}
 use Rattle.registry_model.specs.Keeping.{State}
-use Rattle.registry_conversation.specs.declared.phase.Step.{Step}
-use Rattle.registry_conversation.specs.Shown.{Shown, coming_len}
-use Rattle.registry_conversation.specs.Events.{came, ended, acted, sent, Happens as Does}
+use Rattle.registry_server.specs.declared.phase.Step.{Step}
+use Rattle.registry_server.specs.Shown.{Shown, coming_len}
+use Rattle.registry_server.specs.ConversationEvents.{came, ended, acted, sent, Happens as Does}
 use Rattle.registry_server.specs.declared.receipt.Receipt.{Receipt}
 use Rattle.registry_server.specs.declared.receipt.Receipt.TheVariants.{Taken, NoRoom, NotOpen}
 use Rattle.registry_server.specs.Room.{IsReceived, going_sum}

@@ -2,13 +2,13 @@
 use Rattle.std.proofs.Common.{◌≡◌, ◌≢◌, ℕ, ◌+◌, ◌≤◌, ◌⊎◌, inl, inr, Bool, true, false, if◌then◌else◌, ◌==◌, List, [], ◌∷◌, ◌++◌, map, Option, Some, None, IfSome, refl, sym, ap, ◌∙◌, subst, append_assoc, append-nil, arith, eq-eqb}
 use Rattle.std.proofs.lemmas.Bool.{ne_eqb, cases_eq}
 use Rattle.std.proofs.lemmas.List.{map-append}
-use Rattle.oci_names.specs.Text.{Text}
+use Rattle.oci_types.specs.Text.{Text}
 use Rattle.registry_model.specs.Keeping.{State}
 use Rattle.registry_model.specs.Runs.{Outcome, Takes, TakesAll}
 use Rattle.registry_model.specs.Team.{Step}
 use Rattle.registry_model.proofs.RunLaws.{run_says, one_more}
-use Rattle.registry_conversation.specs.Shown.{Shown, begun}
-use Rattle.registry_conversation.specs.Events.{Event as Call, came, ended, acted, sent, Happens as Does, heard, heard_if, went}
+use Rattle.registry_server.specs.Shown.{Shown, begun}
+use Rattle.registry_server.specs.ConversationEvents.{Event as Call, came, ended, acted, sent, Happens as Does, heard, heard_if, went}
 use Rattle.registry_server.specs.declared.bounds.Bounds.{Bounds}
 use Rattle.registry_server.specs.Open.{Open, none, conversation_of, Only, Opens}
 use Rattle.registry_server.specs.Accounts.{Replied, AccountsAs}

@@ -1,3 +1,8 @@
+pub mod PartLemmas
+pub mod HoldingLemmas
+pub mod SteppingLemmas
+pub mod EndLemmas
+pub mod LawLemmas
 pub mod SlotLemmas
 pub mod PlaceLemmas
 pub mod ProgressLemmas

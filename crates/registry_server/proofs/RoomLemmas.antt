@@ -1,11 +1,11 @@
 -- What connections hold together, and that it stays within its bounds.
 use Rattle.std.proofs.Common.{◌≡◌, ℕ, ◌+◌, ◌-◌, ◌*◌, ◌<◌, ◌≤◌, ◌⊎◌, inl, inr, suc, ◌==◌, nat_le, if◌then◌else◌, Bool, true, false, max, List, [], ◌∷◌, ◌++◌, length, Option, Some, IfSome, refl, sym, ap, ◌∙◌, subst, length-append, arith}
 use Rattle.std.proofs.lemmas.Bool.Decides.{nat_tests}
-use Rattle.oci_names.specs.Text.{Text}
+use Rattle.oci_types.specs.Text.{Text}
 use Rattle.registry_model.specs.Keeping.{State}
-use Rattle.registry_conversation.specs.Shown.{Shown, begun, coming_len}
-use Rattle.registry_conversation.specs.declared.phase.Step.{Step}
-use Rattle.registry_conversation.specs.Events.{Event as Call, came, ended, acted, sent, Happens as Does}
+use Rattle.registry_server.specs.Shown.{Shown, begun, coming_len}
+use Rattle.registry_server.specs.declared.phase.Step.{Step}
+use Rattle.registry_server.specs.ConversationEvents.{Event as Call, came, ended, acted, sent, Happens as Does}
 use Rattle.registry_server.specs.declared.bounds.Bounds.{Bounds}
 use Rattle.registry_server.specs.Open.{Slot, Open, none, conversation_of, Changes, Closes, TakesTurn, Opens, Finishes, Sends, hears, goes_on}
 use Rattle.registry_server.specs.Room.{share, largest, pool, most_coming, over, over_sum, over_most, most_beside, room_beside, room_in, room_of, coming_sum, going_sum, IsWithin, HoldsWithin}

@@ -2,11 +2,11 @@
 use Rattle.std.proofs.Common.{◌≡◌, ◌≢◌, ℕ, ◌+◌, ◌⊎◌, inl, inr, Bool, true, false, ◌||◌, ◌&&◌, ◌==◌, length, drop, List, [], ◌∷◌, ◌++◌, None, All, refl, sym, ap, ◌∙◌, subst, arith}
 use Rattle.std.proofs.lemmas.Bool.{cases_eq}
 use Rattle.std.proofs.lemmas.List.Elements.{All-head, All-tail}
-use Rattle.oci_names.specs.Text.{Text}
+use Rattle.oci_types.specs.Text.{Text}
 use Rattle.registry_model.specs.Keeping.{State}
-use Rattle.registry_conversation.specs.declared.phase.Step.{Step}
-use Rattle.registry_conversation.specs.Shown.{Shown, listens}
-use Rattle.registry_conversation.specs.Events.{Event as Call, came, ended, acted, sent}
+use Rattle.registry_server.specs.declared.phase.Step.{Step}
+use Rattle.registry_server.specs.Shown.{Shown, listens}
+use Rattle.registry_server.specs.ConversationEvents.{Event as Call, came, ended, acted, sent}
 use Rattle.registry_server.specs.declared.bounds.Bounds.{Bounds}
 use Rattle.registry_server.specs.Open.{Slot, Open, none, conversation_of, Changes, TakesTurn, is_told, hears, sends}
 use Rattle.registry_server.specs.Events.{Event, comes, on, goes, elsewhere, HappensOn, Happens, Passes}

@@ -1,7 +1,7 @@
 -- What one connection comes to, whatever is done on others: the requests that its bytes begin with, each with
 -- its answer, and the bytes that were put out.
 use Rattle.std.specs.Prelude.{◌≡◌, ℕ, ◌<◌, ◌⊎◌, List, [], ◌∷◌, ◌++◌, length, take, map}
-use Rattle.oci_names.specs.Text.{Text}
+use Rattle.oci_types.specs.Text.{Text}
 use Rattle.registry_model.specs.Answer.{Answer}
 use Rattle.registry_http.specs.Expecting.{text_before, IsBefore}
 use Rattle.registry_http.specs.ReplyText.{refusal_text}
@@ -11,10 +11,10 @@ use Rattle.registry_http.specs.declared.ending.FramingRefusal.{FramingRefusal}
 use Rattle.registry_http.specs.declared.ending.FramingRefusal.TheVariants.{NoBufferMemory}
 use Rattle.registry_http.specs.declared.ending.End.{End}
 use Rattle.registry_http.specs.declared.ending.End.TheVariants.{Closed, Cut, Refused, ReadFailed, WriteFailed}
-use Rattle.registry_conversation.specs.declared.phase.Phase.{Phase}
-use Rattle.registry_conversation.specs.declared.phase.Phase.TheVariants.{Head, Body, Ended}
-use Rattle.registry_conversation.specs.Shown.{Shown}
-use Rattle.registry_conversation.specs.Holding.{Holds}
+use Rattle.registry_server.specs.declared.phase.Phase.{Phase}
+use Rattle.registry_server.specs.declared.phase.Phase.TheVariants.{Head, Body, Ended}
+use Rattle.registry_server.specs.Shown.{Shown}
+use Rattle.registry_server.specs.Holding.{Holds}
 
 -- a request that was answered, and its answer
 pub record Replied : Type 0 where

@@ -1,3 +1,10 @@
+pub mod Parts
+pub mod Headings
+pub mod Shown
+pub mod ConversationShowing
+pub mod Holding
+pub mod Stepping
+pub mod ConversationEvents
 pub mod Open
 pub mod Room
 pub mod Slots

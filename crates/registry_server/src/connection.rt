@@ -7,7 +7,7 @@ ghost use Rattle.registry_server.specs.declared.connection.Connection.{Connectio
 use crate::bounds::SHARE;
 use crate::life::Life;
 use crate::turn::Turn;
-use registry_conversation::{Conversation, Step};
+use crate::{Conversation, Step};
 use registry_model::Keeper;
 use registry_service::Service;
 use std::alloc::Global;
@@ -34,9 +34,9 @@ impl Drop for Connection {
 }
 
 impl Connection {
-    ghost use Rattle.registry_conversation.specs.Events.{Happens, acted};
-    ghost use Rattle.registry_conversation.specs.Shown.{coming_len};
-    ghost use Rattle.registry_conversation.specs.Showing.{shown};
+    ghost use Rattle.registry_server.specs.ConversationEvents.{Happens, acted};
+    ghost use Rattle.registry_server.specs.Shown.{coming_len};
+    ghost use Rattle.registry_server.specs.ConversationShowing.{shown};
     ghost use Rattle.registry_server.specs.Open.{Becomes, Hears, Finishes, Sends, hears, sends, goes_on};
     ghost use Rattle.registry_server.specs.Slots.{slot_of};
     ghost use Rattle.registry_server.specs.Lives.{moved_by, sent_by};

@@ -9,7 +9,7 @@ use crate::life::Life;
 use crate::receipt::Receipt;
 use crate::refusal::Refusal;
 use crate::turn::Turn;
-use registry_conversation::{Conversation, Exchange, Wants};
+use crate::{Conversation, Exchange, Wants};
 use registry_model::Keeper;
 use registry_service::Service;
 use std::alloc::Global;
@@ -43,8 +43,8 @@ impl Drop for Connections {
 }
 
 impl Connections {
-    ghost use Rattle.registry_conversation.specs.Shown.{coming_len, wants_of};
-    ghost use Rattle.registry_conversation.specs.Events.{Happens, acted};
+    ghost use Rattle.registry_server.specs.Shown.{coming_len, wants_of};
+    ghost use Rattle.registry_server.specs.ConversationEvents.{Happens, acted};
     ghost use Rattle.registry_server.specs.Open.{none, conversation_of, outgoing_of, held_of, Opens, Refuses, Changes, Closes, TakesTurn, IfOpen, with_slots, hears, sends, Finishes, Sends};
     ghost use Rattle.registry_server.specs.Room.{going_sum, room_of, IsReceived};
     ghost use Rattle.registry_server.specs.Events.{Leads, Carries};

@@ -1,4 +1,4 @@
-use registry_conversation::Step;
+use crate::Step;
 
 /// A turn that was taken: by which connection, and what it came to.
 #[derive(Clone, Copy, Debug, PartialEq, Eq)]

@@ -2,12 +2,12 @@
 use Rattle.std.proofs.Common.{◌≡◌, ◌∙◌, true, false, cond, nat_le, Option, Some, None, inl, inr, refl, sym, ap, subst}
 use Rattle.std.specs.Prelude.{Result, Ok, Err, is_some, ◌⊎◌}
 use Rattle.std.specs.Result.{IsErr, IsErrAnd}
-use Rattle.oci_names.specs.Text.{Text}
-use Rattle.oci_names.specs.RepoName.{is_repo_name}
-use Rattle.oci_names.specs.declared.fault.Fault.{Fault}
-use Rattle.oci_names.specs.declared.fault.Fault.TheVariants.{Memory, Storage}
-use Rattle.oci_names.specs.declared.fault.NameFault.{NameFault}
-use Rattle.oci_names.specs.declared.fault.NameFault.TheVariants as fault
+use Rattle.oci_types.specs.Text.{Text}
+use Rattle.oci_types.specs.RepoName.{is_repo_name}
+use Rattle.oci_types.specs.declared.fault.Fault.{Fault}
+use Rattle.oci_types.specs.declared.fault.Fault.TheVariants.{Memory, Storage}
+use Rattle.oci_types.specs.declared.fault.NameFault.{NameFault}
+use Rattle.oci_types.specs.declared.fault.NameFault.TheVariants as fault
 use Rattle.registry_model.specs.declared.level.Level.{Level}
 use Rattle.registry_model.specs.declared.refusal.Refusal.TheVariants.{InvalidName, AccessDenied}
 use Rattle.registry_model.specs.declared.reply.Reply.{Reply}

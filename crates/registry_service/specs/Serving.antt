@@ -1,7 +1,7 @@
 -- Whom a request comes from, and where it leads.
 use Rattle.std.specs.Prelude.{Option, Some, None, if◌then◌else◌}
-use Rattle.oci_names.specs.Text.{Text}
-use Rattle.oci_names.specs.Token.{is_token}
+use Rattle.oci_types.specs.Text.{Text}
+use Rattle.oci_types.specs.Token.{is_token}
 use Rattle.registry_model.specs.declared.refusal.Refusal.TheVariants.{NoEndpoint}
 use Rattle.registry_model.specs.declared.request.Verb.{Verb}
 use Rattle.registry_model.specs.Decision.{Decision, refuses}

@@ -1,7 +1,7 @@
 -- All tags of a repository.
 use Rattle.std.specs.Prelude.{List, [], None, Vec}
 use Rattle.std.specs.declared.alloc.Global.{Global}
-use Rattle.oci_names.specs.Text.{Text}
+use Rattle.oci_types.specs.Text.{Text}
 use Rattle.registry_model.specs.World.{World}
 use Rattle.registry_model.specs.Lookups.{page_at}
 

@@ -5,7 +5,7 @@ ghost use Rattle.registry_model.specs.Doing.{CarriesOut, SpendsAs, course_of_res
 ghost use Rattle.registry_model.specs.Keeping.{Reads, Writes, Spends};
 
 use manifest_operations::prune;
-use oci_names::Fault;
+use oci_types::Fault;
 use registry_model::{AdminCommand, AdminFault, Keeper};
 use std::alloc::Global;
 

@@ -20,7 +20,7 @@ use blob_operations::uploads::{append_chunk, open_session, read_session};
 use manifest_operations::listing::{list_referrers, list_tags};
 use manifest_operations::manifest_push::push_manifest;
 use manifest_operations::manifests::{delete_manifest, read_manifest, size_manifest};
-use oci_names::{Fault, NameFault, RepoName, Token};
+use oci_types::{Fault, NameFault, RepoName, Token};
 use registry_model::{Body, Keeper, Refusal, Reply, Request, Route, Status, Verb};
 use std::alloc::Global;
 

@@ -3,7 +3,7 @@ ghost use Rattle.registry_model.specs.Runs.{Takes, Shows, TakesAll, ShowsAll, Ru
 ghost use Rattle.registry_service.specs.Steps.{shown_step, shown_outcome};
 
 use crate::service::Service;
-use oci_names::Fault;
+use oci_types::Fault;
 use registry_model::{AdminCommand, AdminFault, Keeper, Reply, Request};
 use std::alloc::Global;
 

@@ -13,7 +13,7 @@ ghost use Rattle.registry_service.specs.Tags.{tags_shown, tags_at};
 use crate::admin_commands::apply_command;
 use crate::judging::judge;
 use manifest_operations::{names_at, unnamed};
-use oci_names::{Digest, Fault, RepoName, Tag, Token};
+use oci_types::{Digest, Fault, RepoName, Tag, Token};
 use registry_model::{AdminCommand, AdminFault, Keeper, Level, Reply, Request, Usage};
 use std::alloc::Global;
 use std::marker::Model;

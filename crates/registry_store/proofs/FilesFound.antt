@@ -11,7 +11,7 @@ use Rattle.store_schema.specs.Schema.{no_schema}
 use Rattle.store_schema.specs.Making.{IsEmptyWith}
 use Rattle.store_statements.specs.Held.{world_in}
 use Rattle.store_opening.specs.Opening.{IsIdle, HoldsRegistry}
-use Rattle.store_usages.proofs.CleanBefore.{was_clean}
+use Rattle.store_reads.proofs.CleanBefore.{was_clean}
 use Rattle.registry_store.specs.Opening.{MayFind, WereOurs, IsOurs, OpensOn}
 
 pub found_now : (image : Image) (s : State) → Opens s → FindsIn image s → MayFind image s.now.trees

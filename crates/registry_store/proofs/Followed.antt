@@ -6,9 +6,9 @@ use Rattle.sqlite_trees.specs.declared.store.Store.{Ghosts}
 use Rattle.sqlite.specs.State as sqlite
 use Rattle.sqlite.specs.State.{HasCleanDisk}
 use Rattle.sqlite.specs.Held.{Held, state}
-use Rattle.oci_names.specs.Text.{Text}
-use Rattle.oci_names.specs.declared.fault.Fault.{Fault}
-use Rattle.oci_names.specs.declared.fault.Fault.TheVariants.{Memory}
+use Rattle.oci_types.specs.Text.{Text}
+use Rattle.oci_types.specs.declared.fault.Fault.{Fault}
+use Rattle.oci_types.specs.declared.fault.Fault.TheVariants.{Memory}
 use Rattle.registry_model.specs.World.{Repo, World, repo_at, has_repo, update_repo}
 use Rattle.registry_model.specs.Sessions.{opened, appended}
 use Rattle.registry_model.specs.Lookups.{append, bytes_or_none, last_number_at, open_session, session_at}
@@ -18,13 +18,13 @@ use Rattle.store_statements.specs.Between.{Stays, Tells, StaysOnMemory, MakesWor
 use Rattle.store_statements.specs.Clauses.{Lasts, WorldHas}
 use Rattle.store_statements.proofs.SettledAfter.{stays_then}
 use Rattle.store_statements.proofs.Transactions.{registry, survives_all}
-use Rattle.store_usages.specs.declared.usage_change.Change.{Change}
-use Rattle.store_usages.specs.declared.known_usages.KnownUsages.{KnownUsages}
+use Rattle.store_reads.specs.declared.usage_change.Change.{Change}
+use Rattle.store_reads.specs.declared.known_usages.KnownUsages.{KnownUsages}
 use Rattle.store_session_writes.specs.Whole.{DoneWhereSo}
-use Rattle.store_usages.specs.Usages.{known_at, Knows, IsKnown, StaysKnown, Sets, Foretells, IsNext, or_untold}
-use Rattle.store_usages.proofs.CleanBefore.{was_clean}
-use Rattle.store_usages.proofs.Foretold.{earlier, later, if_told, untold_settled, session_has_repo}
-use Rattle.store_usages.proofs.KnownWorlds.{follows, unfollowed, forgets}
+use Rattle.store_reads.specs.Usages.{known_at, Knows, IsKnown, StaysKnown, Sets, Foretells, IsNext, or_untold}
+use Rattle.store_reads.proofs.CleanBefore.{was_clean}
+use Rattle.store_reads.proofs.Foretold.{earlier, later, if_told, untold_settled, session_has_repo}
+use Rattle.store_reads.proofs.KnownWorlds.{follows, unfollowed, forgets}
 use Rattle.registry_store.proofs.KnownAnswers.{whether_then}
 use Rattle.registry_store.proofs.KeeperAnswers.{made}
 

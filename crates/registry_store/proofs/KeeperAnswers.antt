@@ -5,19 +5,19 @@ use Rattle.sqlite_trees.specs.declared.store.Store.{Ghosts}
 use Rattle.sqlite.specs.State as sqlite
 use Rattle.sqlite.specs.State.{HasCleanDisk}
 use Rattle.sqlite.specs.Held.{Held, state}
-use Rattle.oci_names.specs.declared.fault.Fault.{Fault}
-use Rattle.oci_names.specs.declared.fault.Fault.TheVariants.{Memory, Storage}
+use Rattle.oci_types.specs.declared.fault.Fault.{Fault}
+use Rattle.oci_types.specs.declared.fault.Fault.TheVariants.{Memory, Storage}
 use Rattle.registry_model.specs.World.{World}
 use Rattle.registry_model.specs.Keeping.{State, ReadsBy, ReadsSo, Writes, WritesBy, Spends}
 use Rattle.registry_store.specs.Kept.{Kept, IsHonest}
-use Rattle.store_world.specs.Tables.{Tables}
+use Rattle.store_statements.specs.Tables.{Tables}
 use Rattle.store_statements.specs.Held.{IsSettled, StaysSettled, SettlesOn, is_storage, world_in, held}
 use Rattle.store_statements.specs.Between.{Tells, Stays, StaysOnMemory, MakesWorld}
 use Rattle.store_statements.specs.Clauses.{Lasts}
-use Rattle.store_usages.specs.declared.known_usages.KnownUsages.{KnownUsages}
-use Rattle.store_usages.specs.Usages.{Knows, IsKnown, StaysKnown}
-use Rattle.store_usages.proofs.CleanBefore.{was_clean}
-use Rattle.store_usages.proofs.KnownWorlds.{still_knows, untouched}
+use Rattle.store_reads.specs.declared.known_usages.KnownUsages.{KnownUsages}
+use Rattle.store_reads.specs.Usages.{Knows, IsKnown, StaysKnown}
+use Rattle.store_reads.proofs.CleanBefore.{was_clean}
+use Rattle.store_reads.proofs.KnownWorlds.{still_knows, untouched}
 use Rattle.registry_store.proofs.KeeperStates.{found, found_so, wrote, stood}
 
 abbrev tables : {S : Type 0} → Ghosts S → Held S → Tables

@@ -5,7 +5,7 @@ use Rattle.sqlite.specs.State.{HasCleanDisk}
 use Rattle.sqlite.specs.Held.{Held, state}
 use Rattle.registry_model.specs.World.{World}
 use Rattle.registry_model.specs.Keeping.{State}
-use Rattle.store_world.specs.World.{world_of}
+use Rattle.store_statements.specs.World.{world_of}
 use Rattle.registry_store.specs.Kept.{Kept}
 use Rattle.store_statements.specs.Held.{tables_in, world_in}
 

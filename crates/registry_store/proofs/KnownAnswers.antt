@@ -6,10 +6,10 @@ use Rattle.sqlite_trees.specs.declared.store.Store.{Ghosts}
 use Rattle.sqlite.specs.State as sqlite
 use Rattle.sqlite.specs.State.{HasCleanDisk}
 use Rattle.sqlite.specs.Held.{Held, state}
-use Rattle.oci_names.specs.Text.{Text}
-use Rattle.oci_names.specs.Digest.{matches}
-use Rattle.oci_names.specs.declared.fault.Fault.{Fault}
-use Rattle.oci_names.specs.declared.fault.Fault.TheVariants.{Memory, Storage}
+use Rattle.oci_types.specs.Text.{Text}
+use Rattle.oci_types.specs.Digest.{matches}
+use Rattle.oci_types.specs.declared.fault.Fault.{Fault}
+use Rattle.oci_types.specs.declared.fault.Fault.TheVariants.{Memory, Storage}
 use Rattle.registry_model.specs.World.{World}
 use Rattle.registry_model.specs.Keeping.{State}
 use Rattle.registry_model.specs.Closing.{WritesWhereSo, session_matches}
@@ -19,7 +19,7 @@ use Rattle.store_statements.specs.Between.{StaysOnMemory}
 use Rattle.store_statements.proofs.SettledAfter.{stays_then}
 use Rattle.store_session_writes.specs.Whole.{DoneWhereSo}
 use Rattle.registry_store.specs.Kept.{Kept}
-use Rattle.store_usages.proofs.Foretold.{earlier}
+use Rattle.store_reads.proofs.Foretold.{earlier}
 use Rattle.registry_store.proofs.KeeperStates.{found, wrote, stood}
 
 -- the store is settled, whether it was made or not

@@ -6,7 +6,7 @@ use Rattle.sqlite_wal.specs.Recovery.{Image}
 use Rattle.sqlite_trees.specs.Tree.{Trees}
 use Rattle.store_schema.specs.Schema.{no_schema}
 use Rattle.store_schema.specs.Making.{IsEmptyWith}
-use Rattle.store_world.specs.World.{world_of}
+use Rattle.store_statements.specs.World.{world_of}
 use Rattle.registry_model.specs.World.{no_world}
 use Rattle.store_statements.specs.Held.{tables_in}
 use Rattle.store_opening.specs.Opening.{HoldsRegistry}

@@ -1,21 +1,20 @@
 //! Manifests that come, with what is known of usages.
 ghost use Rattle.std.specs.Prelude.{◌≡◌, ◌≤◌, true, length, Ok};
-ghost use Rattle.oci_names.specs.Digest.{matches};
-ghost use Rattle.oci_manifest.specs.Manifest.{shown, manifest_in};
+ghost use Rattle.oci_types.specs.Digest.{matches};
+ghost use Rattle.oci_types.specs.Manifest.{shown, manifest_in};
 ghost use Rattle.registry_model.specs.Ask.{text_in};
 ghost use Rattle.registry_model.specs.Limits.{largest_manifest};
 ghost use Rattle.registry_model.specs.World.{has_repo};
 ghost use Rattle.registry_model.specs.Lookups.{put_manifest};
 ghost use Rattle.store_statements.specs.Between.{MakesWorld, StaysOnMemory};
 ghost use Rattle.store_statements.specs.Clauses.{Lasts, WorldHas};
-ghost use Rattle.store_usages.specs.Usages.{IsKnown, StaysKnown};
+ghost use Rattle.store_reads.specs.Usages.{IsKnown, StaysKnown};
 
 use crate::following::follow_made;
-use oci_manifest::Manifest;
-use oci_names::{Digest, Fault, RepoName, Tag};
+use oci_types::{Digest, Fault, Manifest, RepoName, Tag};
 use sqlite::{Alter, Connection};
 use std::alloc::Global;
-use store_usages::{KnownUsages, manifest_change, or_untold};
+use store_reads::{KnownUsages, manifest_change, or_untold};
 
 /// Adds a manifest, where the repository has not its digest, and sets the tag to it, if one is given.
 pub(crate) fn put_manifest<S: Alter>(

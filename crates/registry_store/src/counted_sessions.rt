@@ -2,7 +2,7 @@
 ghost use Rattle.std.specs.Prelude.{◌≡◌, ◌≤◌, true, length, is_some, IfOk};
 ghost use Rattle.sqlite.specs.State.{HasCleanDisk};
 ghost use Rattle.sqlite.specs.Held.{state};
-ghost use Rattle.oci_names.specs.Digest.{matches};
+ghost use Rattle.oci_types.specs.Digest.{matches};
 ghost use Rattle.registry_model.specs.Limits.{largest_blob};
 ghost use Rattle.registry_model.specs.Lookups.{session_at, finish};
 ghost use Rattle.registry_model.specs.Closing.{session_matches, finish_as_is};
@@ -10,13 +10,13 @@ ghost use Rattle.store_statements.specs.Held.{IsSettled};
 ghost use Rattle.store_statements.specs.Between.{MakesWorld, StaysOnMemory};
 ghost use Rattle.store_statements.specs.Clauses.{Lasts, WorldHas};
 ghost use Rattle.store_session_writes.specs.Whole.{DoneWhereSo};
-ghost use Rattle.store_usages.specs.Usages.{IsKnown, StaysKnown};
+ghost use Rattle.store_reads.specs.Usages.{IsKnown, StaysKnown};
 
 use crate::following::{follow_done, follow_made};
-use oci_names::{Digest, Fault, RepoName};
+use oci_types::{Digest, Fault, RepoName};
 use sqlite::{Alter, Connection};
 use std::alloc::Global;
-use store_usages::{KnownUsages, finish_change, known_finish_change, or_untold};
+use store_reads::{KnownUsages, finish_change, known_finish_change, or_untold};
 
 /// Ends an open session and puts its whole bytes in as a blob; a digest that is there keeps its bytes.
 pub(crate) fn finish<S: Alter>(

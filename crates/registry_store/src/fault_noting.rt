@@ -2,7 +2,7 @@
 ghost use Rattle.std.specs.Prelude.{◌≡◌, ◌||◌};
 ghost use Rattle.store_statements.specs.Held.{is_storage};
 
-use oci_names::Fault;
+use oci_types::Fault;
 
 /// Passes an answer on, and notes where it is that the storage failed.
 pub(crate) fn note_fault<T>(spent: &mut bool, answer: Result<T, Fault>) -> Result<T, Fault>

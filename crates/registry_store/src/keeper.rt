@@ -12,12 +12,11 @@ use crate::following::follow_made;
 use crate::origin::Origin;
 use crate::store::Store;
 use crate::{counted_blobs, counted_manifests, counted_sessions};
-use oci_manifest::{Kind, Manifest};
-use oci_names::{Digest, Fault, RepoName, Tag, Token};
+use oci_types::{Digest, Fault, Kind, Manifest, RepoName, Tag, Token};
 use registry_model::{Keeper, Level, Quota, Usage};
 use sqlite::Alter;
 use std::alloc::Global;
-use store_usages::{Change, NO_CHANGE};
+use store_reads::{Change, NO_CHANGE};
 
 /// Asks the tables, unless the storage has failed, and notes where it fails now.
 macro_rules! unless_spent {
@@ -146,7 +145,7 @@ impl<S: Alter, O: Origin> Keeper for Store<S, O> {
     fn usage(&mut self, repo: &RepoName) -> Result<Usage, Fault> {
         unless_spent!(
             self,
-            store_usages::usage(self.alloc, &mut self.conn, &mut self.known, repo)
+            store_reads::recalled_usage(self.alloc, &mut self.conn, &mut self.known, repo)
         )
     }
 

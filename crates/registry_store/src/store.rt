@@ -21,7 +21,7 @@ use sqlite_disk::Disk;
 use std::alloc::Global;
 use std::marker::{Model, PhantomData};
 use store_opening::{OpenFault, fault_in_opening, let_go, take_up};
-use store_usages::KnownUsages;
+use store_reads::KnownUsages;
 
 /// Keeps a registry's world in the tables of a database, and knows besides what some of its repositories
 /// hold. Once the storage has failed it is spent, and answers `Fault::Storage` alone.
@@ -39,7 +39,7 @@ impl<S: Alter, O: Origin> Model for Store<S, O> {
     ghost use Rattle.sqlite.specs.State.{HasCleanDisk};
     ghost use Rattle.sqlite.specs.Held.{state};
     ghost use Rattle.registry_store.specs.Kept.{Kept, kept_code};
-    ghost use Rattle.store_usages.specs.Usages.{Knows};
+    ghost use Rattle.store_reads.specs.Usages.{Knows};
     ghost use Rattle.store_statements.specs.Held.{IsSettled, world_in};
 
     ghost Value = { Kept S };

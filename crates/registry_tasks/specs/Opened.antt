@@ -1,7 +1,7 @@
 -- What tasks come to over a registry that is opened for them. Here `over P` is that P is told of a registry
 -- that was opened, from its first state to its last, and `at path` is the same of the registry at a path.
 use Rattle.std.specs.Prelude.{◌≡◌, ℕ, ◌⊎◌}
-use Rattle.oci_names.specs.Text.{Text}
+use Rattle.oci_types.specs.Text.{Text}
 use Rattle.registry_model.specs.Keeping.{State}
 use Rattle.registry_orders.specs.declared.failure.Failure.{Failure}
 use Rattle.registry_orders.specs.declared.orders.Order.{Order}

@@ -1,7 +1,7 @@
 -- What the program does, by its exit status.
 use Rattle.std.specs.Prelude.{◌≡◌, ℕ, false, ◌⊎◌, Option, Result, MatchResult}
 use Rattle.std.specs.Io.KnownBytes.{Appends}
-use Rattle.oci_names.specs.Text.{Text}
+use Rattle.oci_types.specs.Text.{Text}
 use Rattle.registry_model.specs.World.{World}
 use Rattle.registry_model.specs.Keeping.{State}
 use Rattle.registry_model.specs.Doing.{keeps}

@@ -2,8 +2,8 @@
 -- a socket takes and gives is not known here: what the server did is its own contract.
 use Rattle.std.specs.Prelude.{◌≡◌, ◌≢◌, ◌≤◌, ℕ, ◌⊎◌, ◌==◌, ⊤, if◌then◌else◌}
 use Rattle.std.specs.Io.KnownBytes.{Appends}
-use Rattle.oci_names.specs.Text.{Text}
-use Rattle.order_messages.specs.Answers.{answer_text}
+use Rattle.oci_types.specs.Text.{Text}
+use Rattle.order_texts.specs.Answers.{answer_text}
 use Rattle.registry_orders.specs.declared.failure.Failure.{Failure}
 use Rattle.registry_orders.specs.declared.failure.Failure.TheVariants.{OutOfMemory, ConnectionFailure}
 use Rattle.registry_orders.specs.Outputs.{Output, IsSilent}

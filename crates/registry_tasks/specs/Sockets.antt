@@ -1,7 +1,7 @@
 -- Connections that are served over sockets, one after the other (profile).
 use Rattle.std.specs.Prelude.{◌≡◌, ℕ, zero, suc, false, List, [], ◌++◌, Result, Ok, Err, codes}
 use Rattle.std.specs.Io.KnownBytes.{Appends}
-use Rattle.oci_names.specs.Text.{Text}
+use Rattle.oci_types.specs.Text.{Text}
 use Rattle.registry_model.specs.Keeping.{State}
 use Rattle.registry_http.specs.Spelling.{Item}
 use Rattle.registry_http.specs.Serving.{Serves, served}

@@ -1,5 +1,5 @@
 -- What is done over a registry that was opened (profile).
-use Rattle.oci_names.specs.Text.{Text}
+use Rattle.oci_types.specs.Text.{Text}
 use Rattle.registry_model.specs.Keeping.{State}
 
 -- Over a keeper of the type K, from the first state that this opening may give to its last: as far as the

@@ -7,7 +7,7 @@ ghost use Rattle.registry_tasks.specs.Opened.{RunsCheck};
 ghost use Rattle.registry_tasks.specs.Stored.{OverAt};
 
 use crate::opened::end_at;
-use oci_names::Fault;
+use oci_types::Fault;
 use order_carrying::Ended;
 use registry_checking::{Opener, Watch, Wrong, look, write_wrongs};
 use registry_model::Keeper;

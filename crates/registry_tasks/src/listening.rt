@@ -3,7 +3,7 @@ ghost use Rattle.std.specs.Prelude.{◌≡◌, OnOk, IfErr};
 ghost use Rattle.registry_orders.specs.Failures.{IsOfServing};
 
 use crate::order_socket::listen_for_orders;
-use oci_names::Fault;
+use oci_types::Fault;
 use os::FromRawFd;
 use registry_model::Keeper;
 use registry_orders::{Cause, Failure};

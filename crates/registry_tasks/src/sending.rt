@@ -5,7 +5,7 @@ ghost use Rattle.registry_orders.specs.Outputs.{newline};
 ghost use Rattle.registry_orders.specs.Outputs.{output, IsSilent};
 ghost use Rattle.registry_tasks.specs.Sending.{IsOfSending, Shows, Relays, IsSent};
 
-use order_messages::{Answer, STOP, read_answer, write_order};
+use order_texts::{Answer, STOP, read_answer, write_order};
 use registry_orders::cause::say_at;
 use registry_orders::failure::say;
 use registry_orders::{Cause, Failure, Order};

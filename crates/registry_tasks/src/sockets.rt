@@ -8,10 +8,10 @@ ghost use Rattle.registry_model.specs.Keeping.{State};
 ghost use Rattle.registry_http.specs.Privacy.{IsPrivateRun};
 
 use registry_checking::Opener;
-use registry_conversation::serve_connection;
 use registry_http::End;
 use registry_model::Keeper;
 use registry_orders::Failure;
+use registry_server::serve_connection;
 use registry_service::Service;
 use std::alloc::Global;
 use std::io;

@@ -5,13 +5,13 @@ ghost use Rattle.registry_tasks.specs.Failures.{ended_as};
 ghost use Rattle.registry_tasks.specs.Program.{streams, ServesMemory, ServesSetUp, ServesStored};
 
 use order_carrying::Ended;
-use registry_conversation::serve_connection;
 use registry_http::End;
 use registry_maps::MapKeeper;
 use registry_model::Keeper;
 use registry_orders::Failure;
 use registry_orders::failure::{of_command, say};
 use registry_orders::options::{GrantOption, RepoOption, Setup};
+use registry_server::serve_connection;
 use registry_service::{AdminCommand, Service};
 use std::alloc::Global;
 use std::io::{Read, Write};

@@ -8,7 +8,7 @@ ghost use Rattle.registry_tasks.specs.Opened.{RunsAt, RunsByInput, RunsByFile, R
 ghost use Rattle.registry_tasks.specs.Opened.{IsWithoutToken, LacksTokenOf};
 
 use crate::opened::run_order_at;
-use oci_names::Token;
+use oci_types::Token;
 use registry_checking::Opener;
 use registry_model::Keeper;
 use registry_orders::cause::say_at;

@@ -2,9 +2,8 @@
 
 use crate::play::{Act, Sight, all_happens};
 use crate::texts::{LARGE_HEAD, SMALL};
-use registry_conversation::{Step, Wants};
 use registry_http::End;
-use registry_server::{LARGEST, Receipt, Refusal, SHARE};
+use registry_server::{LARGEST, Receipt, Refusal, SHARE, Step, Wants};
 
 /// Two requests.
 const TWO: &[u8] = b"GET /v2/ HTTP/1.1\r\nHost: r\r\n\r\nGET /v2/ HTTP/1.1\r\nHost: r\r\n\r\n";

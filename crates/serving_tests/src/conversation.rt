@@ -5,8 +5,8 @@ use crate::setting::{Registry, same, setting};
 use crate::texts::{
     BAD_REQUEST, CONTINUE, HELLO, IN_CHUNKS, PUSH, THREE_REPLIES, THREE_REQUESTS, filled,
 };
-use registry_conversation::{Conversation, Step, Wants};
 use registry_http::{End, FramingRefusal};
+use registry_server::{Conversation, Step, Wants};
 use std::alloc::Global;
 use std::process::Abort;
 

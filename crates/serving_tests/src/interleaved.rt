@@ -3,9 +3,8 @@
 use crate::play::{Play, new_play, send};
 use crate::setting::{add, empty, grant, same};
 use crate::texts::{HELLO, THREE_REPLIES, THREE_REQUESTS, filled};
-use registry_conversation::Wants;
 use registry_model::Level;
-use registry_server::Connections;
+use registry_server::{Connections, Wants};
 use std::alloc::Global;
 use std::process::Abort;
 

@@ -1,9 +1,9 @@
 //! Lines by hand, over a registry in memory. The answers are what the commands print by the definitions.
 
 use crate::setting::{Registry, empty, same};
-use oci_names::{RepoName, Token};
+use oci_types::{RepoName, Token};
 use order_carrying::answer_line;
-use order_messages::{STOP, Unread, is_stop, read_answer, read_order, write_order, write_stopping};
+use order_texts::{STOP, Unread, is_stop, read_answer, read_order, write_order, write_stopping};
 use registry_model::Level;
 use registry_orders::{Change, Form, Listing, Order, Shown};
 use std::alloc::Global;

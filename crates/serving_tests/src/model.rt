@@ -2,7 +2,7 @@
 
 use crate::setting::same;
 use crate::texts::ABC;
-use oci_names::{Digest, Fault, NameFault, RepoName, Tag, Token};
+use oci_types::{Digest, Fault, NameFault, RepoName, Tag, Token};
 use registry_model::quota::over_quota;
 use registry_model::{Quota, Refusal};
 use std::alloc::Global;

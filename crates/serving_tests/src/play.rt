@@ -1,8 +1,7 @@
 //! What happens to connections and what must come of it, as data.
 
 use crate::setting::{Registry, empty, same};
-use registry_conversation::{Step, Wants};
-use registry_server::{Bounds, Connections, Receipt, Refusal, Turn};
+use registry_server::{Bounds, Connections, Receipt, Refusal, Step, Turn, Wants};
 use std::alloc::Global;
 use std::process::Abort;
 

@@ -2,7 +2,7 @@
 
 use crate::setting::{grant, same, setting};
 use crate::texts::{ABC, BLOB_UNKNOWN, CREATED, DELETED, FOUND, HELLO, filled};
-use oci_names::{RepoName, Token};
+use oci_types::{RepoName, Token};
 use registry_http::write_reply;
 use registry_model::{AdminCommand, Body, Level, Query, Quota, Request, Route, Verb};
 use registry_service::{Outcome, Step};

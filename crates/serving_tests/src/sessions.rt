@@ -2,7 +2,7 @@
 
 use crate::setting::{Registry, is_told, setting};
 use crate::texts::CREATED;
-use oci_names::RepoName;
+use oci_types::RepoName;
 use registry_service::Service;
 use std::alloc::Global;
 use std::process::Abort;

@@ -2,11 +2,11 @@
 //! is to succeed ends the test.
 
 use crate::texts::filled;
-use oci_names::{RepoName, Token};
-use registry_conversation::serve_connection;
+use oci_types::{RepoName, Token};
 use registry_http::End;
 use registry_maps::MapKeeper;
 use registry_model::{AdminCommand, Level, Quota};
+use registry_server::serve_connection;
 use registry_service::Service;
 use std::alloc::Global;
 use std::fmt::Debug;

@@ -3,9 +3,8 @@
 use crate::play::{Act, Play, Sight, all_happens, go_on, happens, new_play};
 use crate::setting::empty;
 use crate::texts::{LARGE_HEAD, SMALL};
-use registry_conversation::Step;
-use registry_server::Receipt;
 use registry_server::life::SIGN_OF_LIFE;
+use registry_server::{Receipt, Step};
 use std::alloc::Global;
 use std::process::Abort;
 

@@ -1,7 +1,7 @@
 -- The digits that a sha256 digest has behind its name.
 use Rattle.std.proofs.Common.{◌≡◌, ℕ, List, refl, ap, ◌∙◌}
 use Rattle.std.specs.Prelude.{drop}
-use Rattle.oci_names.specs.Digest.{sha256_digest}
+use Rattle.oci_types.specs.Digest.{sha256_digest}
 use Rattle.store_contents.specs.Contents.{sha256_text}
 
 made : (bytes : List ℕ) → drop 7 (sha256_digest bytes) ≡ sha256_text bytes

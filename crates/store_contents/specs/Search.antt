@@ -11,8 +11,8 @@ use Rattle.sqlite_trees.specs.declared.store.Store.{Ghosts}
 use Rattle.sqlite.specs.declared.error.Error.{Error}
 use Rattle.sqlite.specs.declared.error.Error.TheVariants.{SqliteFailure}
 use Rattle.sqlite.specs.declared.error.ErrorCode.TheVariants.{OutOfMemory}
-use Rattle.oci_names.specs.declared.fault.Fault.{Fault}
-use Rattle.oci_names.specs.declared.fault.Fault.TheVariants.{Memory, Storage}
+use Rattle.oci_types.specs.declared.fault.Fault.{Fault}
+use Rattle.oci_types.specs.declared.fault.Fault.TheVariants.{Memory, Storage}
 use Rattle.store_schema.specs.Rows.{bytes_at}
 
 abbrev pub has_sha256 : List ℕ → Row → Bool

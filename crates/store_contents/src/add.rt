@@ -6,7 +6,7 @@ ghost use Rattle.store_contents.specs.Contents.{IsInside, Adds, bytes_in, sha256
 
 use crate::content_id::ContentId;
 use crate::fault::fault_of;
-use oci_names::Fault;
+use oci_types::Fault;
 use sqlite::{Alter, Transaction, params};
 
 /// Puts the bytes in under a new id, which is the answer.

@@ -1,7 +1,7 @@
 ghost use Rattle.std.specs.Prelude.{◌≡◌, Ok, Err, IsOk, MatchResult, OnOk};
 ghost use Rattle.store_contents.specs.Search.{fault_by};
 
-use oci_names::Fault;
+use oci_types::Fault;
 use sqlite::{Error, ErrorCode};
 
 /// What an error of the database is to a caller: want of memory is told apart from all others.

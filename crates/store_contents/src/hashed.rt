@@ -9,7 +9,7 @@ ghost use Rattle.store_contents.specs.Read.{IsRead};
 
 use crate::content_id::ContentId;
 use crate::fault::{fault_of, told};
-use oci_names::Fault;
+use oci_types::Fault;
 use sqlite::{Alter, Connection, Error, Row, params};
 
 /// Whether one of the rows shows the id.

@@ -7,7 +7,7 @@ ghost use Rattle.store_contents.specs.Contents.{IsInside, FindsOrAdds, sha256_te
 use crate::add::add;
 use crate::content_id::ContentId;
 use crate::search::find;
-use oci_names::Fault;
+use oci_types::Fault;
 use sha2::{Digest, Sha256};
 use sqlite::{Alter, Transaction};
 use std::alloc::Global;

@@ -9,7 +9,7 @@ ghost use Rattle.store_contents.specs.Search.{blob_of, first_bytes, GivesBytes};
 
 use crate::content_id::ContentId;
 use crate::fault::{fault_of, told};
-use oci_names::Fault;
+use oci_types::Fault;
 use sqlite::types::ValueRef;
 use sqlite::{Alter, Connection, Error, ErrorCode, Row, Rows, Transaction, params};
 use std::alloc::Global;

@@ -6,7 +6,7 @@ ghost use Rattle.store_contents.specs.Contents.{IsInside, Removes};
 
 use crate::content_id::ContentId;
 use crate::fault::done;
-use oci_names::Fault;
+use oci_types::Fault;
 use sqlite::{Alter, Transaction, params};
 
 /// Takes the content out, where it is there. No other content changes, nor does any other table; whether

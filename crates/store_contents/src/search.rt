@@ -8,7 +8,7 @@ ghost use Rattle.store_contents.specs.Read.{IsRead};
 ghost use Rattle.store_contents.specs.Search.{shows_bytes, shows_content, ShowsFirst};
 
 use crate::fault::{fault_of, told};
-use oci_names::Fault;
+use oci_types::Fault;
 use sqlite::types::ValueRef;
 use sqlite::{Alter, Error, Row, Transaction, params};
 

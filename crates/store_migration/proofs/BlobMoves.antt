@@ -5,22 +5,22 @@ use Rattle.std.specs.FinMap.{get, insert, from_entries}
 use Rattle.std.proofs.lemmas.Cmp.{nat_list_cmp_total}
 use Rattle.std.proofs.lemmas.Map.Lookups.{exact_bytes}
 use Rattle.sqlite.specs.Order.{Row}
-use Rattle.oci_names.specs.Text.{Text}
+use Rattle.oci_types.specs.Text.{Text}
 use Rattle.registry_model.specs.World.{text_cmp}
 use Rattle.store_schema.specs.Rows.{bytes_at, integer_at}
 use Rattle.store_schema.proofs.Lists.{bytes_eq_true, bytes_eq-sym}
-use Rattle.store_world.specs.Keys.{of_first, of_second, has_key, same_key}
-use Rattle.store_world.specs.Tables.{Tables}
-use Rattle.store_world.specs.World.{content_at, blob_entry}
-use Rattle.store_world.specs.Registry.{is_repo}
-use Rattle.store_world.specs.Changes.{without, blob_columns, Comes}
-use Rattle.store_world.proofs.Base.{second_tie}
-use Rattle.store_world.proofs.Found.{get_found, find_filter, found_all, found_passes, is_key}
-use Rattle.store_world.proofs.Others.{within_key, others_without, others_came}
-use Rattle.store_world.proofs.Kept.{all_without, rows_without}
-use Rattle.store_world.proofs.Children.{repo_of_found}
-use Rattle.store_world.proofs.Named.{named_came, named_without}
-use Rattle.store_world.proofs.Blobs.{blob_added}
+use Rattle.store_statements.specs.Keys.{of_first, of_second, has_key, same_key}
+use Rattle.store_statements.specs.Tables.{Tables}
+use Rattle.store_statements.specs.World.{content_at, blob_entry}
+use Rattle.store_statements.specs.Registry.{is_repo}
+use Rattle.store_statements.specs.Changes.{without, blob_columns, Comes}
+use Rattle.store_statements.proofs.Base.{second_tie}
+use Rattle.store_statements.proofs.Found.{get_found, find_filter, found_all, found_passes, is_key}
+use Rattle.store_statements.proofs.Others.{within_key, others_without, others_came}
+use Rattle.store_statements.proofs.Kept.{all_without, rows_without}
+use Rattle.store_statements.proofs.Children.{repo_of_found}
+use Rattle.store_statements.proofs.Named.{named_came, named_without}
+use Rattle.store_statements.proofs.BlobWorlds.{blob_added}
 use Rattle.store_migration.specs.OldTables.{OldTables, IsOldBlobRow}
 use Rattle.store_migration.specs.OldWorld.{old_blob_entry, old_blobs}
 use Rattle.store_migration.specs.Both.{both_blobs, world_of_both, AreUnmoved, AreBoth}

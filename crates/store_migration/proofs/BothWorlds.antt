@@ -7,13 +7,13 @@ use Rattle.std.proofs.lemmas.Map.Lookups.{exact_bytes, exact_unsigned}
 use Rattle.sqlite.specs.Order.{Row}
 use Rattle.sqlite.specs.declared.types.Value.TheVariants.{Null, Int}
 use Rattle.sqlite_trees.proofs.ListLemmas.{all_weaker}
-use Rattle.oci_names.specs.Text.{Text}
+use Rattle.oci_types.specs.Text.{Text}
 use Rattle.store_schema.specs.Rows.{bytes_at, natural_at, integer_at}
-use Rattle.store_world.specs.Tables.{Tables, Beside, nothing_beside}
-use Rattle.store_world.specs.World.{tags_of, grants_of}
-use Rattle.store_world.specs.Registry.{BlobAgrees, ManifestAgrees, PieceAgrees, Agree, IsRegistry}
-use Rattle.store_world.specs.Changes.{Grow}
-use Rattle.store_world.proofs.Contents.{Same, blobs_kept, manifests_kept, sessions_kept, contents_grown}
+use Rattle.store_statements.specs.Tables.{Tables, Beside, nothing_beside}
+use Rattle.store_statements.specs.World.{tags_of, grants_of}
+use Rattle.store_statements.specs.Registry.{BlobAgrees, ManifestAgrees, PieceAgrees, Agree, IsRegistry}
+use Rattle.store_statements.specs.Changes.{Grow}
+use Rattle.store_statements.proofs.ContentWorlds.{Same, blobs_kept, manifests_kept, sessions_kept, contents_grown}
 use Rattle.store_migration.specs.OldTables.{OldTables}
 use Rattle.store_migration.specs.OldWorld.{old_blobs, old_manifests, old_sessions}
 use Rattle.store_migration.specs.Both.{both_blobs, both_manifests, both_sessions, both_repo_in, world_of_both, IsRegistryOnceTwo, AreBoth}

@@ -1,10 +1,10 @@
 -- Many moves, one after the other, and where they end: no row is left in the tables of schema 1.
 use Rattle.std.proofs.Common.{◌≡◌, inl, inr, List, [], ◌∷◌, refl, subst, ◌∙◌, true}
 use Rattle.sqlite.specs.Order.{Row}
-use Rattle.store_world.specs.Tables.{Tables, Beside, IsEmptyBeside}
-use Rattle.store_world.specs.Changes.{changed}
-use Rattle.store_world.specs.World.{world_of}
-use Rattle.store_world.specs.Registry.{IsOfSchemaTwo, IsRegistry}
+use Rattle.store_statements.specs.Tables.{Tables, Beside, IsEmptyBeside}
+use Rattle.store_statements.specs.Changes.{changed}
+use Rattle.store_statements.specs.World.{world_of}
+use Rattle.store_statements.specs.Registry.{IsOfSchemaTwo, IsRegistry}
 use Rattle.store_migration.specs.OldTables.{OldTables, no_old_tables, IsOfSchemaOne, IsOldRegistry}
 use Rattle.store_migration.specs.OldWorld.{old_world}
 use Rattle.store_migration.specs.Both.{world_of_both, AreBoth, emptied}

@@ -1,12 +1,12 @@
 -- Keys of the old rows are free in the tables of schema 2, and their repositories are there.
 use Rattle.std.proofs.Common.{◌≡◌, ℕ, true, None}
 use Rattle.std.specs.Prelude.{find, is_some}
-use Rattle.oci_names.specs.Text.{Text}
-use Rattle.store_world.specs.Keys.{has_key, of_session}
-use Rattle.store_world.specs.Tables.{Tables}
-use Rattle.store_world.specs.Registry.{is_repo}
-use Rattle.store_world.proofs.Others.{within_key, within_session}
-use Rattle.store_world.proofs.Children.{some_is, repo_of_found}
+use Rattle.oci_types.specs.Text.{Text}
+use Rattle.store_statements.specs.Keys.{has_key, of_session}
+use Rattle.store_statements.specs.Tables.{Tables}
+use Rattle.store_statements.specs.Registry.{is_repo}
+use Rattle.store_statements.proofs.Others.{within_key, within_session}
+use Rattle.store_statements.proofs.Children.{some_is, repo_of_found}
 use Rattle.store_migration.specs.OldTables.{OldTables}
 use Rattle.store_migration.specs.Both.{AreBoth}
 use Rattle.store_migration.proofs.BlobMoves.{key_free}

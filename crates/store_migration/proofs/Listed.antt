@@ -6,12 +6,12 @@ use Rattle.std.specs.List.Sorted.{IsPermutation}
 use Rattle.sqlite.specs.Order.{Row}
 use Rattle.sqlite_rules.specs.Lists.{Has}
 use Rattle.sqlite_trees.proofs.ListLemmas.{all_weaker, all-permutation}
-use Rattle.oci_names.specs.Text.{Text}
+use Rattle.oci_types.specs.Text.{Text}
 use Rattle.store_schema.specs.Rows.{bytes_at, natural_at}
 use Rattle.store_schema.proofs.Lists.{bytes_eq_itself, none_found}
-use Rattle.store_world.specs.Keys.{has_key, of_session}
-use Rattle.store_world.specs.Changes.{without}
-use Rattle.store_world.proofs.Found.{equal_itself}
+use Rattle.store_statements.specs.Keys.{has_key, of_session}
+use Rattle.store_statements.specs.Changes.{without}
+use Rattle.store_statements.proofs.Found.{equal_itself}
 use Rattle.store_migration.specs.Listed.{key_of, session_of, left_by_keys, left_by_sessions}
 use Rattle.store_migration.proofs.Unmoved.{all_left}
 

@@ -9,23 +9,23 @@ use Rattle.std.proofs.lemmas.Cmp.{nat_cmp_total, eq_by_cmp_equiv}
 use Rattle.std.proofs.lemmas.Map.Lookups.{exact_unsigned}
 use Rattle.sqlite.specs.Order.{Row}
 use Rattle.sqlite_trees.proofs.ListLemmas.{all_weaker}
-use Rattle.oci_names.specs.Text.{Text}
+use Rattle.oci_types.specs.Text.{Text}
 use Rattle.store_schema.specs.Rows.{bytes_at, natural_at}
 use Rattle.store_schema.proofs.Lists.{bytes_eq_true, bytes_eq-sym}
-use Rattle.store_world.specs.Keys.{of_first, of_session, same_session}
-use Rattle.store_world.specs.Tables.{Tables, IsUploadRow}
-use Rattle.store_world.specs.World.{pieces_of, joined, sessions_of}
-use Rattle.store_world.specs.Registry.{is_repo, last_in, Reach, UploadAgrees, IsOpen, PieceAgrees, IsRegistry}
-use Rattle.store_world.specs.Changes.{without, changed, with_size, upload_columns, piece_columns, Comes}
-use Rattle.store_world.proofs.Found.{get_found, find_filter, found_all, found_passes, is_session, number_tie, find_changed, map_without}
-use Rattle.store_world.proofs.Others.{within_session, others_without}
-use Rattle.store_world.proofs.Kept.{all_without, all_came, rows_without, rows_came, same_session-sym}
-use Rattle.store_world.proofs.Children.{repo_of_found}
-use Rattle.store_world.proofs.Named.{filter_within}
-use Rattle.store_world.proofs.Pieces.{pieces_other, joined_put}
-use Rattle.store_world.proofs.SessionMaps.{has_session, same_sessions, sessions_set}
-use Rattle.store_world.proofs.SessionRows.{number_came, has_came, has_changed, no_pieces}
-use Rattle.store_world.proofs.SessionsKept.{with_sessions_rows, registry_appended}
+use Rattle.store_statements.specs.Keys.{of_first, of_session, same_session}
+use Rattle.store_statements.specs.Tables.{Tables, IsUploadRow}
+use Rattle.store_statements.specs.World.{pieces_of, joined, sessions_of}
+use Rattle.store_statements.specs.Registry.{is_repo, last_in, Reach, UploadAgrees, IsOpen, PieceAgrees, IsRegistry}
+use Rattle.store_statements.specs.Changes.{without, changed, with_size, upload_columns, piece_columns, Comes}
+use Rattle.store_statements.proofs.Found.{get_found, find_filter, found_all, found_passes, is_session, number_tie, find_changed, map_without}
+use Rattle.store_statements.proofs.Others.{within_session, others_without}
+use Rattle.store_statements.proofs.Kept.{all_without, all_came, rows_without, rows_came, same_session-sym}
+use Rattle.store_statements.proofs.Children.{repo_of_found}
+use Rattle.store_statements.proofs.Named.{filter_within}
+use Rattle.store_statements.proofs.PieceWorlds.{pieces_other, joined_put}
+use Rattle.store_statements.proofs.SessionMaps.{has_session, same_sessions, sessions_set}
+use Rattle.store_statements.proofs.SessionRows.{number_came, has_came, has_changed, no_pieces}
+use Rattle.store_statements.proofs.SessionsKept.{with_sessions_rows, registry_appended}
 use Rattle.store_migration.specs.OldTables.{OldTables, IsOldSessionRow, WasGiven}
 use Rattle.store_migration.specs.OldWorld.{old_session_entry, old_sessions}
 use Rattle.store_migration.specs.Both.{both_sessions, world_of_both, AreUnmoved, IsRegistryOnceTwo, AreBoth}

@@ -4,9 +4,9 @@ use Rattle.std.specs.FinMap.{from_entries}
 use Rattle.std.proofs.lemmas.List.{append-nil}
 use Rattle.sqlite.specs.Order.{Row}
 use Rattle.store_schema.specs.Rows.{bytes_at, natural_at}
-use Rattle.store_world.specs.Keys.{same_key, same_session}
-use Rattle.store_world.specs.Tables.{Tables}
-use Rattle.store_world.specs.World.{tags_of, grants_of}
+use Rattle.store_statements.specs.Keys.{same_key, same_session}
+use Rattle.store_statements.specs.Tables.{Tables}
+use Rattle.store_statements.specs.World.{tags_of, grants_of}
 use Rattle.store_migration.specs.OldTables.{OldTables, IsOldRegistry}
 use Rattle.store_migration.specs.OldWorld.{old_blobs, old_manifests, old_sessions, old_repo_in, old_world}
 use Rattle.store_migration.specs.Both.{both_repo_in, world_of_both, AreBoth, AreUnmoved, IsRegistryOnceTwo, emptied}

@@ -5,7 +5,7 @@ use Rattle.std.specs.List.{AllByRecursion}
 use Rattle.sqlite.specs.declared.types.Value.TheVariants.{Int}
 use Rattle.sqlite.specs.Order.{Row}
 use Rattle.store_schema.proofs.Lists.{find_middle}
-use Rattle.store_world.specs.Changes.{without, Comes}
+use Rattle.store_statements.specs.Changes.{without, Comes}
 use Rattle.store_migration.specs.Both.{AreUnmoved}
 
 -- the row of which a value was found

@@ -5,10 +5,10 @@ use Rattle.std.specs.Ordering.{int_eq}
 use Rattle.sqlite.specs.declared.types.Value.TheVariants.{Int}
 use Rattle.sqlite.specs.Order.{value_cmp}
 use Rattle.sqlite_value.proofs.OrderLemmas.{value_cmp-Int}
-use Rattle.oci_names.specs.Text.{Text}
+use Rattle.oci_types.specs.Text.{Text}
 use Rattle.registry_model.specs.Worked.{app, abc_digest}
 use Rattle.store_schema.proofs.Ids.{int_eq_is}
-use Rattle.store_world.specs.Changes.{Grow}
+use Rattle.store_statements.specs.Changes.{Grow}
 use Rattle.store_migration.specs.OldTables.{IsOldRegistry}
 use Rattle.store_migration.specs.Moves.{BlobMoved, SessionMoved, MovesThrough}
 use Rattle.store_migration.specs.Worked.{other, abc, hel, shared, old_rows, one_content, two_contents, new_rows, upload_row, begun, one_blob_moved, blobs_moved, one_session_moved, ended}

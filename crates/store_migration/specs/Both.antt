@@ -5,13 +5,13 @@ use Rattle.std.specs.List.{AllByRecursion}
 use Rattle.std.specs.Ordering.{nat_cmp}
 use Rattle.std.specs.FinMap.{FinMap, from_entries}
 use Rattle.sqlite.specs.Order.{Row}
-use Rattle.oci_names.specs.Text.{Text}
+use Rattle.oci_types.specs.Text.{Text}
 use Rattle.registry_model.specs.World.{text_cmp, Repo, World}
 use Rattle.store_schema.specs.Rows.{bytes_at, natural_at}
-use Rattle.store_world.specs.Keys.{of_first, same_key, same_session}
-use Rattle.store_world.specs.Tables.{Tables, Beside, IsEmptyBeside}
-use Rattle.store_world.specs.World.{blob_entry, manifest_entry, session_entry, tags_of, grants_of}
-use Rattle.store_world.specs.Registry.{IsOfSchemaTwo, IsRegistry}
+use Rattle.store_statements.specs.Keys.{of_first, same_key, same_session}
+use Rattle.store_statements.specs.Tables.{Tables, Beside, IsEmptyBeside}
+use Rattle.store_statements.specs.World.{blob_entry, manifest_entry, session_entry, tags_of, grants_of}
+use Rattle.store_statements.specs.Registry.{IsOfSchemaTwo, IsRegistry}
 use Rattle.store_migration.specs.OldTables.{OldTables, AreOldTables, IsOfSchemaOne}
 use Rattle.store_migration.specs.OldWorld.{old_blobs, old_manifests, old_sessions}
 

@@ -4,3 +4,11 @@ pub mod Both
 pub mod Moves
 pub mod Listed
 pub mod Worked
+pub mod OldTexts
+pub mod Olds
+pub mod Clauses
+pub mod Shown
+pub mod Moving
+pub mod OldFile
+pub mod Rewriting
+pub mod Migrating

@@ -1,10 +1,10 @@
 -- The keys of a table's rows, and what is left of the rows once those of each listed key are gone in turn.
 use Rattle.std.specs.Prelude.{ℕ, List, [], ◌∷◌}
 use Rattle.sqlite.specs.Order.{Row}
-use Rattle.oci_names.specs.Text.{Text}
+use Rattle.oci_types.specs.Text.{Text}
 use Rattle.store_schema.specs.Rows.{bytes_at, natural_at}
-use Rattle.store_world.specs.Keys.{has_key, of_session}
-use Rattle.store_world.specs.Changes.{without}
+use Rattle.store_statements.specs.Keys.{has_key, of_session}
+use Rattle.store_statements.specs.Changes.{without}
 
 -- of blobs and manifests: repository and digest
 abbrev pub key_of : Row → Text × Text

@@ -4,14 +4,14 @@
 use Rattle.std.specs.Prelude.{◌≡◌, ◌<◌, ◌⊎◌, ℕ, ℤ, pos, List, [], ◌∷◌, length, find, option_map, Some}
 use Rattle.sqlite.specs.declared.types.Value.TheVariants.{Int}
 use Rattle.sqlite.specs.Order.{Row, column}
-use Rattle.oci_names.specs.Text.{Text}
-use Rattle.oci_manifest.specs.Manifest.{manifest_in}
+use Rattle.oci_types.specs.Text.{Text}
+use Rattle.oci_types.specs.Manifest.{manifest_in}
 use Rattle.registry_model.specs.Manifests.{kind_in}
 use Rattle.registry_model.specs.Referrers.{subject_or_none}
 use Rattle.store_schema.specs.Rows.{bytes_at}
-use Rattle.store_world.specs.Keys.{has_key, of_session}
-use Rattle.store_world.specs.Tables.{Tables}
-use Rattle.store_world.specs.Changes.{without, changed, with_size, blob_columns, manifest_columns, upload_columns, piece_columns, Comes, Grow}
+use Rattle.store_statements.specs.Keys.{has_key, of_session}
+use Rattle.store_statements.specs.Tables.{Tables}
+use Rattle.store_statements.specs.Changes.{without, changed, with_size, blob_columns, manifest_columns, upload_columns, piece_columns, Comes, Grow}
 use Rattle.store_migration.specs.OldTables.{OldTables}
 
 -- a blob: a link to its bytes comes

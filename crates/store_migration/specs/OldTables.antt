@@ -5,13 +5,13 @@ use Rattle.std.specs.Prelude.{◌≡◌, ◌≤◌, pos, List, [], ◌∷◌, le
 use Rattle.std.specs.List.{AllByRecursion}
 use Rattle.sqlite.specs.declared.types.Value.TheVariants.{Int}
 use Rattle.sqlite.specs.Order.{Row, column}
-use Rattle.oci_manifest.specs.Manifest.{manifest_in}
+use Rattle.oci_types.specs.Manifest.{manifest_in}
 use Rattle.registry_model.specs.Manifests.{kind_in}
 use Rattle.registry_model.specs.Referrers.{subject_or_none}
 use Rattle.store_schema.specs.Rows.{bytes_at, natural_at, IsTextAt, IsBlobAt, IsNaturalAt}
-use Rattle.store_world.specs.Keys.{same_first, same_key, same_session}
-use Rattle.store_world.specs.Tables.{Tables, AreRows, IsRepoRow, IsGrantRow, IsTagRow}
-use Rattle.store_world.specs.Registry.{HaveRepo, HaveGranted, last_in, kind_number, optional_text}
+use Rattle.store_statements.specs.Keys.{same_first, same_key, same_session}
+use Rattle.store_statements.specs.Tables.{Tables, AreRows, IsRepoRow, IsGrantRow, IsTagRow}
+use Rattle.store_statements.specs.Registry.{HaveRepo, HaveGranted, last_in, kind_number, optional_text}
 
 pub record OldTables : Type 0 where
   pub blobs : List Row

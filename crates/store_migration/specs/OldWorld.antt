@@ -3,12 +3,12 @@
 use Rattle.std.specs.Prelude.{ℕ, List, map, filter}
 use Rattle.std.specs.FinMap.{from_entries}
 use Rattle.sqlite.specs.Order.{Row}
-use Rattle.oci_names.specs.Text.{Text}
+use Rattle.oci_types.specs.Text.{Text}
 use Rattle.registry_model.specs.World.{Repo, World}
 use Rattle.store_schema.specs.Rows.{bytes_at, natural_at}
-use Rattle.store_world.specs.Keys.{of_first}
-use Rattle.store_world.specs.Tables.{Tables}
-use Rattle.store_world.specs.World.{tags_of, grants_of}
+use Rattle.store_statements.specs.Keys.{of_first}
+use Rattle.store_statements.specs.Tables.{Tables}
+use Rattle.store_statements.specs.World.{tags_of, grants_of}
 use Rattle.store_migration.specs.OldTables.{OldTables}
 
 abbrev pub old_blob_entry : Row → Text × Text

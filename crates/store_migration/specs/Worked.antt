@@ -6,11 +6,11 @@ use Rattle.std.specs.FinMap.{empty, insert}
 use Rattle.sqlite.specs.declared.types.Value.TheVariants.{Int, Blob}
 use Rattle.sqlite.specs.declared.types.Value.TheVariants as value
 use Rattle.sqlite.specs.Order.{Row}
-use Rattle.oci_names.specs.Text.{Text}
+use Rattle.oci_types.specs.Text.{Text}
 use Rattle.registry_model.specs.World.{Repo, World, new_repo}
 use Rattle.registry_model.specs.Worked.{app, abc_digest}
-use Rattle.store_world.specs.Tables.{Tables, no_tables}
-use Rattle.store_world.specs.Changes.{blob_columns, piece_columns}
+use Rattle.store_statements.specs.Tables.{Tables, no_tables}
+use Rattle.store_statements.specs.Changes.{blob_columns, piece_columns}
 use Rattle.store_migration.specs.OldTables.{OldTables, no_old_tables}
 use Rattle.store_migration.specs.Both.{emptied}
 use Rattle.store_migration.specs.Moves.{Stage}

@@ -2,12 +2,12 @@
 ghost use Rattle.std.specs.Prelude.{◌≡◌, ℕ, List, [], true, map, find, is_some, None};
 ghost use Rattle.std.specs.List.Sorted.{IsPermutation};
 ghost use Rattle.sqlite.specs.Order.{Row};
-ghost use Rattle.oci_names.specs.Text.{Text};
-ghost use Rattle.store_world.specs.Keys.{has_key, of_session};
-ghost use Rattle.store_world.specs.Tables.{Tables, Beside, IsEmptyBeside};
-ghost use Rattle.store_world.specs.Changes.{without, changed};
-ghost use Rattle.store_world.specs.World.{world_of};
-ghost use Rattle.store_world.specs.Registry.{is_repo, IsOfSchemaTwo, IsRegistry};
+ghost use Rattle.oci_types.specs.Text.{Text};
+ghost use Rattle.store_statements.specs.Keys.{has_key, of_session};
+ghost use Rattle.store_statements.specs.Tables.{Tables, Beside, IsEmptyBeside};
+ghost use Rattle.store_statements.specs.Changes.{without, changed};
+ghost use Rattle.store_statements.specs.World.{world_of};
+ghost use Rattle.store_statements.specs.Registry.{is_repo, IsOfSchemaTwo, IsRegistry};
 ghost use Rattle.store_migration.specs.OldTables.{OldTables, no_old_tables, IsOfSchemaOne, IsOldRegistry};
 ghost use Rattle.store_migration.specs.OldWorld.{old_world};
 ghost use Rattle.store_migration.specs.Both.{world_of_both, AreBoth, emptied};

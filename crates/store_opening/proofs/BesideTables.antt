@@ -13,8 +13,8 @@ use Rattle.store_schema.specs.Rows.{bytes_at, HaveIds}
 use Rattle.store_schema.specs.Layout.{tree_of, rows_of}
 use Rattle.store_schema.specs.Beside.{Keeps, Comes, IsNewBeside, registry_names, registry_tables}
 use Rattle.store_contents.specs.Contents.{AreContentRows, AreApart, content_rows}
-use Rattle.store_world.specs.Tables.{Tables, AreTables, IsEmptyBeside, new_tables}
-use Rattle.store_world.proofs.NewTables.{are_new}
+use Rattle.store_statements.specs.Tables.{Tables, AreTables, IsEmptyBeside, new_tables}
+use Rattle.store_statements.proofs.NewTables.{are_new}
 use Rattle.store_statements.specs.Known.{KnowsRegistry}
 use Rattle.store_statements.specs.Held.{tables_in, held, HoldsTables, beside_in}
 use Rattle.store_statements.specs.VersionTexts.{version_add}

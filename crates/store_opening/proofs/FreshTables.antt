@@ -14,9 +14,9 @@ use Rattle.store_schema.specs.Making.{IsEmptyWith}
 use Rattle.store_schema.specs.Rows.{bytes_at, PutsRow}
 use Rattle.store_schema.proofs.Fresh.{version_tree, repos_tree, grants_tree, tags_tree, contents_tree, blob_links_tree, manifest_links_tree, uploads_tree, pieces_tree}
 use Rattle.store_contents.proofs.Fresh.{empty_holds}
-use Rattle.store_world.specs.Tables.{Tables, AreTables, IsEmptyBeside, new_tables}
-use Rattle.store_world.specs.Registry.{IsOfSchemaTwo}
-use Rattle.store_world.proofs.NewTables.{are_new, agree_new}
+use Rattle.store_statements.specs.Tables.{Tables, AreTables, IsEmptyBeside, new_tables}
+use Rattle.store_statements.specs.Registry.{IsOfSchemaTwo}
+use Rattle.store_statements.proofs.NewTables.{are_new, agree_new}
 use Rattle.sqlite_schema.specs.Names.{same_name}
 use Rattle.store_statements.specs.Known.{KnowsRegistry, trees_of, rows_beside}
 use Rattle.store_statements.specs.Held.{tables_in, beside_in, held, HoldsTables, IsReady, SettlesOn}

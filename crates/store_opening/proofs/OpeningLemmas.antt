@@ -11,7 +11,7 @@ use Rattle.store_schema.specs.Schema.{no_schema, version_table}
 use Rattle.store_schema.specs.Making.{IsEmptyWith}
 use Rattle.store_schema.specs.Layout.{Stands, placed}
 use Rattle.store_statements.specs.Held.{IsSettled, HoldsTables, held}
-use Rattle.store_world.specs.Registry.{IsOfSchemaTwo}
+use Rattle.store_statements.specs.Registry.{IsOfSchemaTwo}
 use Rattle.store_opening.specs.Opening.{IsIdle, KnowsVersion, HoldsRegistry, has_version_table}
 use Rattle.store_opening.specs.declared.opening.OpenFault.{OpenFault}
 use Rattle.store_opening.specs.declared.opening.OpenFault.TheVariants.{Memory, Storage, NotARegistry, Schema as Numbered}

@@ -12,7 +12,7 @@ use Rattle.sqlite.specs.State.{State, ExecutesInside}
 use Rattle.store_schema.specs.Schema.{version_table}
 use Rattle.store_schema.specs.Layout.{tree_of, placed, rows_of}
 use Rattle.store_schema.proofs.Writes.{either, inserts, adds_row, AddsRow, keeps_others}
-use Rattle.store_world.specs.Tables.{AreTables}
+use Rattle.store_statements.specs.Tables.{AreTables}
 use Rattle.store_statements.specs.VersionTexts.{version_add}
 use Rattle.store_statements.specs.Known.{KnowsRegistry}
 use Rattle.store_statements.specs.Held.{held, IsReady}
@@ -24,7 +24,7 @@ unfolding unary
 cast_version schema = rw (either, either)
 
 -- whatever else is in the tables, they stay as they are
-same_tables : (t : Rattle.store_world.specs.Tables.Tables) (rows : List Row) → AreTables t → AreTables (record t { version = rows })
+same_tables : (t : Rattle.store_statements.specs.Tables.Tables) (rows : List Row) → AreTables t → AreTables (record t { version = rows })
 same_tables t rows a = record { repos = a.repos; grants = a.grants; tags = a.tags; blobs = a.blobs; manifests = a.manifests; uploads = a.uploads; pieces = a.pieces }
 
 pub version_by : (old new : State) (r : Result ℕ Error) → IsReady old → ExecutesInside 0 version_add [] old new r → OnOk r (VersionComes old new)

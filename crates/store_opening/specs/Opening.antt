@@ -5,8 +5,8 @@ use Rattle.sqlite.specs.Schema.{Schema}
 use Rattle.sqlite.specs.Effect.{Database}
 use Rattle.sqlite.specs.State.{State}
 use Rattle.sqlite_schema.specs.Names.{table_named}
-use Rattle.store_world.specs.Tables.{IsEmptyBeside}
-use Rattle.store_world.specs.Registry.{Agree, IsOfSchemaTwo}
+use Rattle.store_statements.specs.Tables.{IsEmptyBeside}
+use Rattle.store_statements.specs.Registry.{Agree, IsOfSchemaTwo}
 use Rattle.registry_model.specs.World.{no_world}
 use Rattle.sqlite.specs.Term.{col}
 use Rattle.store_schema.specs.Schema.{version_table}

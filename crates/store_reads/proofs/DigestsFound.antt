@@ -7,20 +7,20 @@ use Rattle.sqlite.specs.Order.{Row}
 use Rattle.sqlite.specs.Tree.{IsAscending}
 use Rattle.sqlite_trees.proofs.ListLemmas.{map-map}
 use Rattle.sqlite_keyed.specs.Lists.{sort_by}
-use Rattle.oci_names.specs.Text.{Text}
+use Rattle.oci_types.specs.Text.{Text}
 use Rattle.registry_model.specs.World.{Repo}
 use Rattle.registry_model.specs.Lookups.{blob_digests_at, manifest_digests_at}
 use Rattle.store_schema.specs.Rows.{bytes_at}
-use Rattle.store_world.specs.Keys.{of_first, same_key}
-use Rattle.store_world.specs.Tables.{Tables}
-use Rattle.store_world.specs.World.{repo_in, world_of}
-use Rattle.store_world.specs.Registry.{IsRegistry, HaveRepo}
-use Rattle.store_world.proofs.Base.{repo_found, found_named}
-use Rattle.store_world.proofs.Blobs.{blob_bytes}
-use Rattle.store_world.proofs.Children.{no_children}
-use Rattle.store_world.proofs.Manifests.{manifest_bytes}
-use Rattle.store_world.proofs.Named.{named}
-use Rattle.store_world.proofs.Ordered.{by_second, named_entries}
+use Rattle.store_statements.specs.Keys.{of_first, same_key}
+use Rattle.store_statements.specs.Tables.{Tables}
+use Rattle.store_statements.specs.World.{repo_in, world_of}
+use Rattle.store_statements.specs.Registry.{IsRegistry, HaveRepo}
+use Rattle.store_statements.proofs.Base.{repo_found, found_named}
+use Rattle.store_statements.proofs.BlobWorlds.{blob_bytes}
+use Rattle.store_statements.proofs.Children.{no_children}
+use Rattle.store_statements.proofs.ManifestWorlds.{manifest_bytes}
+use Rattle.store_statements.proofs.Named.{named}
+use Rattle.store_statements.proofs.Ordered.{by_second, named_entries}
 
 -- the digests of the rows of the repository, in byte order
 abbrev pub digests_of : List Row → Text → List Text

@@ -11,19 +11,19 @@ use Rattle.sqlite_trees.proofs.ListLemmas.{all_both, all_weaker, all-permutation
 use Rattle.sqlite_keyed.specs.Lists.{sort_by}
 use Rattle.sqlite_keyed.proofs.SortLemmas.{IsPermutation-sort_by}
 use Rattle.std.proofs.lemmas.Cmp.{nat_list_cmp_total, on_total}
-use Rattle.oci_names.specs.Text.{Text}
-use Rattle.oci_names.specs.declared.fault.Fault.{Fault}
+use Rattle.oci_types.specs.Text.{Text}
+use Rattle.oci_types.specs.declared.fault.Fault.{Fault}
 use Rattle.registry_model.specs.declared.quota.Usage.{Usage}
 use Rattle.registry_model.specs.World.{World}
 use Rattle.registry_model.specs.Lookups.{usage_at, usages_of, no_usage}
 use Rattle.store_schema.specs.Rows.{bytes_at}
 use Rattle.store_schema.proofs.Lists.{bytes_eq_itself, bytes_eq-sym}
-use Rattle.store_world.specs.Keys.{of_first, same_first}
-use Rattle.store_world.specs.Tables.{Tables}
-use Rattle.store_world.specs.World.{world_of}
-use Rattle.store_world.specs.Registry.{IsRegistry}
-use Rattle.store_world.proofs.Contents.{map_same_on}
-use Rattle.store_world.proofs.Usages.{usage_in, usage_found, usages_found}
+use Rattle.store_statements.specs.Keys.{of_first, same_first}
+use Rattle.store_statements.specs.Tables.{Tables}
+use Rattle.store_statements.specs.World.{world_of}
+use Rattle.store_statements.specs.Registry.{IsRegistry}
+use Rattle.store_statements.proofs.ContentWorlds.{map_same_on}
+use Rattle.store_statements.proofs.Usages.{usage_in, usage_found, usages_found}
 use Rattle.store_statements.specs.Held.{held, tables_in, world_in}
 use Rattle.store_statements.specs.Shown.{by_name}
 use Rattle.store_reads.specs.Tallies.{named_usage}

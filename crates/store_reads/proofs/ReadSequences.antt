@@ -6,11 +6,11 @@ use Rattle.std.proofs.lemmas.List.{map_more}
 use Rattle.std.proofs.lemmas.List.Folds.{concat-append}
 use Rattle.sqlite.specs.Effect.{Database}
 use Rattle.sqlite.specs.State.{State, HasCleanDisk, Survives}
-use Rattle.oci_names.specs.declared.fault.Fault.{Fault}
-use Rattle.oci_names.specs.declared.fault.Fault.TheVariants.{Memory, Storage}
+use Rattle.oci_types.specs.declared.fault.Fault.{Fault}
+use Rattle.oci_types.specs.declared.fault.Fault.TheVariants.{Memory, Storage}
 use Rattle.store_contents.specs.declared.content_id.ContentId.{ContentId}
 use Rattle.store_contents.specs.Contents.{bytes_in}
-use Rattle.store_world.specs.World.{content_at}
+use Rattle.store_statements.specs.World.{content_at}
 use Rattle.store_statements.specs.Held.{IsSettled, StaysSettled, is_storage}
 use Rattle.store_statements.proofs.CleanBefore.{was_clean}
 use Rattle.store_statements.proofs.SettledAfter.{stays_then}

@@ -6,17 +6,17 @@ use Rattle.std.proofs.lemmas.List.{map_push}
 use Rattle.sqlite.specs.Effect.{Database}
 use Rattle.sqlite_keyed.specs.Lists.{sort_by}
 use Rattle.sqlite_trees.proofs.ListLemmas.{map-map}
-use Rattle.oci_names.specs.Text.{Text}
-use Rattle.oci_names.specs.Digest.{is_digest}
-use Rattle.oci_names.specs.declared.fault.Fault.{Fault}
+use Rattle.oci_types.specs.Text.{Text}
+use Rattle.oci_types.specs.Digest.{is_digest}
+use Rattle.oci_types.specs.declared.fault.Fault.{Fault}
 use Rattle.registry_model.specs.Keeping.{entries_shown}
 use Rattle.registry_model.specs.Lookups.{manifests_on_at}
 use Rattle.store_contents.specs.declared.content_id.ContentId.{ContentId}
 use Rattle.store_contents.specs.Contents.{bytes_in}
-use Rattle.store_world.specs.Keys.{on_subject}
-use Rattle.store_world.specs.Registry.{IsRegistry}
-use Rattle.store_world.specs.World.{content_at, world_of}
-use Rattle.store_world.proofs.Referrers.{digest_not_empty, manifests_on_found}
+use Rattle.store_statements.specs.Keys.{on_subject}
+use Rattle.store_statements.specs.Registry.{IsRegistry}
+use Rattle.store_statements.specs.World.{content_at, world_of}
+use Rattle.store_statements.proofs.Referrers.{digest_not_empty, manifests_on_found}
 use Rattle.store_statements.specs.Held.{tables_in}
 use Rattle.store_statements.specs.ManifestShown.{by_second, referrer}
 

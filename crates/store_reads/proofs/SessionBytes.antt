@@ -6,17 +6,17 @@ use Rattle.std.specs.List.{concat}
 use Rattle.sqlite.specs.Effect.{Database}
 use Rattle.sqlite.specs.Order.{Row}
 use Rattle.sqlite_trees.proofs.ListLemmas.{map-map}
-use Rattle.oci_names.specs.Text.{Text}
-use Rattle.oci_names.specs.declared.fault.Fault.{Fault}
+use Rattle.oci_types.specs.Text.{Text}
+use Rattle.oci_types.specs.declared.fault.Fault.{Fault}
 use Rattle.registry_model.specs.Lookups.{session_at}
 use Rattle.store_schema.specs.Rows.{natural_at}
 use Rattle.store_contents.specs.declared.content_id.ContentId.{ContentId}
 use Rattle.store_contents.specs.Contents.{bytes_in}
-use Rattle.store_world.specs.Keys.{of_session}
-use Rattle.store_world.specs.Tables.{Tables}
-use Rattle.store_world.specs.Registry.{IsRegistry}
-use Rattle.store_world.specs.World.{content_at, joined, pieces_of, world_of}
-use Rattle.store_world.proofs.SessionReads.{session_at_found}
+use Rattle.store_statements.specs.Keys.{of_session}
+use Rattle.store_statements.specs.Tables.{Tables}
+use Rattle.store_statements.specs.Registry.{IsRegistry}
+use Rattle.store_statements.specs.World.{content_at, joined, pieces_of, world_of}
+use Rattle.store_statements.proofs.SessionReads.{session_at_found}
 use Rattle.store_statements.specs.Held.{tables_in}
 use Rattle.store_statements.specs.Shown.{content_named}
 

@@ -8,10 +8,10 @@ use Rattle.std.proofs.lemmas.List.Sums.{sum_by_push, sum_by-cons}
 use Rattle.std.proofs.lemmas.List.Sorted.{sum_by-IsPermutation, length_permutation}
 use Rattle.sqlite.specs.Order.{Row}
 use Rattle.sqlite.specs.State.{State}
-use Rattle.oci_names.specs.Text.{Text}
+use Rattle.oci_types.specs.Text.{Text}
 use Rattle.registry_model.specs.Usage.{in_64_bits}
 use Rattle.store_schema.specs.Rows.{natural_at}
-use Rattle.store_world.specs.Keys.{of_first}
+use Rattle.store_statements.specs.Keys.{of_first}
 use Rattle.store_reads.specs.declared.tallies.Tally.{Tally}
 use Rattle.store_reads.specs.declared.tallies.Holdings.{Holdings}
 use Rattle.store_statements.specs.Held.{held, tables_in}

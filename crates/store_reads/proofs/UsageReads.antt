@@ -5,16 +5,16 @@ use Rattle.std.specs.Option.{option_map_or}
 use Rattle.std.proofs.lemmas.Result.{IfOk-weaker}
 use Rattle.sqlite.specs.Order.{Row}
 use Rattle.sqlite.specs.State.{State}
-use Rattle.oci_names.specs.Text.{Text}
-use Rattle.oci_names.specs.declared.fault.Fault.{Fault}
+use Rattle.oci_types.specs.Text.{Text}
+use Rattle.oci_types.specs.declared.fault.Fault.{Fault}
 use Rattle.registry_model.specs.declared.quota.Usage.{Usage}
 use Rattle.registry_model.specs.Usage.{in_64_bits}
 use Rattle.registry_model.specs.Lookups.{usage_at, no_usage}
-use Rattle.store_world.specs.Keys.{of_first}
-use Rattle.store_world.specs.Tables.{Tables}
-use Rattle.store_world.specs.World.{world_of}
-use Rattle.store_world.specs.Registry.{IsRegistry}
-use Rattle.store_world.proofs.Usages.{usage_in, usage_found, sizes, count}
+use Rattle.store_statements.specs.Keys.{of_first}
+use Rattle.store_statements.specs.Tables.{Tables}
+use Rattle.store_statements.specs.World.{world_of}
+use Rattle.store_statements.specs.Registry.{IsRegistry}
+use Rattle.store_statements.proofs.Usages.{usage_in, usage_found, sizes, count}
 use Rattle.store_reads.specs.declared.tallies.Holdings.{Holdings}
 use Rattle.store_statements.specs.declared.repos.RepoRow.{RepoRow}
 use Rattle.store_statements.specs.Held.{held, tables_in, world_in}

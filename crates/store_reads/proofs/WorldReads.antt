@@ -4,24 +4,24 @@ use Rattle.std.specs.Prelude.{Option, option_map, find, is_some}
 use Rattle.sqlite.specs.Order.{Row}
 use Rattle.sqlite.specs.Effect.{Database}
 use Rattle.sqlite.specs.State.{State}
-use Rattle.oci_names.specs.Text.{Text}
-use Rattle.oci_names.specs.declared.fault.Fault.{Fault}
-use Rattle.oci_manifest.specs.declared.kind.Kind.{Kind}
+use Rattle.oci_types.specs.Text.{Text}
+use Rattle.oci_types.specs.declared.fault.Fault.{Fault}
+use Rattle.oci_types.specs.declared.kind.Kind.{Kind}
 use Rattle.std.specs.Option.{option_map_or}
 use Rattle.registry_model.specs.TagPage.{Page}
 use Rattle.registry_model.specs.World.{has_repo}
 use Rattle.registry_model.specs.Lookups.{blob_at, blob_size_at, manifest_at, manifest_size_at, session_at, last_number_at}
 use Rattle.store_schema.specs.Rows.{natural_at}
-use Rattle.store_world.specs.Keys.{has_key, of_first, of_session}
-use Rattle.store_world.specs.Tables.{Tables}
-use Rattle.store_world.specs.World.{world_of, content_at, joined, pieces_of}
-use Rattle.store_world.specs.Registry.{IsRegistry, UploadAgrees, last_in}
-use Rattle.store_world.proofs.Found.{found_all, found_passes, is_session}
-use Rattle.store_world.proofs.Reach.{content_found}
-use Rattle.store_world.proofs.Repos.{still_some, has_repo_found, last_number_found}
-use Rattle.store_world.proofs.SessionReads.{session_at_found}
-use Rattle.store_world.proofs.Blobs.{blob_at_found, blob_size_found}
-use Rattle.store_world.proofs.Manifests.{manifest_at_found, manifest_size_found}
+use Rattle.store_statements.specs.Keys.{has_key, of_first, of_session}
+use Rattle.store_statements.specs.Tables.{Tables}
+use Rattle.store_statements.specs.World.{world_of, content_at, joined, pieces_of}
+use Rattle.store_statements.specs.Registry.{IsRegistry, UploadAgrees, last_in}
+use Rattle.store_statements.proofs.Found.{found_all, found_passes, is_session}
+use Rattle.store_statements.proofs.Reach.{content_found}
+use Rattle.store_statements.proofs.RepoWorlds.{still_some, has_repo_found, last_number_found}
+use Rattle.store_statements.proofs.SessionReads.{session_at_found}
+use Rattle.store_statements.proofs.BlobWorlds.{blob_at_found, blob_size_found}
+use Rattle.store_statements.proofs.ManifestWorlds.{manifest_at_found, manifest_size_found}
 use Rattle.store_statements.specs.declared.blobs.BlobLink.{BlobLink}
 use Rattle.store_statements.specs.declared.repos.RepoRow.{RepoRow}
 use Rattle.store_statements.specs.declared.manifests.ManifestLink.{ManifestLink}

@@ -1,9 +1,9 @@
 -- Tokens with their levels, as rows of grants have them.
 use Rattle.sqlite.specs.Order.{Row}
-use Rattle.oci_names.specs.Text.{Text}
+use Rattle.oci_types.specs.Text.{Text}
 use Rattle.registry_model.specs.declared.level.Level.{Level}
 use Rattle.store_schema.specs.Rows.{bytes_at, natural_at}
-use Rattle.store_world.specs.Tables.{level_of}
+use Rattle.store_statements.specs.Tables.{level_of}
 
 -- of a row of the table
 abbrev pub token_level : Row → Text × Level

@@ -1,14 +1,14 @@
 -- How many things of a kind a repository has, and how many bytes they have together.
 use Rattle.std.specs.Prelude.{ℕ, ◌+◌, List, filter, length, sum_by}
 use Rattle.sqlite.specs.Order.{Row}
-use Rattle.oci_names.specs.Text.{Text}
+use Rattle.oci_types.specs.Text.{Text}
 use Rattle.registry_model.specs.declared.quota.Usage.{Usage}
 use Rattle.registry_model.specs.World.{World}
 use Rattle.registry_model.specs.Lookups.{usage_at}
 use Rattle.registry_model.specs.Usage.{in_64_bits}
 use Rattle.store_schema.specs.Rows.{natural_at}
-use Rattle.store_world.specs.Keys.{of_first}
-use Rattle.store_world.specs.Tables.{Tables}
+use Rattle.store_statements.specs.Keys.{of_first}
+use Rattle.store_statements.specs.Tables.{Tables}
 use Rattle.store_reads.specs.declared.tallies.Tally.{Tally}
 use Rattle.store_reads.specs.declared.tallies.Holdings.{Holdings}
 

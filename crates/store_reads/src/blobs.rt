@@ -6,7 +6,7 @@ ghost use Rattle.store_statements.specs.Between.{Stays, Tells};
 ghost use Rattle.store_statements.specs.Clauses.{Lasts};
 
 use crate::contents::content;
-use oci_names::{Digest, Fault, RepoName};
+use oci_types::{Digest, Fault, RepoName};
 use sqlite::{Alter, Connection};
 use std::alloc::Global;
 use store_statements::blobs::{find_blob_link, list_blob_digests};

@@ -1,11 +1,11 @@
 //! The bytes of contents that rows name.
 ghost use Rattle.std.specs.Prelude.{◌≡◌, ◌++◌, [], map, IfOk, Some};
 ghost use Rattle.std.specs.List.{concat};
-ghost use Rattle.store_world.specs.World.{content_at};
+ghost use Rattle.store_statements.specs.World.{content_at};
 ghost use Rattle.store_statements.specs.Between.{Finds, Relates, Stays};
 ghost use Rattle.store_statements.specs.Clauses.{Lasts};
 
-use oci_names::Fault;
+use oci_types::Fault;
 use sqlite::{Alter, Connection};
 use std::alloc::Global;
 use store_contents::{ContentId, read_bytes};

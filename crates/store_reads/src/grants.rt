@@ -4,7 +4,7 @@ ghost use Rattle.registry_model.specs.World.{is_known, level_at};
 ghost use Rattle.store_statements.specs.Between.{Stays, Tells};
 ghost use Rattle.store_statements.specs.Clauses.{Lasts};
 
-use oci_names::{Fault, RepoName, Token};
+use oci_types::{Fault, RepoName, Token};
 use registry_model::Level;
 use sqlite::{Alter, Connection};
 use store_statements::grants::{find_level, is_known};

@@ -2,13 +2,13 @@
 ghost use Rattle.std.specs.Prelude.{◌≡◌, map, filter, IfOk};
 ghost use Rattle.sqlite_keyed.specs.Lists.{sort_by};
 ghost use Rattle.registry_model.specs.Lookups.{AreLevelsOn};
-ghost use Rattle.store_world.specs.Keys.{of_second};
+ghost use Rattle.store_statements.specs.Keys.{of_second};
 ghost use Rattle.store_statements.specs.Between.{ChangesNothing, FailsAsWas, Finds, Stays, Tells};
 ghost use Rattle.store_statements.specs.Clauses.{Lasts};
 ghost use Rattle.store_statements.specs.Shown.{by_token};
 ghost use Rattle.store_reads.specs.LevelLists.{token_level, token_level_shown};
 
-use oci_names::{Fault, NameFault, RepoName, Token};
+use oci_types::{Fault, NameFault, RepoName, Token};
 use registry_model::Level;
 use sqlite::{Alter, Connection, Row};
 use std::alloc::Global;

@@ -6,8 +6,7 @@ ghost use Rattle.store_statements.specs.Between.{Stays, Tells};
 ghost use Rattle.store_statements.specs.Clauses.{Lasts};
 
 use crate::contents::content;
-use oci_manifest::Kind;
-use oci_names::{Digest, Fault, RepoName};
+use oci_types::{Digest, Fault, Kind, RepoName};
 use sqlite::{Alter, Connection};
 use std::alloc::Global;
 use store_statements::manifests::{find_manifest_link, list_manifest_digests};

@@ -5,7 +5,7 @@ ghost use Rattle.registry_model.specs.Lookups.{page_at};
 ghost use Rattle.store_statements.specs.Between.{Stays, Tells};
 ghost use Rattle.store_statements.specs.Clauses.{Lasts};
 
-use oci_names::{Fault, RepoName, Tag};
+use oci_types::{Fault, RepoName, Tag};
 use sqlite::{Alter, Connection};
 use std::alloc::Global;
 use store_statements::tag_pages::{TagPage, tags_page};

@@ -2,12 +2,12 @@
 ghost use Rattle.std.specs.Prelude.{◌≡◌, ◌∷◌, ◌++◌, [], map, OnOk};
 ghost use Rattle.registry_model.specs.Keeping.{entries_shown};
 ghost use Rattle.registry_model.specs.Lookups.{manifests_on_at};
-ghost use Rattle.store_world.specs.World.{content_at};
+ghost use Rattle.store_statements.specs.World.{content_at};
 ghost use Rattle.store_statements.specs.Between.{Finds, Relates, Stays, Tells};
 ghost use Rattle.store_statements.specs.Clauses.{Lasts};
 
 use crate::contents::content;
-use oci_names::{Digest, Fault, RepoName};
+use oci_types::{Digest, Fault, RepoName};
 use sqlite::{Alter, Connection};
 use std::alloc::Global;
 use store_contents::ContentId;

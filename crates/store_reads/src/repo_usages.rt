@@ -4,14 +4,14 @@ ghost use Rattle.sqlite.specs.State.{HasCleanDisk};
 ghost use Rattle.sqlite.specs.Held.{state};
 ghost use Rattle.registry_model.specs.Keeping.{usages_shown};
 ghost use Rattle.registry_model.specs.Lookups.{usage_at, usages_of};
-ghost use Rattle.store_world.specs.Keys.{of_first};
+ghost use Rattle.store_statements.specs.Keys.{of_first};
 ghost use Rattle.store_statements.specs.Between.{Finds, Stays, Tells};
 ghost use Rattle.store_statements.specs.Clauses.{Lasts};
 ghost use Rattle.store_statements.specs.Held.{IsSettled, world_in};
 ghost use Rattle.store_reads.specs.Tallies.{holdings_in, usage_from, named_usage};
 
 use crate::tallies::{Holdings, read_holdings};
-use oci_names::{Fault, RepoName};
+use oci_types::{Fault, RepoName};
 use registry_model::Usage;
 use sqlite::{Alter, Connection};
 use std::alloc::Global;

@@ -5,7 +5,7 @@ ghost use Rattle.registry_model.specs.Lookups.{last_number_at};
 ghost use Rattle.store_statements.specs.Between.{Stays, Tells};
 ghost use Rattle.store_statements.specs.Clauses.{Lasts};
 
-use oci_names::{Fault, RepoName};
+use oci_types::{Fault, RepoName};
 use sqlite::{Alter, Connection};
 use store_statements::repos::find_repo;
 

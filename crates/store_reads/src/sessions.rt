@@ -2,13 +2,13 @@
 ghost use Rattle.std.specs.Prelude.{◌≡◌, ◌<◌, ◌^◌};
 ghost use Rattle.registry_model.specs.Keeping.{bytes_in};
 ghost use Rattle.registry_model.specs.Lookups.{session_at};
-ghost use Rattle.store_world.specs.World.{pieces_of, joined};
+ghost use Rattle.store_statements.specs.World.{pieces_of, joined};
 ghost use Rattle.store_statements.specs.Between.{Finds, Stays, Tells};
 ghost use Rattle.store_statements.specs.Clauses.{Lasts};
 
 use crate::contents;
 use crate::uploads::expect_no_session;
-use oci_names::{Fault, RepoName};
+use oci_types::{Fault, RepoName};
 use sqlite::{Alter, Connection};
 use std::alloc::Global;
 use store_statements::numbers::LARGEST;

@@ -4,7 +4,7 @@ ghost use Rattle.registry_model.specs.Lookups.{tag_at};
 ghost use Rattle.store_statements.specs.Between.{Stays, Tells};
 ghost use Rattle.store_statements.specs.Clauses.{Lasts};
 
-use oci_names::{Digest, Fault, RepoName, Tag};
+use oci_types::{Digest, Fault, RepoName, Tag};
 use sqlite::{Alter, Connection};
 use std::alloc::Global;
 use store_statements::tags::find_tag;

@@ -4,7 +4,7 @@ ghost use Rattle.store_statements.specs.Between.{Finds, Stays};
 ghost use Rattle.store_statements.specs.Clauses.{Lasts};
 ghost use Rattle.store_reads.specs.Tallies.{tally_of, tally_in, holdings_in};
 
-use oci_names::{Fault, RepoName};
+use oci_types::{Fault, RepoName};
 use sqlite::{Alter, Connection};
 use std::alloc::Global;
 use store_statements::blobs::blob_sizes;

@@ -8,7 +8,7 @@ ghost use Rattle.store_statements.specs.Clauses.{Lasts};
 ghost use Rattle.store_statements.specs.Held.{IsSettled, world_in};
 
 use crate::repos::last_number;
-use oci_names::{Fault, RepoName};
+use oci_types::{Fault, RepoName};
 use sqlite::{Alter, Connection};
 use store_statements::numbers::LARGEST;
 use store_statements::uploads::{count_uploads, find_upload};

@@ -2,10 +2,10 @@
 use Rattle.std.proofs.Common.{◌≡◌, ◌∙◌, ℕ, ℤ, length, Ok, Err, Result, OnOk, None, sym, ap, subst}
 use Rattle.std.specs.Prelude.{find}
 use Rattle.sqlite.specs.State.{State}
-use Rattle.oci_names.specs.Text.{Text}
-use Rattle.store_world.specs.Keys.{of_first, has_start}
-use Rattle.store_world.specs.Tables.{Tables}
-use Rattle.store_world.specs.Changes.{with_last, piece_columns, upload_columns, Comes, Grow}
+use Rattle.oci_types.specs.Text.{Text}
+use Rattle.store_statements.specs.Keys.{of_first, has_start}
+use Rattle.store_statements.specs.Tables.{Tables}
+use Rattle.store_statements.specs.Changes.{with_last, piece_columns, upload_columns, Comes, Grow}
 use Rattle.store_statements.specs.Held.{IsReady, held}
 use Rattle.store_statements.specs.Steps.{ContentKept, PieceStored, SessionOpened, PieceComes, UploadComes, repos_changed}
 

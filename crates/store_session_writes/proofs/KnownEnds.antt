@@ -6,21 +6,21 @@ use Rattle.std.specs.Option.{option_and_then, option_map_or}
 use Rattle.std.specs.List.{AllByRecursion}
 use Rattle.sqlite.specs.Order.{Row}
 use Rattle.sqlite.specs.State.{State}
-use Rattle.oci_names.specs.Text.{Text}
-use Rattle.oci_names.specs.Digest.{matches, sha512_digest}
-use Rattle.oci_names.specs.declared.fault.Fault.{Fault}
-use Rattle.oci_names.specs.declared.fault.Fault.TheVariants.{Memory, Storage}
+use Rattle.oci_types.specs.Text.{Text}
+use Rattle.oci_types.specs.Digest.{matches, sha512_digest}
+use Rattle.oci_types.specs.declared.fault.Fault.{Fault}
+use Rattle.oci_types.specs.declared.fault.Fault.TheVariants.{Memory, Storage}
 use Rattle.registry_model.specs.World.{World}
 use Rattle.registry_model.specs.Lookups.{session_at, bytes_or_none, finish}
 use Rattle.registry_model.specs.Closing.{session_matches, finish_as_is}
 use Rattle.store_schema.specs.Rows.{natural_at, integer_at}
-use Rattle.store_world.specs.Keys.{of_session, has_key}
-use Rattle.store_world.specs.Tables.{Tables}
-use Rattle.store_world.specs.World.{pieces_of, joined, world_of}
-use Rattle.store_world.specs.Registry.{IsRegistry, PieceAgrees, Reach}
-use Rattle.store_world.specs.Changes.{Comes, blob_columns}
-use Rattle.store_world.proofs.SessionReads.{upload_reach, session_at_found, session_pieces}
-use Rattle.store_world.proofs.Reach.{content_found}
+use Rattle.store_statements.specs.Keys.{of_session, has_key}
+use Rattle.store_statements.specs.Tables.{Tables}
+use Rattle.store_statements.specs.World.{pieces_of, joined, world_of}
+use Rattle.store_statements.specs.Registry.{IsRegistry, PieceAgrees, Reach}
+use Rattle.store_statements.specs.Changes.{Comes, blob_columns}
+use Rattle.store_statements.proofs.SessionReads.{upload_reach, session_at_found, session_pieces}
+use Rattle.store_statements.proofs.Reach.{content_found}
 use Rattle.store_contents.specs.declared.content_id.ContentId.{ContentId}
 use Rattle.store_statements.specs.declared.blobs.BlobLink.{BlobLink}
 use Rattle.store_statements.specs.Shown.{blob_link, content_named}

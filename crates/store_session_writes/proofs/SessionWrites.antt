@@ -4,18 +4,18 @@ use Rattle.std.specs.Prelude.{find, is_some, option_map}
 use Rattle.std.specs.Option.{option_map_or}
 use Rattle.sqlite.specs.Order.{Row}
 use Rattle.sqlite.specs.State.{State}
-use Rattle.oci_names.specs.Text.{Text}
+use Rattle.oci_types.specs.Text.{Text}
 use Rattle.registry_model.specs.Lookups.{append, finish, session_at, open_session, last_number_at}
 use Rattle.store_schema.specs.Rows.{natural_at}
-use Rattle.store_world.specs.Keys.{of_first, of_session, has_key, has_start}
-use Rattle.store_world.specs.Tables.{Tables}
-use Rattle.store_world.specs.World.{pieces_of}
-use Rattle.store_world.specs.Registry.{is_repo, last_in, Reach}
-use Rattle.store_world.proofs.Repos.{last_number_found}
-use Rattle.store_world.proofs.Pieces as rows
-use Rattle.store_world.proofs.SessionRows.{number_free}
-use Rattle.store_world.proofs.SessionReads.{upload_reach, session_there, session_repo}
-use Rattle.store_world.proofs.Sessions.{opened, appended, append_nothing, finished_new, finished_there}
+use Rattle.store_statements.specs.Keys.{of_first, of_session, has_key, has_start}
+use Rattle.store_statements.specs.Tables.{Tables}
+use Rattle.store_statements.specs.World.{pieces_of}
+use Rattle.store_statements.specs.Registry.{is_repo, last_in, Reach}
+use Rattle.store_statements.proofs.RepoWorlds.{last_number_found}
+use Rattle.store_statements.proofs.PieceWorlds as rows
+use Rattle.store_statements.proofs.SessionRows.{number_free}
+use Rattle.store_statements.proofs.SessionReads.{upload_reach, session_there, session_repo}
+use Rattle.store_statements.proofs.Sessions.{opened, appended, append_nothing, finished_new, finished_there}
 use Rattle.store_statements.specs.declared.blobs.BlobLink.{BlobLink}
 use Rattle.store_statements.specs.declared.repos.RepoRow.{RepoRow}
 use Rattle.store_statements.specs.Shown.{blob_link, repo_row}

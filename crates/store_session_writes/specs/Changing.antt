@@ -1,8 +1,8 @@
 -- What each change asks of its values and of the tables, and what it makes of them.
 use Rattle.std.specs.Prelude.{◌≡◌, ◌<◌, ◌+◌, ◌^◌, ⊤, true, find, length, None}
-use Rattle.oci_names.specs.Digest.{matches}
-use Rattle.store_world.specs.Keys.{of_first, of_session, has_key, has_start}
-use Rattle.store_world.specs.Tables.{Tables}
+use Rattle.oci_types.specs.Digest.{matches}
+use Rattle.store_statements.specs.Keys.{of_first, of_session, has_key, has_start}
+use Rattle.store_statements.specs.Tables.{Tables}
 use Rattle.store_statements.specs.Steps.{sessions_without, SessionOpened, Appended, Finished}
 use Rattle.store_session_writes.specs.declared.change.Change.{Change}
 use Rattle.store_session_writes.specs.declared.change.Change.TheVariants.{Open, Append, Finish, Link, Take, TakeAll}

@@ -2,15 +2,15 @@
 use Rattle.std.specs.Prelude.{◌≡◌, ℕ, Bool, true, false, List, [], ◌∷◌, map, find, length, Option, Some, None, if◌then◌else◌}
 use Rattle.std.specs.Option.{option_and_then}
 use Rattle.sqlite.specs.State.{State}
-use Rattle.oci_names.specs.Text.{Text}
-use Rattle.oci_names.specs.Digest.{matches}
+use Rattle.oci_types.specs.Text.{Text}
+use Rattle.oci_types.specs.Digest.{matches}
 use Rattle.registry_model.specs.World.{World}
 use Rattle.registry_model.specs.Lookups.{session_at}
 use Rattle.store_schema.specs.Rows.{natural_at}
 use Rattle.store_contents.specs.declared.content_id.ContentId.{ContentId}
-use Rattle.store_world.specs.Keys.{of_session}
-use Rattle.store_world.specs.Tables.{Tables}
-use Rattle.store_world.specs.World.{pieces_of, world_of}
+use Rattle.store_statements.specs.Keys.{of_session}
+use Rattle.store_statements.specs.Tables.{Tables}
+use Rattle.store_statements.specs.World.{pieces_of, world_of}
 use Rattle.store_statements.specs.declared.blobs.BlobLink.{BlobLink}
 use Rattle.store_statements.specs.Shown.{content_named}
 use Rattle.store_statements.specs.ContentShown.{has_sha256_digest}

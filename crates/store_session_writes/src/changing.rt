@@ -10,7 +10,7 @@ use crate::known_finish::end_whole;
 use crate::session_appends::add_bytes;
 use crate::session_changes::{add_session, take_session, take_sessions};
 use crate::session_finish::end_session;
-use oci_names::Fault;
+use oci_types::Fault;
 use sqlite::{Alter, Connection, Transaction};
 use store_statements::alone;
 use store_statements::telling::checked;

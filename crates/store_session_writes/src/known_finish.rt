@@ -3,7 +3,7 @@ ghost use Rattle.std.specs.Prelude.{◌≡◌, ◌<◌, ◌^◌, find, is_some, 
 ghost use Rattle.sqlite.specs.State.{HasCleanDisk};
 ghost use Rattle.sqlite.specs.Held.{state};
 ghost use Rattle.registry_model.specs.Closing.{session_matches, finish_as_is};
-ghost use Rattle.store_world.specs.Keys.{has_key};
+ghost use Rattle.store_statements.specs.Keys.{has_key};
 ghost use Rattle.store_statements.specs.Between.{Finds, MakesWorld, StaysOnMemory};
 ghost use Rattle.store_statements.specs.Clauses.{KeepsInside, Lasts, LastsUncommitted, TablesHave};
 ghost use Rattle.store_statements.specs.Held.{IsSettled};
@@ -14,7 +14,7 @@ use crate::change::Change;
 use crate::changing::make;
 use crate::session_changes::take_session;
 use crate::whole_sessions::find_known;
-use oci_names::{Digest, Fault, RepoName};
+use oci_types::{Digest, Fault, RepoName};
 use sqlite::{Alter, Connection, Transaction};
 use std::alloc::Global;
 use store_statements::blobs::{BlobLink, add_blob_link, find_blob_link};

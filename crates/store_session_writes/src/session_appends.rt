@@ -1,7 +1,7 @@
 //! Bytes come behind those of an open upload session.
 ghost use Rattle.std.specs.Prelude.{◌≡◌, ◌<◌, ◌+◌, ◌^◌, true, length, find, is_some, None, Some, Ok, Err, IfOk, IfErr};
 ghost use Rattle.registry_model.specs.Lookups.{append, session_at};
-ghost use Rattle.store_world.specs.Keys.{has_start};
+ghost use Rattle.store_statements.specs.Keys.{has_start};
 ghost use Rattle.store_statements.specs.StepsFrom.{StepsFrom};
 ghost use Rattle.store_statements.specs.Between.{MakesWorld, StaysOnMemory};
 ghost use Rattle.store_statements.specs.Clauses.{KeepsInside, Lasts, LastsUncommitted, WorldHas};
@@ -9,7 +9,7 @@ ghost use Rattle.store_statements.specs.Steps.{PieceStored, Appended};
 
 use crate::change::Change;
 use crate::changing::make;
-use oci_names::{Fault, RepoName};
+use oci_types::{Fault, RepoName};
 use sqlite::{Alter, Connection, Transaction};
 use std::alloc::Global;
 use store_statements::contents::keep;

@@ -4,7 +4,7 @@ ghost use Rattle.sqlite.specs.State.{HasCleanDisk};
 ghost use Rattle.sqlite.specs.Held.{state};
 ghost use Rattle.registry_model.specs.Lookups.{open_session, last_number_at};
 ghost use Rattle.registry_model.specs.Command.{drop_sessions};
-ghost use Rattle.store_world.specs.Keys.{of_first, of_session};
+ghost use Rattle.store_statements.specs.Keys.{of_first, of_session};
 ghost use Rattle.store_statements.specs.StepsFrom.{StepsFrom};
 ghost use Rattle.store_statements.specs.Between.{MakesWorld, StaysOnMemory};
 ghost use Rattle.store_statements.specs.Clauses.{Changes, KeepsInside, Lasts, LastsUncommitted};
@@ -13,7 +13,7 @@ ghost use Rattle.store_statements.specs.Steps.{sessions_without, SessionOpened};
 
 use crate::change::Change;
 use crate::changing::make;
-use oci_names::{Fault, RepoName};
+use oci_types::{Fault, RepoName};
 use sqlite::{Alter, Connection, Transaction};
 use store_statements::numbers::LARGEST;
 use store_statements::pieces::{take_pieces, take_pieces_of};

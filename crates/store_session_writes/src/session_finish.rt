@@ -1,9 +1,9 @@
 //! An upload session ends, and its bytes become a blob.
 ghost use Rattle.std.specs.Prelude.{◌≡◌, ◌≤◌, ◌<◌, ◌^◌, true, length, find, is_some, None};
-ghost use Rattle.oci_names.specs.Digest.{matches};
+ghost use Rattle.oci_types.specs.Digest.{matches};
 ghost use Rattle.registry_model.specs.Limits.{largest_blob};
 ghost use Rattle.registry_model.specs.Lookups.{finish, session_at};
-ghost use Rattle.store_world.specs.Keys.{has_key};
+ghost use Rattle.store_statements.specs.Keys.{has_key};
 ghost use Rattle.store_statements.specs.StepsFrom.{StepsFrom};
 ghost use Rattle.store_statements.specs.Between.{MakesWorld, StaysOnMemory};
 ghost use Rattle.store_statements.specs.Clauses.{KeepsInside, Lasts, LastsUncommitted, WorldHas};
@@ -12,7 +12,7 @@ ghost use Rattle.store_statements.specs.Steps.{Finished};
 use crate::change::Change;
 use crate::changing::make;
 use crate::session_changes::take_session;
-use oci_names::{Digest, Fault, RepoName};
+use oci_types::{Digest, Fault, RepoName};
 use sqlite::{Alter, Connection, Transaction};
 use std::alloc::Global;
 use store_statements::blob_storing::store_blob;

@@ -4,7 +4,7 @@ ghost use Rattle.store_statements.specs.Between.{Finds, Stays};
 ghost use Rattle.store_statements.specs.Clauses.{Lasts};
 ghost use Rattle.store_session_writes.specs.Whole.{only_link, whole_link, known_link};
 
-use oci_names::Fault;
+use oci_types::Fault;
 use sqlite::{Alter, Connection};
 use std::alloc::Global;
 use store_contents::ContentId;

@@ -5,8 +5,8 @@ use Rattle.sqlite_trees.specs.declared.store.Store.{Ghosts}
 use Rattle.sqlite.specs.State.{State, HasCleanDisk, KeepsCommit}
 use Rattle.sqlite.specs.Held.{Held, state}
 use Rattle.sqlite.proofs.Callers.{survives_begin}
-use Rattle.oci_names.specs.declared.fault.Fault.{Fault}
-use Rattle.store_world.specs.Tables.{Tables}
+use Rattle.oci_types.specs.declared.fault.Fault.{Fault}
+use Rattle.store_statements.specs.Tables.{Tables}
 use Rattle.store_statements.specs.Between.{CommitsStep, GoesBack}
 use Rattle.store_statements.specs.Clauses.{KeepsInside, Lasts, LastsUncommitted, TablesHave}
 use Rattle.store_statements.specs.Held.{IsReady, IsSettled, Commits, IsBack, held}

@@ -11,8 +11,8 @@ use Rattle.sqlite_trees.proofs.TreeLemmas.{IsShaped-filter}
 use Rattle.sqlite_trees.specs.declared.store.Shape.TheVariants as shape
 use Rattle.store_schema.specs.Rows.{HaveIds, PutsRow}
 use Rattle.store_schema.proofs.Lists.{all_middle, ascending_middle}
-use Rattle.store_world.specs.Tables.{AreRows}
-use Rattle.store_world.specs.Changes.{without, changed}
+use Rattle.store_statements.specs.Tables.{AreRows}
+use Rattle.store_statements.specs.Changes.{without, changed}
 
 module _ (Is : Row → Type 0) (same : Row → Row → Bool) where
   pub rows_without : (p : Row → Bool) (rows : List Row) → AreRows Is same rows → AreRows Is same (without p rows)

@@ -2,10 +2,10 @@
 use Rattle.std.proofs.Common.{◌≡◌, ◌∙◌, ℕ, ℤ, List, length, Ok, Err, Result, OnOk, None, sym, ap, subst}
 use Rattle.std.specs.Prelude.{find, option_map}
 use Rattle.sqlite.specs.State.{State}
-use Rattle.oci_names.specs.Text.{Text}
-use Rattle.store_world.specs.Keys.{has_key}
-use Rattle.store_world.specs.Tables.{Tables}
-use Rattle.store_world.specs.Changes.{blob_columns, Comes, Grow}
+use Rattle.oci_types.specs.Text.{Text}
+use Rattle.store_statements.specs.Keys.{has_key}
+use Rattle.store_statements.specs.Tables.{Tables}
+use Rattle.store_statements.specs.Changes.{blob_columns, Comes, Grow}
 use Rattle.store_statements.specs.Held.{IsReady, StaysSettled, held}
 use Rattle.store_statements.specs.Shown.{blob_link}
 use Rattle.store_statements.specs.Steps.{ContentKept, BlobStored, BlobComes}

@@ -16,9 +16,9 @@ use Rattle.store_schema.specs.Layout.{placed, equals}
 use Rattle.store_schema.proofs.Lists.{none_found}
 use Rattle.store_schema.proofs.Selects.{Answer, is_text, one_test, both_tests}
 use Rattle.store_schema.proofs.Writes.{passes, either}
-use Rattle.store_world.specs.Keys.{of_first, has_key, same_key}
-use Rattle.store_world.specs.Tables.{Tables, AreTables, AreRows, IsBlobRow}
-use Rattle.store_world.specs.Changes.{blob_columns, Comes}
+use Rattle.store_statements.specs.Keys.{of_first, has_key, same_key}
+use Rattle.store_statements.specs.Tables.{Tables, AreTables, AreRows, IsBlobRow}
+use Rattle.store_statements.specs.Changes.{blob_columns, Comes}
 use Rattle.store_statements.specs.BlobTexts.{blob_take, blob_take_all, blob_add, blob_find, blob_sizes, blob_contents}
 use Rattle.store_statements.specs.Held.{held, HoldsTables, Becomes}
 use Rattle.store_statements.specs.Steps.{blobs_without, BlobComes}

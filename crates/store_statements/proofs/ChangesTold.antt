@@ -4,7 +4,7 @@ use Rattle.std.specs.Prelude.{IfOk, IsErr}
 use Rattle.sqlite_trees.specs.declared.store.Store.{Ghosts}
 use Rattle.sqlite.specs.State.{State, HasCleanDisk}
 use Rattle.sqlite.specs.Held.{Held, state}
-use Rattle.oci_names.specs.declared.fault.Fault.{Fault}
+use Rattle.oci_types.specs.declared.fault.Fault.{Fault}
 use Rattle.store_statements.specs.Between.{GoesBack, StaysOnMemory}
 use Rattle.store_statements.specs.Clauses.{Lasts}
 use Rattle.store_statements.proofs.Transactions.{stays_back, survives_all}

@@ -29,13 +29,13 @@ use Rattle.store_schema.proofs.Lists.{bytes_eq_true}
 use Rattle.store_schema.proofs.Selects.{is_text}
 use Rattle.store_schema.proofs.Writes.{passes, deletes, Edits, Removes}
 use Rattle.store_schema.proofs.Children.{SetsOff, removes_childless, taken_passed}
-use Rattle.store_world.specs.Keys.{of_first, of_second, same_first}
-use Rattle.store_world.specs.Tables.{Tables, IsEmptyBeside, IsRepoRow, IsGrantRow, IsTagRow, IsBlobRow, IsManifestRow, IsUploadRow, IsPieceRow}
+use Rattle.store_statements.specs.Keys.{of_first, of_second, same_first}
+use Rattle.store_statements.specs.Tables.{Tables, IsEmptyBeside, IsRepoRow, IsGrantRow, IsTagRow, IsBlobRow, IsManifestRow, IsUploadRow, IsPieceRow}
 use Rattle.store_statements.specs.RepoTexts.{repo_take}
 use Rattle.store_statements.specs.Known.{NamesRepo, repo_key, trees_of, is_beside}
 use Rattle.store_statements.specs.Held.{held, HoldsTables, Becomes}
 use Rattle.store_statements.specs.Steps.{repos_without}
-use Rattle.store_world.specs.Changes.{without}
+use Rattle.store_statements.specs.Changes.{without}
 use Rattle.store_statements.specs.Drops.{HasNoChildren, without_children}
 use Rattle.store_statements.proofs.BesideRows.{apart_beside, none_beside}
 use Rattle.store_statements.proofs.OtherTables.{only_repos, contents_beside_repos}

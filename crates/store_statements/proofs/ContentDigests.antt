@@ -5,8 +5,8 @@ use Rattle.std.specs.Str.Pattern.{FindsTextPrefix, StripsPrefix, LacksTextAt}
 use Rattle.std.proofs.lemmas.Slice.Eq.{bytes_eq-Decides}
 use Rattle.sha2.specs.Sha256.{sha256}
 use Rattle.hex.specs.Hex.{encode_lower}
-use Rattle.oci_names.specs.Text.{Text}
-use Rattle.oci_names.specs.Digest.{sha256_digest, sha256_prefix}
+use Rattle.oci_types.specs.Text.{Text}
+use Rattle.oci_types.specs.Digest.{sha256_digest, sha256_prefix}
 use Rattle.store_contents.specs.Contents.{sha256_text}
 use Rattle.store_contents.specs.Hashed.{has_hash}
 use Rattle.store_contents.proofs.Told.{sha256_told}

@@ -6,14 +6,14 @@ use Rattle.std.specs.Ordering.{int_eq}
 use Rattle.std.proofs.lemmas.Slice.Eq.{bytes_eq-Decides}
 use Rattle.sqlite.specs.Effect.{Database}
 use Rattle.sqlite.specs.State.{State}
-use Rattle.oci_names.specs.Text.{Text}
-use Rattle.oci_names.specs.Digest.{matches, sha256_digest, sha512_digest, sha256_prefix}
+use Rattle.oci_types.specs.Text.{Text}
+use Rattle.oci_types.specs.Digest.{matches, sha256_digest, sha512_digest, sha256_prefix}
 use Rattle.store_schema.proofs.Ids.{int_eq_itself, int_eq_is}
 use Rattle.store_contents.specs.declared.content_id.ContentId.{ContentId}
 use Rattle.store_contents.specs.Contents.{sha256_text, bytes_in, IsInside, FindsOrAdds}
 use Rattle.store_contents.proofs.Told.{sha256_told}
-use Rattle.store_world.specs.Tables.{Tables, AreTables}
-use Rattle.store_world.specs.Changes.{Grow}
+use Rattle.store_statements.specs.Tables.{Tables, AreTables}
+use Rattle.store_statements.specs.Changes.{Grow}
 use Rattle.store_statements.specs.Known.{KnowsRegistry}
 use Rattle.store_statements.specs.Held.{IsReady, HoldsTables, held, tables_in}
 use Rattle.store_statements.specs.Steps.{ContentKept}

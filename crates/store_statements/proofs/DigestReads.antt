@@ -6,8 +6,8 @@ use Rattle.sqlite.specs.Order.{column}
 use Rattle.sqlite.specs.State.{State, Shown}
 use Rattle.sqlite_keyed.specs.Lists.{sort_by}
 use Rattle.store_schema.proofs.Selects.{Answer, is_text, one_test}
-use Rattle.store_world.specs.Keys.{of_first}
-use Rattle.store_world.specs.Tables.{IsBlobRow, IsManifestRow}
+use Rattle.store_statements.specs.Keys.{of_first}
+use Rattle.store_statements.specs.Tables.{IsBlobRow, IsManifestRow}
 use Rattle.store_statements.specs.BlobTexts.{blob_digests}
 use Rattle.store_statements.specs.ManifestTexts.{manifest_digests}
 use Rattle.store_statements.specs.Held.{HoldsTables, held}

@@ -7,7 +7,7 @@ use Rattle.sqlite.specs.State.{State, HasCleanDisk, IsRolledBack, Shows, Survive
 use Rattle.sqlite.specs.Steps.{FailsToCommit}
 use Rattle.sqlite.specs.Tree.{Trees}
 use Rattle.sqlite.specs.Held.{Held, state}
-use Rattle.oci_names.specs.declared.fault.Fault.{Fault}
+use Rattle.oci_types.specs.declared.fault.Fault.{Fault}
 use Rattle.store_statements.proofs.Transactions.{commits, survives_all}
 use Rattle.store_statements.specs.Ends.{Ends}
 use Rattle.store_statements.proofs.Checks.{survives_here}

@@ -12,8 +12,8 @@ use Rattle.sqlite_keyed.specs.Lists.{sort_by}
 use Rattle.store_schema.specs.Schema.{grants_table}
 use Rattle.store_schema.specs.Layout.{equals}
 use Rattle.store_schema.proofs.Selects.{Answer}
-use Rattle.store_world.specs.Keys.{has_key, of_first, of_second, same_key}
-use Rattle.store_world.specs.Tables.{IsGrantRow}
+use Rattle.store_statements.specs.Keys.{has_key, of_first, of_second, same_key}
+use Rattle.store_statements.specs.Tables.{IsGrantRow}
 use Rattle.store_statements.specs.GrantTexts.{grant_find, grant_known, grant_list}
 use Rattle.store_statements.specs.Held.{held, HoldsTables}
 use Rattle.store_statements.specs.Shown.{by_token}

@@ -17,9 +17,9 @@ use Rattle.store_schema.specs.Layout.{placed, equals}
 use Rattle.store_schema.proofs.Lists.{none_found}
 use Rattle.store_schema.proofs.Selects.{is_text, both_tests, one_test}
 use Rattle.store_schema.proofs.Writes.{passes, either}
-use Rattle.store_world.specs.Keys.{has_key, of_first, of_second, same_key}
-use Rattle.store_world.specs.Tables.{Tables, AreTables, AreRows, IsGrantRow, level_number, level_of}
-use Rattle.store_world.specs.Changes.{with_level, grant_columns, Comes}
+use Rattle.store_statements.specs.Keys.{has_key, of_first, of_second, same_key}
+use Rattle.store_statements.specs.Tables.{Tables, AreTables, AreRows, IsGrantRow, level_number, level_of}
+use Rattle.store_statements.specs.Changes.{with_level, grant_columns, Comes}
 use Rattle.store_statements.specs.GrantTexts.{grant_take, grant_take_all, grant_take_token, grant_set_level, grant_add}
 use Rattle.store_statements.specs.Held.{held, HoldsTables, Becomes}
 use Rattle.store_statements.specs.Steps.{grants_without, grants_changed, GrantComes}

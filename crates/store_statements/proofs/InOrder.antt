@@ -29,7 +29,7 @@ use Rattle.store_schema.specs.Layout.{Means}
 use Rattle.store_schema.proofs.Lists.{bytes_eq-sym, bytes_eq_true}
 use Rattle.store_schema.proofs.Selects.{Answer, chosen, one_each, map-map, means_command, stored_here}
 use Rattle.store_schema.proofs.Writes.{passes}
-use Rattle.store_world.specs.Keys.{of_first, of_second, same_key}
+use Rattle.store_statements.specs.Keys.{of_first, of_second, same_key}
 use Rattle.store_schema.specs.Ordered.{ordered_from}
 use Rattle.store_statements.specs.ManifestShown.{by_second}
 use Rattle.store_statements.specs.Shown.{by_token}

@@ -4,7 +4,7 @@ use Rattle.std.specs.Prelude.{bytes_eq, ◌&&◌}
 use Rattle.sqlite.specs.Order.{Row}
 use Rattle.store_schema.specs.Rows.{bytes_at}
 use Rattle.store_schema.proofs.Lists.{bytes_eq-sym, bytes_eq_true}
-use Rattle.store_world.specs.Keys.{has_key, same_key}
+use Rattle.store_statements.specs.Keys.{has_key, same_key}
 
 pub key_turned : (a b : Row) → same_key a b ≡ same_key b a
 key_turned a b = ap (λ x. x && bytes_eq (bytes_at b 2) (bytes_at a 2)) (bytes_eq-sym (bytes_at b 1) (bytes_at a 1)) ∙ ap (λ x. bytes_eq (bytes_at a 1) (bytes_at b 1) && x) (bytes_eq-sym (bytes_at b 2) (bytes_at a 2))

@@ -11,12 +11,12 @@ use Rattle.sqlite.specs.Ops.{binary, is_true}
 use Rattle.sqlite_sql.specs.declared.ops.BinaryOp.TheVariants.{Compare}
 use Rattle.sqlite_sql.specs.declared.ops.CompareOp.TheVariants.{Eq}
 use Rattle.sqlite_keyed.specs.Lists.{sort_by}
-use Rattle.oci_names.specs.Digest.{is_digest}
+use Rattle.oci_types.specs.Digest.{is_digest}
 use Rattle.sqlite.specs.Order.{column, bytes}
 use Rattle.sqlite.specs.State.{State, Shown}
 use Rattle.store_schema.proofs.Selects.{Answer, shows, is_text, one_test, both_tests}
-use Rattle.store_world.specs.Keys.{of_first, has_key, on_subject}
-use Rattle.store_world.specs.Tables.{IsManifestRow}
+use Rattle.store_statements.specs.Keys.{of_first, has_key, on_subject}
+use Rattle.store_statements.specs.Tables.{IsManifestRow}
 use Rattle.store_statements.specs.ManifestTexts.{manifest_find, manifest_subject, manifest_sizes, manifest_contents}
 use Rattle.store_statements.specs.Held.{HoldsTables, held}
 use Rattle.store_statements.proofs.Keys.{key_parts, both_true}

@@ -11,18 +11,18 @@ use Rattle.sqlite.specs.Term.{Term, col}
 use Rattle.sqlite.specs.Command.TheVariants.{Delete}
 use Rattle.sqlite.specs.State.{State, Executes, ExecutesInside}
 use Rattle.sqlite.specs.Values.{or_null, bound_value}
-use Rattle.oci_manifest.specs.declared.kind.Kind.{Kind}
-use Rattle.oci_manifest.specs.declared.kind.Kind.TheVariants.{Image, Index}
-use Rattle.oci_manifest.specs.Kind.{kind_number as written_number}
+use Rattle.oci_types.specs.declared.kind.Kind.{Kind}
+use Rattle.oci_types.specs.declared.kind.Kind.TheVariants.{Image, Index}
+use Rattle.oci_types.specs.Kind.{kind_number as written_number}
 use Rattle.store_schema.specs.Schema.{manifest_links_table}
 use Rattle.store_schema.specs.Layout.{tree_of, placed, Means, select_from}
 use Rattle.store_schema.proofs.Lists.{none_found}
 use Rattle.store_schema.proofs.Selects.{is_text, one_test, both_tests}
 use Rattle.store_schema.proofs.Writes.{passes, either}
-use Rattle.store_world.specs.Keys.{of_first, has_key, same_key}
-use Rattle.store_world.specs.Tables.{Tables, AreTables, AreRows, IsManifestRow}
-use Rattle.store_world.specs.Registry.{kind_number, optional_text}
-use Rattle.store_world.specs.Changes.{manifest_columns, Comes}
+use Rattle.store_statements.specs.Keys.{of_first, has_key, same_key}
+use Rattle.store_statements.specs.Tables.{Tables, AreTables, AreRows, IsManifestRow}
+use Rattle.store_statements.specs.Registry.{kind_number, optional_text}
+use Rattle.store_statements.specs.Changes.{manifest_columns, Comes}
 use Rattle.store_statements.specs.ManifestTexts.{manifest_add, manifest_take, manifest_take_all}
 use Rattle.store_statements.specs.Held.{held, HoldsTables, Becomes}
 use Rattle.store_statements.specs.Steps.{manifests_without, ManifestComes}

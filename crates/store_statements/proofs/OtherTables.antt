@@ -15,7 +15,7 @@ use Rattle.store_schema.specs.Layout.{rows_of, tree_of, Stands, KeepsOthers}
 use Rattle.store_schema.proofs.Writes.{rows_in}
 use Rattle.store_contents.specs.Contents.{HoldsContents, KnowsContents, AreContentRows, bytes_in}
 use Rattle.store_contents.specs.Contents as contents-specs
-use Rattle.store_world.specs.Tables.{Tables, Beside}
+use Rattle.store_statements.specs.Tables.{Tables, Beside}
 use Rattle.store_statements.specs.Known.{KnowsRegistry, AreApart, trees_of, rows_beside}
 use Rattle.store_statements.specs.Held.{tables_in, beside_in}
 use Rattle.store_statements.proofs.BesideRows.{left_beside}

@@ -19,7 +19,7 @@ use Rattle.sqlite.specs.Query.{limited, as_count}
 use Rattle.sqlite.specs.State.{State, Shown}
 use Rattle.store_schema.proofs.Selects.{Answer, is_text, both_tests, map-map}
 use Rattle.registry_model.specs.TagPage.{first_of, more_than}
-use Rattle.store_world.specs.Tables.{IsTagRow}
+use Rattle.store_statements.specs.Tables.{IsTagRow}
 use Rattle.store_statements.specs.TagTexts.{tag_page}
 use Rattle.store_statements.specs.Held.{HoldsTables, held}
 use Rattle.store_statements.specs.ManifestShown.{by_second}

@@ -16,7 +16,7 @@ use Rattle.sqlite.specs.Program.{overlay}
 use Rattle.sqlite.proofs.Callers.{reads_as}
 use Rattle.store_schema.specs.Rows.{natural_at}
 use Rattle.store_schema.proofs.Pages.{out_of}
-use Rattle.store_world.specs.World.{by_start, pieces_of}
+use Rattle.store_statements.specs.World.{by_start, pieces_of}
 use Rattle.store_schema.specs.Ordered.{ordered_from}
 use Rattle.sqlite.specs.declared.types.Value.TheVariants.{Null, Int, Text}
 use Rattle.sqlite.specs.declared.error.Error.{Error}
@@ -30,9 +30,9 @@ use Rattle.store_schema.specs.Layout.{tree_of, placed, equals}
 use Rattle.store_schema.proofs.Lists.{none_found}
 use Rattle.store_schema.proofs.Selects.{Answer, chosen, means_command, stored_here, is_text, one_test, both_tests}
 use Rattle.store_schema.proofs.Writes.{passes, either}
-use Rattle.store_world.specs.Keys.{of_first, of_session, has_start, same_start}
-use Rattle.store_world.specs.Tables.{Tables, AreTables, AreRows, IsPieceRow}
-use Rattle.store_world.specs.Changes.{piece_columns, Comes}
+use Rattle.store_statements.specs.Keys.{of_first, of_session, has_start, same_start}
+use Rattle.store_statements.specs.Tables.{Tables, AreTables, AreRows, IsPieceRow}
+use Rattle.store_statements.specs.Changes.{piece_columns, Comes}
 use Rattle.store_statements.specs.PieceTexts.{piece_take_of, piece_take_all, piece_add, piece_list, piece_contents}
 use Rattle.store_statements.specs.Held.{held, HoldsTables, Becomes}
 use Rattle.store_statements.specs.Steps.{pieces_without, PieceComes}

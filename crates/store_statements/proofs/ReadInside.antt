@@ -8,7 +8,7 @@ use Rattle.sqlite.specs.Given.{IsPlain}
 use Rattle.sqlite.specs.Listing.{understood}
 use Rattle.sqlite.specs.State.{HasCleanDisk, IsTooLate, Shown, FailsToQuery}
 use Rattle.sqlite.specs.Held.{Held, state}
-use Rattle.oci_names.specs.declared.fault.Fault.{Fault}
+use Rattle.oci_types.specs.declared.fault.Fault.{Fault}
 use Rattle.store_schema.proofs.Selects.{Answer, leaves_all, keeps_by_query}
 use Rattle.store_statements.specs.Clauses.{KeepsInside, ChangesNothingInside}
 use Rattle.store_statements.specs.Held.{HoldsTables, IsReady}

@@ -11,8 +11,8 @@ use Rattle.sqlite.specs.State.{State, HasCleanDisk, IsUnchanged, Shown, Shows, F
 use Rattle.sqlite.specs.Tree.{Trees}
 use Rattle.sqlite.specs.Held.{Held, state}
 use Rattle.sqlite.specs.declared.error.Error.{Error}
-use Rattle.oci_names.specs.declared.fault.Fault.{Fault}
-use Rattle.oci_names.specs.declared.fault.Fault.TheVariants.{Memory}
+use Rattle.oci_types.specs.declared.fault.Fault.{Fault}
+use Rattle.oci_types.specs.declared.fault.Fault.TheVariants.{Memory}
 use Rattle.store_schema.proofs.Selects.{Answer, leaves_all, left_by_query}
 use Rattle.store_statements.specs.Between.{Stays}
 use Rattle.store_statements.specs.Clauses.{Lasts}

@@ -26,8 +26,8 @@ use Rattle.store_schema.specs.Layout.{equals, tree_of}
 use Rattle.store_schema.proofs.Lists.{bytes_eq-sym}
 use Rattle.store_schema.proofs.Pages.{out_of}
 use Rattle.store_schema.proofs.Selects.{Answer, chosen, stored_here, means_command}
-use Rattle.store_world.specs.Keys.{of_first, same_first}
-use Rattle.store_world.specs.Tables.{IsRepoRow, AreRows}
+use Rattle.store_statements.specs.Keys.{of_first, same_first}
+use Rattle.store_statements.specs.Tables.{IsRepoRow, AreRows}
 use Rattle.store_schema.specs.Ordered.{ordered_from}
 use Rattle.store_statements.specs.RepoTexts.{repo_find, repo_list}
 use Rattle.store_statements.specs.Held.{held, HoldsTables}

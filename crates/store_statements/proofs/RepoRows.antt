@@ -16,9 +16,9 @@ use Rattle.store_schema.specs.Layout.{placed, equals}
 use Rattle.store_schema.proofs.Lists.{bytes_eq-sym, bytes_eq_true, none_found}
 use Rattle.store_schema.proofs.Selects.{is_text, one_test}
 use Rattle.store_schema.proofs.Writes.{passes, either}
-use Rattle.store_world.specs.Keys.{of_first, same_first}
-use Rattle.store_world.specs.Tables.{Tables, AreTables, AreRows, IsRepoRow}
-use Rattle.store_world.specs.Changes.{with_quota, with_last, repo_columns, Comes}
+use Rattle.store_statements.specs.Keys.{of_first, same_first}
+use Rattle.store_statements.specs.Tables.{Tables, AreTables, AreRows, IsRepoRow}
+use Rattle.store_statements.specs.Changes.{with_quota, with_last, repo_columns, Comes}
 use Rattle.store_statements.specs.RepoTexts.{repo_add, repo_set_quota, repo_set_last}
 use Rattle.store_statements.specs.Held.{held, HoldsTables, Becomes}
 use Rattle.store_statements.specs.Steps.{repos_changed, RepoComes}

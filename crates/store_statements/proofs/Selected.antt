@@ -18,7 +18,7 @@ use Rattle.store_schema.specs.Layout.{rows_of, tree_of, Means, select_from}
 use Rattle.store_schema.proofs.Lists.{only_one, no_permutation}
 use Rattle.store_schema.proofs.Selects.{Answer, shows}
 use Rattle.store_schema.proofs.Writes.{passes}
-use Rattle.store_world.specs.Tables.{AreRows}
+use Rattle.store_statements.specs.Tables.{AreRows}
 use Rattle.store_contents.specs.declared.content_id.ContentId.{ContentId}
 use Rattle.store_statements.specs.Shown.{content_named}
 

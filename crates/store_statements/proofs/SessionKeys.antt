@@ -14,7 +14,7 @@ use Rattle.store_schema.specs.Rows.{bytes_at, natural_at}
 use Rattle.store_schema.proofs.Lists.{bytes_eq-sym, bytes_eq_true}
 use Rattle.store_schema.proofs.Selects.{is_int}
 use Rattle.store_schema.proofs.Ids.{int_eq_is, int_eq_itself, rowid_test}
-use Rattle.store_world.specs.Keys.{of_session, same_session, same_start}
+use Rattle.store_statements.specs.Keys.{of_session, same_session, same_start}
 use Rattle.store_statements.proofs.Keys.{both_true}
 
 same_truth : (p q : Bool) → (p ≡ true → q ≡ true) → (q ≡ true → p ≡ true) → p ≡ q

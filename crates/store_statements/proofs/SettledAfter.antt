@@ -3,9 +3,9 @@ use Rattle.std.proofs.Common.{◌≡◌, ◌∙◌, inl, inr, false, Err, sym, s
 use Rattle.std.specs.Prelude.{IsTrue}
 use Rattle.sqlite.specs.Effect.{Database}
 use Rattle.sqlite.specs.State.{State, IsUnchanged, Shows}
-use Rattle.oci_names.specs.declared.fault.Fault.{Fault}
-use Rattle.oci_names.specs.declared.fault.Fault.TheVariants.{Memory, Storage}
-use Rattle.store_world.specs.Registry.{Agree}
+use Rattle.oci_types.specs.declared.fault.Fault.{Fault}
+use Rattle.oci_types.specs.declared.fault.Fault.TheVariants.{Memory, Storage}
+use Rattle.store_statements.specs.Registry.{Agree}
 use Rattle.store_statements.specs.Held.{IsSettled, StaysSettled, HoldsTables, LeavesAsWas, tables_in, is_storage}
 
 -- it was only read

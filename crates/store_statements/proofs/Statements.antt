@@ -25,8 +25,8 @@ use Rattle.store_schema.proofs.Lists.{only_one}
 use Rattle.store_schema.proofs.Writes.{passes, deletes, removes, Removes, inserts, adds_row, AddsRow, updates, keeps_others}
 use Rattle.store_schema.proofs.Updates.{sets, Sets}
 use Rattle.store_contents.specs.Contents.{HoldsContents}
-use Rattle.store_world.specs.Tables.{Tables, AreTables, AreRows}
-use Rattle.store_world.specs.Changes.{without, changed, Comes}
+use Rattle.store_statements.specs.Tables.{Tables, AreTables, AreRows}
+use Rattle.store_statements.specs.Changes.{without, changed, Comes}
 use Rattle.store_statements.specs.Known.{KnowsRegistry}
 use Rattle.store_statements.specs.Held.{tables_in, HoldsTables}
 use Rattle.store_statements.proofs.AreRows.{rows_without, rows_with, rows_changed}

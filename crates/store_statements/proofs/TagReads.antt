@@ -7,8 +7,8 @@ use Rattle.sqlite.specs.declared.types.Value.TheVariants.{Text}
 use Rattle.sqlite.specs.Order.{column}
 use Rattle.sqlite.specs.State.{State, Shown}
 use Rattle.store_schema.proofs.Selects.{Answer, is_text, one_test, both_tests}
-use Rattle.store_world.specs.Keys.{of_first, has_key}
-use Rattle.store_world.specs.Tables.{IsTagRow}
+use Rattle.store_statements.specs.Keys.{of_first, has_key}
+use Rattle.store_statements.specs.Tables.{IsTagRow}
 use Rattle.store_statements.specs.TagTexts.{tag_find, tag_list}
 use Rattle.store_statements.specs.Held.{HoldsTables, held}
 use Rattle.store_statements.proofs.Keys.{key_parts}

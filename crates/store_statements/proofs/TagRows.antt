@@ -17,9 +17,9 @@ use Rattle.store_schema.specs.Layout.{tree_of, placed, equals, Means, select_fro
 use Rattle.store_schema.proofs.Lists.{none_found}
 use Rattle.store_schema.proofs.Selects.{is_text, one_test, both_tests}
 use Rattle.store_schema.proofs.Writes.{passes, either}
-use Rattle.store_world.specs.Keys.{of_first, has_key, same_key}
-use Rattle.store_world.specs.Tables.{Tables, AreTables, AreRows, IsTagRow}
-use Rattle.store_world.specs.Changes.{with_digest, tag_columns, Comes}
+use Rattle.store_statements.specs.Keys.{of_first, has_key, same_key}
+use Rattle.store_statements.specs.Tables.{Tables, AreTables, AreRows, IsTagRow}
+use Rattle.store_statements.specs.Changes.{with_digest, tag_columns, Comes}
 use Rattle.store_statements.specs.TagTexts.{tag_take, tag_take_named, tag_take_all, tag_set_digest, tag_add}
 use Rattle.store_statements.specs.Held.{held, HoldsTables, Becomes}
 use Rattle.store_statements.specs.Steps.{names_digest, tags_without, tags_changed, TagComes}

@@ -8,9 +8,9 @@ use Rattle.sqlite.specs.Tree.{Trees}
 use Rattle.sqlite.proofs.StateLemmas.{survives_then}
 use Rattle.sqlite.specs.Effect.{Database}
 use Rattle.registry_model.specs.World.{World}
-use Rattle.store_world.specs.Tables.{Tables}
-use Rattle.store_world.specs.Registry.{IsRegistry, Agree}
-use Rattle.store_world.specs.World.{world_of}
+use Rattle.store_statements.specs.Tables.{Tables}
+use Rattle.store_statements.specs.Registry.{IsRegistry, Agree}
+use Rattle.store_statements.specs.World.{world_of}
 use Rattle.store_statements.specs.Held.{HoldsTables, IsReady, IsSettled, StaysSettled, Becomes, Commits, SettlesOn, IsBack, tables_in, held}
 
 -- it was committed

@@ -17,9 +17,9 @@ use Rattle.store_schema.specs.Layout.{placed, equals}
 use Rattle.store_schema.proofs.Lists.{none_found}
 use Rattle.store_schema.proofs.Selects.{Answer, is_text, one_test, both_tests}
 use Rattle.store_schema.proofs.Writes.{passes, either}
-use Rattle.store_world.specs.Keys.{of_first, of_session, same_session}
-use Rattle.store_world.specs.Tables.{Tables, AreTables, AreRows, IsUploadRow}
-use Rattle.store_world.specs.Changes.{with_size, upload_columns, Comes}
+use Rattle.store_statements.specs.Keys.{of_first, of_session, same_session}
+use Rattle.store_statements.specs.Tables.{Tables, AreTables, AreRows, IsUploadRow}
+use Rattle.store_statements.specs.Changes.{with_size, upload_columns, Comes}
 use Rattle.store_statements.specs.UploadTexts.{upload_take, upload_take_all, upload_set_size, upload_add, upload_find, upload_sizes}
 use Rattle.store_statements.specs.Held.{held, HoldsTables, Becomes}
 use Rattle.store_statements.specs.Steps.{uploads_without, uploads_changed, UploadComes}

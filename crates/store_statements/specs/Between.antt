@@ -5,10 +5,10 @@ use Rattle.std.specs.Prelude.{◌≡◌, false, Result, Err, OnOk, OnErr, IfOk, 
 use Rattle.sqlite_trees.specs.declared.store.Store.{Ghosts}
 use Rattle.sqlite.specs.State.{HasCleanDisk, IsUnchanged}
 use Rattle.sqlite.specs.Held.{Held, state}
-use Rattle.oci_names.specs.declared.fault.Fault.{Fault}
-use Rattle.oci_names.specs.declared.fault.Fault.TheVariants.{Memory}
+use Rattle.oci_types.specs.declared.fault.Fault.{Fault}
+use Rattle.oci_types.specs.declared.fault.Fault.TheVariants.{Memory}
 use Rattle.registry_model.specs.World.{World}
-use Rattle.store_world.specs.Tables.{Tables}
+use Rattle.store_statements.specs.Tables.{Tables}
 use Rattle.store_statements.specs.Held.{IsSettled, StaysSettled, LeavesAsWas, Commits, SettlesOn, IsBack, held, world_in, is_storage}
 
 module _ {S : Type 0} (g : Ghosts S) (old new : Held S) where

@@ -7,7 +7,7 @@ use Rattle.sqlite.specs.Order.{Row}
 use Rattle.sqlite.specs.State.{State, HasCleanDisk, IsUnchanged, KeepsCommit, Survives}
 use Rattle.sqlite.specs.Held.{Held, state}
 use Rattle.registry_model.specs.World.{World}
-use Rattle.store_world.specs.Tables.{Tables}
+use Rattle.store_statements.specs.Tables.{Tables}
 use Rattle.store_statements.specs.Held.{IsReady, Becomes, held, world_in}
 
 -- ---- what a clause may ask of the connection before the call

@@ -1,9 +1,9 @@
 -- A repository goes with all that it has.
 use Rattle.std.specs.Prelude.{◌≡◌, ℕ, false, List}
 use Rattle.std.specs.List.{AllByRecursion}
-use Rattle.store_world.specs.Keys.{of_first, of_second}
-use Rattle.store_world.specs.Tables.{Tables, IsEmptyBeside}
-use Rattle.store_world.specs.Changes.{without}
+use Rattle.store_statements.specs.Keys.{of_first, of_second}
+use Rattle.store_statements.specs.Tables.{Tables, IsEmptyBeside}
+use Rattle.store_statements.specs.Changes.{without}
 
 -- no row of another table names the repository, and no further table has one that might go with it
 pub record HasNoChildren (t : Tables) (name : List ℕ) : Type 0 where

@@ -3,7 +3,7 @@ use Rattle.std.specs.Prelude.{⊤, Result, OnOk, OnErr, IsOk}
 use Rattle.sqlite_trees.specs.declared.store.Store.{Ghosts}
 use Rattle.sqlite.specs.State.{HasCleanDisk, IsRolledBack, Survives}
 use Rattle.sqlite.specs.Held.{Held, state}
-use Rattle.oci_names.specs.declared.fault.Fault.{Fault}
+use Rattle.oci_types.specs.declared.fault.Fault.{Fault}
 use Rattle.store_statements.specs.Held.{IsReady, Commits, held}
 
 -- The connection was this when the work was done, or failed, and is that after the end. Of work that was

@@ -2,15 +2,15 @@
 use Rattle.std.specs.Prelude.{◌≡◌, ◌⊎◌, Bool, true, false, IsTrue, Result, Ok, Err}
 use Rattle.sqlite.specs.Effect.{Database}
 use Rattle.sqlite.specs.State.{State, IsUnchanged, IsRolledBack}
-use Rattle.oci_names.specs.declared.fault.Fault.{Fault}
-use Rattle.oci_names.specs.declared.fault.Fault.TheVariants.{Memory, Storage}
+use Rattle.oci_types.specs.declared.fault.Fault.{Fault}
+use Rattle.oci_types.specs.declared.fault.Fault.TheVariants.{Memory, Storage}
 use Rattle.registry_model.specs.World.{World}
 use Rattle.store_schema.specs.Schema.{version_table, repos_table, grants_table, tags_table, blob_links_table, manifest_links_table, uploads_table, pieces_table}
 use Rattle.store_schema.specs.Layout.{rows_of}
 use Rattle.store_contents.specs.Contents.{HoldsContents, bytes_in}
-use Rattle.store_world.specs.Tables.{Tables, Beside, AreTables}
-use Rattle.store_world.specs.Registry.{Agree}
-use Rattle.store_world.specs.World.{world_of}
+use Rattle.store_statements.specs.Tables.{Tables, Beside, AreTables}
+use Rattle.store_statements.specs.Registry.{Agree}
+use Rattle.store_statements.specs.World.{world_of}
 use Rattle.store_statements.specs.Known.{KnowsRegistry, trees_of, rows_beside}
 
 abbrev pub beside_in : Database → Beside

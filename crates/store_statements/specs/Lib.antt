@@ -1,3 +1,8 @@
+pub mod Keys
+pub mod Tables
+pub mod World
+pub mod Registry
+pub mod Changes
 pub mod RepoTexts
 pub mod GrantTexts
 pub mod TagTexts

@@ -2,10 +2,10 @@
 use Rattle.std.specs.Prelude.{ℕ, ◌==◌, if◌then◌else◌}
 use Rattle.std.specs.declared.cmp.Ordering.{Ordering}
 use Rattle.sqlite.specs.Order.{Row}
-use Rattle.oci_names.specs.Text.{Text}
+use Rattle.oci_types.specs.Text.{Text}
 use Rattle.registry_model.specs.World.{text_cmp}
-use Rattle.oci_manifest.specs.declared.kind.Kind.{Kind}
-use Rattle.oci_manifest.specs.declared.kind.Kind.TheVariants.{Image, Index}
+use Rattle.oci_types.specs.declared.kind.Kind.{Kind}
+use Rattle.oci_types.specs.declared.kind.Kind.TheVariants.{Image, Index}
 use Rattle.store_schema.specs.Rows.{bytes_at, natural_at, integer_at}
 use Rattle.store_contents.specs.declared.content_id.ContentId.{ContentId}
 use Rattle.store_statements.specs.declared.manifests.ManifestLink.{ManifestLink}

@@ -3,12 +3,12 @@ use Rattle.std.specs.Prelude.{◌≡◌, ℤ, pos, Bool, ◌∷◌, [], ◌&&◌
 use Rattle.sqlite.specs.declared.types.Value.TheVariants.{Int}
 use Rattle.sqlite.specs.Order.{Row}
 use Rattle.sqlite.specs.State.{State}
-use Rattle.oci_names.specs.Text.{Text}
+use Rattle.oci_types.specs.Text.{Text}
 use Rattle.store_schema.specs.Rows.{PutsRow, bytes_at}
-use Rattle.store_world.specs.Keys.{of_first, of_session, has_key}
-use Rattle.store_world.specs.Tables.{Tables, IsEmptyBeside, new_tables}
-use Rattle.store_world.specs.Registry.{IsOfSchemaTwo}
-use Rattle.store_world.specs.Changes.{without, changed, Comes, with_last, with_size, upload_columns, blob_columns, piece_columns, Grow}
+use Rattle.store_statements.specs.Keys.{of_first, of_session, has_key}
+use Rattle.store_statements.specs.Tables.{Tables, IsEmptyBeside, new_tables}
+use Rattle.store_statements.specs.Registry.{IsOfSchemaTwo}
+use Rattle.store_statements.specs.Changes.{without, changed, Comes, with_last, with_size, upload_columns, blob_columns, piece_columns, Grow}
 use Rattle.store_statements.specs.Held.{IsReady, held}
 
 -- a tag of the repository names the digest, in column 3

@@ -3,8 +3,8 @@ use Rattle.std.specs.Prelude.{◌≡◌, ℕ, ℤ, List, Result, OnOk}
 use Rattle.sqlite_trees.specs.declared.store.Store.{Ghosts}
 use Rattle.sqlite.specs.State.{HasCleanDisk}
 use Rattle.sqlite.specs.Held.{Held, state}
-use Rattle.store_world.specs.Tables.{Tables}
-use Rattle.store_world.specs.Changes.{blob_columns, Comes}
+use Rattle.store_statements.specs.Tables.{Tables}
+use Rattle.store_statements.specs.Changes.{blob_columns, Comes}
 use Rattle.store_statements.specs.Held.{IsReady, held}
 
 -- from such tables, the transaction goes on, and this is so of the tables before and after

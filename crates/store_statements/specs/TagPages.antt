@@ -3,10 +3,10 @@ use Rattle.std.specs.Prelude.{◌≡◌, ◌⊎◌, ℕ, ℤ, pos, negsuc, ◌+�
 use Rattle.std.specs.Ordering.{is_lt}
 use Rattle.sqlite.specs.Order.{Row}
 use Rattle.sqlite_keyed.specs.Lists.{sort_by}
-use Rattle.oci_names.specs.Text.{Text}
+use Rattle.oci_types.specs.Text.{Text}
 use Rattle.registry_model.specs.World.{text_cmp}
 use Rattle.store_schema.specs.Rows.{bytes_at}
-use Rattle.store_world.specs.Keys.{of_first}
+use Rattle.store_statements.specs.Keys.{of_first}
 use Rattle.store_statements.specs.ManifestShown.{by_second}
 
 -- a tag of the repository that is behind a text

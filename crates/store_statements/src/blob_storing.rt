@@ -1,14 +1,14 @@
 //! A blob's bytes and the link to them.
 ghost use Rattle.std.specs.Prelude.{◌≡◌, ◌<◌, ◌^◌, true, length, find, None};
-ghost use Rattle.oci_names.specs.Digest.{matches};
-ghost use Rattle.store_world.specs.Keys.{has_key};
+ghost use Rattle.oci_types.specs.Digest.{matches};
+ghost use Rattle.store_statements.specs.Keys.{has_key};
 ghost use Rattle.store_statements.specs.Clauses.{KeepsInside, LastsUncommitted};
 ghost use Rattle.store_statements.specs.Steps.{BlobStored};
 ghost use Rattle.store_statements.specs.StepsFrom.{StepsFrom};
 
 use crate::blobs::add_blob_link;
 use crate::contents::keep_matching;
-use oci_names::Fault;
+use oci_types::Fault;
 use sqlite::{Alter, Transaction};
 use std::alloc::Global;
 

@@ -5,7 +5,7 @@ ghost use Rattle.store_statements.specs.Shown.{content_named};
 ghost use Rattle.store_statements.specs.Told.{IsRead};
 
 use crate::telling::told;
-use oci_names::Fault;
+use oci_types::Fault;
 use sqlite::{Error, Row};
 use std::alloc::Global;
 use store_contents::{ContentId, fault_of};

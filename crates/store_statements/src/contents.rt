@@ -2,7 +2,7 @@
 ghost use Rattle.std.specs.Prelude.{◌≡◌, true, IfOk};
 ghost use Rattle.sqlite.specs.State.{HasCleanDisk};
 ghost use Rattle.sqlite.specs.Held.{state};
-ghost use Rattle.oci_names.specs.Digest.{matches};
+ghost use Rattle.oci_types.specs.Digest.{matches};
 ghost use Rattle.store_statements.specs.Between.{Finds, Stays};
 ghost use Rattle.store_statements.specs.Clauses.{KeepsInside, Lasts, LastsUncommitted};
 ghost use Rattle.store_statements.specs.ContentShown.{has_sha256_digest};
@@ -10,7 +10,7 @@ ghost use Rattle.store_statements.specs.Held.{IsReady, held};
 ghost use Rattle.store_statements.specs.Steps.{ContentKept};
 
 use crate::open_check::checked_fault;
-use oci_names::Fault;
+use oci_types::Fault;
 use sqlite::{Alter, Connection, Transaction};
 use std::alloc::Global;
 use store_contents::{ContentId, find_or_add, find_or_add_hashed, is_hashed};

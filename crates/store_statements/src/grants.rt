@@ -3,9 +3,9 @@ ghost use Rattle.std.specs.Prelude.{◌≡◌, ◌∷◌, [], pos, map, nat_lt, 
 ghost use Rattle.sqlite.specs.Order.{column};
 ghost use Rattle.sqlite_keyed.specs.Lists.{sort_by};
 ghost use Rattle.store_schema.specs.Rows.{natural_at};
-ghost use Rattle.store_world.specs.Keys.{has_key, of_first, of_second};
-ghost use Rattle.store_world.specs.Tables.{level_number, level_of};
-ghost use Rattle.store_world.specs.Changes.{with_level, grant_columns};
+ghost use Rattle.store_statements.specs.Keys.{has_key, of_first, of_second};
+ghost use Rattle.store_statements.specs.Tables.{level_number, level_of};
+ghost use Rattle.store_statements.specs.Changes.{with_level, grant_columns};
 ghost use Rattle.store_statements.specs.Between.{ChangesNothing, FailsAsWas, Finds, Stays};
 ghost use Rattle.store_statements.specs.Clauses.{Adds, Changes, FindsInside, KeepsInside, Lasts, LastsUncommitted};
 ghost use Rattle.store_statements.specs.Shown.{by_token};
@@ -14,7 +14,7 @@ ghost use Rattle.store_statements.specs.Told.{IsRead};
 
 use crate::columns::any_row;
 use crate::telling::{checked, done, told};
-use oci_names::Fault;
+use oci_types::Fault;
 use registry_model::Level;
 use sqlite::{Alter, Connection, Error, Row, Transaction, params};
 use store_contents::fault_of;

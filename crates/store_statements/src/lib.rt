@@ -1,5 +1,9 @@
-//! Each SQL text of a store as a change or a selection of the rows of one table, and the transaction that a
-//! change of the store is.
+//! What the rows of a registry's tables stand for, and each SQL text of a store.
+//!
+//! `specs/World.antt` and its neighbours say the world that rows stand for, what is kept true of them, and
+//! what each change of rows makes of the world, without a statement of SQL (`laws`). Then come the SQL
+//! texts, each a change or a selection of the rows of one table, and the transaction that a change of the
+//! store is.
 #![tactic(auto)]
 
 pub mod blob_storing;
@@ -7,6 +11,7 @@ pub mod blobs;
 mod columns;
 pub mod contents;
 pub mod grants;
+pub mod laws;
 pub mod manifests;
 mod names;
 pub mod numbers;

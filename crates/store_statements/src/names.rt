@@ -3,7 +3,7 @@ ghost use Rattle.std.specs.Prelude.{◌≡◌, ◌∷◌, ◌++◌, [], IfOk, On
 ghost use Rattle.store_schema.specs.Rows.{bytes_at};
 ghost use Rattle.store_statements.specs.Told.{IsRead};
 
-use oci_names::{Digest, Fault, NameFault, Tag};
+use oci_types::{Digest, Fault, NameFault, Tag};
 use sqlite::{Error, Row};
 use std::alloc::Global;
 use store_contents::fault_of;

@@ -4,7 +4,7 @@ ghost use Rattle.sqlite.specs.State.{HasCleanDisk, Shows};
 ghost use Rattle.sqlite.specs.Held.{state};
 ghost use Rattle.store_statements.specs.Clauses.{Lasts};
 
-use oci_names::Fault;
+use oci_types::Fault;
 use sqlite::{Alter, Connection};
 
 /// Whether the connection is open and outside a transaction. It writes nothing.

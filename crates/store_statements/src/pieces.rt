@@ -1,9 +1,9 @@
 //! The rows of the pieces of upload sessions.
 ghost use Rattle.std.specs.Prelude.{◌≡◌, ◌<◌, ◌^◌, map, find, None};
 ghost use Rattle.std.specs.List.Sorted.{IsPermutation};
-ghost use Rattle.store_world.specs.Keys.{of_first, of_session, has_start};
-ghost use Rattle.store_world.specs.Changes.{piece_columns};
-ghost use Rattle.store_world.specs.World.{pieces_of};
+ghost use Rattle.store_statements.specs.Keys.{of_first, of_session, has_start};
+ghost use Rattle.store_statements.specs.Changes.{piece_columns};
+ghost use Rattle.store_statements.specs.World.{pieces_of};
 ghost use Rattle.store_statements.specs.Between.{Finds, Stays};
 ghost use Rattle.store_statements.specs.Clauses.{Adds, Changes, ChangesNothingInside, FindsInside, KeepsInside, Lasts, LastsUncommitted};
 ghost use Rattle.store_statements.specs.Shown.{content_named};
@@ -11,7 +11,7 @@ ghost use Rattle.store_statements.specs.Steps.{pieces_without, PieceComes};
 
 use crate::columns::all_contents;
 use crate::telling::{checked, done};
-use oci_names::Fault;
+use oci_types::Fault;
 use sqlite::{Alter, Connection, Transaction, params};
 use std::alloc::Global;
 use store_contents::ContentId;

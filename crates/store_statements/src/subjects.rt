@@ -1,8 +1,8 @@
 //! The manifests that name a digest as their subject.
 ghost use Rattle.std.specs.Prelude.{◌≡◌, true, IfOk, map, filter};
 ghost use Rattle.sqlite_keyed.specs.Lists.{sort_by};
-ghost use Rattle.oci_names.specs.Digest.{is_digest};
-ghost use Rattle.store_world.specs.Keys.{on_subject};
+ghost use Rattle.oci_types.specs.Digest.{is_digest};
+ghost use Rattle.store_statements.specs.Keys.{on_subject};
 ghost use Rattle.store_statements.specs.Between.{Finds, Stays};
 ghost use Rattle.store_statements.specs.Clauses.{Lasts};
 ghost use Rattle.store_statements.specs.ManifestShown.{by_second, referrer, referrer_shown};
@@ -10,7 +10,7 @@ ghost use Rattle.store_statements.specs.Told.{IsRead};
 
 use crate::names::digest_at;
 use crate::telling::checked;
-use oci_names::{Digest, Fault};
+use oci_types::{Digest, Fault};
 use sqlite::{Alter, Connection, Error, Row, params};
 use std::alloc::Global;
 use store_contents::{ContentId, fault_of};

@@ -10,7 +10,7 @@ ghost use Rattle.store_statements.specs.Told.{IsRead};
 use crate::names::tag_at;
 use crate::numbers::LARGEST;
 use crate::telling::checked;
-use oci_names::{Fault, Tag};
+use oci_types::{Fault, Tag};
 use sqlite::{Alter, Connection, Error, Row, params};
 use std::alloc::Global;
 use store_contents::fault_of;

@@ -1,8 +1,8 @@
 //! The rows of tags.
 ghost use Rattle.std.specs.Prelude.{◌≡◌, find, filter, length, option_map, None};
 ghost use Rattle.store_schema.specs.Rows.{bytes_at};
-ghost use Rattle.store_world.specs.Keys.{of_first, has_key};
-ghost use Rattle.store_world.specs.Changes.{with_digest, tag_columns};
+ghost use Rattle.store_statements.specs.Keys.{of_first, has_key};
+ghost use Rattle.store_statements.specs.Changes.{with_digest, tag_columns};
 ghost use Rattle.store_statements.specs.Between.{Finds, Stays};
 ghost use Rattle.store_statements.specs.Clauses.{Adds, Changes, FindsInside, KeepsInside, Lasts, LastsUncommitted};
 ghost use Rattle.store_statements.specs.Steps.{names_digest, tags_without, tags_changed, TagComes};
@@ -10,7 +10,7 @@ ghost use Rattle.store_statements.specs.Steps.{names_digest, tags_without, tags_
 use crate::columns::count_rows;
 use crate::names::first_digest;
 use crate::telling::{checked, done, told};
-use oci_names::{Digest, Fault};
+use oci_types::{Digest, Fault};
 use sqlite::{Alter, Connection, Transaction, params};
 use std::alloc::Global;
 

@@ -3,7 +3,7 @@ ghost use Rattle.std.specs.Prelude.{◌≡◌, Ok, IfOk, IsOk, OnOk};
 ghost use Rattle.store_statements.specs.Told.{Checked};
 
 use crate::open_check::checked_fault;
-use oci_names::Fault;
+use oci_types::Fault;
 use sqlite::{Alter, Connection, Error};
 use store_contents::fault_of;
 

@@ -1,7 +1,7 @@
 //! The shape that each change has: its work in a transaction of its own.
 ghost use Rattle.store_statements.specs.Ends.{Ends};
 
-use oci_names::Fault;
+use oci_types::Fault;
 use sqlite::{Alter, Transaction};
 use store_contents::fault_of;
 
@@ -23,7 +23,7 @@ pub fn end<S: Alter>(tx: Transaction<'_, S>, done: Result<(), Fault>) -> Result<
 macro_rules! alone {
     ($conn:ident, $tx:ident, $work:expr) => {{
         if !$conn.is_autocommit() {
-            return Err(oci_names::Fault::Storage);
+            return Err(oci_types::Fault::Storage);
         }
         let mut $tx = $conn.transaction();
         let done = $work;

@@ -2,15 +2,15 @@
 ghost use Rattle.std.specs.Prelude.{◌≡◌, ◌<◌, ◌^◌, map, filter, find, length, None, option_map};
 ghost use Rattle.std.specs.List.Sorted.{IsPermutation};
 ghost use Rattle.store_schema.specs.Rows.{natural_at};
-ghost use Rattle.store_world.specs.Keys.{of_first, of_session};
-ghost use Rattle.store_world.specs.Changes.{with_size, upload_columns};
+ghost use Rattle.store_statements.specs.Keys.{of_first, of_session};
+ghost use Rattle.store_statements.specs.Changes.{with_size, upload_columns};
 ghost use Rattle.store_statements.specs.Between.{Finds, Stays};
 ghost use Rattle.store_statements.specs.Clauses.{Adds, Changes, FindsInside, KeepsInside, Lasts, LastsUncommitted};
 ghost use Rattle.store_statements.specs.Steps.{uploads_without, uploads_changed, UploadComes};
 
 use crate::columns::{all_numbers, count_rows, first_number};
 use crate::telling::{checked, done, told};
-use oci_names::Fault;
+use oci_types::Fault;
 use sqlite::{Alter, Connection, Transaction, params};
 use std::alloc::Global;
 

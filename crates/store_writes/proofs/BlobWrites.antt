@@ -2,14 +2,14 @@
 use Rattle.std.proofs.Common.{◌≡◌, ◌∙◌, true, None, Some, sym, subst}
 use Rattle.std.specs.Prelude.{find, option_map}
 use Rattle.sqlite.specs.State.{State}
-use Rattle.oci_names.specs.Text.{Text}
+use Rattle.oci_types.specs.Text.{Text}
 use Rattle.registry_model.specs.World.{has_repo}
 use Rattle.registry_model.specs.Lookups.{put_blob}
-use Rattle.store_world.specs.Keys.{has_key}
-use Rattle.store_world.specs.Tables.{Tables}
-use Rattle.store_world.proofs.Blobs.{blob_there}
-use Rattle.store_world.proofs.Repos.{has_repo_found}
-use Rattle.store_world.proofs.Stored.{blob_stored}
+use Rattle.store_statements.specs.Keys.{has_key}
+use Rattle.store_statements.specs.Tables.{Tables}
+use Rattle.store_statements.proofs.BlobWorlds.{blob_there}
+use Rattle.store_statements.proofs.RepoWorlds.{has_repo_found}
+use Rattle.store_statements.proofs.Stored.{blob_stored}
 use Rattle.store_statements.specs.Held.{IsSettled, StaysSettled, Commits, SettlesOn, held, world_in}
 use Rattle.store_statements.specs.declared.blobs.BlobLink.{BlobLink}
 use Rattle.store_statements.specs.Shown.{blob_link}

@@ -12,7 +12,7 @@ use Rattle.sqlite_rules.specs.Lists.{Has}
 use Rattle.store_schema.specs.Rows.{integer_at}
 use Rattle.store_schema.proofs.Ids.{int_eq_itself}
 use Rattle.store_contents.specs.declared.content_id.ContentId.{ContentId}
-use Rattle.store_world.specs.Tables.{Tables}
+use Rattle.store_statements.specs.Tables.{Tables}
 use Rattle.store_statements.specs.Shown.{content_named}
 use Rattle.store_writes.specs.Naming.{is_among, is_in_column, is_named}
 

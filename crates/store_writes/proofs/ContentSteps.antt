@@ -3,7 +3,7 @@ use Rattle.std.proofs.Common.{◌≡◌, ℕ, ℤ, List, sym, subst}
 use Rattle.std.specs.Prelude.{Option}
 use Rattle.sqlite.specs.Effect.{Database}
 use Rattle.store_contents.specs.Contents.{HoldsContents, bytes_in}
-use Rattle.store_world.specs.Tables.{Tables, AreTables}
+use Rattle.store_statements.specs.Tables.{Tables, AreTables}
 use Rattle.store_statements.specs.Known.{KnowsRegistry}
 use Rattle.store_statements.specs.Held.{HoldsTables, tables_in}
 

@@ -16,17 +16,17 @@ use Rattle.sqlite_trees.specs.View.{is_int}
 use Rattle.sqlite_rules.specs.Edit.{id_in}
 use Rattle.sqlite_rules.proofs.ListLemmas.{all_from}
 use Rattle.sqlite_rules.proofs.TableLemmas.{int_is}
-use Rattle.oci_names.specs.Text.{Text}
+use Rattle.oci_types.specs.Text.{Text}
 use Rattle.store_schema.specs.Rows.{bytes_at, integer_at, integer}
 use Rattle.store_schema.proofs.Ids.{rowid_test, int_eq_is, int_eq-sym}
 use Rattle.store_schema.proofs.Selects.{commit_then, survives_both}
 use Rattle.store_contents.specs.declared.content_id.ContentId.{ContentId}
 use Rattle.store_contents.specs.Contents.{IsInside, Removes, HoldsContents, bytes_in, content_rows}
 use Rattle.store_contents.specs.Linked.{is_linked, ids_of}
-use Rattle.store_world.specs.Tables.{Tables}
-use Rattle.store_world.specs.Registry.{IsRegistry}
-use Rattle.store_world.specs.World.{world_of}
-use Rattle.store_world.proofs.Contents.{Same, contents_kept}
+use Rattle.store_statements.specs.Tables.{Tables}
+use Rattle.store_statements.specs.Registry.{IsRegistry}
+use Rattle.store_statements.specs.World.{world_of}
+use Rattle.store_statements.proofs.ContentWorlds.{Same, contents_kept}
 use Rattle.store_statements.specs.Held.{HoldsTables, IsReady, IsSettled, Commits, SettlesOn, held, tables_in, world_in}
 use Rattle.store_writes.specs.Naming.{is_among, is_in_column, is_named, ContentsGone, Cleared}
 use Rattle.store_statements.proofs.OtherTables.{only_contents}

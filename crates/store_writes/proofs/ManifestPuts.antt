@@ -4,26 +4,26 @@ use Rattle.std.specs.Prelude.{find, is_some, Option, option_map, false}
 use Rattle.sqlite.specs.Order.{Row}
 use Rattle.sqlite.specs.State.{State}
 use Rattle.sqlite.specs.Effect.{Database}
-use Rattle.oci_names.specs.declared.fault.Fault.{Fault}
-use Rattle.oci_names.specs.declared.fault.Fault.TheVariants.{Memory, Storage}
-use Rattle.oci_names.specs.Text.{Text}
-use Rattle.oci_manifest.specs.Manifest.{ManifestShown, manifest_in}
+use Rattle.oci_types.specs.declared.fault.Fault.{Fault}
+use Rattle.oci_types.specs.declared.fault.Fault.TheVariants.{Memory, Storage}
+use Rattle.oci_types.specs.Text.{Text}
+use Rattle.oci_types.specs.Manifest.{ManifestShown, manifest_in}
 use Rattle.registry_model.specs.Lookups.{put_manifest}
 use Rattle.registry_model.specs.Manifests.{kind_in, kind_or_image, with_bytes, with_tag}
 use Rattle.registry_model.specs.Referrers.{subject_or_none}
 use Rattle.registry_model.specs.World.{World, has_repo}
-use Rattle.store_world.specs.Keys.{has_key}
-use Rattle.store_world.specs.Tables.{Tables}
-use Rattle.store_world.specs.Registry.{is_repo, Agree, IsRegistry}
-use Rattle.store_world.specs.World.{world_of}
-use Rattle.store_world.specs.Changes.{with_digest, tag_columns, manifest_columns, Comes}
-use Rattle.store_world.proofs.Blobs.{update_same}
-use Rattle.store_world.proofs.Children.{some_is}
-use Rattle.store_world.proofs.Manifests.{manifest_there}
-use Rattle.store_world.proofs.Repos.{has_repo_found}
-use Rattle.store_world.proofs.Stored.{manifest_stored}
-use Rattle.store_world.proofs.Tags.{tag_set, tag_added}
-use Rattle.store_world.proofs.Updates.{update_twice}
+use Rattle.store_statements.specs.Keys.{has_key}
+use Rattle.store_statements.specs.Tables.{Tables}
+use Rattle.store_statements.specs.Registry.{is_repo, Agree, IsRegistry}
+use Rattle.store_statements.specs.World.{world_of}
+use Rattle.store_statements.specs.Changes.{with_digest, tag_columns, manifest_columns, Comes}
+use Rattle.store_statements.proofs.BlobWorlds.{update_same}
+use Rattle.store_statements.proofs.Children.{some_is}
+use Rattle.store_statements.proofs.ManifestWorlds.{manifest_there}
+use Rattle.store_statements.proofs.RepoWorlds.{has_repo_found}
+use Rattle.store_statements.proofs.Stored.{manifest_stored}
+use Rattle.store_statements.proofs.TagWorlds.{tag_set, tag_added}
+use Rattle.store_statements.proofs.Updates.{update_twice}
 use Rattle.store_statements.specs.Held.{IsReady, Becomes, SettlesOn, held, tables_in, is_storage}
 use Rattle.store_statements.specs.Steps.{tags_changed, TagComes, ManifestComes, ContentKept}
 use Rattle.store_writes.specs.Worlds.{IsWhole, Turns, tagged}

@@ -3,14 +3,14 @@ use Rattle.std.proofs.Common.{◌≡◌, ◌∙◌, ℕ, List, true, false, None
 use Rattle.std.specs.Prelude.{find, option_map, Option}
 use Rattle.sqlite.specs.Order.{Row}
 use Rattle.sqlite.specs.State.{State}
-use Rattle.oci_names.specs.declared.fault.Fault.{Fault}
-use Rattle.oci_names.specs.declared.fault.Fault.TheVariants.{Memory}
+use Rattle.oci_types.specs.declared.fault.Fault.{Fault}
+use Rattle.oci_types.specs.declared.fault.Fault.TheVariants.{Memory}
 use Rattle.registry_model.specs.World.{World, has_repo}
 use Rattle.registry_model.specs.Lookups.{mount}
-use Rattle.store_world.specs.Keys.{has_key}
-use Rattle.store_world.specs.Tables.{Tables}
-use Rattle.store_world.proofs.Blobs.{mount_there}
-use Rattle.store_world.proofs.Repos.{has_repo_found}
+use Rattle.store_statements.specs.Keys.{has_key}
+use Rattle.store_statements.specs.Tables.{Tables}
+use Rattle.store_statements.proofs.BlobWorlds.{mount_there}
+use Rattle.store_statements.proofs.RepoWorlds.{has_repo_found}
 use Rattle.store_statements.specs.Held.{IsSettled, StaysSettled, Commits, SettlesOn, held, world_in, tables_in, is_storage}
 use Rattle.store_statements.specs.Shown.{blob_link}
 use Rattle.store_statements.specs.StepsFrom.{LinkIsPut}

@@ -7,15 +7,15 @@ use Rattle.registry_model.specs.declared.level.Level.{Level}
 use Rattle.registry_model.specs.Command.{grant, set_repo}
 use Rattle.registry_model.specs.Lookups.{mount}
 use Rattle.store_schema.specs.Rows.{natural_at, integer_at}
-use Rattle.store_world.specs.Keys.{has_key, of_first}
-use Rattle.store_world.specs.Tables.{Tables}
-use Rattle.store_world.specs.World.{world_of}
-use Rattle.store_world.specs.Registry.{is_repo, IsRegistry}
-use Rattle.store_world.specs.Changes.{changed, with_level, grant_columns, with_quota, repo_columns, Comes}
-use Rattle.store_world.proofs.Children.{some_is}
-use Rattle.store_world.proofs.Blobs.{blob_mounted}
-use Rattle.store_world.proofs.Grants.{level_set, grant_added}
-use Rattle.store_world.proofs.Repos.{quota_set, repo_added}
+use Rattle.store_statements.specs.Keys.{has_key, of_first}
+use Rattle.store_statements.specs.Tables.{Tables}
+use Rattle.store_statements.specs.World.{world_of}
+use Rattle.store_statements.specs.Registry.{is_repo, IsRegistry}
+use Rattle.store_statements.specs.Changes.{changed, with_level, grant_columns, with_quota, repo_columns, Comes}
+use Rattle.store_statements.proofs.Children.{some_is}
+use Rattle.store_statements.proofs.BlobWorlds.{blob_mounted}
+use Rattle.store_statements.proofs.GrantWorlds.{level_set, grant_added}
+use Rattle.store_statements.proofs.RepoWorlds.{quota_set, repo_added}
 use Rattle.store_statements.specs.Held.{Becomes, held}
 use Rattle.store_statements.specs.Steps.{grants_changed, GrantComes, repos_changed, RepoComes}
 use Rattle.store_writes.specs.Puts.{SetOrCome, LevelIsPut, QuotaIsPut}

@@ -2,7 +2,7 @@
 use Rattle.std.proofs.Common.{◌≡◌, ◌≢◌, List, [], ◌∷◌, Bool, true, false, cond, None, Some, length, refl, ap}
 use Rattle.std.specs.Prelude.{find, filter, is_some}
 use Rattle.sqlite.specs.Order.{Row}
-use Rattle.store_world.specs.Changes.{changed}
+use Rattle.store_statements.specs.Changes.{changed}
 
 pub none_counted : (p : Row → Bool) (rows : List Row) → length (filter p rows) ≡ 0 → find p rows ≡ None
 none_counted p [] e = refl

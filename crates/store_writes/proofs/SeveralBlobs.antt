@@ -2,16 +2,16 @@
 use Rattle.std.proofs.Common.{◌≡◌, ◌∙◌, ◌<◌, ◌+◌, ◌++◌, ℕ, List, [], ◌∷◌, length, take, get_or, refl, sym, ap, inl, arith}
 use Rattle.std.proofs.lemmas.List.{take_more}
 use Rattle.sqlite.specs.State.{State, HasCleanDisk, KeepsCommit, Survives}
-use Rattle.oci_names.specs.Text.{Text}
+use Rattle.oci_types.specs.Text.{Text}
 use Rattle.registry_model.specs.Blobs.{without_blob}
 use Rattle.registry_model.specs.Pruning.{without_blobs, delete_blobs}
 use Rattle.store_schema.proofs.Selects.{commit_then, survives_both}
-use Rattle.store_world.specs.Keys.{has_key}
-use Rattle.store_world.specs.Tables.{Tables}
-use Rattle.store_world.specs.World.{world_of}
-use Rattle.store_world.specs.Registry.{IsRegistry}
-use Rattle.store_world.proofs.Blobs.{blob_taken, update_same}
-use Rattle.store_world.proofs.Updates.{update_twice}
+use Rattle.store_statements.specs.Keys.{has_key}
+use Rattle.store_statements.specs.Tables.{Tables}
+use Rattle.store_statements.specs.World.{world_of}
+use Rattle.store_statements.specs.Registry.{IsRegistry}
+use Rattle.store_statements.proofs.BlobWorlds.{blob_taken, update_same}
+use Rattle.store_statements.proofs.Updates.{update_twice}
 use Rattle.store_statements.specs.Held.{IsReady, Becomes, held}
 use Rattle.store_statements.specs.Steps.{blobs_without}
 use Rattle.store_writes.specs.Deleting.{without_blob_links}

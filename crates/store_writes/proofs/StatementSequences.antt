@@ -3,9 +3,9 @@ use Rattle.std.proofs.Common.{Result, OnOk, subst}
 use Rattle.sqlite_trees.specs.declared.store.Store.{Ghosts}
 use Rattle.sqlite.specs.State.{HasCleanDisk}
 use Rattle.sqlite.specs.Held.{Held, state}
-use Rattle.oci_names.specs.declared.fault.Fault.{Fault}
+use Rattle.oci_types.specs.declared.fault.Fault.{Fault}
 use Rattle.store_schema.proofs.Selects.{commit_then, survives_both}
-use Rattle.store_world.specs.Tables.{Tables}
+use Rattle.store_statements.specs.Tables.{Tables}
 use Rattle.store_statements.specs.Clauses.{Changes, KeepsInside, LastsUncommitted}
 use Rattle.store_statements.specs.Held.{IsReady, Becomes, held}
 use Rattle.store_statements.proofs.CleanBefore.{was_clean}

@@ -3,11 +3,11 @@ use Rattle.std.proofs.Common.{◌≡◌, true, Result, OnOk}
 use Rattle.sqlite_trees.specs.declared.store.Store.{Ghosts}
 use Rattle.sqlite.specs.State.{State, HasCleanDisk, KeepsCommit}
 use Rattle.sqlite.specs.Held.{Held, state}
-use Rattle.oci_names.specs.declared.fault.Fault.{Fault}
+use Rattle.oci_types.specs.declared.fault.Fault.{Fault}
 use Rattle.registry_model.specs.World.{World}
-use Rattle.store_world.specs.Tables.{Tables}
-use Rattle.store_world.specs.Registry.{IsRegistry}
-use Rattle.store_world.specs.World.{world_of}
+use Rattle.store_statements.specs.Tables.{Tables}
+use Rattle.store_statements.specs.Registry.{IsRegistry}
+use Rattle.store_statements.specs.World.{world_of}
 use Rattle.store_statements.specs.Between.{CommitsStep, GoesBack, MakesWorld}
 use Rattle.store_statements.specs.Clauses.{Lasts, LastsUncommitted, TablesHave}
 use Rattle.store_statements.specs.Ends.{Ends}

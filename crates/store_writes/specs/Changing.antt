@@ -1,14 +1,14 @@
 -- What each change asks of its values and of the tables, and what it makes of them.
 use Rattle.std.specs.Prelude.{◌≡◌, ◌<◌, ◌≤◌, ◌^◌, ⊤, true, find, length, None, Ok}
-use Rattle.oci_manifest.specs.Manifest.{shown, manifest_in}
-use Rattle.oci_names.specs.Digest.{matches}
+use Rattle.oci_types.specs.Manifest.{shown, manifest_in}
+use Rattle.oci_types.specs.Digest.{matches}
 use Rattle.registry_model.specs.Ask.{text_in}
 use Rattle.registry_model.specs.Limits.{largest_manifest}
 use Rattle.registry_model.specs.Lookups.{put_manifest}
-use Rattle.store_world.specs.Keys.{of_first, has_key}
-use Rattle.store_world.specs.Tables.{Tables, IsEmptyBeside}
-use Rattle.store_world.specs.Registry.{Agree, is_repo}
-use Rattle.store_world.specs.World.{world_of}
+use Rattle.store_statements.specs.Keys.{of_first, has_key}
+use Rattle.store_statements.specs.Tables.{Tables, IsEmptyBeside}
+use Rattle.store_statements.specs.Registry.{Agree, is_repo}
+use Rattle.store_statements.specs.World.{world_of}
 use Rattle.store_statements.specs.Drops.{dropped}
 use Rattle.store_statements.specs.Steps.{tags_without, grants_without, blobs_without, without_manifest, BlobStored}
 use Rattle.store_statements.specs.StepsFrom.{LinkIsPut}

@@ -1,8 +1,8 @@
 -- What the deletion of several blobs makes of the tables.
 use Rattle.std.specs.Prelude.{List, [], ◌∷◌}
-use Rattle.oci_names.specs.Text.{Text}
-use Rattle.store_world.specs.Keys.{has_key}
-use Rattle.store_world.specs.Tables.{Tables}
+use Rattle.oci_types.specs.Text.{Text}
+use Rattle.store_statements.specs.Keys.{has_key}
+use Rattle.store_statements.specs.Tables.{Tables}
 use Rattle.store_statements.specs.Steps.{blobs_without}
 
 -- one link goes after the other; contents stay

@@ -5,7 +5,7 @@ use Rattle.std.specs.Ordering.{int_eq}
 use Rattle.sqlite.specs.Order.{Row}
 use Rattle.store_schema.specs.Rows.{integer_at}
 use Rattle.store_contents.specs.declared.content_id.ContentId.{ContentId}
-use Rattle.store_world.specs.Tables.{Tables}
+use Rattle.store_statements.specs.Tables.{Tables}
 
 abbrev pub is_among : List ContentId → ℤ → Bool
 is_among ids id = list_any (λ (other : ContentId). int_eq id other.id) ids

@@ -2,9 +2,9 @@
 use Rattle.std.specs.Prelude.{◌≡◌, ◌⊎◌, ℕ, Bool, true, List, find, is_some, None}
 use Rattle.sqlite.specs.Order.{Row}
 use Rattle.registry_model.specs.declared.level.Level.{Level}
-use Rattle.store_world.specs.Keys.{of_first, has_key}
-use Rattle.store_world.specs.Tables.{Tables}
-use Rattle.store_world.specs.Changes.{changed, with_quota, repo_columns, with_level, grant_columns, Comes}
+use Rattle.store_statements.specs.Keys.{of_first, has_key}
+use Rattle.store_statements.specs.Tables.{Tables}
+use Rattle.store_statements.specs.Changes.{changed, with_quota, repo_columns, with_level, grant_columns, Comes}
 
 -- rows that pass changed, or, where there were none, one row came
 abbrev pub SetOrCome : (Row → Bool) → (Row → Row) → Row → List Row → List Row → Type 0

@@ -3,13 +3,13 @@ use Rattle.std.specs.Prelude.{◌≡◌, true, Option, None, Result, OnOk, find}
 use Rattle.sqlite_trees.specs.declared.store.Store.{Ghosts}
 use Rattle.sqlite.specs.State.{State, HasCleanDisk, KeepsCommit}
 use Rattle.sqlite.specs.Held.{Held, state}
-use Rattle.oci_names.specs.Text.{Text}
+use Rattle.oci_types.specs.Text.{Text}
 use Rattle.registry_model.specs.World.{World, repo_at, update_repo}
 use Rattle.registry_model.specs.Manifests.{with_tag}
-use Rattle.store_world.specs.Keys.{has_key}
-use Rattle.store_world.specs.Tables.{Tables}
-use Rattle.store_world.specs.Registry.{Agree, is_repo}
-use Rattle.store_world.specs.World.{world_of}
+use Rattle.store_statements.specs.Keys.{has_key}
+use Rattle.store_statements.specs.Tables.{Tables}
+use Rattle.store_statements.specs.Registry.{Agree, is_repo}
+use Rattle.store_statements.specs.World.{world_of}
 use Rattle.store_statements.specs.Held.{IsReady, held}
 
 -- inside a transaction, and the tables stand for a world

@@ -1,6 +1,6 @@
 //! A blob comes, with its bytes.
 ghost use Rattle.std.specs.Prelude.{◌≡◌, ◌≤◌, true, length};
-ghost use Rattle.oci_names.specs.Digest.{matches};
+ghost use Rattle.oci_types.specs.Digest.{matches};
 ghost use Rattle.registry_model.specs.Limits.{largest_blob};
 ghost use Rattle.registry_model.specs.World.{has_repo};
 ghost use Rattle.registry_model.specs.Lookups.{put_blob};
@@ -9,7 +9,7 @@ ghost use Rattle.store_statements.specs.Clauses.{Lasts, WorldHas};
 
 use crate::change::Change;
 use crate::changing::make;
-use oci_names::{Digest, Fault, RepoName};
+use oci_types::{Digest, Fault, RepoName};
 use sqlite::{Alter, Connection};
 use std::alloc::Global;
 use store_statements::blobs::find_blob_link;

@@ -1,5 +1,6 @@
-use oci_manifest::Manifest;
-use oci_names::{Digest, Tag};
+//! What a change of the tables is, as a value.
+
+use oci_types::{Digest, Manifest, Tag};
 use registry_model::Level;
 use std::alloc::Global;
 use store_statements::blobs::BlobLink;

@@ -15,7 +15,7 @@ use crate::grant_changes::put_level;
 use crate::manifest_puts::{add_tagged, put_tag_if};
 use crate::quota_changes::put_quota;
 use crate::repo_removal::drop_rows;
-use oci_names::Fault;
+use oci_types::Fault;
 use sqlite::{Alter, Connection, Transaction};
 use store_statements::alone;
 use store_statements::blob_storing::store_blob;

@@ -8,7 +8,7 @@ ghost use Rattle.store_writes.specs.Naming.{is_among, is_named, ContentsGone, Cl
 
 use crate::change::Change;
 use crate::changing::make;
-use oci_names::Fault;
+use oci_types::Fault;
 use sqlite::{Alter, Connection, Transaction};
 use std::alloc::Global;
 use std::collections::BTreeSet;

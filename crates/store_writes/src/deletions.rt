@@ -9,7 +9,7 @@ ghost use Rattle.store_writes.specs.Deleting.{without_blob_links};
 
 use crate::change::Change;
 use crate::changing::make;
-use oci_names::{Digest, Fault, RepoName, Tag};
+use oci_types::{Digest, Fault, RepoName, Tag};
 use sqlite::{Alter, Connection, Transaction};
 use store_statements::blobs::take_blob_link;
 use store_statements::manifests::take_manifest_link;

@@ -8,7 +8,7 @@ ghost use Rattle.store_writes.specs.Puts.{LevelIsPut};
 
 use crate::change::Change;
 use crate::changing::make;
-use oci_names::{Fault, RepoName, Token};
+use oci_types::{Fault, RepoName, Token};
 use registry_model::Level;
 use sqlite::{Alter, Connection, Transaction};
 use store_statements::grants::{add_grant, set_level};

@@ -2,14 +2,14 @@
 ghost use Rattle.std.specs.Prelude.{◌≡◌, ◌≤◌, true, length, find, None, Some, Ok};
 ghost use Rattle.sqlite.specs.State.{HasCleanDisk, KeepsCommit};
 ghost use Rattle.sqlite.specs.Held.{state};
-ghost use Rattle.oci_manifest.specs.Manifest.{shown, manifest_in};
-ghost use Rattle.oci_names.specs.Digest.{matches};
+ghost use Rattle.oci_types.specs.Manifest.{shown, manifest_in};
+ghost use Rattle.oci_types.specs.Digest.{matches};
 ghost use Rattle.registry_model.specs.Ask.{text_in};
 ghost use Rattle.registry_model.specs.Limits.{largest_manifest};
 ghost use Rattle.registry_model.specs.Lookups.{put_manifest};
 ghost use Rattle.registry_model.specs.World.{has_repo};
-ghost use Rattle.store_world.specs.Keys.{has_key};
-ghost use Rattle.store_world.specs.Registry.{is_repo};
+ghost use Rattle.store_statements.specs.Keys.{has_key};
+ghost use Rattle.store_statements.specs.Registry.{is_repo};
 ghost use Rattle.store_writes.specs.Worlds.{KeepsWhole, TurnsFresh, TurnsThere, IsWhole, tagged};
 ghost use Rattle.store_statements.specs.Between.{MakesWorld, StaysOnMemory};
 ghost use Rattle.store_statements.specs.Clauses.{Lasts, LastsUncommitted, WorldHas};
@@ -17,8 +17,7 @@ ghost use Rattle.store_statements.specs.Held.{held};
 
 use crate::change::Change;
 use crate::changing::make;
-use oci_manifest::Manifest;
-use oci_names::{Digest, Fault, RepoName, Tag};
+use oci_types::{Digest, Fault, Manifest, RepoName, Tag};
 use sqlite::{Alter, Connection, Transaction};
 use std::alloc::Global;
 use store_statements::contents::keep_matching;

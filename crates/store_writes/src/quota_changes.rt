@@ -7,7 +7,7 @@ ghost use Rattle.store_writes.specs.Puts.{QuotaIsPut};
 
 use crate::change::Change;
 use crate::changing::make;
-use oci_names::{Fault, RepoName};
+use oci_types::{Fault, RepoName};
 use registry_model::Quota;
 use sqlite::{Alter, Connection, Transaction};
 use store_statements::repos::{add_repo, set_quota};

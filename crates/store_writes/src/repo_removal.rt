@@ -5,13 +5,13 @@ ghost use Rattle.sqlite.specs.Held.{state};
 ghost use Rattle.registry_model.specs.Command.{drop_repo};
 ghost use Rattle.store_statements.specs.Between.{MakesWorld, StaysOnMemory};
 ghost use Rattle.store_statements.specs.Clauses.{Changes, KeepsInside, Lasts, LastsUncommitted};
-ghost use Rattle.store_world.specs.Tables.{IsEmptyBeside};
+ghost use Rattle.store_statements.specs.Tables.{IsEmptyBeside};
 ghost use Rattle.store_statements.specs.Held.{IsReady, Becomes, held};
 ghost use Rattle.store_statements.specs.Drops.{dropped, without_links, without_sessions, without_children};
 
 use crate::change::Change;
 use crate::changing::make;
-use oci_names::{Fault, RepoName};
+use oci_types::{Fault, RepoName};
 use sqlite::{Alter, Connection, Transaction};
 use store_statements::blobs::take_blob_links;
 use store_statements::grants::take_grants;

@@ -5,7 +5,7 @@ ghost use Rattle.registry_model.specs.Keeping.{bytes_in};
 ghost use Rattle.registry_maps.specs.Maps.{world_of, Makes};
 
 use super::MapKeeper;
-use oci_names::{Digest, RepoName};
+use oci_types::{Digest, RepoName};
 use std::alloc::{AllocError, Global};
 
 impl MapKeeper {

@@ -5,7 +5,7 @@ ghost use Rattle.registry_model.specs.Keeping.{usages_shown};
 ghost use Rattle.registry_maps.specs.Maps.{world_of};
 
 use super::MapKeeper;
-use oci_names::{RepoName, Token};
+use oci_types::{RepoName, Token};
 use registry_model::{Level, Usage};
 use std::alloc::{AllocError, Global};
 

@@ -3,7 +3,7 @@ ghost use Rattle.std.specs.Prelude.{◌≡◌, IfOk};
 ghost use Rattle.std.specs.BTreeMap.{keys, IsOrdered};
 ghost use Rattle.registry_model.specs.World.{text_cmp};
 
-use oci_names::Digest;
+use oci_types::Digest;
 use std::alloc::{AllocError, Global};
 use std::collections::BTreeMap;
 

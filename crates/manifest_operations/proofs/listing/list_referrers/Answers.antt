@@ -1,6 +1,6 @@
 use Rattle.std.proofs.Common.{◌∙◌, ap, List, refl}
-use Rattle.oci_manifest.specs.declared.referrers.Referrer.{Referrer}
-use Rattle.oci_manifest.specs.Referrers.{referrers_shown}
+use Rattle.oci_types.specs.declared.referrers.Referrer.{Referrer}
+use Rattle.oci_types.specs.Referrers.{referrers_shown}
 use Rattle.registry_model.specs.Answer.{Answer}
 use Rattle.registry_model.specs.Ask.{text_in}
 use Rattle.registry_model.specs.Keeping.{entries_shown}

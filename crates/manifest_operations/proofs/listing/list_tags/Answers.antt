@@ -1,5 +1,5 @@
 use Rattle.std.proofs.Common.{◌∙◌, ap, List}
-use Rattle.oci_names.specs.Text.{Text}
+use Rattle.oci_types.specs.Text.{Text}
 use Rattle.registry_model.specs.Answer.{Answer}
 use Rattle.registry_model.specs.Ask.{text_in}
 use Rattle.registry_model.specs.Doing.{course_of_answer}

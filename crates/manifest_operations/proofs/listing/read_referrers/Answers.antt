@@ -2,8 +2,8 @@ use Rattle.std.proofs.Common.{◌≡◌, ◌∙◌, ◌++◌, ℕ, map, ap, sym,
 use Rattle.std.specs.declared.alloc.Global.{Global}
 use Rattle.std.specs.Prelude.{option_map}
 use Rattle.std.proofs.lemmas.List.{map_push}
-use Rattle.oci_names.specs.Text.{Text}
-use Rattle.oci_manifest.specs.Referrers.{referrer_shown}
+use Rattle.oci_types.specs.Text.{Text}
+use Rattle.oci_types.specs.Referrers.{referrer_shown}
 use Rattle.registry_model.specs.Ask.{text_in}
 use Rattle.registry_model.specs.Referrers.{referrer_in}
 use Rattle.manifest_operations.specs.Listing.{added_by, wanted_of}

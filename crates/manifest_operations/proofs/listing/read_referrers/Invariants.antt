@@ -1,5 +1,5 @@
 use Rattle.std.proofs.Common.{◌≡◌, map}
-use Rattle.oci_manifest.specs.Referrers.{referrers_shown}
+use Rattle.oci_types.specs.Referrers.{referrers_shown}
 use Rattle.registry_model.specs.Ask.{text_in}
 use Rattle.manifest_operations.specs.Listing.{wanted_of}
 use Rattle.manifest_operations.proofs.listing.read_referrers.Given as goal

@@ -1,5 +1,5 @@
 use Rattle.std.proofs.Common.{◌∙◌, ap, refl, Some}
-use Rattle.oci_manifest.specs.Manifest.{shown}
+use Rattle.oci_types.specs.Manifest.{shown}
 use Rattle.registry_model.specs.declared.reply.Status.TheVariants.{Created}
 use Rattle.registry_model.specs.Answer.{Answer, bare_answer}
 use Rattle.registry_model.specs.Ask.{text_in}

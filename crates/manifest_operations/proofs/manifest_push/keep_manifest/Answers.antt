@@ -1,7 +1,7 @@
 use Rattle.std.proofs.Common.{◌∙◌, ap, sym, Some}
-use Rattle.oci_manifest.specs.Manifest.{shown}
+use Rattle.oci_types.specs.Manifest.{shown}
 use Rattle.std.specs.Prelude.{Option, string_bytes}
-use Rattle.oci_names.specs.Text.{Text}
+use Rattle.oci_types.specs.Text.{Text}
 use Rattle.registry_model.specs.declared.reply.Status.TheVariants.{Created}
 use Rattle.registry_model.specs.Answer.{Answer, bare_answer}
 use Rattle.registry_model.specs.Doing.{course_of_answer}

@@ -1,6 +1,6 @@
 use Rattle.std.proofs.Common.{◌≡◌, length, nat_lt, true, false, arith, subst, ap}
 use Rattle.std.proofs.lemmas.Bool.Decides.{nat_tests}
-use Rattle.oci_names.specs.Reference.{IsSaidBy}
+use Rattle.oci_types.specs.Reference.{IsSaidBy}
 use Rattle.registry_model.specs.Ask.{text_in}
 use Rattle.registry_model.specs.Limits.{largest_manifest}
 use Rattle.registry_model.specs.Answer.{Answer}

@@ -1,7 +1,7 @@
 use Rattle.std.proofs.Common.{ap, refl, sym, subst}
-use Rattle.oci_manifest.specs.declared.fault.ManifestFault.{ManifestFault}
+use Rattle.oci_types.specs.declared.manifest_fault.ManifestFault.{ManifestFault}
 use Rattle.std.specs.Prelude.{Result}
-use Rattle.oci_manifest.specs.Manifest.{ManifestShown}
+use Rattle.oci_types.specs.Manifest.{ManifestShown}
 use Rattle.registry_model.specs.Answer.{Answer}
 use Rattle.registry_model.specs.Ask.{text_in}
 use Rattle.registry_model.specs.Doing.{course_of_answer}

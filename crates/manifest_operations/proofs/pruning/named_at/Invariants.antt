@@ -1,5 +1,5 @@
 use Rattle.std.proofs.Common.{◌≡◌, false, take}
-use Rattle.oci_names.specs.Text.{Text}
+use Rattle.oci_types.specs.Text.{Text}
 use Rattle.manifest_operations.specs.Pruning.{has, is_named_by}
 use Rattle.manifest_operations.proofs.pruning.named_at.Given as goal
 

@@ -1,5 +1,5 @@
 use Rattle.std.proofs.Common.{ap, string_bytes, String, Global}
-use Rattle.oci_names.specs.Text.{Text}
+use Rattle.oci_types.specs.Text.{Text}
 use Rattle.oci_documents.specs.Shown.{descriptor_shown, descriptors_shown}
 use Rattle.oci_documents.proofs.NamedDigests.{all_named}
 use Rattle.oci_documents.proofs.body.image_says.Goals as goal

@@ -1,6 +1,6 @@
 use Rattle.std.proofs.Common.{◌≡◌}
 use Rattle.serde_json.specs.View.{items_view}
-use Rattle.oci_manifest.specs.Descriptor.{descriptors_of}
+use Rattle.oci_types.specs.Descriptor.{descriptors_of}
 use Rattle.oci_documents.specs.Shown.{descriptors_shown}
 use Rattle.oci_documents.proofs.Descriptors.{behind, left_from}
 use Rattle.oci_documents.proofs.descriptor.read_descriptors.Given as goal

@@ -1,4 +1,4 @@
-use Rattle.oci_manifest.specs.Errors.{error_data, error_line}
+use Rattle.oci_types.specs.Errors.{error_data, error_line}
 use Rattle.oci_documents.proofs.Replies.{line_is, error_is}
 use Rattle.oci_documents.proofs.errors.error_text.Goals as goal
 

@@ -1,5 +1,5 @@
 use Rattle.std.proofs.Common.{true≢false, refl, sym}
-use Rattle.oci_manifest.proofs.Documents.{document_read, document_refused}
+use Rattle.oci_types.proofs.Documents.{document_read, document_refused}
 use Rattle.oci_documents.proofs.manifest.read_document.Goals as goal
 
 pub returns-in-Ok : goal.returns-in-Ok

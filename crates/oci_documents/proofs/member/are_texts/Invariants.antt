@@ -1,6 +1,6 @@
 use Rattle.std.proofs.Common.{◌≡◌, drop}
 use Rattle.serde_json.specs.View.{items_view}
-use Rattle.oci_manifest.specs.Member.{all_texts}
+use Rattle.oci_types.specs.Member.{all_texts}
 use Rattle.oci_documents.proofs.member.are_texts.Given as goal
 
 abbrev pub invariant-loop-item : goal.invariant-loop-item

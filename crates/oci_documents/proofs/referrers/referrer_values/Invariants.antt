@@ -1,6 +1,6 @@
 use Rattle.std.proofs.Common.{◌≡◌, take, map}
 use Rattle.serde_json.specs.View.{view}
-use Rattle.oci_manifest.specs.Referrers.{referrer_data, referrers_shown}
+use Rattle.oci_types.specs.Referrers.{referrer_data, referrers_shown}
 use Rattle.oci_documents.proofs.referrers.referrer_values.Given as goal
 
 abbrev pub invariant-loop-referrer : goal.invariant-loop-referrer

@@ -1,4 +1,4 @@
-use Rattle.oci_manifest.specs.Referrers.{referrers_shown, referrers_data, referrers_line}
+use Rattle.oci_types.specs.Referrers.{referrers_shown, referrers_data, referrers_line}
 use Rattle.oci_documents.proofs.Replies.{whole, line_is, referrers_no_float, referrers_are}
 use Rattle.oci_documents.proofs.referrers.referrers_text.Goals as goal
 

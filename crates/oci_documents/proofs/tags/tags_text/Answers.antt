@@ -1,4 +1,4 @@
-use Rattle.oci_manifest.specs.Tags.{tags_data, tags_line}
+use Rattle.oci_types.specs.Tags.{tags_data, tags_line}
 use Rattle.oci_documents.proofs.Replies.{whole, line_is, tags_no_float, tags_are}
 use Rattle.oci_documents.proofs.tags.tags_text.Goals as goal
 

@@ -1,5 +1,5 @@
 use Rattle.std.proofs.Common.{◌∙◌, sym}
-use Rattle.oci_names.specs.Digest.{is_verified}
+use Rattle.oci_types.specs.Digest.{is_verified}
 use Rattle.operation_parts.proofs.DigestLemmas.{digest_absent, undigested, unverifiable, verifiable, unsupported, supported}
 use Rattle.operation_parts.proofs.digests.verifiable_digest.Goals as goal
 

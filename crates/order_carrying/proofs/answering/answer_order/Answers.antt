@@ -1,6 +1,6 @@
 use Rattle.std.proofs.Common.{◌≡◌, ◌∙◌, ap, sym}
 use Rattle.std.proofs.lemmas.Result.{IfOk-weaker}
-use Rattle.order_messages.specs.Answers.{failure_text}
+use Rattle.order_texts.specs.Answers.{failure_text}
 use Rattle.order_carrying.proofs.AnsweringLemmas.{one_step, failure_keeps, answered_done, answered_failed, on_err}
 use Rattle.order_carrying.proofs.answering.answer_order.Goals as goal
 

@@ -1,6 +1,6 @@
 use Rattle.std.proofs.Common.{◌≡◌, ◌∙◌, ◌+◌, ◌∷◌, ◌++◌, drop, ap, sym, append_assoc}
 use Rattle.std.proofs.lemmas.List.{at_drop_more}
-use Rattle.oci_names.specs.Text.{Text}
+use Rattle.oci_types.specs.Text.{Text}
 use Rattle.registry_checking.specs.Lines.{line_of, lines_of, newline}
 use Rattle.registry_checking.proofs.WrongLemmas.{appends_more}
 use Rattle.registry_checking.proofs.lines.write_wrongs.Goals as goal

@@ -2,7 +2,7 @@ use Rattle.std.proofs.Common.{◌∙◌, cond, [], Some, None, refl, ap}
 use Rattle.std.specs.Prelude.{codes, is_some}
 use Rattle.std.specs.Option.{option_and_then}
 use Rattle.std.specs.Ordering.{nat_cmp}
-use Rattle.oci_names.specs.Text.{Text}
+use Rattle.oci_types.specs.Text.{Text}
 use Rattle.std.specs.Fmt.{digits}
 use Rattle.std.specs.FinMap.{get, len-empty}
 use Rattle.registry_model.specs.World.{Repo, repo_at, new_repo}

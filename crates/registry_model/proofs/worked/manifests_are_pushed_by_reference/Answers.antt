@@ -1,6 +1,6 @@
 use Rattle.std.proofs.Common.{◌∙◌, None, ap}
 use Rattle.std.specs.Prelude.{codes, replicate}
-use Rattle.oci_manifest.specs.Manifest.{manifest_in}
+use Rattle.oci_types.specs.Manifest.{manifest_in}
 use Rattle.registry_model.specs.Manifests.{push_read}
 use Rattle.registry_model.specs.Operation as op
 use Rattle.registry_model.specs.Worked.{app, abc_digest, md5_digest}

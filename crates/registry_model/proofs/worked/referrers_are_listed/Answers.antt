@@ -2,7 +2,7 @@ use Rattle.std.proofs.Common.{◌∙◌, [], Some, None, ap}
 use Rattle.std.specs.Prelude.{codes}
 use Rattle.std.specs.Prelude.{filter}
 use Rattle.std.specs.List.{filter_map}
-use Rattle.oci_names.specs.Text.{Text}
+use Rattle.oci_types.specs.Text.{Text}
 use Rattle.registry_model.specs.World.{new_repo}
 use Rattle.registry_model.specs.Decision.{tells}
 use Rattle.registry_model.specs.Referrers.{has_subject, referrer_in, is_wanted, referrers_reply}

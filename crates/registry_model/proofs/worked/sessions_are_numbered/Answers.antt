@@ -2,7 +2,7 @@ use Rattle.std.proofs.Common.{◌∙◌, [], ◌∷◌, Some, refl, ap}
 use Rattle.std.specs.Prelude.{codes}
 use Rattle.std.specs.Ordering.{nat_cmp}
 use Rattle.std.specs.Cmp.{nat_cmp_total}
-use Rattle.oci_names.specs.Text.{Text}
+use Rattle.oci_types.specs.Text.{Text}
 use Rattle.std.specs.Fmt.{digits}
 use Rattle.std.specs.FinMap.{get-from_entries, len-empty}
 use Rattle.registry_model.specs.World.{new_repo}

@@ -1,5 +1,5 @@
 use Rattle.std.proofs.Common.{◌∙◌, ◌++◌, ◌∷◌, ap, sym}
-use Rattle.oci_names.specs.Text.{Text}
+use Rattle.oci_types.specs.Text.{Text}
 use Rattle.registry_orders.proofs.SplittingLemmas.{at_last_equals}
 use Rattle.registry_orders.proofs.options.split_grant.Goals as goal
 

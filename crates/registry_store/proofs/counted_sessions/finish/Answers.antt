@@ -5,7 +5,7 @@ use Rattle.registry_model.specs.Sessions.{finished}
 use Rattle.registry_model.specs.Lookups.{session_at, finish}
 use Rattle.store_statements.specs.Held.{world_in}
 use Rattle.store_statements.proofs.Checks.{never_storage}
-use Rattle.store_usages.proofs.Foretold.{session_has_repo}
+use Rattle.store_reads.proofs.Foretold.{session_has_repo}
 use Rattle.registry_store.proofs.Followed.{lasts, made_then, memory_then, known_then}
 use Rattle.registry_store.proofs.counted_sessions.finish.Goals as goal
 

@@ -4,7 +4,7 @@ use Rattle.registry_model.specs.Sessions.{finished}
 use Rattle.registry_model.specs.Lookups.{session_at, bytes_or_none}
 use Rattle.registry_model.specs.Closing.{session_matches, finish_as_is}
 use Rattle.store_statements.proofs.Checks.{never_storage}
-use Rattle.store_usages.proofs.Foretold.{session_has_repo}
+use Rattle.store_reads.proofs.Foretold.{session_has_repo}
 use Rattle.registry_store.proofs.KnownAnswers.{was_open}
 use Rattle.registry_store.proofs.Followed.{lasts, memory_then, done_then, known_done}
 use Rattle.registry_store.proofs.counted_sessions.finish_known.Goals as goal

@@ -1,6 +1,6 @@
 use Rattle.std.proofs.Common.{arith, ◌≡◌, ◌<◌, ◌≤◌, ◌≢◌, ◌∙◌, ℕ, inl, inr, refl, ap, sym}
 use Rattle.std.proofs.lemmas.Bool.{ne_eqb}
-use Rattle.oci_names.specs.Text.{Text}
+use Rattle.oci_types.specs.Text.{Text}
 use Rattle.registry_orders.specs.declared.failure.Failure.TheVariants.{ConnectionFailure}
 use Rattle.registry_orders.specs.Outputs.{Output, IsSilent}
 use Rattle.registry_tasks.specs.Sending.{Shows, relayed}

@@ -1,4 +1,4 @@
-use Rattle.store_world.specs.Keys.{has_key, of_session}
+use Rattle.store_statements.specs.Keys.{has_key, of_session}
 use Rattle.store_migration.proofs.Listed.{keys_go, sessions_go, gone_stays}
 use Rattle.store_migration.proofs.laws.rows_of_listed_keys_go.Goals as goal
 

@@ -3,7 +3,7 @@ use Rattle.std.specs.List.{concat}
 use Rattle.std.proofs.lemmas.List.{take_all}
 use Rattle.std.proofs.lemmas.Result.{IfOk-from_err}
 use Rattle.sqlite.specs.Held.{state}
-use Rattle.store_world.specs.World.{content_at}
+use Rattle.store_statements.specs.World.{content_at}
 use Rattle.store_statements.specs.Held.{held}
 use Rattle.store_statements.proofs.Checks.{survives_here}
 use Rattle.store_statements.proofs.Transactions.{survives_all}

@@ -3,7 +3,7 @@ use Rattle.std.specs.Prelude.{⊤}
 use Rattle.std.specs.List.{concat}
 use Rattle.sqlite.specs.State.{HasCleanDisk, Survives}
 use Rattle.sqlite.specs.Held.{state}
-use Rattle.store_world.specs.World.{content_at}
+use Rattle.store_statements.specs.World.{content_at}
 use Rattle.store_statements.specs.Held.{IsSettled, StaysSettled, held}
 use Rattle.store_reads.proofs.contents.joined.Given as goal
 

@@ -1,6 +1,6 @@
 use Rattle.std.proofs.Common.{sym}
 use Rattle.sqlite.specs.Held.{state}
-use Rattle.store_world.proofs.Grants.{level_found}
+use Rattle.store_statements.proofs.GrantWorlds.{level_found}
 use Rattle.store_statements.specs.Held.{held}
 use Rattle.store_reads.proofs.WorldReads.{told}
 use Rattle.store_reads.proofs.grants.level.Goals as goal

@@ -1,7 +1,7 @@
 use Rattle.std.proofs.Common.{ℕ, sym, subst}
 use Rattle.sqlite.specs.Held.{state}
 use Rattle.registry_model.specs.Lookups.{AreLevelsOn}
-use Rattle.store_world.proofs.Levels.{levels_found}
+use Rattle.store_statements.proofs.Levels.{levels_found}
 use Rattle.store_statements.specs.Held.{held, world_in}
 use Rattle.store_statements.proofs.CleanBefore.{was_clean}
 use Rattle.store_statements.proofs.Transactions.{registry, survives_all}

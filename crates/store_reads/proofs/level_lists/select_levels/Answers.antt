@@ -2,7 +2,7 @@ use Rattle.std.proofs.Common.{◌∷◌, [], filter}
 use Rattle.sqlite.specs.Held.{state}
 use Rattle.sqlite.specs.Order.{column}
 use Rattle.sqlite_keyed.specs.Lists.{sort_by}
-use Rattle.store_world.specs.Keys.{of_second}
+use Rattle.store_statements.specs.Keys.{of_second}
 use Rattle.store_statements.specs.Held.{held}
 use Rattle.store_statements.specs.Shown.{by_token}
 use Rattle.store_reads.specs.LevelLists.{token_level_shown}

@@ -1,5 +1,5 @@
 use Rattle.sqlite.specs.Held.{state}
-use Rattle.store_world.proofs.Pages.{page_found}
+use Rattle.store_statements.proofs.Pages.{page_found}
 use Rattle.store_statements.specs.Held.{held}
 use Rattle.store_statements.proofs.Transactions.{registry}
 use Rattle.store_reads.proofs.WorldReads.{page_told}

@@ -5,7 +5,7 @@ use Rattle.std.proofs.lemmas.Result.{IfOk-from_err}
 use Rattle.std.proofs.lemmas.Iterator.Adapters.{YieldsList-from_vec}
 use Rattle.std.proofs.lemmas.Iterator.Consumers.{YieldsList-end}
 use Rattle.sqlite.specs.Held.{state}
-use Rattle.oci_names.specs.Text.{Text}
+use Rattle.oci_types.specs.Text.{Text}
 use Rattle.registry_model.specs.Keeping.{entries_shown}
 use Rattle.store_statements.proofs.Checks.{survives_here}
 use Rattle.store_statements.proofs.Transactions.{survives_all}

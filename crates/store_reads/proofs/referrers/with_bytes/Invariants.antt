@@ -3,7 +3,7 @@ use Rattle.std.specs.Prelude.{⊤}
 use Rattle.sqlite.specs.State.{HasCleanDisk, Survives}
 use Rattle.sqlite.specs.Held.{state}
 use Rattle.registry_model.specs.Keeping.{entries_shown}
-use Rattle.store_world.specs.World.{content_at}
+use Rattle.store_statements.specs.World.{content_at}
 use Rattle.store_statements.specs.Held.{IsSettled, StaysSettled, held}
 use Rattle.store_reads.proofs.referrers.with_bytes.Given as goal
 

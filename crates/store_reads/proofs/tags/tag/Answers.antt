@@ -1,6 +1,6 @@
 use Rattle.std.proofs.Common.{sym}
 use Rattle.sqlite.specs.Held.{state}
-use Rattle.store_world.proofs.Tags.{tag_at_found}
+use Rattle.store_statements.proofs.TagWorlds.{tag_at_found}
 use Rattle.store_statements.specs.Held.{held}
 use Rattle.store_statements.proofs.Transactions.{registry}
 use Rattle.store_reads.proofs.WorldReads.{told}

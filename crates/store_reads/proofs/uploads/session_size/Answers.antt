@@ -1,7 +1,7 @@
 use Rattle.std.proofs.Common.{length, ap, sym}
 use Rattle.std.specs.Prelude.{option_map}
 use Rattle.sqlite.specs.Held.{state}
-use Rattle.store_world.proofs.SessionReads.{session_size_found}
+use Rattle.store_statements.proofs.SessionReads.{session_size_found}
 use Rattle.store_statements.specs.Held.{held}
 use Rattle.store_statements.proofs.Transactions.{registry}
 use Rattle.store_reads.proofs.WorldReads.{told}

@@ -1,6 +1,6 @@
 use Rattle.std.proofs.Common.{◌∙◌, sym}
 use Rattle.sqlite.specs.Held.{state}
-use Rattle.store_world.proofs.SessionReads.{sessions_open_found}
+use Rattle.store_statements.proofs.SessionReads.{sessions_open_found}
 use Rattle.store_statements.specs.Held.{held}
 use Rattle.store_statements.proofs.Transactions.{registry}
 use Rattle.store_reads.proofs.uploads.sessions_open.Goals as goal

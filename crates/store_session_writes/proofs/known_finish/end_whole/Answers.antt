@@ -3,8 +3,8 @@ use Rattle.std.specs.Prelude.{find}
 use Rattle.sqlite.specs.State.{HasCleanDisk}
 use Rattle.sqlite.specs.Held.{state}
 use Rattle.store_schema.proofs.Selects.{commit_then, survives_both}
-use Rattle.store_world.specs.Keys.{has_key}
-use Rattle.store_world.specs.Tables.{Tables}
+use Rattle.store_statements.specs.Keys.{has_key}
+use Rattle.store_statements.specs.Tables.{Tables}
 use Rattle.store_statements.specs.Held.{held}
 use Rattle.store_session_writes.proofs.KnownEnds.{ended_if}
 use Rattle.store_statements.proofs.CleanBefore.{was_clean}

@@ -3,10 +3,10 @@ use Rattle.std.specs.Prelude.{find}
 use Rattle.sqlite.specs.State.{HasCleanDisk}
 use Rattle.sqlite.specs.Held.{state}
 use Rattle.store_schema.proofs.Selects.{commit_then, survives_both}
-use Rattle.store_world.specs.Keys.{has_start}
+use Rattle.store_statements.specs.Keys.{has_start}
 use Rattle.store_statements.specs.Steps.{PieceStored}
 use Rattle.store_session_writes.proofs.BytesStored.{after_step}
-use Rattle.store_world.specs.Tables.{Tables}
+use Rattle.store_statements.specs.Tables.{Tables}
 use Rattle.store_statements.proofs.CleanBefore.{was_clean}
 use Rattle.store_session_writes.proofs.session_appends.add_bytes.Goals as goal
 

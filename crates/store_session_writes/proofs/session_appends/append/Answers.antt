@@ -3,13 +3,13 @@ use Rattle.std.specs.Prelude.{find, option_map, Option}
 use Rattle.sqlite.specs.State.{HasCleanDisk}
 use Rattle.sqlite.specs.Held.{state}
 use Rattle.store_schema.specs.Rows.{natural_at}
-use Rattle.store_world.specs.Keys.{of_session}
+use Rattle.store_statements.specs.Keys.{of_session}
 use Rattle.store_session_writes.proofs.SessionWrites.{is_zero, more_than_none, appends_nothing, piece_free, appends}
 use Rattle.store_statements.specs.Held.{held}
 use Rattle.store_statements.proofs.Transactions.{survives_all}
 use Rattle.store_statements.proofs.WritesAfterReads.{memory_told}
 use Rattle.store_statements.proofs.CleanBefore.{was_clean}
-use Rattle.oci_names.specs.declared.fault.Fault.{Fault}
+use Rattle.oci_types.specs.declared.fault.Fault.{Fault}
 use Rattle.store_statements.specs.Held.{IsSettled, StaysSettled, SettlesOn, world_in, is_storage}
 use Rattle.store_statements.proofs.SettledAfter.{stays_then}
 use Rattle.store_statements.proofs.Alone.{less}

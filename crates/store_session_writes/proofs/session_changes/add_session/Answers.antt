@@ -3,9 +3,9 @@ use Rattle.std.specs.Prelude.{find}
 use Rattle.sqlite.specs.State.{HasCleanDisk}
 use Rattle.sqlite.specs.Held.{state}
 use Rattle.store_schema.proofs.Selects.{commit_then, survives_both}
-use Rattle.store_world.specs.Keys.{of_session}
+use Rattle.store_statements.specs.Keys.{of_session}
 use Rattle.store_session_writes.proofs.BytesStored.{opened_if}
-use Rattle.store_world.specs.Tables.{Tables}
+use Rattle.store_statements.specs.Tables.{Tables}
 use Rattle.store_statements.proofs.CleanBefore.{was_clean}
 use Rattle.store_session_writes.proofs.session_changes.add_session.Goals as goal
 

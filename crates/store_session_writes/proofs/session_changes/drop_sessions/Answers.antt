@@ -1,5 +1,5 @@
 use Rattle.sqlite.specs.Held.{state}
-use Rattle.store_world.proofs.Sessions.{sessions_dropped}
+use Rattle.store_statements.proofs.Sessions.{sessions_dropped}
 use Rattle.store_statements.specs.Held.{held}
 use Rattle.store_statements.proofs.Alone.{commits_as, less}
 use Rattle.store_statements.proofs.Transactions.{makes, registry}

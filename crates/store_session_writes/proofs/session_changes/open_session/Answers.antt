@@ -3,7 +3,7 @@ use Rattle.std.specs.Prelude.{find, option_map, Option}
 use Rattle.sqlite.specs.State.{HasCleanDisk}
 use Rattle.sqlite.specs.Held.{state}
 use Rattle.store_schema.specs.Rows.{natural_at}
-use Rattle.store_world.specs.Keys.{of_first}
+use Rattle.store_statements.specs.Keys.{of_first}
 use Rattle.store_statements.specs.declared.repos.RepoRow.{RepoRow}
 use Rattle.store_statements.specs.Held.{SettlesOn, held, world_in}
 use Rattle.store_statements.proofs.Transactions.{survives_all}

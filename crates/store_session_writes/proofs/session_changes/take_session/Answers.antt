@@ -2,7 +2,7 @@ use Rattle.std.proofs.Common.{◌∙◌}
 use Rattle.sqlite.specs.State.{HasCleanDisk}
 use Rattle.sqlite.specs.Held.{state}
 use Rattle.store_schema.proofs.Selects.{commit_then, survives_both}
-use Rattle.store_world.specs.Keys.{of_session}
+use Rattle.store_statements.specs.Keys.{of_session}
 use Rattle.store_statements.specs.Steps.{pieces_without, uploads_without}
 use Rattle.store_session_writes.proofs.StatementSequences.{becomes_then}
 use Rattle.store_statements.proofs.CleanBefore.{was_clean}

@@ -4,7 +4,7 @@ use Rattle.std.specs.declared.alloc.Global.{Global}
 use Rattle.sqlite.specs.State.{HasCleanDisk}
 use Rattle.sqlite.specs.Held.{state}
 use Rattle.store_contents.specs.declared.content_id.ContentId.{ContentId}
-use Rattle.store_world.specs.World.{pieces_of}
+use Rattle.store_statements.specs.World.{pieces_of}
 use Rattle.store_statements.specs.Shown.{content_named}
 use Rattle.store_statements.specs.Held.{held}
 use Rattle.store_statements.proofs.SettledAfter.{stays_then}

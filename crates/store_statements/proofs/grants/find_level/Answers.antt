@@ -7,9 +7,9 @@ use Rattle.std.proofs.Common.{◌≡◌, ◌∙◌, [], ◌∷◌, find, map, sl
 use Rattle.std.specs.Prelude.{option_map}
 use Rattle.std.specs.Option.{option_to_list}
 use Rattle.store_statements.proofs.SelectedRows.{first_shown}
-use Rattle.store_world.specs.Keys.{has_key}
+use Rattle.store_statements.specs.Keys.{has_key}
 use Rattle.store_schema.specs.Rows.{natural_at}
-use Rattle.store_world.specs.Tables.{level_of}
+use Rattle.store_statements.specs.Tables.{level_of}
 use Rattle.store_statements.proofs.GrantReads.{shows_level}
 use Rattle.store_statements.proofs.grants.find_level.Goals as goal
 

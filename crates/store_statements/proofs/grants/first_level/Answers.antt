@@ -1,7 +1,7 @@
 use Rattle.std.proofs.Common.{◌≡◌, slice_get}
 use Rattle.std.specs.Prelude.{option_map}
 use Rattle.store_schema.specs.Rows.{natural_at}
-use Rattle.store_world.specs.Tables.{level_of}
+use Rattle.store_statements.specs.Tables.{level_of}
 use Rattle.store_statements.proofs.Executed.{number_told}
 use Rattle.store_statements.proofs.ReadRows.{is_read, not_read}
 use Rattle.store_statements.proofs.grants.first_level.Goals as goal

@@ -6,7 +6,7 @@ use Rattle.store_statements.proofs.Executed.{given}
 use Rattle.std.proofs.Common.{◌≡◌, ◌∙◌, [], ◌∷◌, filter, length, map, not, refl}
 use Rattle.std.specs.Prelude.{◌==◌, nat_lt}
 use Rattle.std.specs.List.Sorted.{IsPermutation}
-use Rattle.store_world.specs.Keys.{of_first}
+use Rattle.store_statements.specs.Keys.{of_first}
 use Rattle.store_statements.proofs.GrantReads.{shows_known, known_by_rows}
 use Rattle.store_statements.proofs.grants.is_known.Goals as goal
 

@@ -7,7 +7,7 @@ use Rattle.std.proofs.Common.{◌≡◌, ◌∙◌, [], ◌∷◌, find, map, sl
 use Rattle.std.specs.Prelude.{option_map}
 use Rattle.std.specs.Option.{option_to_list}
 use Rattle.store_statements.proofs.SelectedRows.{first_shown}
-use Rattle.store_world.specs.Keys.{has_key}
+use Rattle.store_statements.specs.Keys.{has_key}
 use Rattle.store_statements.specs.ManifestShown.{link_shown, manifest_link}
 use Rattle.store_statements.proofs.ManifestReads.{link_rows_shown}
 use Rattle.store_statements.proofs.manifests.find_manifest_link.Goals as goal

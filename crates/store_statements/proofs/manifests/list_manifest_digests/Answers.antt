@@ -5,7 +5,7 @@ use Rattle.store_statements.proofs.ReadRows.{reads}
 use Rattle.store_statements.proofs.Executed.{given}
 use Rattle.std.proofs.Common.{◌≡◌, [], ◌∷◌, map, filter, refl}
 use Rattle.store_statements.proofs.SelectedRows.{mapped}
-use Rattle.store_world.specs.Keys.{of_first}
+use Rattle.store_statements.specs.Keys.{of_first}
 use Rattle.store_schema.specs.Rows.{bytes_at}
 use Rattle.sqlite_keyed.specs.Lists.{sort_by}
 use Rattle.store_statements.specs.ManifestShown.{by_second}

@@ -6,7 +6,7 @@ use Rattle.store_statements.proofs.Executed.{given}
 use Rattle.std.proofs.Common.{◌≡◌, [], ◌∷◌, filter, map, refl}
 use Rattle.std.specs.List.Sorted.{IsPermutation}
 use Rattle.store_statements.proofs.SelectedRows.{lists_of}
-use Rattle.store_world.specs.Keys.{of_first}
+use Rattle.store_statements.specs.Keys.{of_first}
 use Rattle.store_schema.specs.Rows.{natural_at}
 use Rattle.store_statements.proofs.ManifestReads.{sizes_shown}
 use Rattle.store_statements.proofs.manifests.manifest_sizes.Goals as goal

@@ -7,7 +7,7 @@ use Rattle.std.proofs.Common.{◌≡◌, [], ◌∷◌, map, ◌∙◌, ap, arit
 use Rattle.store_statements.proofs.SelectedRows.{mapped}
 use Rattle.std.proofs.lemmas.Int.{ints}
 use Rattle.sqlite.specs.declared.types.Value.TheVariants.{Int}
-use Rattle.store_world.specs.World.{pieces_of}
+use Rattle.store_statements.specs.World.{pieces_of}
 use Rattle.store_statements.specs.Shown.{content_named}
 use Rattle.store_statements.proofs.PieceRows.{list_rows}
 use Rattle.store_statements.proofs.pieces.pieces_in_order.Goals as goal

@@ -7,7 +7,7 @@ use Rattle.std.proofs.Common.{◌≡◌, ◌∙◌, [], ◌∷◌, find, map, sl
 use Rattle.std.specs.Prelude.{option_map}
 use Rattle.std.specs.Option.{option_to_list}
 use Rattle.store_statements.proofs.SelectedRows.{first_shown}
-use Rattle.store_world.specs.Keys.{of_first}
+use Rattle.store_statements.specs.Keys.{of_first}
 use Rattle.store_statements.specs.Shown.{repo_row}
 use Rattle.store_statements.specs.FirstRows.{repo_shown}
 use Rattle.store_statements.proofs.RepoReads.{shows_repo}

@@ -5,7 +5,7 @@ use Rattle.store_statements.proofs.ReadRows.{reads}
 use Rattle.store_statements.proofs.Executed.{given}
 use Rattle.std.proofs.Common.{◌≡◌, ◌∙◌, [], ◌∷◌, filter, length, map, refl}
 use Rattle.std.specs.List.Sorted.{IsPermutation}
-use Rattle.store_world.specs.Keys.{of_first}
+use Rattle.store_statements.specs.Keys.{of_first}
 use Rattle.store_statements.proofs.SelectedRows.{counted}
 use Rattle.store_statements.proofs.TagReads.{tags_shown}
 use Rattle.store_statements.proofs.tags.count_tags.Goals as goal

@@ -4,7 +4,7 @@ use Rattle.std.specs.Option.{option_to_list}
 use Rattle.sqlite.specs.Held.{state}
 use Rattle.sqlite.specs.Order.{column}
 use Rattle.store_schema.specs.Rows.{bytes_at}
-use Rattle.store_world.specs.Keys.{has_key}
+use Rattle.store_statements.specs.Keys.{has_key}
 use Rattle.store_statements.specs.Held.{held}
 use Rattle.store_statements.proofs.Executed.{given}
 use Rattle.store_statements.proofs.ReadRows.{reads}

@@ -10,7 +10,7 @@ use Rattle.store_statements.proofs.SelectedRows.{first_shown}
 use Rattle.std.proofs.lemmas.Int.{ints}
 use Rattle.sqlite.specs.declared.types.Value.TheVariants.{Int}
 use Rattle.store_schema.specs.Rows.{natural_at}
-use Rattle.store_world.specs.Keys.{of_session}
+use Rattle.store_statements.specs.Keys.{of_session}
 use Rattle.store_statements.proofs.UploadRows.{found_rows}
 use Rattle.store_statements.proofs.uploads.find_upload.Goals as goal
 

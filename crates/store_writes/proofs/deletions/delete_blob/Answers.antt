@@ -1,6 +1,6 @@
 use Rattle.registry_model.specs.Lookups.{delete_blob}
-use Rattle.store_world.specs.Keys.{has_key}
-use Rattle.store_world.proofs.Blobs.{blob_taken}
+use Rattle.store_statements.specs.Keys.{has_key}
+use Rattle.store_statements.proofs.BlobWorlds.{blob_taken}
 use Rattle.store_statements.specs.Steps.{blobs_without}
 use Rattle.store_writes.proofs.Transacted.{made_tables}
 use Rattle.store_writes.proofs.deletions.delete_blob.Goals as goal

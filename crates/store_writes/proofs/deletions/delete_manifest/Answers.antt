@@ -1,5 +1,5 @@
 use Rattle.registry_model.specs.Lookups.{delete_manifest}
-use Rattle.store_world.proofs.Manifests.{manifest_taken}
+use Rattle.store_statements.proofs.ManifestWorlds.{manifest_taken}
 use Rattle.store_statements.specs.Steps.{without_manifest}
 use Rattle.store_writes.proofs.Transacted.{made_tables}
 use Rattle.store_writes.proofs.deletions.delete_manifest.Goals as goal

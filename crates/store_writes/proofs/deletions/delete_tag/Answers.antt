@@ -1,6 +1,6 @@
 use Rattle.registry_model.specs.Lookups.{delete_tag}
-use Rattle.store_world.specs.Keys.{has_key}
-use Rattle.store_world.proofs.Tags.{tag_taken}
+use Rattle.store_statements.specs.Keys.{has_key}
+use Rattle.store_statements.proofs.TagWorlds.{tag_taken}
 use Rattle.store_statements.specs.Steps.{tags_without}
 use Rattle.store_writes.proofs.Transacted.{made_tables}
 use Rattle.store_writes.proofs.deletions.delete_tag.Goals as goal

@@ -1,6 +1,6 @@
 use Rattle.std.proofs.Common.{◌∙◌}
 use Rattle.std.proofs.lemmas.Result.{IfOk-from_err}
-use Rattle.store_world.specs.Keys.{has_key}
+use Rattle.store_statements.specs.Keys.{has_key}
 use Rattle.store_statements.specs.Steps.{manifests_without, tags_without, names_digest}
 use Rattle.store_writes.proofs.StatementSequences.{both_kept, both_last, both_change}
 use Rattle.store_writes.proofs.deletions.take_manifest.Goals as goal

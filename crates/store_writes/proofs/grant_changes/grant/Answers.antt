@@ -1,7 +1,7 @@
 use Rattle.std.proofs.Common.{◌∙◌, sym}
 use Rattle.sqlite.specs.State.{HasCleanDisk}
 use Rattle.sqlite.specs.Held.{state}
-use Rattle.store_world.proofs.Repos.{has_repo_found}
+use Rattle.store_statements.proofs.RepoWorlds.{has_repo_found}
 use Rattle.store_statements.specs.Held.{held}
 use Rattle.store_statements.proofs.Alone.{less}
 use Rattle.store_statements.proofs.CleanBefore.{was_clean}

@@ -1,6 +1,6 @@
 use Rattle.registry_model.specs.Command.{revoke}
-use Rattle.store_world.specs.Keys.{has_key}
-use Rattle.store_world.proofs.Grants.{grant_taken}
+use Rattle.store_statements.specs.Keys.{has_key}
+use Rattle.store_statements.proofs.GrantWorlds.{grant_taken}
 use Rattle.store_statements.specs.Steps.{grants_without}
 use Rattle.store_writes.proofs.Transacted.{made_tables}
 use Rattle.store_writes.proofs.grant_changes.revoke.Goals as goal

@@ -1,6 +1,6 @@
 use Rattle.registry_model.specs.Command.{revoke_all}
-use Rattle.store_world.specs.Keys.{of_first}
-use Rattle.store_world.proofs.Grants.{token_taken}
+use Rattle.store_statements.specs.Keys.{of_first}
+use Rattle.store_statements.proofs.GrantWorlds.{token_taken}
 use Rattle.store_statements.specs.Steps.{grants_without}
 use Rattle.store_writes.proofs.Transacted.{made_tables}
 use Rattle.store_writes.proofs.grant_changes.revoke_all.Goals as goal

@@ -1,6 +1,6 @@
 use Rattle.sqlite.specs.State.{HasCleanDisk}
 use Rattle.sqlite.specs.Held.{state}
-use Rattle.oci_manifest.specs.Manifest.{shown}
+use Rattle.oci_types.specs.Manifest.{shown}
 use Rattle.registry_model.specs.Ask.{text_in}
 use Rattle.store_schema.proofs.Selects.{commit_then, survives_both}
 use Rattle.store_writes.proofs.ManifestPuts.{then_ok, fresh_manifest, manifest_came}

@@ -3,7 +3,7 @@ use Rattle.sqlite.specs.State.{HasCleanDisk}
 use Rattle.sqlite.specs.Held.{state}
 use Rattle.registry_model.specs.Ask.{text_in}
 use Rattle.store_schema.proofs.Selects.{commit_then, survives_both}
-use Rattle.store_world.specs.Registry.{is_repo}
+use Rattle.store_statements.specs.Registry.{is_repo}
 use Rattle.store_statements.specs.Held.{held}
 use Rattle.store_writes.proofs.ManifestPuts.{then_ok, tagged_put}
 use Rattle.store_statements.proofs.CleanBefore.{was_clean}

@@ -4,7 +4,7 @@ use Rattle.sqlite.specs.State.{HasCleanDisk}
 use Rattle.sqlite.specs.Held.{state}
 use Rattle.registry_model.specs.Ask.{text_in}
 use Rattle.registry_model.specs.Lookups.{put_manifest}
-use Rattle.store_world.specs.Keys.{has_key}
+use Rattle.store_statements.specs.Keys.{has_key}
 use Rattle.store_statements.specs.Held.{held, world_in}
 use Rattle.store_statements.specs.declared.manifests.ManifestLink.{ManifestLink}
 use Rattle.store_statements.specs.ManifestShown.{manifest_link}

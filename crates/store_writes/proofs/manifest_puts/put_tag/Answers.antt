@@ -4,7 +4,7 @@ use Rattle.std.specs.Prelude.{filter}
 use Rattle.sqlite.specs.State.{HasCleanDisk}
 use Rattle.sqlite.specs.Held.{state}
 use Rattle.store_schema.proofs.Selects.{commit_then, survives_both}
-use Rattle.store_world.specs.Keys.{has_key}
+use Rattle.store_statements.specs.Keys.{has_key}
 use Rattle.store_statements.specs.Held.{held}
 use Rattle.store_statements.proofs.CleanBefore.{was_clean}
 use Rattle.store_writes.proofs.RowCounts.{none_counted, some_counted}

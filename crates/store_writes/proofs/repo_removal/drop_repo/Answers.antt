@@ -1,5 +1,5 @@
 use Rattle.registry_model.specs.Command.{drop_repo}
-use Rattle.store_world.proofs.Dropped.{repo_dropped}
+use Rattle.store_statements.proofs.Dropped.{repo_dropped}
 use Rattle.store_statements.specs.Drops.{dropped}
 use Rattle.store_writes.proofs.Transacted.{made_tables}
 use Rattle.store_writes.proofs.repo_removal.drop_repo.Goals as goal

@@ -2,7 +2,7 @@ use Rattle.std.proofs.Common.{OnOk, subst, ◌∙◌}
 use Rattle.std.proofs.lemmas.Result.{IfOk-from_err}
 use Rattle.sqlite.specs.State.{HasCleanDisk}
 use Rattle.sqlite.specs.Held.{state}
-use Rattle.store_world.specs.Keys.{of_first}
+use Rattle.store_statements.specs.Keys.{of_first}
 use Rattle.store_statements.specs.Held.{Becomes, held}
 use Rattle.store_statements.specs.Steps.{repos_without}
 use Rattle.store_statements.specs.Drops.{without_children}

@@ -1,6 +1,6 @@
 use Rattle.std.proofs.Common.{◌∙◌}
 use Rattle.std.proofs.lemmas.Result.{IfOk-from_err}
-use Rattle.store_world.specs.Keys.{of_first}
+use Rattle.store_statements.specs.Keys.{of_first}
 use Rattle.store_statements.specs.Steps.{pieces_without, uploads_without}
 use Rattle.store_writes.proofs.StatementSequences.{both_kept, both_last, both_change}
 use Rattle.store_writes.proofs.repo_removal.drop_sessions.Goals as goal

@@ -1,5 +1,5 @@
 use Rattle.std.proofs.Common.{◌≡◌, ◌==◌, true, min, position, length, take, inl, inr, refl, ap, subst, sym, ◌∙◌, arith}
-use Rattle.oci_names.specs.Text.{Text}
+use Rattle.oci_types.specs.Text.{Text}
 use Rattle.order_carrying.specs.Answering.{AnswersLine}
 use Rattle.order_callers.specs.Calling.{Called}
 use Rattle.order_callers.proofs.CallingLemmas.{found_line, obeyed_line, obeyed_by}

@@ -1,5 +1,5 @@
 use Rattle.std.proofs.Common.{inr, refl, ◌++◌, ◌∙◌}
-use Rattle.oci_names.specs.Text.{Text}
+use Rattle.oci_types.specs.Text.{Text}
 use Rattle.registry_http.specs.Spelling.{HeadIsUnreadable}
 use Rattle.registry_http.proofs.ReadingLemmas.{leaves}
 use Rattle.registry_http.proofs.RequestLemmas.{crowded, framing_is, closes_is, awaits_is}

@@ -1,7 +1,7 @@
 use Rattle.std.proofs.Common.{◌≡◌, ◌==◌, inl, inr, refl, sym, subst, List, [], length, ◌++◌, ◌∙◌, le_refl, le_trans}
 use Rattle.std.proofs.lemmas.List.{with_items_is}
 use Rattle.httparse.specs.declared.spans.HeaderSpan.{HeaderSpan}
-use Rattle.oci_names.specs.Text.{Text}
+use Rattle.oci_types.specs.Text.{Text}
 use Rattle.registry_http.specs.Intaking.{unread}
 use Rattle.registry_http.specs.Reading.{Parses}
 use Rattle.registry_http.specs.Spelling.{HeadIsUnreadable, HoldsNoHead}

@@ -1,5 +1,5 @@
 use Rattle.std.proofs.Common.{◌<◌, ◌≤◌, length, refl, subst, ◌∙◌, le_refl, le_trans}
-use Rattle.oci_names.specs.Text.{Text}
+use Rattle.oci_types.specs.Text.{Text}
 use Rattle.registry_http.proofs.ReadingLemmas.{pulls-none, pulls-on, until_stops}
 use Rattle.registry_http.proofs.intake.Intake.read_until.Goals as goal
 

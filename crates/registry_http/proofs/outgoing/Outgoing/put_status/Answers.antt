@@ -1,7 +1,7 @@
 use Rattle.std.proofs.Common.{ap, subst, ◌∙◌, []}
 use Rattle.std.specs.Prelude.{unwrap_or}
 use Rattle.http.specs.StatusCode.{code_digits, reason_phrase}
-use Rattle.oci_names.specs.Text.{Text}
+use Rattle.oci_types.specs.Text.{Text}
 use Rattle.registry_http.specs.Sending.{Carries}
 use Rattle.registry_http.proofs.SendingLemmas.{status_bytes}
 use Rattle.registry_http.proofs.outgoing.Outgoing.put_status.Goals as goal

@@ -1,5 +1,5 @@
 use Rattle.std.proofs.Common.{◌≡◌, ◌∙◌, sym, ap, rules, map}
-use Rattle.oci_names.specs.Text.{Text}
+use Rattle.oci_types.specs.Text.{Text}
 use Rattle.registry_maps.specs.declared.repository.Repository.{Repository}
 use Rattle.registry_model.specs.World.{Repo}
 use Rattle.registry_model.specs.Usage.{usage_of}

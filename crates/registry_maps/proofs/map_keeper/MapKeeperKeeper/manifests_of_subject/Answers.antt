@@ -4,7 +4,7 @@ use Rattle.registry_maps.proofs.SeenWorlds.{repo_some, repo_none, reads_memory, 
 use Rattle.std.proofs.Common.{ℕ}
 use Rattle.std.specs.Prelude.{Vec}
 use Rattle.std.specs.declared.alloc.Global.{Global}
-use Rattle.oci_names.specs.Text.{Text}
+use Rattle.oci_types.specs.Text.{Text}
 use Rattle.registry_maps.proofs.map_keeper.MapKeeperKeeper.manifests_of_subject.Goals as goal
 
 pub returns-in-Some : goal.returns-in-Some

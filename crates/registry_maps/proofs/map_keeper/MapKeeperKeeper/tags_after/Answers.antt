@@ -2,7 +2,7 @@ use Rattle.std.proofs.Common.{◌≡◌, refl, rules, ap, []}
 use Rattle.registry_model.specs.Keeping.{page_shown}
 use Rattle.registry_maps.proofs.SeenWorlds.{repo_some, repo_none, reads_memory, spends_memory}
 use Rattle.std.proofs.Common.{List, false}
-use Rattle.oci_names.specs.Text.{Text}
+use Rattle.oci_types.specs.Text.{Text}
 use Rattle.registry_maps.proofs.map_keeper.MapKeeperKeeper.tags_after.Goals as goal
 
 pub returns-in-Some : goal.returns-in-Some

@@ -1,5 +1,5 @@
 use Rattle.std.proofs.Common.{◌≡◌, ◌∙◌, sym, ap, rules, cond, not}
-use Rattle.oci_names.specs.Text.{Text}
+use Rattle.oci_types.specs.Text.{Text}
 use Rattle.std.specs.FinMap.{insert}
 use Rattle.registry_maps.specs.Maps.{repo_of, names_in}
 use Rattle.registry_model.proofs.TextOrder.{text_total, exact_texts}

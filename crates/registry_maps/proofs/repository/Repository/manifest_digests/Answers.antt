@@ -1,4 +1,4 @@
-use Rattle.oci_names.specs.Text.{Text}
+use Rattle.oci_types.specs.Text.{Text}
 use Rattle.registry_model.proofs.TextOrder.{text_total, exact_texts}
 use Rattle.registry_maps.proofs.SeenMaps.{keys_copied}
 use Rattle.registry_maps.proofs.repository.Repository.manifest_digests.Goals as goal

@@ -1,6 +1,6 @@
 use Rattle.std.proofs.Common.{◌≡◌, ◌∙◌, sym, ap, rules}
 use Rattle.std.specs.Prelude.{filter}
-use Rattle.oci_names.specs.Text.{Text}
+use Rattle.oci_types.specs.Text.{Text}
 use Rattle.registry_model.specs.Referrers.{has_subject}
 use Rattle.registry_model.specs.Keeping.{entries_shown}
 use Rattle.registry_model.proofs.TextOrder.{text_total, exact_texts}

@@ -1,5 +1,5 @@
 use Rattle.std.proofs.Common.{◌≡◌, Some, rules}
-use Rattle.oci_names.specs.Text.{Text}
+use Rattle.oci_types.specs.Text.{Text}
 use Rattle.std.specs.FinMap.{FinMap, insert}
 use Rattle.registry_model.specs.World.{text_cmp}
 use Rattle.registry_model.specs.Manifests.{with_tag}

@@ -1,5 +1,5 @@
 use Rattle.std.proofs.Common.{◌≡◌, ◌∙◌, sym, ap, Some, rules}
-use Rattle.oci_names.specs.Text.{Text}
+use Rattle.oci_types.specs.Text.{Text}
 use Rattle.registry_model.proofs.TextOrder.{text_total, exact_texts}
 use Rattle.registry_maps.proofs.SeenMaps.{at_some, at_none}
 use Rattle.registry_maps.proofs.repository.Repository.tag.Goals as goal

@@ -2,7 +2,7 @@ use Rattle.std.proofs.Common.{◌≡◌, ◌∙◌, sym, ap, rules}
 use Rattle.std.specs.Prelude.{filter}
 use Rattle.std.specs.Ordering.{is_lt}
 use Rattle.std.specs.BTreeMap.{keys}
-use Rattle.oci_names.specs.Text.{Text}
+use Rattle.oci_types.specs.Text.{Text}
 use Rattle.registry_model.specs.World.{text_cmp}
 use Rattle.registry_model.proofs.TextOrder.{text_total, exact_texts}
 use Rattle.registry_maps.proofs.SeenMaps.{keys_seen}

@@ -1,7 +1,7 @@
 use Rattle.std.proofs.Common.{ℕ, ◌∙◌, sym}
 use Rattle.std.specs.Prelude.{Vec}
 use Rattle.std.specs.declared.alloc.Global.{Global}
-use Rattle.oci_names.specs.Text.{Text}
+use Rattle.oci_types.specs.Text.{Text}
 use Rattle.registry_model.proofs.TextOrder.{text_total, exact_texts}
 use Rattle.registry_maps.proofs.SeenMaps.{number_total, exact_numbers, len_seen}
 use Rattle.registry_maps.proofs.repository.Repository.usage.Goals as goal

@@ -2,7 +2,7 @@ use Rattle.std.proofs.Common.{ℕ, ◌+◌, ◌∙◌, sym, ap, length}
 use Rattle.std.specs.Prelude.{sum_by, Vec}
 use Rattle.std.specs.BTreeMap.{values}
 use Rattle.std.specs.declared.alloc.Global.{Global}
-use Rattle.oci_names.specs.Text.{Text}
+use Rattle.oci_types.specs.Text.{Text}
 use Rattle.registry_model.specs.Usage.{in_64_bits}
 use Rattle.registry_model.proofs.TextOrder.{text_total, exact_texts}
 use Rattle.registry_maps.proofs.SeenMaps.{number_total, exact_numbers, values_seen}

@@ -1,5 +1,5 @@
 use Rattle.std.proofs.Common.{◌≡◌, List, Option, ap, sym, ◌∙◌, arith}
-use Rattle.registry_conversation.specs.Shown.{Shown}
+use Rattle.registry_server.specs.Shown.{Shown}
 use Rattle.registry_server.specs.declared.connection.Connection.{Connection}
 use Rattle.registry_server.specs.Room.{over_sum, room_beside, room_in}
 use Rattle.registry_server.specs.Slots.{slots_of}

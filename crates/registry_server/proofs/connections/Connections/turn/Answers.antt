@@ -1,5 +1,5 @@
 use Rattle.std.proofs.Common.{◌≤◌, refl, ap}
-use Rattle.registry_conversation.specs.Shown.{coming_len}
+use Rattle.registry_server.specs.Shown.{coming_len}
 use Rattle.registry_server.specs.Open.{Slot}
 use Rattle.registry_server.specs.Slots.{slots_of}
 use Rattle.registry_server.proofs.PlaceLemmas.{stirred_on, within_found, moved_in, turned, turned_numbers}

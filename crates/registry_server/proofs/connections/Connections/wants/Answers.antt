@@ -1,5 +1,5 @@
 use Rattle.std.proofs.Common.{ap, sym, ◌∙◌, Some, option_map}
-use Rattle.registry_conversation.specs.Shown.{wants_of}
+use Rattle.registry_server.specs.Shown.{wants_of}
 use Rattle.registry_server.proofs.PlaceLemmas.{found_on, found_is}
 use Rattle.registry_server.proofs.connections.Connections.wants.Goals as goal
 

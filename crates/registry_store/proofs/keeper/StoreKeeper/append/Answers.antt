@@ -1,7 +1,7 @@
 use Rattle.std.proofs.Common.{◌≡◌, true, is_some}
 use Rattle.registry_model.specs.Lookups.{append, session_at}
 use Rattle.registry_store.proofs.KeeperStates.{asked}
-use Rattle.store_usages.proofs.Foretold.{append_foretold}
+use Rattle.store_reads.proofs.Foretold.{append_foretold}
 use Rattle.registry_store.proofs.Followed.{longer_known}
 use Rattle.registry_store.proofs.KeeperAnswers.{spends_told, still_spent, was_honest, write_holds, write_says}
 use Rattle.registry_store.proofs.keeper.StoreKeeper.append.Goals as goal

@@ -2,7 +2,7 @@ use Rattle.std.proofs.Common.{◌≡◌, true, ◌+◌}
 use Rattle.registry_model.specs.Lookups.{open_session, last_number_at}
 use Rattle.registry_model.specs.World.{has_repo}
 use Rattle.registry_store.proofs.KeeperStates.{asked}
-use Rattle.store_usages.proofs.Foretold.{open_foretold}
+use Rattle.store_reads.proofs.Foretold.{open_foretold}
 use Rattle.registry_store.proofs.Followed.{opened_known}
 use Rattle.registry_store.proofs.KeeperAnswers.{numbered_holds, numbered_says, spends_told, still_spent, was_honest}
 use Rattle.registry_store.proofs.keeper.StoreKeeper.open_session.Goals as goal

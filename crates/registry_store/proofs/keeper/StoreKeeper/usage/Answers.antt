@@ -4,8 +4,8 @@ use Rattle.registry_store.proofs.keeper.StoreKeeper.usage.Goals as goal
 
 pub invariant_of-self : goal.invariant_of-self
 invariant_of-self g c =
-    call_holds g.S.Store g.O.Origin.is_ours c.self.inside.conn c.args.self.now c.self.inside.spent c.self.view_is c.self.inside.known c.self.invariant c.if-self.false c.usage-answer.new.conn c.usage-answer.ensures.survives
-    c.note_fault.result c.usage-answer.result c.note_fault.new.spent c.note_fault.ensures.same c.note_fault.ensures.noted c.usage-answer.new.known (λ ours clean is sound. (c.usage-answer.ensures.settled clean is sound).0) (λ ours. c.usage-answer.ensures.known)
+    call_holds g.S.Store g.O.Origin.is_ours c.self.inside.conn c.args.self.now c.self.inside.spent c.self.view_is c.self.inside.known c.self.invariant c.if-self.false c.recalled_usage-answer.new.conn c.recalled_usage-answer.ensures.survives
+    c.note_fault.result c.recalled_usage-answer.result c.note_fault.new.spent c.note_fault.ensures.same c.note_fault.ensures.noted c.recalled_usage-answer.new.known (λ ours clean is sound. (c.recalled_usage-answer.ensures.settled clean is sound).0) (λ ours. c.recalled_usage-answer.ensures.known)
 
 pub returns-then-self : goal.returns-then-self
 returns-then-self g c = record {
@@ -17,11 +17,11 @@ returns-then-self g c = record {
 pub returns : goal.returns
 returns g c = record {
   found =
-      read_says g.S.Store g.O.Origin.is_ours c.self.inside.conn c.args.self.now c.self.inside.spent c.self.view_is c.self.inside.known c.self.invariant c.if-self.false c.usage-answer.new.conn c.usage-answer.ensures.survives
-      c.note_fault.result c.usage-answer.result c.note_fault.new.spent c.note_fault.ensures.same c.note_fault.ensures.noted _ (λ w. usage_at w c.args.repo.now) (λ ours. c.usage-answer.ensures.found (λ early. (c.self.invariant c.if-self.false ours early).1)) c.usage-answer.ensures.settled;
+      read_says g.S.Store g.O.Origin.is_ours c.self.inside.conn c.args.self.now c.self.inside.spent c.self.view_is c.self.inside.known c.self.invariant c.if-self.false c.recalled_usage-answer.new.conn c.recalled_usage-answer.ensures.survives
+      c.note_fault.result c.recalled_usage-answer.result c.note_fault.new.spent c.note_fault.ensures.same c.note_fault.ensures.noted _ (λ w. usage_at w c.args.repo.now) (λ ours. c.recalled_usage-answer.ensures.found (λ early. (c.self.invariant c.if-self.false ours early).1)) c.recalled_usage-answer.ensures.settled;
   spends =
-      spends_told g.S.Store g.O.Origin.is_ours c.self.inside.conn c.args.self.now c.self.inside.spent c.self.view_is c.self.inside.known c.self.invariant c.if-self.false c.usage-answer.new.conn c.usage-answer.ensures.survives
-      c.note_fault.result c.usage-answer.result c.note_fault.new.spent c.note_fault.ensures.same c.note_fault.ensures.noted;
+      spends_told g.S.Store g.O.Origin.is_ours c.self.inside.conn c.args.self.now c.self.inside.spent c.self.view_is c.self.inside.known c.self.invariant c.if-self.false c.recalled_usage-answer.new.conn c.recalled_usage-answer.ensures.survives
+      c.note_fault.result c.recalled_usage-answer.result c.note_fault.new.spent c.note_fault.ensures.same c.note_fault.ensures.noted;
   honest =
-      was_honest g.S.Store g.O.Origin.is_ours c.self.inside.conn c.args.self.now c.self.inside.spent c.self.view_is c.self.inside.known c.self.invariant c.if-self.false c.usage-answer.new.conn c.usage-answer.ensures.survives c.note_fault.new.spent;
+      was_honest g.S.Store g.O.Origin.is_ours c.self.inside.conn c.args.self.now c.self.inside.spent c.self.view_is c.self.inside.known c.self.invariant c.if-self.false c.recalled_usage-answer.new.conn c.recalled_usage-answer.ensures.survives c.note_fault.new.spent;
 }

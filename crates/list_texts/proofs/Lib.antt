@@ -1,3 +1,0 @@
-pub mod PlainTokens
-pub mod TableLemmas
-pub mod TextLemmas

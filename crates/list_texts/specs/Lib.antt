@@ -1,4 +1,0 @@
-pub mod Table
-pub mod Items
-pub mod Grants
-pub mod Texts

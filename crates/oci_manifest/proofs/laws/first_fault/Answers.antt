@@ -1,5 +1,0 @@
-use Rattle.oci_manifest.proofs.FaultLaws.{refused_found, refused_only}
-use Rattle.oci_manifest.proofs.laws.first_fault.Goals as goal
-
-pub returns : goal.returns
-returns c = λ bytes fault. (refused_found bytes fault, refused_only bytes fault)

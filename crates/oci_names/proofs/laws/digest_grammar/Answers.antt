@@ -1,5 +1,0 @@
-use Rattle.oci_names.proofs.DigestLaw.{is_digest_decides}
-use Rattle.oci_names.proofs.laws.digest_grammar.Goals as goal
-
-pub returns : goal.returns
-returns c = is_digest_decides

@@ -1,5 +1,0 @@
-use Rattle.oci_names.proofs.ReferenceLaw.{no_tag_is_digest}
-use Rattle.oci_names.proofs.laws.no_tag_is_a_digest.Goals as goal
-
-pub returns : goal.returns
-returns c = no_tag_is_digest

@@ -1,5 +1,0 @@
-use Rattle.oci_names.proofs.ReferenceLaw.{is_reference_decides}
-use Rattle.oci_names.proofs.laws.reference_grammar.Goals as goal
-
-pub returns : goal.returns
-returns c = is_reference_decides

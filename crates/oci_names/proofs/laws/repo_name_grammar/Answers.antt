@@ -1,5 +1,0 @@
-use Rattle.oci_names.proofs.RepoNameLaw.{is_repo_name_decides}
-use Rattle.oci_names.proofs.laws.repo_name_grammar.Goals as goal
-
-pub returns : goal.returns
-returns c = is_repo_name_decides

@@ -1,5 +1,0 @@
-use Rattle.oci_names.proofs.SessionNumberLaw.{session_number_of_decides}
-use Rattle.oci_names.proofs.laws.session_number_decimal.Goals as goal
-
-pub returns : goal.returns
-returns c = session_number_of_decides

@@ -1,5 +1,0 @@
-use Rattle.oci_names.proofs.TagLaw.{is_tag_decides}
-use Rattle.oci_names.proofs.laws.tag_grammar.Goals as goal
-
-pub returns : goal.returns
-returns c = is_tag_decides

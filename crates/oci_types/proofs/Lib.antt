@@ -1,0 +1,17 @@
+pub mod Languages
+pub mod RepoNameLaw
+pub mod TagLaw
+pub mod TokenLaw
+pub mod SessionNumbers
+pub mod SessionNumberLaw
+pub mod Verdicts
+pub mod MadeDigests
+pub mod DigestLaw
+pub mod ReferenceLaw
+pub mod Documents
+pub mod Parts
+pub mod DescriptorLaws
+pub mod RuleLaws
+pub mod ManifestLaws
+pub mod NeededNamed
+pub mod FaultLaws

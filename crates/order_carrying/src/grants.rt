@@ -1,0 +1,93 @@
+//! The levels of tokens on repositories, read of a service.
+ghost use Rattle.std.specs.Prelude.{◌≡◌, ◌++◌, IfErr, OnOk};
+ghost use Rattle.std.specs.FinMap.{keys};
+ghost use Rattle.registry_model.specs.Keeping.{ReadsSo, Spends};
+ghost use Rattle.order_texts.specs.Items.{items_shown};
+ghost use Rattle.order_carrying.specs.Grants.{AreGrantsOn, AreGrantsOver, AreGrantsOf};
+ghost use Rattle.order_carrying.specs.Reading.{items_if};
+
+use oci_types::{Fault, RepoName, Token};
+use order_texts::{Item, grants_of};
+use registry_model::Keeper;
+use registry_orders::Shown;
+use registry_service::Service;
+use std::alloc::Global;
+
+/// The levels on one repository, in byte order of their tokens; none where it is not there.
+fn on_one<K: Keeper>(
+    alloc: Global,
+    service: &mut Service<K>,
+    name: &RepoName,
+    asked: &Option<Token>,
+    shown: Shown,
+) -> Result<Vec<Item>, Fault>
+    ensures found { K.is_honest service.new → ReadsSo
+        (λ items. AreGrantsOn (K.state service.old).world name.now asked.now shown (items_shown items))
+        result (K.state service.old) (K.state service.new) }
+    ensures spends { Spends result (K.state service.old) (K.state service.new) }
+    ensures honest { K.is_honest service.new → K.is_honest service.old }
+{
+    let levels = service.levels(alloc, name)?;
+    match grants_of(alloc, name, &levels, asked, shown) {
+        Ok(items) => Ok(items),
+        Err(_) => Err(Fault::Memory),
+    }
+}
+
+fn push_all(items: &mut Vec<Item>, mut others: Vec<Item>) -> Result<(), Fault>
+    ensures added { OnOk result (items_shown items.new ≡ items_shown items.old ++ items_shown others) }
+    ensures memory { IfErr result (λ fault. fault ≡ Fault.Memory) }
+{
+    match items.append(&mut others) {
+        Ok(()) => Ok(()),
+        Err(_) => Err(Fault::Memory),
+    }
+}
+
+/// The levels on each repository, in byte order of the names.
+fn on_all<K: Keeper>(
+    alloc: Global,
+    service: &mut Service<K>,
+    asked: &Option<Token>,
+    shown: Shown,
+) -> Result<Vec<Item>, Fault>
+    ensures found { K.is_honest service.new → ReadsSo
+        (λ items. let w = (K.state service.old).world in
+        AreGrantsOver w (keys w.repos) asked.now shown (items_shown items))
+        result (K.state service.old) (K.state service.new) }
+    ensures spends { Spends result (K.state service.old) (K.state service.new) }
+    ensures honest { K.is_honest service.new → K.is_honest service.old }
+{
+    let usages = service.usages(alloc)?;
+    let mut items = Vec::new(alloc);
+    for (name, _) in usages {
+        let others = on_one(alloc, service, &name, asked, shown)?;
+        push_all(&mut items, others)?;
+    }
+    Ok(items)
+}
+
+/// The levels on the repository of a name, or on all; none where the one of the name is not there.
+pub fn grants<K: Keeper>(
+    alloc: Global,
+    service: &mut Service<K>,
+    name: &Option<RepoName>,
+    asked: &Option<Token>,
+    shown: Shown,
+) -> Result<Option<Vec<Item>>, Fault>
+    ensures found { K.is_honest service.new → ReadsSo
+        (λ items. AreGrantsOf (K.state service.old).world name.now asked.now shown (items_if items))
+        result (K.state service.old) (K.state service.new) }
+    ensures spends { Spends result (K.state service.old) (K.state service.new) }
+    ensures honest { K.is_honest service.new → K.is_honest service.old }
+{
+    match name {
+        Some(name) => {
+            if !service.has_repo(name)? {
+                return Ok(None);
+            }
+            Ok(Some(on_one(alloc, service, name, asked, shown)?))
+        }
+        None => Ok(Some(on_all(alloc, service, asked, shown)?)),
+    }
+}

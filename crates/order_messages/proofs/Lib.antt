@@ -1,6 +1,0 @@
-pub mod NumberLemmas
-pub mod PlainWords
-pub mod WordLemmas
-pub mod LineLemmas
-pub mod AnswerLemmas
-pub mod LineLaws

@@ -1,5 +1,0 @@
-use Rattle.order_messages.proofs.LineLaws.{one_order}
-use Rattle.order_messages.proofs.laws.a_line_spells_one_order.Goals as goal
-
-pub returns : goal.returns
-returns c = one_order

@@ -1,5 +1,0 @@
-use Rattle.order_messages.proofs.LineLaws.{stop_spells_none}
-use Rattle.order_messages.proofs.laws.stop_is_no_order.Goals as goal
-
-pub returns : goal.returns
-returns c = stop_spells_none

@@ -1,4 +1,0 @@
-pub mod Lines
-pub mod Reading
-pub mod Answers
-pub mod Stopping

@@ -1,3 +1,0 @@
-pub mod FailedReads
-pub mod ListLemmas
-pub mod GrantLemmas

@@ -1,4 +1,0 @@
-pub mod Lists
-pub mod Grants
-pub mod Listed
-pub mod Reading

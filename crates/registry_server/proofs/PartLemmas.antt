@@ -1,0 +1,290 @@
+-- The parts of a body, one after the other.
+use Rattle.std.proofs.Common.{◌≡◌, ℕ, ◌+◌, ◌-◌, ◌<◌, ◌≤◌, inl, inr, List, [], ◌∷◌, ◌++◌, length, take, drop, get_or, refl, sym, ap, ◌∙◌, subst, append_assoc, append-nil, arith, add-one, drop-cons, length-append, length-take, length-drop}
+use Rattle.std.specs.List.{flat_map}
+use Rattle.std.proofs.lemmas.Grind.{flat_map-append}
+use Rattle.std.proofs.lemmas.List.Concat.{flat_map-cons}
+use Rattle.std.proofs.lemmas.List.Elements.{All-append, All-from_recursion}
+use Rattle.std.proofs.lemmas.List.{take-append-drop}
+use Rattle.httparse.specs.Grammar.{ChunkLine, print_chunk_line, print_section}
+use Rattle.httparse.proofs.ChunkLemmas.{ReadsChunkLine-append}
+use Rattle.oci_types.specs.Text.{Text}
+use Rattle.registry_http.specs.Chunks.{limit, chunk_end, BeginsWithLine, BeginsWithSize, LineIsCut, HoldsNoLine, HasBadEnd, HasGoodEnd, DataIsCut, Chunk, IsChunk, print_chunk, print_chunks, data_of, ChunkIsCut, ChunkIsRefused, BehindChunks, BehindLast, TrailerIsCut, TrailerIsRefused, HoldsNoTrailer, ChunkedBody}
+use Rattle.registry_http.specs.Spelling.{IsBody, BodyIsCut, BodyIsRefused}
+use Rattle.registry_http.specs.Taking.{LineIsRead, TrailerIsRead}
+use Rattle.registry_http.specs.declared.framing.Framing.{Framing}
+use Rattle.registry_http.specs.declared.framing.Framing.TheVariants as framed
+use Rattle.registry_http.specs.declared.chunk.Line.{Line as LineFound}
+use Rattle.registry_http.specs.declared.ending.FramingRefusal.{FramingRefusal}
+use Rattle.registry_http.specs.declared.ending.FramingRefusal.TheVariants.{UnreadableChunk, ChunksTooLarge}
+use Rattle.registry_server.specs.declared.part.Part.{Part}
+use Rattle.registry_server.specs.declared.part.Part.TheVariants.{Length, Line, Data, Trailer}
+use Rattle.registry_server.specs.Parts.{BehindTotal, BehindSize, BehindZero, IsPart, BodyIsWhole}
+
+-- what follows goes on behind
+pub on_tail : (v p u tail : Text) → v ≡ p ++ u → v ++ tail ≡ p ++ (u ++ tail)
+on_tail v p u tail e = ap (λ (x : Text). x ++ tail) e ∙ append_assoc p u tail
+
+-- ---- more bytes come
+
+line_on : (b : Text) (l : ChunkLine) (rest tail : Text) → BeginsWithLine b l rest → BeginsWithLine (b ++ tail) l (rest ++ tail)
+line_on b l rest tail h = record { reads = ReadsChunkLine-append b l rest tail h.reads; short = h.short }
+
+total_on : (total : ℕ) (front v t u more : Text) → BehindTotal total front v t u → BehindTotal total front (v ++ more) t (u ++ more)
+total_on total front v t u more p = record {
+  chunks = p.chunks;
+  each = p.each;
+  within = p.within;
+  carried = p.carried;
+  whole = on_tail v (print_chunks p.chunks) u more p.whole;
+  kept = p.kept;
+}
+
+pub part_on : (part : Part) (framing : Framing) (front v t u more : Text) → IsPart part framing front v t u
+    → IsPart part framing front (v ++ more) t (u ++ more)
+part_on (Length n) framing front v t u more x = (x.0, x.1, ap (λ (y : Text). y ++ more) x.2)
+part_on (Line total) framing front v t u more x = (x.0, total_on total front v t u more x.1)
+part_on (Data total size) framing front v t u more x =
+    let p = x.1 in (
+      x.0,
+      record {
+        earlier = p.earlier;
+        line = p.line;
+        rest = p.rest ++ more;
+        so_far = total_on p.earlier front v t p.rest more p.so_far;
+        begins = line_on p.rest p.line u more p.begins;
+        some = p.some;
+        sized = p.sized;
+        sum = p.sum;
+        within = p.within;
+      },
+    )
+part_on Trailer framing front v t u more x =
+    let p = x.1 in (
+      x.0,
+      record {
+        chunks = p.chunks;
+        zero = p.zero;
+        each = p.each;
+        within = p.within;
+        is_last = p.is_last;
+        whole = on_tail v (print_chunks p.chunks ++ print_chunk_line p.zero) u more p.whole;
+        kept = p.kept;
+      },
+    )
+
+-- ---- a body of a stated length
+
+pub length_cut : (n : ℕ) (framing : Framing) (front v t u : Text) → IsPart (Length n) framing front v t u → length u < n → BodyIsCut framing v
+length_cut n framing front v t u x short =
+    subst (λ (f : Framing). BodyIsCut f v) (sym x.0) (subst (λ (y : Text). length y < n) x.2 short)
+
+pub length_whole : (n : ℕ) (framing : Framing) (front v t u t' u' : Text) → IsPart (Length n) framing front v t u → n ≤ length u
+    → t' ≡ t ++ take n u → u' ≡ drop n u → BodyIsWhole framing front v t' u'
+length_whole n framing front v t u t' u' x enough kept rest = record {
+  coded = take n u;
+  body = take n u;
+  is_body = subst (λ (f : Framing). IsBody f (take n u) (take n u)) (sym x.0) (refl, omega (arith, length-take n u));
+  whole = sym x.2 ∙ sym (take-append-drop n u) ∙ ap (λ (y : Text). take n u ++ y) (sym rest);
+  kept = kept ∙ ap (λ (y : Text). y ++ take n u) x.1;
+}
+
+-- ---- the line of a chunk
+
+-- what stands behind whole chunks
+at_chunk : (total : ℕ) (front v t u : Text) (p : BehindTotal total front v t u) (P : ℕ → Text → Type 0) (w y : Text)
+    → w ≡ print_chunks p.chunks ++ y → P total y → BehindChunks P w
+at_chunk total front v t u p P w y e h = record {
+  chunks = p.chunks;
+  rest = y;
+  whole = e;
+  each = p.each;
+  within = omega (arith, p.within, p.carried);
+  here = subst (λ (n : ℕ). P n y) p.carried h;
+}
+
+chunk_cut : (total : ℕ) (framing : Framing) (front v t u : Text) → framing ≡ framed.Chunked → BehindTotal total front v t u
+    → ChunkIsCut total u → BodyIsCut framing v
+chunk_cut total framing front v t u e p cut =
+    subst (λ (f : Framing). BodyIsCut f v) (sym e) (inl (at_chunk total front v t u p ChunkIsCut v u p.whole cut))
+
+chunk_never : (total : ℕ) (framing : Framing) (front v t u : Text) (r : FramingRefusal) → framing ≡ framed.Chunked → BehindTotal total front v t u
+    → ((tail : Text) → ChunkIsRefused total (u ++ tail) r) → (tail : Text) → BodyIsRefused framing (v ++ tail) r
+chunk_never total framing front v t u r e p bad tail =
+    subst (λ (f : Framing). BodyIsRefused f (v ++ tail) r) (sym e)
+    (inl (at_chunk total front v t u p (λ n y. ChunkIsRefused n y r) (v ++ tail) (u ++ tail) (on_tail v (print_chunks p.chunks) u tail p.whole) (bad tail)))
+
+pub line_cut : (total : ℕ) (framing : Framing) (front v t u : Text) → IsPart (Line total) framing front v t u → LineIsCut u → BodyIsCut framing v
+line_cut total framing front v t u x cut = chunk_cut total framing front v t u x.0 x.1 (inl cut)
+
+pub line_never : (total : ℕ) (framing : Framing) (front v t u : Text) → IsPart (Line total) framing front v t u
+    → ((tail : Text) → HoldsNoLine (u ++ tail)) → (tail : Text) → BodyIsRefused framing (v ++ tail) UnreadableChunk
+line_never total framing front v t u x never =
+    chunk_never total framing front v t u UnreadableChunk x.0 x.1 (λ tail. inl (refl, never tail))
+
+pub line_over : (total : ℕ) (framing : Framing) (front v t u : Text) (line : LineFound) → IsPart (Line total) framing front v t u
+    → LineIsRead u line → limit - total < line.size → (tail : Text) → BodyIsRefused framing (v ++ tail) ChunksTooLarge
+line_over total framing front v t u line x read over =
+    chunk_never total framing front v t u ChunksTooLarge x.0 x.1
+    (λ tail. inr (inl (read.text, drop line.len u ++ tail, line_on u read.text _ tail read.begins, omega (arith, read.size), refl)))
+
+pub line_fits : (u : Text) (line : LineFound) → LineIsRead u line → line.len ≤ length u
+line_fits u line read =
+    let size = ap length read.begins.reads.1 in
+    omega (arith, length-append (print_chunk_line read.text) (drop line.len u), read.len)
+
+pub line_last : (total : ℕ) (framing : Framing) (front v t u t' u' : Text) (line : LineFound) → IsPart (Line total) framing front v t u
+    → LineIsRead u line → line.size ≡ 0 → t' ≡ t → u' ≡ drop line.len u → IsPart Trailer framing front v t' u'
+line_last total framing front v t u t' u' line x read none kept rest =
+    let p = x.1 in
+    let text = print_chunk_line read.text in (
+      x.0,
+      record {
+        chunks = p.chunks;
+        zero = read.text;
+        each = p.each;
+        within = omega (arith, p.within, p.carried);
+        is_last = record { line = read.begins.reads.0; short = read.begins.short; zero = sym read.size ∙ none };
+        whole = p.whole ∙ ap (λ (y : Text). print_chunks p.chunks ++ y) (read.begins.reads.1 ∙ ap (λ (y : Text). text ++ y) (sym rest))
+            ∙ sym (append_assoc (print_chunks p.chunks) text u');
+        kept = kept ∙ p.kept;
+      },
+    )
+
+pub line_size : (total : ℕ) (framing : Framing) (front v t u t' u' : Text) (line : LineFound) → IsPart (Line total) framing front v t u
+    → LineIsRead u line → 0 < line.size → line.size ≤ limit - total → t' ≡ t → u' ≡ drop line.len u
+    → IsPart (Data (total + line.size) line.size) framing front v t' u'
+line_size total framing front v t u t' u' line x read some small kept rest = (
+  x.0,
+  record {
+    earlier = total;
+    line = read.text;
+    rest = u;
+    so_far = subst (λ (y : Text). BehindTotal total front v y u) (sym kept) x.1;
+    begins = subst (λ (y : Text). BeginsWithLine u read.text y) (sym rest) read.begins;
+    some = some;
+    sized = read.size;
+    sum = refl;
+    within = omega (arith, x.1.within);
+  },
+)
+
+-- ---- the data of a chunk
+
+sized : (total size : ℕ) (front v t u y : Text) (p : BehindSize total size front v t u) → BeginsWithSize p.earlier (print_chunk_line p.line ++ y) p.line y
+sized total size front v t u y p = record {
+  begins = record { reads = (p.begins.reads.0, refl); short = p.begins.short };
+  some = omega (arith, p.some, p.sized);
+  within = omega (arith, p.within, p.sum, p.sized);
+}
+
+-- the line and what stands behind it
+behind_line : (total size : ℕ) (front v t u tail : Text) (p : BehindSize total size front v t u) → p.rest ++ tail ≡ print_chunk_line p.line ++ (u ++ tail)
+behind_line total size front v t u tail p = on_tail p.rest (print_chunk_line p.line) u tail p.begins.reads.1
+
+pub data_cut : (total size : ℕ) (framing : Framing) (front v t u : Text) → IsPart (Data total size) framing front v t u → DataIsCut size u → BodyIsCut framing v
+data_cut total size framing front v t u x cut =
+    let p = x.1 in
+    chunk_cut p.earlier framing front v t p.rest x.0 p.so_far
+    (subst (λ (y : Text). ChunkIsCut p.earlier y) (sym p.begins.reads.1)
+    (inr (p.line, u, sized total size front v t u u p, subst (λ (n : ℕ). DataIsCut n u) p.sized cut)))
+
+pub data_never : (total size : ℕ) (framing : Framing) (front v t u : Text) → IsPart (Data total size) framing front v t u
+    → ((tail : Text) → HasBadEnd size (u ++ tail)) → (tail : Text) → BodyIsRefused framing (v ++ tail) UnreadableChunk
+data_never total size framing front v t u x bad =
+    let p = x.1 in
+    chunk_never p.earlier framing front v t p.rest UnreadableChunk x.0 p.so_far
+    (λ tail. subst (λ (y : Text). ChunkIsRefused p.earlier y UnreadableChunk) (sym (behind_line total size front v t u tail p))
+    (inr (inr (p.line, u ++ tail, sized total size front v t u (u ++ tail) p, (refl, subst (λ (n : ℕ). HasBadEnd n (u ++ tail)) p.sized (bad tail))))))
+
+pub data_fits : (size : ℕ) (u : Text) → HasGoodEnd size u → size ≤ length u
+data_fits size u good = omega (arith, good.0)
+
+pub end_fits : (size : ℕ) (u w : Text) → HasGoodEnd size u → w ≡ drop size u → 2 ≤ length w
+end_fits size u w good rest = omega (arith, good.0, ap length rest, length-drop size u)
+
+two_behind : (size : ℕ) (u : Text) → HasGoodEnd size u → take 2 (drop size u) ≡ chunk_end
+two_behind size u good =
+    let one : drop size u ≡ get_or u size 0 ∷ drop (size + 1) u = next u size (omega (arith, good.0)) in
+    let two : drop (size + 1) u ≡ get_or u (size + 1) 0 ∷ drop (size + 1 + 1) u = next u (size + 1) (omega (arith, good.0)) in
+    rw (one, two, good.1, good.2) refl
+  where
+    next : (l : Text) (i : ℕ) → i < length l → drop i l ≡ get_or l i 0 ∷ drop (i + 1) l
+    next l i lt = rw (add-one, drop-cons l i 0) refl
+
+flat_push : {X : Type 0} (f : X → Text) (xs : List X) (x : X) → flat_map f (xs ++ x ∷ []) ≡ flat_map f xs ++ f x
+flat_push f xs x = flat_map-append f xs (x ∷ []) ∙ ap (λ (l : Text). flat_map f xs ++ l) (flat_map-cons f x [] ∙ append-nil (f x))
+
+-- the data, CR LF and the rest
+three : (size : ℕ) (u w u' : Text) → HasGoodEnd size u → w ≡ drop size u → u' ≡ drop 2 w → u ≡ (take size u ++ chunk_end) ++ u'
+three size u w u' good rest last =
+    let two : take 2 w ≡ chunk_end = ap (take 2) rest ∙ two_behind size u good in
+    sym (take-append-drop size u) ∙ ap (λ (y : Text). take size u ++ y) (sym rest ∙ sym (take-append-drop 2 w) ∙ ap (λ (y : Text). y ++ drop 2 w) two ∙ ap (λ (y : Text). chunk_end ++ y) (sym last))
+    ∙ sym (append_assoc (take size u) chunk_end u')
+
+pub data_whole : (total size : ℕ) (framing : Framing) (front v t u t' w t'' u' : Text) → IsPart (Data total size) framing front v t u → HasGoodEnd size u
+    → t' ≡ t ++ take size u → w ≡ drop size u → t'' ≡ t' → u' ≡ drop 2 w → IsPart (Line total) framing front v t'' u'
+data_whole total size framing front v t u t' w t'' u' x good kept rest same last =
+    let p = x.1 in
+    let cs = p.so_far.chunks in
+    let c : Chunk = record { line = p.line; carried = take size u } in
+    let len : length (take size u) ≡ size = omega (arith, length-take size u, good.0) in
+    let printed : print_chunks (cs ++ c ∷ []) ≡ print_chunks cs ++ print_chunk c = flat_push print_chunk cs c in
+    let carries : data_of (cs ++ c ∷ []) ≡ data_of cs ++ take size u = flat_push (λ (y : Chunk). y.carried) cs c in
+    let is_chunk : IsChunk c = record { line = p.begins.reads.0; short = p.begins.short; some = omega (arith, p.some, len); sized = sym p.sized ∙ sym len } in
+    let text : p.rest ≡ print_chunk c ++ u' =
+    p.begins.reads.1 ∙ ap (λ (y : Text). print_chunk_line p.line ++ y) (three size u w u' good rest last) ∙ sym (append_assoc (print_chunk_line p.line) (take size u ++ chunk_end) u') in (
+      x.0,
+      record {
+        chunks = cs ++ c ∷ [];
+        each = All-append IsChunk cs (c ∷ []) p.so_far.each (All-from_recursion IsChunk (c ∷ []) (is_chunk, tt));
+        within = p.within;
+        carried = omega (arith, ap length carries, length-append (data_of cs) (take size u), p.so_far.carried, p.sum, len);
+        whole = p.so_far.whole ∙ ap (λ (y : Text). print_chunks cs ++ y) text ∙ sym (append_assoc (print_chunks cs) (print_chunk c) u')
+            ∙ ap (λ (y : Text). y ++ u') (sym printed);
+        kept = same ∙ kept ∙ ap (λ (y : Text). y ++ take size u) p.so_far.kept ∙ append_assoc front (data_of cs) (take size u)
+            ∙ ap (λ (y : Text). front ++ y) (sym carries);
+      },
+    )
+
+-- ---- the trailer
+
+at_last : (front v t u : Text) (p : BehindZero front v t u) (P : Text → Type 0) (w y : Text)
+    → w ≡ (print_chunks p.chunks ++ print_chunk_line p.zero) ++ y → P y → BehindLast P w
+at_last front v t u p P w y e h =
+    record { chunks = p.chunks; zero = p.zero; rest = y; whole = e; each = p.each; within = p.within; is_last = p.is_last; here = h }
+
+pub trailer_cut : (framing : Framing) (front v t u : Text) → IsPart Trailer framing front v t u → TrailerIsCut u → BodyIsCut framing v
+trailer_cut framing front v t u x cut =
+    subst (λ (f : Framing). BodyIsCut f v) (sym x.0) (inr (at_last front v t u x.1 TrailerIsCut v u x.1.whole cut))
+
+pub trailer_never : (framing : Framing) (front v t u : Text) → IsPart Trailer framing front v t u → ((tail : Text) → HoldsNoTrailer (u ++ tail))
+    → (tail : Text) → BodyIsRefused framing (v ++ tail) UnreadableChunk
+trailer_never framing front v t u x never tail =
+    subst (λ (f : Framing). BodyIsRefused f (v ++ tail) UnreadableChunk) (sym x.0)
+    (inr (at_last front v t u x.1 (λ y. TrailerIsRefused y UnreadableChunk) (v ++ tail) (u ++ tail)
+    (on_tail v (print_chunks x.1.chunks ++ print_chunk_line x.1.zero) u tail x.1.whole) (refl, never tail)))
+
+pub trailer_fits : (u : Text) (len : ℕ) → TrailerIsRead u len → len ≤ length u
+trailer_fits u len read =
+    let size = ap length read.begins.reads.1 in
+    omega (arith, length-append (print_section read.fields read.last) (drop len u), read.len_is)
+
+pub trailer_whole : (framing : Framing) (front v t u t' u' : Text) (len : ℕ) → IsPart Trailer framing front v t u → TrailerIsRead u len
+    → t' ≡ t → u' ≡ drop len u → BodyIsWhole framing front v t' u'
+trailer_whole framing front v t u t' u' len x read kept rest =
+    let p = x.1 in
+    let before = print_chunks p.chunks ++ print_chunk_line p.zero in
+    let section = print_section read.fields read.last in
+    let body : ChunkedBody = record { chunks = p.chunks; zero = p.zero; fields = read.fields; last = read.last } in
+    record {
+      coded = before ++ section;
+      body = data_of p.chunks;
+      is_body = subst (λ (f : Framing). IsBody f (before ++ section) (data_of p.chunks)) (sym x.0) (
+        body,
+        record { each = p.each; within = p.within; zero = p.is_last; fields = read.begins.reads.0; few = read.few; short = read.begins.short },
+        refl,
+        refl,
+      );
+      whole = p.whole ∙ ap (λ (y : Text). before ++ y) (read.begins.reads.1 ∙ ap (λ (y : Text). section ++ y) (sym rest)) ∙ sym (append_assoc before section u');
+      kept = kept ∙ p.kept;
+    }

@@ -1,0 +1,251 @@
+-- What a turn comes to, from its parts.
+use Rattle.std.proofs.Common.{◌≡◌, ℕ, ◌+◌, ◌<◌, ◌≤◌, ◌⊎◌, ◌==◌, inl, inr, Bool, true, false, [], ◌∷◌, ◌++◌, length, take, drop, Some, refl, sym, ap, ◌∙◌, subst, append-nil, append_assoc, length-append, length-take, length-drop, le_of_eq, arith}
+use Rattle.std.proofs.lemmas.Bool.Decides.{nat_tests}
+use Rattle.std.proofs.lemmas.List.{drop-append-le}
+use Rattle.std.specs.Bool.{MatchBool}
+use Rattle.oci_types.specs.Text.{Text}
+use Rattle.registry_model.specs.Keeping.{State}
+use Rattle.registry_http.specs.Ending.{SendsRefusal}
+use Rattle.registry_model.specs.Answer.{Answer}
+use Rattle.registry_model.specs.Doing.{Does}
+use Rattle.registry_http.specs.Asking.{ask_in}
+use Rattle.registry_http.specs.Expecting.{IsBefore, continue_if, text_before}
+use Rattle.registry_http.specs.Framing.{framing}
+use Rattle.registry_http.specs.Serving.{reply_for}
+use Rattle.registry_http.specs.ReplyText.{refusal_text}
+use Rattle.registry_http.specs.Spelling.{IsCut, HeadIsCut, HeadIsUnreadable, BodyIsRefused, closes}
+use Rattle.registry_http.specs.declared.framing.Framing.{Framing}
+use Rattle.registry_http.specs.declared.framing.Framing.TheVariants as framed
+use Rattle.registry_http.proofs.RequestLemmas.{before_empty, before_cut, before_unreadable}
+use Rattle.registry_http.specs.declared.ending.FramingRefusal.{FramingRefusal}
+use Rattle.registry_http.specs.declared.ending.FramingRefusal.TheVariants.{UnreadableHead}
+use Rattle.registry_http.specs.declared.ending.End.{End}
+use Rattle.registry_http.specs.declared.ending.End.TheVariants.{Closed, Cut, Refused, ReadFailed, WriteFailed}
+use Rattle.registry_server.specs.declared.phase.Phase.{Phase}
+use Rattle.registry_server.specs.declared.phase.Phase.TheVariants as phase
+use Rattle.registry_server.specs.declared.phase.Step.{Step}
+use Rattle.registry_server.specs.declared.phase.Step.TheVariants as step
+use Rattle.registry_server.specs.Shown.{Shown, with_more, with_phase, coming_len}
+use Rattle.registry_server.specs.Headings.{BeginsAt}
+use Rattle.registry_server.specs.declared.heading.Heading.{Heading}
+use Rattle.registry_server.specs.declared.part.Part.{Part}
+use Rattle.registry_server.specs.Holding.{HoldsAs, Holds, HoldsWhole}
+use Rattle.registry_server.specs.Stepping.{IsRefusedThere, AnswersFirst, PutsPart, replying, refusing, EndsAs, ActsAs, Acts, Refuses, Receives, Waited}
+use Rattle.registry_server.proofs.HoldingLemmas.{holds_on, before_there, refused_there, item_request, item_begins}
+
+-- ---- what is to go out grows
+
+pub going_on : (gone : ℕ) (out out' text : Text) → gone ≤ length out → out' ≡ out ++ text → drop gone out' ≡ drop gone out ++ text
+going_on gone out out' text within e = ap (drop gone) e ∙ drop-append-le gone out text within
+
+pub is_longer : (out out' text : Text) → out' ≡ out ++ text → length out ≤ length out'
+is_longer out out' text e = let same = ap length e in omega (arith, length-append out text)
+
+pub refusal_on : (e : End) (r : FramingRefusal) (gone : ℕ) (out out' : Text) → gone ≤ length out → SendsRefusal e r (Some out) (Some out')
+    → SendsRefusal e r (Some (drop gone out)) (Some (drop gone out'))
+refusal_on Closed r gone out out' within s = absurd s
+refusal_on Cut r gone out out' within s = absurd s
+refusal_on (Refused q) r gone out out' within s = (s.0, going_on gone out out' (refusal_text r) within s.1)
+refusal_on ReadFailed r gone out out' within s = absurd s
+refusal_on (WriteFailed n) r gone out out' within s = (s.0, going_on gone out out' (take n (refusal_text r)) within s.1)
+
+-- ---- a turn in which nothing is put before the body
+
+module _ (found : Step) (b said : Text) (old : Shown) (s s' : State) (new : Shown) where
+  pub act : ActsAs found b said old.going s s' new → Acts found b said old s s' new
+  act p = record {
+    first = [];
+    acts = subst (λ (x : Text). ActsAs found b x (old.going ++ []) s s' new) (sym (append-nil said))
+        (subst (λ (g : Text). ActsAs found b said g s s' new) (sym (append-nil old.going)) p);
+  }
+
+-- ---- a refusal
+
+refuse_ends : (e : End) (r : FramingRefusal) (b before : Text) (old new : Shown) (s : State) → SendsRefusal e r (Some old.going) (Some new.going)
+    → IsRefusedThere b before r → EndsAs e b before old.going s s new
+refuse_ends Closed r b before old new s x bad = absurd x
+refuse_ends Cut r b before old new s x bad = absurd x
+refuse_ends (Refused q) r b before old new s x bad =
+    (subst (λ (k : FramingRefusal). IsRefusedThere b before k) (sym x.0) bad, x.1 ∙ ap (λ (k : FramingRefusal). old.going ++ refusal_text k) (sym x.0), refl)
+refuse_ends ReadFailed r b before old new s x bad = absurd x
+refuse_ends (WriteFailed n) r b before old new s x bad = refusing r bad x.0 x.1 refl
+
+pub refused : (found : Step) (r : FramingRefusal) (b before : Text) (old new : Shown) (s : State) → Refuses found r old new
+    → IsRefusedThere b before r → ActsAs found b before old.going s s new
+refused found r b before old new s x bad =
+    subst (λ (k : Step). ActsAs k b before old.going s s new) (sym x.found_is) (x.ended, refuse_ends x.end r b before old new s x.sends bad)
+
+-- ---- more bytes are missing
+
+pub waited_cut : (found : Step) (b before : Text) (old new : Shown) (s : State) → Waited found Cut old new → IsCut b → IsBefore b before
+    → Holds old b before → ActsAs found b before old.going s s new
+waited_cut found b before old new s w cut is holds = by_flag old.finished refl w
+  where
+    by_flag : (f : Bool) → old.finished ≡ f
+        → MatchBool f ((found ≡ step.Ended Cut) × (new ≡ with_phase old (phase.Ended Cut))) ((found ≡ step.Waits) × (new ≡ old))
+        → ActsAs found b before old.going s s new
+    by_flag true e x =
+        subst (λ (k : Step). ActsAs k b before old.going s s new) (sym x.0)
+        (subst (λ (c : Shown). ActsAs (step.Ended Cut) b before old.going s s c) (sym x.1) (refl, (e, cut, is, refl, refl)))
+    by_flag false e x =
+        subst (λ (k : Step). ActsAs k b before old.going s s new) (sym x.0)
+        (subst (λ (c : Shown). ActsAs step.Waits b before old.going s s c) (sym x.1)
+        (record { goes_on = e; cut = inr cut; before_is = is; holds = holds; put = refl; same = refl }))
+
+pub waited_closed : (found : Step) (b before : Text) (old new : Shown) (s : State) → Waited found Closed old new → b ≡ [] → before ≡ [] → IsBefore b before
+    → Holds old b before → ActsAs found b before old.going s s new
+waited_closed found b before old new s w none unsaid is holds = by_flag old.finished refl w
+  where
+    by_flag : (f : Bool) → old.finished ≡ f
+        → MatchBool f ((found ≡ step.Ended Closed) × (new ≡ with_phase old (phase.Ended Closed))) ((found ≡ step.Waits) × (new ≡ old))
+        → ActsAs found b before old.going s s new
+    by_flag true e x =
+        subst (λ (k : Step). ActsAs k b before old.going s s new) (sym x.0)
+        (subst (λ (c : Shown). ActsAs (step.Ended Closed) b before old.going s s c) (sym x.1) (refl, (e, none, unsaid, refl, refl)))
+    by_flag false e x =
+        subst (λ (k : Step). ActsAs k b before old.going s s new) (sym x.0)
+        (subst (λ (c : Shown). ActsAs step.Waits b before old.going s s c) (sym x.1)
+        (record { goes_on = e; cut = inl none; before_is = is; holds = holds; put = refl; same = refl }))
+
+-- ---- what is held grows in no turn
+
+pub none_left : (old new : Shown) → coming_len new ≡ 0 → coming_len new ≤ coming_len old
+none_left old new none = omega arith
+
+pub passed : (count : ℕ) (old : Shown) (taken unread : Text) → taken ≡ old.taken ++ take count old.unread → unread ≡ drop count old.unread
+    → length taken + length unread ≤ coming_len old
+passed count old taken unread front rest = omega (
+  arith,
+  ap length front,
+  ap length rest,
+  length-append old.taken (take count old.unread),
+  length-take count old.unread,
+  length-drop count old.unread,
+)
+
+pub waited_same : (found : Step) (e : End) (old new : Shown) → Waited found e old new → (new.finished ≡ old.finished) × (coming_len new ≤ coming_len old)
+waited_same found e old new w = by_flag old.finished w
+  where
+    by_flag : (f : Bool) → MatchBool f ((found ≡ step.Ended e) × (new ≡ with_phase old (phase.Ended e))) ((found ≡ step.Waits) × (new ≡ old))
+        → (new.finished ≡ old.finished) × (coming_len new ≤ coming_len old)
+    by_flag true x = (ap (λ (k : Shown). k.finished) x.1, le_of_eq (ap coming_len x.1))
+    by_flag false x = (ap (λ (k : Shown). k.finished) x.1, le_of_eq (ap coming_len x.1))
+
+-- ---- bytes came
+
+pub empty_from : (xs : Text) (e : Bool) → e ≡ (length xs == 0) → e ≡ true → xs ≡ []
+empty_from [] e same is = refl
+empty_from (x ∷ xs) e same is = absurd (grind (arith, nat_tests))
+
+pub some_from : (xs : Text) (e : Bool) → e ≡ (length xs == 0) → e ≡ false → xs ≡ [] → ⊥
+some_from xs e same is none = absurd (grind (arith, nat_tests, ap length none))
+
+grown : (p : Phase) (f : Bool) (g t t' u u' more : Text) → t' ≡ t → u' ≡ u ++ more
+    → (record { phase = p; taken = t'; unread = u'; finished = f; going = g }) ≡ with_more (record { phase = p; taken = t; unread = u; finished = f; going = g }) more
+grown p f g t t' u u' more e d = λ i. record { phase = p; taken = e i; unread = d i; finished = f; going = g }
+
+with_two : (c : Shown) (a b : Text) → with_more (with_more c a) b ≡ with_more c (a ++ b)
+with_two c a b = ap (λ (u : Text). record c { unread = u }) (append_assoc c.unread a b)
+
+pub was_received : (old new : Shown) (bytes : Text) → new ≡ with_more old bytes → Receives bytes old new
+was_received old new bytes e =
+    inl (e, λ b said holds. subst (λ (k : Shown). Holds k (b ++ bytes) said) (sym e) (holds_on old.phase old.taken old.unread b said bytes holds))
+
+-- the last bytes stand behind those before
+pub all_received : (old : Shown) (p : Phase) (f : Bool) (g t t' u u' front left more left' bytes : Text) → bytes ≡ front ++ left
+    → (record { phase = p; taken = t; unread = u; finished = f; going = g }) ≡ with_more old front → t' ≡ t → u' ≡ u ++ more → left ≡ more ++ left' → left' ≡ []
+    → Receives bytes old (record { phase = p; taken = t'; unread = u'; finished = f; going = g })
+all_received old p f g t t' u u' front left more left' bytes whole so_far kept grew rest none =
+    was_received old _ bytes
+    (grown p f g t t' u u' more kept grew ∙ ap (λ (c : Shown). with_more c more) so_far ∙ with_two old front more
+    ∙ ap (with_more old) (ap (λ (y : Text). front ++ y) (sym (rest ∙ ap (λ (y : Text). more ++ y) none ∙ append-nil more)) ∙ sym whole))
+
+pub none_received : (old : Shown) (bytes : Text) → bytes ≡ [] → Receives bytes old old
+none_received old bytes none =
+    was_received old old bytes (ap (λ (u : Text). record old { unread = u }) (sym (ap (λ (y : Text). old.unread ++ y) none ∙ append-nil old.unread)))
+
+-- ---- memory was wanting
+
+pub part_ends : (found : Step) (n : ℕ) (b before going : Text) (s s' : State) (old new : Shown) → found ≡ step.Ended (WriteFailed n)
+    → new ≡ with_phase old (phase.Ended (WriteFailed n)) → PutsPart n b before going s s' old.going → ActsAs found b before going s s' new
+part_ends found n b before going s s' old new told ends part =
+    subst (λ (k : Step). ActsAs k b before going s s' new) (sym told)
+    (subst (λ (c : Shown). ActsAs (step.Ended (WriteFailed n)) b before going s s' c) (sym ends) (refl, part))
+
+-- what stands before the body was put first
+pub first_put : (found : Step) (b first : Text) (old : Shown) (going : Text) (s s' : State) (new : Shown) → going ≡ old.going ++ first
+    → ActsAs found b first going s s' new → Acts found b [] old s s' new
+first_put found b first old going s s' new put acts = record { first = first; acts = subst (λ (g : Text). ActsAs found b first g s s' new) put acts }
+
+-- ---- a request was answered
+
+module _ (taken unread going b said : Text) (w : HoldsWhole taken unread b said) where
+  pub answered_first : (a : Answer) (s s' : State) (closing : Bool) (new : Shown) → Does s (ask_in w.head w.body.body) a s'
+      → new.going ≡ going ++ reply_for (record { head = w.head; coded = w.body.coded; body = w.body.body }) a
+      → closing ≡ closes (record { head = w.head; coded = w.body.coded; body = w.body.body })
+      → MatchBool closing (new.phase ≡ phase.Ended Closed) (Holds new unread []) → AnswersFirst b said going s s' new
+  answered_first a s s' closing new does put same next = record {
+    item = record { head = w.head; coded = w.body.coded; body = w.body.body };
+    rest = unread;
+    answer = a;
+    request = item_request taken unread b said w;
+    begins = item_begins taken unread b said w;
+    before_is = w.said_is;
+    does = does;
+    put = put;
+    goes_on = subst (λ (f : Bool). MatchBool f (new.phase ≡ phase.Ended Closed) (Holds new unread [])) same next;
+  }
+
+  -- its reply was put in part
+  pub replied_in_part : (n : ℕ) (a : Answer) (s s' : State) (going' : Text) → Does s (ask_in w.head w.body.body) a s'
+      → n < length (reply_for (record { head = w.head; coded = w.body.coded; body = w.body.body }) a)
+      → going' ≡ going ++ take n (reply_for (record { head = w.head; coded = w.body.coded; body = w.body.body }) a)
+      → PutsPart n b said going s s' going'
+  replied_in_part n a s s' going' does short put =
+      replying (record { head = w.head; coded = w.body.coded; body = w.body.body }) unread a (item_request taken unread b said w) (item_begins taken unread b said w)
+      w.said_is does short put
+
+-- ---- a head was found, or none
+
+module _ (heading : Heading) (b : Text) (x : BeginsAt heading b) where
+  pub said_to : (tail : Text) → IsBefore (b ++ tail) (continue_if heading.awaits)
+  said_to tail = subst (λ (f : Bool). IsBefore (b ++ tail) (continue_if f)) (sym x.awaits) (before_there x.head b (drop heading.len b) tail x.there)
+
+  pub refused_at : (r : FramingRefusal) → heading.framing ≡ framed.Refused r → IsRefusedThere b (text_before x.head) r
+  refused_at r is tail = (
+    refused_there x.head b (drop heading.len b) tail r x.there (subst (λ (f : Framing). BodyIsRefused f (drop heading.len b ++ tail) r) (sym is ∙ x.framed) refl),
+    before_there x.head b (drop heading.len b) tail x.there,
+  )
+
+  pub put_first : (gone : ℕ) (out out' : Text) → gone ≤ length out → out' ≡ out ++ continue_if heading.awaits → drop gone out' ≡ drop gone out ++ text_before x.head
+  put_first gone out out' within e = going_on gone out out' (continue_if heading.awaits) within e ∙ ap (λ (f : Bool). drop gone out ++ continue_if f) x.awaits
+
+-- what is held between two requests
+pub held_at_head : (c : Shown) (b said : Text) → c.phase ≡ phase.Head → Holds c b said → HoldsAs phase.Head c.taken c.unread b said
+held_at_head c b said e x = subst (λ (p : Phase). HoldsAs p c.taken c.unread b said) e x
+
+module _ (found : Step) (b said : Text) (old new : Shown) (s : State) (x : Holds old b said) (h : HoldsAs phase.Head old.taken old.unread b said) where
+  pub nothing_came : Waited found Closed old new → old.unread ≡ [] → Acts found b said old s s new
+  nothing_came w none =
+      let all : b ≡ [] = sym h.1 ∙ none in
+      act found b said old s s new
+      (waited_closed found b said old new s w all h.2 (subst (λ (y : Text). IsBefore b y) (sym h.2) (before_empty b all)) x)
+
+  pub head_cut : Waited found Cut old new → (old.unread ≡ [] → ⊥) → (old.unread ≡ []) ⊎ HeadIsCut old.unread → Acts found b said old s s new
+  head_cut w some (inl none) = absurd (some none)
+  head_cut w some (inr cut) =
+      let here = subst HeadIsCut h.1 cut in
+      act found b said old s s new (waited_cut found b said old new s w (inl here) (subst (λ (y : Text). IsBefore b y) (sym h.2) (before_cut b here)) x)
+
+  pub head_never : Refuses found UnreadableHead old new → ((tail : Text) → HeadIsUnreadable (old.unread ++ tail)) → Acts found b said old s s new
+  head_never w never =
+      act found b said old s s new
+      (refused found UnreadableHead b said old new s w
+      (λ tail. let bad = subst (λ (y : Text). HeadIsUnreadable (y ++ tail)) h.1 (never tail) in
+      (inl (refl, bad), subst (λ (y : Text). IsBefore (b ++ tail) y) (sym h.2) (before_unreadable (b ++ tail) bad))))
+
+-- a body that was taken so far is refused
+pub body_never : (part : Part) (taken unread b said : Text) (r : FramingRefusal) (x : HoldsAs (phase.Body part) taken unread b said)
+    → ((tail : Text) → BodyIsRefused (framing x.0) (x.1 ++ tail) r) → IsRefusedThere b said r
+body_never part taken unread b said r x bad tail =
+    (refused_there x.0 b x.1 tail r x.2 (bad tail), subst (λ (y : Text). IsBefore (b ++ tail) y) (sym x.3) (before_there x.0 b x.1 tail x.2))

@@ -1,0 +1,40 @@
+use Rattle.std.proofs.Common.{◌≡◌, ◌⊎◌, [], ◌++◌, subst, sym, ◌∙◌}
+use Rattle.oci_types.specs.Text.{Text}
+use Rattle.registry_http.specs.Spelling.{HeadIsCut, HeadIsUnreadable}
+use Rattle.registry_server.specs.ConversationShowing.{shown}
+use Rattle.registry_server.proofs.SteppingLemmas.{held_at_head, empty_from, some_from, nothing_came, head_cut, head_never, waited_same, none_left}
+use Rattle.registry_server.proofs.conversation.Conversation.begin.Goals as goal
+
+pub returns-then-none : goal.returns-then-none
+returns-then-none g c = record {
+  honest = λ honest. honest;
+  finished = (waited_same c.wait.result _ (shown c.args.self.now) (shown c.wait.new.self) c.wait.ensures).0;
+  fewer = (waited_same c.wait.result _ (shown c.args.self.now) (shown c.wait.new.self) c.wait.ensures).1;
+  acts = λ honest at_head b said x.
+      let old = shown c.args.self.now in
+      nothing_came c.wait.result b said old _ _ x (held_at_head old b said at_head x) c.wait.ensures
+      (sym c.behind-unread.ensures ∙ empty_from _ _ c.is_empty-none.ensures c.if-none.true);
+}
+
+pub returns-else-none : goal.returns-else-none
+returns-else-none g c = record {
+  honest = λ honest. honest;
+  finished = (waited_same c.wait-else-none.result _ (shown c.args.self.now) (shown c.wait-else-none.new.self) c.wait-else-none.ensures).0;
+  fewer = (waited_same c.wait-else-none.result _ (shown c.args.self.now) (shown c.wait-else-none.new.self) c.wait-else-none.ensures).1;
+  acts = λ honest at_head b said x.
+      let old = shown c.args.self.now in
+      head_cut c.wait-else-none.result b said old _ _ x (held_at_head old b said at_head x) c.wait-else-none.ensures
+      (λ none. some_from _ _ c.is_empty-none.ensures c.if-none.false (c.behind-unread.ensures ∙ none))
+      (subst (λ (y : Text). (y ≡ []) ⊎ HeadIsCut y) c.behind.ensures c.in-NotYet.ensures);
+}
+
+pub returns-in-Never : goal.returns-in-Never
+returns-in-Never g c = record {
+  honest = λ honest. honest;
+  finished = c.refuse.ensures.finished;
+  fewer = none_left (shown c.args.self.now) (shown c.refuse.new.self) c.refuse.ensures.none_held;
+  acts = λ honest at_head b said x.
+      let old = shown c.args.self.now in
+      head_never c.refuse.result b said old _ _ x (held_at_head old b said at_head x) c.refuse.ensures
+      (λ tail. subst (λ (y : Text). HeadIsUnreadable (y ++ tail)) c.behind.ensures (c.in-Never.ensures tail));
+}

@@ -1,0 +1,5 @@
+use Rattle.registry_server.proofs.LawLemmas.{all_account}
+use Rattle.registry_server.proofs.conversation_laws.a_conversation_is_served.Goals as goal
+
+pub returns : goal.returns
+returns c = all_account

@@ -1,0 +1,16 @@
+use Rattle.oci_types.specs.Text.{Text}
+use Rattle.registry_http.specs.Buffering.{before, behind}
+use Rattle.registry_http.specs.declared.framing.Framing.{Framing}
+use Rattle.registry_server.specs.Parts.{IsPart, LetsGo, rank}
+use Rattle.registry_server.proofs.part.take_body.Given as goal
+
+-- the parts before the next were taken
+abbrev pub invariant-parts : goal.invariant-parts
+invariant-parts l = record {
+  taken : (framing : Framing) (front v : Text) → IsPart l.fn.part framing front v (before l.fn.buffer) (behind l.fn.buffer)
+      → IsPart l.next framing front v (before l.buffer) (behind l.buffer);
+  fewer : LetsGo (before l.fn.buffer) (behind l.fn.buffer) (before l.buffer) (behind l.buffer);
+}
+
+abbrev pub decreases-parts : goal.decreases-parts
+decreases-parts l = rank l.next

@@ -1,0 +1,33 @@
+use Rattle.std.specs.Prelude.{IfOk}
+use Rattle.std.proofs.Common.{Bool, ◌≡◌, Some, ap, subst, ◌∙◌}
+use Rattle.oci_types.specs.Text.{Text}
+use Rattle.registry_model.specs.Answer.{answer_of}
+use Rattle.registry_model.specs.Doing.{Does}
+use Rattle.registry_model.specs.Heads.{is_head}
+use Rattle.registry_http.specs.Asking.{ask_in, verb_of}
+use Rattle.registry_http.specs.ReplyText.{reply_text}
+use Rattle.registry_http.specs.Sending.{SendsReply}
+use Rattle.registry_http.specs.Serving.{reply_for}
+use Rattle.registry_http.proofs.TextPlaces.{behind}
+use Rattle.registry_server.proofs.HoldingLemmas.{closes_is}
+use Rattle.registry_server.proofs.replying.reply_to.Goals as goal
+
+pub returns-clause-closing : goal.returns-clause-closing
+returns-clause-closing g c = λ i there.
+    subst (λ (f : Bool). IfOk c.put_reply.result (λ (told : Bool). told ≡ f)) (c.closes-closing.ensures ∙ closes_is _ _ c.args.spans.now i there)
+    c.put_reply.ensures.told
+
+pub returns-clause-replies : goal.returns-clause-replies
+returns-clause-replies g c = λ honest i there.
+    let spans = c.args.spans.now in
+    let body = behind c.args.taken.now spans.len ∙ there.body in
+    let flag = c.is_head.ensures ∙ ap (λ (m : Text). is_head (verb_of m)) (c.of.ensures ∙ there.at.method) in
+    let answer = answer_of c.answer-reply.result in
+    let text : reply_text c.is_head.result c.closes-closing.result answer ≡ reply_for i answer =
+    ap (λ (f : Bool). reply_text f c.closes-closing.result answer) flag
+    ∙ ap (λ (f : Bool). reply_text (is_head (verb_of i.head.method)) f answer) (c.closes-closing.ensures ∙ closes_is _ _ spans i there) in (
+      answer,
+      subst (λ (b : Text). Does (g.K.Keeper.state c.args.service.now) (ask_in i.head b) answer (g.K.Keeper.state c.answer-reply.new.service)) body
+          (c.answer-reply.ensures.does honest i.head there.at),
+      subst (λ (t : Text). SendsReply c.put_reply.result (Some c.args.out.now.items) (Some c.put_reply.new.out.items) t) text c.put_reply.ensures.sends,
+    )

@@ -1,0 +1,98 @@
+-- What any list of a conversation's calls comes to.
+use Rattle.std.specs.Prelude.{◌≡◌, Bool, true, false, List, [], ◌∷◌, ◌++◌, Some}
+use Rattle.oci_types.specs.Text.{Text}
+use Rattle.registry_model.specs.Keeping.{State}
+use Rattle.registry_http.specs.Spelling.{Item, Front}
+use Rattle.registry_http.specs.Serving.{Run, joined, Traffic, Serves}
+use Rattle.registry_http.specs.declared.ending.End.{End}
+use Rattle.registry_http.specs.declared.ending.End.TheVariants.{Closed, Cut, Refused, ReadFailed, WriteFailed}
+use Rattle.registry_server.specs.declared.phase.Phase.{Phase}
+use Rattle.registry_server.specs.declared.phase.Phase.TheVariants.{Head, Body, Ended}
+use Rattle.registry_server.specs.declared.phase.Step.{Step}
+use Rattle.registry_server.specs.declared.phase.Step.TheVariants as step
+use Rattle.registry_server.specs.Shown.{Shown, listens, with_finished, with_going}
+use Rattle.registry_server.specs.Holding.{Holds}
+use Rattle.registry_server.specs.Stepping.{Acts, Receives}
+
+-- ---- events
+
+-- a call: bytes came, the input ended, a turn was taken and came to this, or these bytes went out
+pub data Event : Type 0 where
+  came : Text → Event
+  ended : Event
+  acted : Step → Event
+  sent : Text → Event
+
+-- what the call says of the conversation and of the service, whose keeper is honest: the clauses of
+-- `receive`, `finish`, `answer_next` and `sent`
+abbrev pub Happens : Event → Shown → State → Shown → State → Type 0
+Happens (came bytes) c s c' s' =
+    (listens c ≡ false → c' ≡ c) × (listens c ≡ true → Receives bytes c c') × (s' ≡ s)
+Happens ended c s c' s' = (c' ≡ with_finished c) × (s' ≡ s)
+Happens (acted found) c s c' s' =
+    ((e : End) → c.phase ≡ Ended e → (found ≡ step.Ended e) × (c' ≡ c) × (s' ≡ s))
+    × (c'.finished ≡ c.finished)
+    × ((b said : Text) → Holds c b said → Acts found b said c s s' c')
+Happens (sent text) c s c' s' =
+    (c.going ≡ text ++ c'.going) × (c' ≡ with_going c c'.going) × (s' ≡ s)
+
+-- the events, one after the other; nobody else touches the service
+abbrev pub Passes : List Event → Shown → State → Shown → State → Type 0
+Passes [] c s c' s' = (c' ≡ c) × (s' ≡ s)
+Passes (e ∷ es) c s c' s' = (mid : Shown) × (t : State) × Happens e c s mid t × Passes es mid t c' s'
+
+-- all bytes that came, as long as the input had not ended
+abbrev pub heard_if : Bool → List Event → Text
+heard_if true es = []
+heard_if false [] = []
+heard_if false (came bytes ∷ es) = bytes ++ heard_if false es
+heard_if false (ended ∷ es) = []
+heard_if false (acted found ∷ es) = heard_if false es
+heard_if false (sent text ∷ es) = heard_if false es
+
+abbrev pub heard : List Event → Text
+heard es = heard_if false es
+
+-- all bytes that went out
+abbrev pub went : List Event → Text
+went [] = []
+went (came bytes ∷ es) = went es
+went (ended ∷ es) = went es
+went (acted found ∷ es) = went es
+went (sent text ∷ es) = text ++ went es
+
+-- ---- what they come to
+
+-- b is these requests and then what is held, they were answered one after the other, and all that was put out
+-- are their texts and what was said of the next
+pub record SoFar (b out : Text) (s s' : State) (c : Shown) : Type 0 where
+  pub items : List Item
+  pub texts : List Text
+  pub rest : Text
+  pub said : Text
+  pub front : Front b items rest
+  pub run : Run s items texts s'
+  pub put : out ≡ joined texts ++ said
+  pub holds : Holds c rest said
+
+-- the bytes that came and were put out, and the service's states
+abbrev pub traffic : Text → Text → State → State → Traffic
+traffic b out s s' =
+    record { left = Some b; left' = Some []; held = Some []; held' = Some out; state = s; state' = s' }
+
+-- what serving a connection to this end says; none of it ends with a read
+abbrev pub ServedTo : End → Traffic → Type 0
+ServedTo Closed t = Serves Closed t
+ServedTo Cut t = Serves Cut t
+ServedTo (Refused r) t = Serves (Refused r) t
+ServedTo ReadFailed t = ⊥
+ServedTo (WriteFailed n) t = Serves (WriteFailed n) t
+
+-- while there may be a further request, and at the end: of a reader that gives b and a writer that takes out
+abbrev pub AccountsAs : Phase → Text → Text → State → State → Shown → Type 0
+AccountsAs Head b out s s' c = SoFar b out s s' c
+AccountsAs (Body part) b out s s' c = SoFar b out s s' c
+AccountsAs (Ended e) b out s s' c = ServedTo e (traffic b out s s')
+
+abbrev pub Accounts : Text → Text → State → State → Shown → Type 0
+Accounts b out s s' c = AccountsAs c.phase b out s s' c

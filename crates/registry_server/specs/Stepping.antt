@@ -1,0 +1,118 @@
+-- What one turn of a conversation comes to.
+use Rattle.std.specs.Prelude.{◌≡◌, ℕ, ◌<◌, ◌⊎◌, true, false, [], ◌++◌, length, take, Some}
+use Rattle.std.specs.Bool.{MatchBool}
+use Rattle.oci_types.specs.Text.{Text}
+use Rattle.registry_model.specs.Answer.{Answer}
+use Rattle.registry_model.specs.Keeping.{State}
+use Rattle.registry_model.specs.Doing.{Does}
+use Rattle.registry_http.specs.Asking.{ask_in}
+use Rattle.registry_http.specs.Ending.{SendsRefusal}
+use Rattle.registry_http.specs.Expecting.{text_before, IsBefore}
+use Rattle.registry_http.specs.ReplyText.{refusal_text}
+use Rattle.registry_http.specs.Serving.{reply_for}
+use Rattle.registry_http.specs.Spelling.{Item, IsRequest, IsCut, IsRefused, print_item, closes}
+use Rattle.registry_http.specs.declared.ending.FramingRefusal.{FramingRefusal}
+use Rattle.registry_http.specs.declared.ending.FramingRefusal.TheVariants.{NoBufferMemory}
+use Rattle.registry_http.specs.declared.ending.End.{End}
+use Rattle.registry_http.specs.declared.ending.End.TheVariants.{Closed, Cut, Refused, ReadFailed, WriteFailed}
+use Rattle.registry_server.specs.declared.phase.Phase.TheVariants as phase
+use Rattle.registry_server.specs.declared.phase.Step.{Step}
+use Rattle.registry_server.specs.declared.phase.Step.TheVariants as step
+use Rattle.registry_server.specs.Shown.{Shown, with_more, with_phase, coming_len}
+use Rattle.registry_server.specs.Holding.{Holds}
+
+-- ---- where before was put out already, behind going, of the text of the request that b begins with
+
+-- that request is answered as the definitions say, the reply is put out, and what follows it is held
+pub record AnswersFirst (b before going : Text) (s s' : State) (new : Shown) : Type 0 where
+  pub item : Item
+  pub rest : Text
+  pub answer : Answer
+  pub request : IsRequest item
+  pub begins : b ≡ print_item item ++ rest
+  pub before_is : before ≡ text_before item.head
+  pub does : Does s (ask_in item.head item.body) answer s'
+  pub put : new.going ≡ going ++ reply_for item answer
+  pub goes_on : MatchBool (closes item) (new.phase ≡ phase.Ended Closed) (Holds new rest [])
+
+-- b holds no whole request, and none that is refused; nothing is done
+pub record WaitsForMore (b before going : Text) (s s' : State) (new : Shown) : Type 0 where
+  pub goes_on : new.finished ≡ false
+  pub cut : (b ≡ []) ⊎ IsCut b
+  pub before_is : IsBefore b before
+  pub holds : Holds new b before
+  pub put : new.going ≡ going
+  pub same : s' ≡ s
+
+-- the request is refused, whatever bytes follow
+abbrev pub IsRefusedThere : Text → Text → FramingRefusal → Type 0
+IsRefusedThere b before r = (tail : Text) → IsRefused (b ++ tail) r × IsBefore (b ++ tail) before
+
+-- memory was wanting for the text in hand: its first n bytes are put out
+pub data PutsPart (n : ℕ) (b before going : Text) (s s' : State) (going' : Text) : Type 0 where
+  -- the reply of a request that took effect
+  replying : (i : Item) (rest : Text) (a : Answer) → IsRequest i → b ≡ print_item i ++ rest
+      → before ≡ text_before i.head → Does s (ask_in i.head i.body) a s'
+      → n < length (reply_for i a) → going' ≡ going ++ take n (reply_for i a)
+      → PutsPart n b before going s s' going'
+  -- a refusal's
+  refusing : (r : FramingRefusal) → IsRefusedThere b before r → n < length (refusal_text r)
+      → going' ≡ going ++ take n (refusal_text r) → s' ≡ s → PutsPart n b before going s s' going'
+  -- what stands before a body
+  continuing : (text : Text) → before ≡ [] → ((tail : Text) → IsBefore (b ++ tail) text)
+      → n < length text → going' ≡ going ++ take n text → s' ≡ s → PutsPart n b before going s s' going'
+
+-- no further request is answered, and why
+abbrev pub EndsAs : End → Text → Text → Text → State → State → Shown → Type 0
+EndsAs Closed b before going s s' new =
+    (new.finished ≡ true) × (b ≡ []) × (before ≡ []) × (new.going ≡ going) × (s' ≡ s)
+EndsAs Cut b before going s s' new =
+    (new.finished ≡ true) × IsCut b × IsBefore b before × (new.going ≡ going) × (s' ≡ s)
+EndsAs (Refused r) b before going s s' new =
+    IsRefusedThere b before r × (new.going ≡ going ++ refusal_text r) × (s' ≡ s)
+EndsAs ReadFailed b before going s s' new = ⊥
+EndsAs (WriteFailed n) b before going s s' new = PutsPart n b before going s s' new.going
+
+abbrev pub ActsAs : Step → Text → Text → Text → State → State → Shown → Type 0
+ActsAs step.Answered b before going s s' new = AnswersFirst b before going s s' new
+ActsAs step.Waits b before going s s' new = WaitsForMore b before going s s' new
+ActsAs (step.Ended e) b before going s s' new =
+    (new.phase ≡ phase.Ended e) × EndsAs e b before going s s' new
+
+-- ---- one turn
+
+-- said was put out before; behind what was to go out, first is put, which with it stands before the body
+pub record Acts (found : Step) (b said : Text) (old : Shown) (s s' : State) (new : Shown) : Type 0 where
+  pub first : Text
+  pub acts : ActsAs found b (said ++ first) (old.going ++ first) s s' new
+
+-- ---- parts of a turn
+
+-- the refusal is put out, or so many of its first bytes, and nothing more comes of it; what came is let go
+pub record Refuses (found : Step) (r : FramingRefusal) (old new : Shown) : Type 0 where
+  pub end : End
+  pub found_is : found ≡ step.Ended end
+  pub sends : SendsRefusal end r (Some old.going) (Some new.going)
+  pub ended : new.phase ≡ phase.Ended end
+  pub finished : new.finished ≡ old.finished
+  pub none_held : coming_len new ≡ 0
+
+-- no memory for the bytes that came
+pub record LacksMemory (old new : Shown) : Type 0 where
+  pub end : End
+  pub sends : SendsRefusal end NoBufferMemory (Some old.going) (Some new.going)
+  pub ended : new.phase ≡ phase.Ended end
+  pub finished : new.finished ≡ old.finished
+
+-- the bytes came behind those that are held, and nothing else is done; or no memory
+abbrev pub Receives : Text → Shown → Shown → Type 0
+Receives bytes old new =
+    ((new ≡ with_more old bytes)
+    × ((b said : Text) → Holds old b said → Holds new (b ++ bytes) said))
+    ⊎ LacksMemory old new
+
+-- more bytes are waited for; or where none come any more that is the end
+abbrev pub Waited : Step → End → Shown → Shown → Type 0
+Waited found e old new = MatchBool old.finished
+    ((found ≡ step.Ended e) × (new ≡ with_phase old (phase.Ended e)))
+    ((found ≡ step.Waits) × (new ≡ old))

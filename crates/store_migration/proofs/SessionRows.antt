@@ -1,0 +1,57 @@
+-- What the statements on the old rows of upload sessions make of the tables, and show.
+use Rattle.std.proofs.Common.{◌≡◌, ◌∙◌, ℕ, List, [], ◌∷◌, map, true, pos, Ok, Err, Result, OnOk, IfOk, refl, sym, ap, subst}
+use Rattle.std.specs.Prelude.{find}
+use Rattle.std.specs.Option.{option_to_list}
+use Rattle.std.specs.List.Sorted.{IsPermutation}
+use Rattle.sqlite_trees.proofs.ListLemmas.{filter_all, all_of}
+use Rattle.sqlite.specs.declared.types.Value.TheVariants.{Text, Int}
+use Rattle.sqlite.specs.declared.error.Error.{Error}
+use Rattle.sqlite.specs.Order.{Row, column}
+use Rattle.sqlite.specs.State.{State, Executes, ExecutesInside, Shown}
+use Rattle.store_schema.specs.OldSchema.{old_blobs_table, old_manifests_table, old_sessions_table}
+use Rattle.store_schema.specs.Layout.{rows_of, equals}
+use Rattle.store_schema.proofs.Selects.{Answer, is_text, both_tests}
+use Rattle.store_schema.proofs.Writes.{passes, rows_in}
+use Rattle.store_statements.specs.Keys.{of_session, same_session}
+use Rattle.store_statements.specs.Tables.{Beside, AreRows}
+use Rattle.store_statements.specs.Changes.{without}
+use Rattle.store_statements.specs.Held.{held, HoldsTables, Becomes}
+use Rattle.store_statements.proofs.SessionKeys.{is_number, session_parts}
+use Rattle.store_statements.proofs.Selected.{lists, finds}
+use Rattle.store_migration.specs.OldTables.{IsOldSessionRow}
+use Rattle.store_migration.specs.OldTexts.{session_keys, session_bytes, session_take}
+use Rattle.store_migration.specs.Olds.{HasOlds, old_of, with_olds}
+use Rattle.store_migration.proofs.OldRows.{blobs_are, manifests_are, sessions_are, further, besides, takes, Takes}
+
+key_test : (repo : List ℕ) (number : ℕ) (r : Row) → IsOldSessionRow r → passes (Text repo ∷ Int (pos number) ∷ []) (equals 1 0 ∷ equals 2 1 ∷ []) r ≡ of_session repo number r
+key_test repo number r it = both_tests _ _ _ _ (is_text (column r 1) _ repo it.repo) (is_number (column r 2) _ number it.number)
+
+are_rows : (s : State) → HasOlds (held s) → AreRows IsOldSessionRow same_session (rows_of s.now old_sessions_table)
+are_rows s o = subst (AreRows IsOldSessionRow same_session) (sessions_are s.now o.known) o.rows.sessions
+
+-- ---- a DELETE
+
+took : (repo : List ℕ) (number : ℕ) (old new : State) (n : ℕ) → HoldsTables old.now → HasOlds (held old) → Executes session_take (Text repo ∷ Int (pos number) ∷ []) old new (Ok n)
+    → (held new ≡ with_olds (held old) (record (old_of (held old)) { sessions = without (of_session repo number) (old_of (held old)).sessions })) × HoldsTables new.now
+took repo number old new n h o ran =
+    let a = o.known.apart in
+    let here = sessions_are old.now o.known in
+    let t : Takes old_sessions_table (of_session repo number) old.now new.now = takes old_sessions_table IsOldSessionRow same_session session_take (equals 1 0 ∷ equals 2 1 ∷ []) (Text repo ∷ Int (pos number) ∷ []) (of_session repo number) old new n o.known.sessions o.known.sessions_alone (are_rows old o) o.known.session_texts.take_mean (key_test repo number) ran in
+    let now = further old_sessions_table old.now new.now h (a.1.1.0, a.1.1.1) t.keeps in
+    (now.0 ∙ ap (λ (b : Beside). record (held old) { beside = b }) (besides old.now new.now o.known t.keeps.schema _ _ _ (rows_in old.now new.now old_sessions_table old_blobs_table o.known.blobs t.keeps (a.0.1.0) ∙ sym (blobs_are old.now o.known)) (rows_in old.now new.now old_sessions_table old_manifests_table o.known.manifests t.keeps (a.1.0.0) ∙ sym (manifests_are old.now o.known)) (t.rows ∙ ap (without (of_session repo number)) (sym here))), now.1)
+
+pub took_by : (repo : List ℕ) (number : ℕ) (old new : State) (r : Result ℕ Error) → HoldsTables old.now → HasOlds (held old) → ExecutesInside 0 session_take (Text repo ∷ Int (pos number) ∷ []) old new r
+    → OnOk r (Becomes new (with_olds (held old) (record (old_of (held old)) { sessions = without (of_session repo number) (old_of (held old)).sessions })))
+took_by repo number old new (Err e) h o ran = tt
+took_by repo number old new (Ok n) h o ran = let it = took repo number old new n h o ran.0 in (record { inside = ran.1.mode; holds = it.1 }, it.0)
+
+-- ---- what is read
+
+pub key_rows : (old new : State) (r : Answer) → HasOlds (held old) → IfOk r (λ rows. Shown session_keys [] old new rows.items) → IfOk r (λ rows. IsPermutation (map (λ r. column r 1 ∷ column r 2 ∷ []) (old_of (held old)).sessions) rows.items)
+key_rows old new r o ran = subst (λ xs. IfOk r (λ rows. IsPermutation (map (λ r. column r 1 ∷ column r 2 ∷ []) xs) rows.items)) (filter_all (λ _. true) _ (all_of _ (λ r. refl) _) ∙ sym (sessions_are old.now o.known))
+    (lists old_sessions_table IsOldSessionRow same_session session_keys _ [] _ [] (λ _. true) old new r o.known.session_texts.keys_mean o.known.sessions.stored (are_rows old o) (λ r it. refl) ran)
+
+pub byte_rows : (repo : List ℕ) (number : ℕ) (old new : State) (r : Answer) → HasOlds (held old) → IfOk r (λ rows. Shown session_bytes (Text repo ∷ Int (pos number) ∷ []) old new rows.items)
+    → IfOk r (λ rows. rows.items ≡ map (λ r. column r 4 ∷ []) (option_to_list (find (of_session repo number) (old_of (held old)).sessions)))
+byte_rows repo number old new r o ran = subst (λ xs. IfOk r (λ rows. rows.items ≡ map (λ r. column r 4 ∷ []) (option_to_list (find (of_session repo number) xs)))) (sym (sessions_are old.now o.known))
+    (finds old_sessions_table IsOldSessionRow same_session session_bytes _ (equals 1 0 ∷ equals 2 1 ∷ []) _ (Text repo ∷ Int (pos number) ∷ []) (of_session repo number) old new r o.known.session_texts.bytes_mean o.known.sessions.stored (are_rows old o) (key_test repo number) (session_parts repo number) ran)

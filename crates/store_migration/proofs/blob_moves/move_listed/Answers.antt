@@ -1,0 +1,48 @@
+use Rattle.std.proofs.Common.{◌∙◌, ◌<◌, ◌+◌, List, length, take, arith, refl, ap, ap₂, subst}
+use Rattle.std.proofs.lemmas.Result.{IfOk-from_err}
+use Rattle.std.proofs.lemmas.List.{take_all}
+use Rattle.sqlite.specs.Order.{Row}
+use Rattle.sqlite.specs.Held.{state}
+use Rattle.store_schema.proofs.Selects.{survives_both}
+use Rattle.store_statements.specs.Held.{held}
+use Rattle.store_migration.specs.Moving.{Moves, without_blob, without_listed_blobs}
+use Rattle.store_migration.proofs.ListedMoves.{none_moved, one_moved, stopped, key_more}
+use Rattle.store_migration.proofs.blob_moves.move_listed.Goals as goal
+
+pub loop-key-init : goal.loop-key-init
+loop-key-init g c = record { moved = none_moved (without_listed_blobs (take 0 c.args.keys.now)) (state g.S.Store c.args.tx.now.conn.now) refl; done = refl; same_reference = refl }
+
+pub loop-key-preserved : goal.loop-key-preserved
+loop-key-preserved g c =
+    let low : c.loop-key.key-index < length c.args.keys.now = omega arith in
+    let key = c.key-item.result in
+    record {
+      moved = one_moved (without_listed_blobs (take c.loop-key.key-index c.args.keys.now)) (without_blob c.deref.result.now c.deref-in-loop-key.result.now) (without_listed_blobs (take (c.loop-key.key-index + 1) c.args.keys.now))
+          (state g.S.Store c.args.tx.now.conn.now) (state g.S.Store c.loop-key.tx.conn.now) (state g.S.Store c.move_blob.new.tx.conn.now)
+          (λ old.
+          ap₂ (λ repo digest. without_blob repo digest (without_listed_blobs (take c.loop-key.key-index c.args.keys.now) old)) c.deref.ensures c.deref-in-loop-key.ensures
+          ∙ ap (λ (rows : List Row). record old { blobs = rows }) (key_more c.args.keys.now c.loop-key.key-index key old.blobs low c.key-item.is))
+          c.loop-key.invariant.moved c.in_ok-move_blob.ensures.moved c.move_blob.ensures.kept c.move_blob.ensures.survives;
+      done = omega (arith, c.loop-key.invariant.done);
+      same_reference = c.move_blob.ensures.same_reference ∙ c.loop-key.invariant.same_reference;
+    }
+
+pub returns : goal.returns
+returns g c = record {
+  moved = λ clean is under.
+      let it = c.loop-key.invariant.moved.moved clean is under in
+      (it.0, subst (λ keys. Moves (without_listed_blobs keys) (held (state g.S.Store c.args.tx.now.conn.now)) (held (state g.S.Store c.loop-key.tx.conn.now))) (take_all c.loop-key.key-index c.args.keys.now (omega arith)) it.1);
+  counted = omega (arith, c.loop-key.invariant.done);
+  kept = c.loop-key.invariant.moved.kept;
+  same_reference = c.loop-key.invariant.same_reference;
+  survives = c.loop-key.invariant.moved.survives;
+}
+
+pub returns-in_err-move_blob : goal.returns-in_err-move_blob
+returns-in_err-move_blob g c = record {
+  moved = λ clean is under. IfOk-from_err c.from_residual.result _ c.from_residual.ensures.0;
+  counted = IfOk-from_err c.from_residual.result _ c.from_residual.ensures.0;
+  kept = stopped (without_listed_blobs (take c.loop-key.key-index c.args.keys.now)) (state g.S.Store c.args.tx.now.conn.now) (state g.S.Store c.loop-key.tx.conn.now) (state g.S.Store c.move_blob.new.tx.conn.now) c.loop-key.invariant.moved c.move_blob.ensures.kept c.move_blob.ensures.survives;
+  same_reference = c.move_blob.ensures.same_reference ∙ c.loop-key.invariant.same_reference;
+  survives = survives_both (state g.S.Store c.args.tx.now.conn.now) (state g.S.Store c.loop-key.tx.conn.now) (state g.S.Store c.move_blob.new.tx.conn.now) c.loop-key.invariant.moved.survives c.move_blob.ensures.survives;
+}

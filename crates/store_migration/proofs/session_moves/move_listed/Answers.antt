@@ -1,0 +1,57 @@
+use Rattle.std.proofs.Common.{◌∙◌, ◌<◌, ◌+◌, List, length, take, arith, refl, ap, subst}
+use Rattle.std.proofs.lemmas.Result.{IfOk-from_err}
+use Rattle.std.proofs.lemmas.List.{take_all}
+use Rattle.sqlite.specs.Order.{Row}
+use Rattle.sqlite.specs.Held.{state}
+use Rattle.store_schema.proofs.Selects.{survives_both}
+use Rattle.store_statements.specs.Held.{held}
+use Rattle.store_migration.specs.Moving.{Moves, without_session, without_listed_sessions}
+use Rattle.store_migration.proofs.ListedMoves.{none_moved, one_moved, stopped, number_more}
+use Rattle.store_migration.proofs.session_moves.move_listed.Goals as goal
+
+pub loop-key-init : goal.loop-key-init
+loop-key-init g c = record { moved = none_moved (without_listed_sessions (take 0 c.args.keys.now)) (state g.S.Store c.args.tx.now.conn.now) refl; done = refl; same_reference = refl }
+
+pub loop-key-preserved : goal.loop-key-preserved
+loop-key-preserved g c =
+    let low : c.loop-key.key-index < length c.args.keys.now = omega arith in
+    let key = c.key-item.result in
+    record {
+      moved = one_moved (without_listed_sessions (take c.loop-key.key-index c.args.keys.now)) (without_session c.deref.result.now key.number) (without_listed_sessions (take (c.loop-key.key-index + 1) c.args.keys.now))
+          (state g.S.Store c.args.tx.now.conn.now) (state g.S.Store c.loop-key.tx.conn.now) (state g.S.Store c.move_session.new.tx.conn.now)
+          (λ old.
+          ap (λ repo. without_session repo key.number (without_listed_sessions (take c.loop-key.key-index c.args.keys.now) old)) c.deref.ensures
+          ∙ ap (λ (rows : List Row). record old { sessions = rows }) (number_more c.args.keys.now c.loop-key.key-index key old.sessions low c.key-item.is))
+          c.loop-key.invariant.moved c.in_ok-move_session.ensures.moved c.move_session.ensures.kept c.move_session.ensures.survives;
+      done = omega (arith, c.loop-key.invariant.done);
+      same_reference = c.move_session.ensures.same_reference ∙ c.loop-key.invariant.same_reference;
+    }
+
+pub returns : goal.returns
+returns g c = record {
+  moved = λ clean is under.
+      let it = c.loop-key.invariant.moved.moved clean is under in
+      (it.0, subst (λ keys. Moves (without_listed_sessions keys) (held (state g.S.Store c.args.tx.now.conn.now)) (held (state g.S.Store c.loop-key.tx.conn.now))) (take_all c.loop-key.key-index c.args.keys.now (omega arith)) it.1);
+  counted = omega (arith, c.loop-key.invariant.done);
+  kept = c.loop-key.invariant.moved.kept;
+  same_reference = c.loop-key.invariant.same_reference;
+  survives = c.loop-key.invariant.moved.survives;
+}
+
+pub returns-in_err-move_session : goal.returns-in_err-move_session
+returns-in_err-move_session g c = record {
+  moved = λ clean is under. IfOk-from_err c.from_residual.result _ c.from_residual.ensures.0;
+  counted = IfOk-from_err c.from_residual.result _ c.from_residual.ensures.0;
+  kept = stopped (without_listed_sessions (take c.loop-key.key-index c.args.keys.now)) (state g.S.Store c.args.tx.now.conn.now) (state g.S.Store c.loop-key.tx.conn.now) (state g.S.Store c.move_session.new.tx.conn.now) c.loop-key.invariant.moved c.move_session.ensures.kept c.move_session.ensures.survives;
+  same_reference = c.move_session.ensures.same_reference ∙ c.loop-key.invariant.same_reference;
+  survives = survives_both (state g.S.Store c.args.tx.now.conn.now) (state g.S.Store c.loop-key.tx.conn.now) (state g.S.Store c.move_session.new.tx.conn.now) c.loop-key.invariant.moved.survives c.move_session.ensures.survives;
+}
+
+pub returns-then-key-gt-LARGEST : goal.returns-then-key-gt-LARGEST
+returns-then-key-gt-LARGEST g c = record {
+  moved = λ clean is under. tt;
+  counted = tt;
+  kept = c.loop-key.invariant.moved.kept;
+  same_reference = c.loop-key.invariant.same_reference;
+  survives = c.loop-key.invariant.moved.survives;
+}

@@ -1,0 +1,186 @@
+//! Manifests are moved.
+ghost use Rattle.std.specs.Prelude.{◌≡◌, ◌<◌, ◌^◌, length, find, option_map, None, Some, OnOk, IfOk};
+ghost use Rattle.sqlite.specs.State.{HasCleanDisk, KeepsCommit};
+ghost use Rattle.sqlite.specs.Held.{state};
+ghost use Rattle.oci_types.specs.Manifest.{manifest_in};
+ghost use Rattle.registry_model.specs.Manifests.{kind_in};
+ghost use Rattle.registry_model.specs.Referrers.{subject_or_none};
+ghost use Rattle.store_schema.specs.Rows.{bytes_at};
+ghost use Rattle.store_statements.specs.Keys.{has_key};
+ghost use Rattle.store_statements.specs.Clauses.{KeepsInside, LastsUncommitted};
+ghost use Rattle.store_statements.specs.Held.{IsReady, held};
+ghost use Rattle.store_migration.specs.Olds.{old_of};
+ghost use Rattle.store_migration.specs.Moving.{IsUnderway, ManifestStored, Moves, MovesOn, KeepsUnderway, CountsOld, without_manifest, without_listed_manifests, without_manifests};
+
+use crate::old_keys::Key;
+use crate::old_manifests::{manifest_bytes, manifest_keys, take_manifest};
+use crate::watch::{OldTable, Watch};
+use oci_documents::read_manifest;
+use oci_types::{Fault, Kind, ManifestFault};
+use sqlite::{Alter, Transaction};
+use std::alloc::Global;
+use store_statements::contents::keep;
+use store_statements::manifests::add_manifest_link;
+use store_statements::numbers::LARGEST;
+
+/// Puts a manifest in that the repository has not, of the kind and the subject as which its bytes read.
+fn add_manifest<S: Alter>(
+    alloc: Global,
+    tx: &mut Transaction<'_, S>,
+    repo: &str,
+    digest: &str,
+    bytes: &[u8],
+    kind: Kind,
+    subject: Option<&str>,
+) -> Result<(), Fault>
+    requires fits { length bytes.now < 2 ^ 63 }
+    requires of_kind { kind ≡ kind_in bytes.now }
+    requires of_subject { option_map (λ text. text.now) subject ≡ subject_or_none (manifest_in bytes.now) }
+    ensures stored { HasCleanDisk (state S.Store tx.new.conn.now) → IsReady (state S.Store tx.old.conn.now)
+        → find (has_key repo.now digest.now) (held (state S.Store tx.old.conn.now)).manifests ≡ None
+        → OnOk result
+        (IsReady (state S.Store tx.new.conn.now) × ManifestStored (held (state S.Store tx.old.conn.now))
+        (held (state S.Store tx.new.conn.now)) repo.now digest.now bytes.now) }
+    ensures kept { KeepsInside S.Store tx.old.conn.now tx.new.conn.now }
+    ensures same_reference { tx.new.conn.ghost_name ≡ tx.old.conn.ghost_name }
+    ensures survives { LastsUncommitted S.Store tx.old.conn.now tx.new.conn.now }
+{
+    match keep(alloc, tx, bytes) {
+        Ok(content) => {
+            add_manifest_link(tx, repo, digest, bytes.len() as u64, kind, subject, content)
+        }
+        Err(fault) => Err(fault),
+    }
+}
+
+/// The same, where the bytes are read first: what is no manifest counts as an image manifest without a
+/// subject.
+fn add_read<S: Alter>(
+    alloc: Global,
+    tx: &mut Transaction<'_, S>,
+    repo: &str,
+    digest: &str,
+    bytes: &[u8],
+) -> Result<(), Fault>
+    requires fits { length bytes.now < 2 ^ 63 }
+    ensures stored { HasCleanDisk (state S.Store tx.new.conn.now) → IsReady (state S.Store tx.old.conn.now)
+        → find (has_key repo.now digest.now) (held (state S.Store tx.old.conn.now)).manifests ≡ None
+        → OnOk result
+        (IsReady (state S.Store tx.new.conn.now) × ManifestStored (held (state S.Store tx.old.conn.now))
+        (held (state S.Store tx.new.conn.now)) repo.now digest.now bytes.now) }
+    ensures kept { KeepsInside S.Store tx.old.conn.now tx.new.conn.now }
+    ensures same_reference { tx.new.conn.ghost_name ≡ tx.old.conn.ghost_name }
+    ensures survives { LastsUncommitted S.Store tx.old.conn.now tx.new.conn.now }
+{
+    match read_manifest(alloc, bytes) {
+        Ok(manifest) => match &manifest.subject {
+            Some(subject) => {
+                let subject = Some(subject.as_str());
+                add_manifest(alloc, tx, repo, digest, bytes, manifest.kind, subject)
+            }
+            None => add_manifest(alloc, tx, repo, digest, bytes, manifest.kind, None),
+        },
+        Err(ManifestFault::Memory) => Err(Fault::Memory),
+        Err(_) => add_manifest(alloc, tx, repo, digest, bytes, Kind::Image, None),
+    }
+}
+
+/// Moves a manifest whose row has these bytes.
+fn move_found<S: Alter>(
+    alloc: Global,
+    tx: &mut Transaction<'_, S>,
+    repo: &str,
+    digest: &str,
+    bytes: &[u8],
+) -> Result<(), Fault>
+    requires fits { length bytes.now < 2 ^ 63 }
+    ensures moved { HasCleanDisk (state S.Store tx.new.conn.now) → IsReady (state S.Store tx.old.conn.now)
+        → IsUnderway (held (state S.Store tx.old.conn.now))
+        → option_map (λ r. bytes_at r 6)
+        (find (has_key repo.now digest.now) (old_of (held (state S.Store tx.old.conn.now))).manifests)
+        ≡ Some bytes.now
+        → OnOk result
+        (IsReady (state S.Store tx.new.conn.now) × Moves (without_manifest repo.now digest.now)
+        (held (state S.Store tx.old.conn.now)) (held (state S.Store tx.new.conn.now))) }
+    ensures kept { HasCleanDisk (state S.Store tx.new.conn.now) → IsReady (state S.Store tx.old.conn.now)
+        → IsUnderway (held (state S.Store tx.old.conn.now))
+        → option_map (λ r. bytes_at r 6)
+        (find (has_key repo.now digest.now) (old_of (held (state S.Store tx.old.conn.now))).manifests)
+        ≡ Some bytes.now
+        → KeepsCommit (state S.Store tx.old.conn.now) (state S.Store tx.new.conn.now) }
+    ensures same_reference { tx.new.conn.ghost_name ≡ tx.old.conn.ghost_name }
+    ensures survives { LastsUncommitted S.Store tx.old.conn.now tx.new.conn.now }
+{
+    match add_read(alloc, tx, repo, digest, bytes) {
+        Ok(()) => take_manifest(tx, repo, digest),
+        Err(fault) => Err(fault),
+    }
+}
+
+/// Moves the row of a manifest: its bytes are found or added among the contents, a link comes that names
+/// them, with the kind and the subject as which they read, and the row goes. Where the key has no row,
+/// nothing is moved. Its bytes are in memory meanwhile.
+pub fn move_manifest<S: Alter>(
+    alloc: Global,
+    tx: &mut Transaction<'_, S>,
+    repo: &str,
+    digest: &str,
+) -> Result<(), Fault>
+    ensures moved { MovesOn S.Store tx.old.conn.now tx.new.conn.now result
+        (without_manifest repo.now digest.now) }
+    ensures kept { KeepsUnderway S.Store tx.old.conn.now tx.new.conn.now }
+    ensures same_reference { tx.new.conn.ghost_name ≡ tx.old.conn.ghost_name }
+    ensures survives { LastsUncommitted S.Store tx.old.conn.now tx.new.conn.now }
+{
+    match manifest_bytes(tx, repo, digest) {
+        Ok(Some(bytes)) => {
+            if bytes.len() as u64 > LARGEST {
+                return Err(Fault::Storage);
+            }
+            move_found(alloc, tx, repo, digest, &bytes)
+        }
+        Ok(None) => Ok(()),
+        Err(fault) => Err(fault),
+    }
+}
+
+/// Moves the rows of these manifests, one after the other, says so, and answers how many they are.
+fn move_listed<S: Alter, W: Watch>(
+    alloc: Global,
+    tx: &mut Transaction<'_, S>,
+    keys: &[Key],
+    watch: &mut W,
+) -> Result<usize, Fault>
+    ensures moved { MovesOn S.Store tx.old.conn.now tx.new.conn.now result
+        (without_listed_manifests keys.now) }
+    ensures counted { IfOk result (λ n. n ≡ length keys.now) }
+    ensures kept { KeepsUnderway S.Store tx.old.conn.now tx.new.conn.now }
+    ensures same_reference { tx.new.conn.ghost_name ≡ tx.old.conn.ghost_name }
+    ensures survives { LastsUncommitted S.Store tx.old.conn.now tx.new.conn.now }
+{
+    let mut done = 0;
+    for key in keys {
+        watch.moved(OldTable::Manifests, done, keys.len());
+        move_manifest(alloc, tx, &key.repo, &key.digest)?;
+        done += 1;
+    }
+    watch.moved(OldTable::Manifests, done, keys.len());
+    Ok(done)
+}
+
+/// Moves the row of each manifest, with the bytes of one of them in memory at a time, and answers how many
+/// there were.
+pub fn move_manifests<S: Alter, W: Watch>(
+    alloc: Global,
+    tx: &mut Transaction<'_, S>,
+    watch: &mut W,
+) -> Result<usize, Fault>
+    ensures moved { MovesOn S.Store tx.old.conn.now tx.new.conn.now result without_manifests }
+    ensures counted { CountsOld S.Store tx.old.conn.now tx.new.conn.now result (λ old. old.manifests) }
+    ensures kept { KeepsUnderway S.Store tx.old.conn.now tx.new.conn.now }
+    ensures same_reference { tx.new.conn.ghost_name ≡ tx.old.conn.ghost_name }
+    ensures survives { LastsUncommitted S.Store tx.old.conn.now tx.new.conn.now }
+{
+    let keys = manifest_keys(alloc, tx)?;
+    move_listed(alloc, tx, &keys, watch)
+}

@@ -1,0 +1,104 @@
+//! The rows of manifests in schema 1: each has its whole bytes.
+ghost use Rattle.std.specs.Prelude.{◌≡◌, ◌∷◌, [], map, find, option_map};
+ghost use Rattle.std.specs.Option.{option_to_list};
+ghost use Rattle.std.specs.List.Sorted.{IsPermutation};
+ghost use Rattle.sqlite.specs.Order.{column};
+ghost use Rattle.store_schema.specs.Rows.{bytes_at};
+ghost use Rattle.store_statements.specs.Keys.{has_key};
+ghost use Rattle.store_statements.specs.Changes.{without};
+ghost use Rattle.store_statements.specs.Clauses.{KeepsInside, LastsUncommitted};
+ghost use Rattle.store_migration.specs.Clauses.{FindsOld, ChangesNothingOld, KeepsOld, ChangesOld};
+ghost use Rattle.store_migration.specs.Listed.{key_of};
+ghost use Rattle.store_migration.specs.Shown.{key_shown, shown};
+
+use crate::first_bytes::first_bytes;
+use crate::old_keys::{Key, keys_of};
+use oci_types::Fault;
+use sqlite::{Alter, Error, Row, Transaction, params};
+use std::alloc::Global;
+use store_contents::fault_of;
+
+/// The key of each row.
+fn key_rows<S: Alter>(tx: &mut Transaction<'_, S>) -> Result<Vec<Row>, Error>
+    ensures shown { FindsOld S.Store tx.old.conn.now tx.new.conn.now result
+        (λ old rows. IsPermutation (map (λ r. column r 1 ∷ column r 2 ∷ []) old.manifests) rows.items) }
+    ensures same { ChangesNothingOld S.Store tx.old.conn.now tx.new.conn.now result }
+    ensures kept { KeepsOld S.Store tx.old.conn.now tx.new.conn.now }
+    ensures same_reference { tx.new.conn.ghost_name ≡ tx.old.conn.ghost_name }
+    ensures survives { LastsUncommitted S.Store tx.old.conn.now tx.new.conn.now }
+{
+    tx.query_all("SELECT repo, digest FROM registry_manifests", &[])
+}
+
+/// The key of each row, in any order. Nothing changes.
+pub fn manifest_keys<S: Alter>(
+    alloc: Global,
+    tx: &mut Transaction<'_, S>,
+) -> Result<Vec<Key>, Fault>
+    ensures found { FindsOld S.Store tx.old.conn.now tx.new.conn.now result
+        (λ old keys. IsPermutation (map key_of old.manifests) (map key_shown keys.items)) }
+    ensures same { ChangesNothingOld S.Store tx.old.conn.now tx.new.conn.now result }
+    ensures kept { KeepsOld S.Store tx.old.conn.now tx.new.conn.now }
+    ensures same_reference { tx.new.conn.ghost_name ≡ tx.old.conn.ghost_name }
+    ensures survives { LastsUncommitted S.Store tx.old.conn.now tx.new.conn.now }
+{
+    keys_of(alloc, key_rows(tx))
+}
+
+/// The bytes under the key: one row, or none.
+fn byte_rows<S: Alter>(
+    tx: &mut Transaction<'_, S>,
+    repo: &str,
+    digest: &str,
+) -> Result<Vec<Row>, Error>
+    ensures shown { FindsOld S.Store tx.old.conn.now tx.new.conn.now result
+        (λ old rows. rows.items ≡ map (λ r. column r 6 ∷ [])
+        (option_to_list (find (has_key repo.now digest.now) old.manifests))) }
+    ensures same { ChangesNothingOld S.Store tx.old.conn.now tx.new.conn.now result }
+    ensures kept { KeepsOld S.Store tx.old.conn.now tx.new.conn.now }
+    ensures same_reference { tx.new.conn.ghost_name ≡ tx.old.conn.ghost_name }
+    ensures survives { LastsUncommitted S.Store tx.old.conn.now tx.new.conn.now }
+{
+    tx.query_all(
+        "SELECT bytes FROM registry_manifests WHERE repo = ?1 AND digest = ?2",
+        params![repo, digest],
+    )
+}
+
+/// The bytes of a manifest, if its row is there. Nothing changes.
+pub fn manifest_bytes<S: Alter>(
+    tx: &mut Transaction<'_, S>,
+    repo: &str,
+    digest: &str,
+) -> Result<Option<Vec<u8>>, Fault>
+    ensures found { FindsOld S.Store tx.old.conn.now tx.new.conn.now result
+        (λ old o. shown o ≡ option_map (λ r. bytes_at r 6)
+        (find (has_key repo.now digest.now) old.manifests)) }
+    ensures same { ChangesNothingOld S.Store tx.old.conn.now tx.new.conn.now result }
+    ensures kept { KeepsOld S.Store tx.old.conn.now tx.new.conn.now }
+    ensures same_reference { tx.new.conn.ghost_name ≡ tx.old.conn.ghost_name }
+    ensures survives { LastsUncommitted S.Store tx.old.conn.now tx.new.conn.now }
+{
+    first_bytes(byte_rows(tx, repo, digest))
+}
+
+/// Takes the row of a manifest out, where it is there.
+pub fn take_manifest<S: Alter>(
+    tx: &mut Transaction<'_, S>,
+    repo: &str,
+    digest: &str,
+) -> Result<(), Fault>
+    ensures taken { ChangesOld S.Store tx.old.conn.now tx.new.conn.now result
+        (λ old. record old { manifests = without (has_key repo.now digest.now) old.manifests }) }
+    ensures kept { KeepsInside S.Store tx.old.conn.now tx.new.conn.now }
+    ensures same_reference { tx.new.conn.ghost_name ≡ tx.old.conn.ghost_name }
+    ensures survives { LastsUncommitted S.Store tx.old.conn.now tx.new.conn.now }
+{
+    match tx.execute(
+        "DELETE FROM registry_manifests WHERE repo = ?1 AND digest = ?2",
+        params![repo, digest],
+    ) {
+        Ok(_) => Ok(()),
+        Err(error) => Err(fault_of(error)),
+    }
+}

@@ -1,9 +1,0 @@
-pub mod OldRows
-pub mod KeyRows
-pub mod BlobRows
-pub mod ManifestRows
-pub mod SessionRows
-pub mod Both
-pub mod BothTexts
-pub mod BothKnown
-pub mod Read

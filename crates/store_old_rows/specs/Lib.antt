@@ -1,4 +1,0 @@
-pub mod OldTexts
-pub mod Olds
-pub mod Clauses
-pub mod Shown

@@ -1,0 +1,28 @@
+use Rattle.std.proofs.Common.{◌≡◌, refl}
+use Rattle.std.specs.Prelude.{IfSome}
+use Rattle.sqlite.specs.Held.{state}
+use Rattle.registry_model.specs.Ask.{text_in}
+use Rattle.registry_model.specs.Manifests.{with_manifest}
+use Rattle.store_statements.proofs.Transactions.{survives_all}
+use Rattle.store_reads.specs.Usages.{Foretells, new_tags}
+use Rattle.store_reads.proofs.Behind.{found_behind, tells_behind, stays_behind}
+use Rattle.store_reads.proofs.change_lookups.manifest_change.Goals as goal
+
+pub returns-in-Ok : goal.returns-in-Ok
+returns-in-Ok g c = record {
+  found = λ clean is.
+      tells_behind g.S.Store c.args.conn.now c.count_new_tags.new.conn (λ mid is. c.in-Ok.ensures.settled mid is refl) c.tagged_change.new.conn c.tagged_change.ensures.survives
+      c.tagged_change.result (λ w change. IfSome change (Foretells w c.args.repo.now (λ r. with_manifest r c.args.digest.now c.args.bytes.now (text_in c.args.tag))))
+      (c.tagged_change.ensures.found (found_behind g.S.Store c.args.conn.now c.count_new_tags.new.conn (λ mid is. c.in-Ok.ensures.settled mid is refl)
+      (λ w. c.in-Ok.tags ≡ new_tags w c.args.repo.now (text_in c.args.tag)) is (λ mid. c.in-Ok.ensures.found mid is))) clean is;
+  settled = stays_behind g.S.Store c.args.conn.now c.count_new_tags.new.conn (λ mid is. c.in-Ok.ensures.settled mid is refl) c.tagged_change.new.conn c.tagged_change.ensures.survives
+      c.tagged_change.result c.tagged_change.ensures.settled;
+  survives = survives_all (state g.S.Store c.args.conn.now) (state g.S.Store c.count_new_tags.new.conn) (state g.S.Store c.tagged_change.new.conn) _ _ c.count_new_tags.ensures.survives c.tagged_change.ensures.survives;
+}
+
+pub returns-in-Err : goal.returns-in-Err
+returns-in-Err g c = record {
+  found = λ clean is. tt;
+  settled = λ clean is unspent. c.in-Err.ensures.settled clean is unspent;
+  survives = c.count_new_tags.ensures.survives;
+}

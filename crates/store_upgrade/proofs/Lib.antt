@@ -1,3 +1,0 @@
-pub mod Begins
-pub mod Finishes
-pub mod Asked

@@ -1,4 +1,0 @@
-use Rattle.store_upgrade.proofs.file.migrate.Goals as goal
-
-pub returns : goal.returns
-returns g c = record { another = c.migrate_files.ensures.another }

@@ -1,3 +1,0 @@
-pub mod OldFile
-pub mod Rewriting
-pub mod Migrating

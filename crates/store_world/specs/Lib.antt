@@ -1,5 +1,0 @@
-pub mod Keys
-pub mod Tables
-pub mod World
-pub mod Registry
-pub mod Changes
