@@ -2,6 +2,7 @@ pub mod Languages
 pub mod RepoNameLaw
 pub mod TagLaw
 pub mod TokenLaw
+pub mod PlainTokens
 pub mod SessionNumbers
 pub mod SessionNumberLaw
 pub mod Verdicts

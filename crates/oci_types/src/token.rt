@@ -1,5 +1,5 @@
 //! Tokens.
-ghost use Rattle.std.specs.Prelude.{◌≡◌, ◌↔◌, true, IsTrue};
+ghost use Rattle.std.specs.Prelude.{◌≡◌, ◌↔◌, true, take, IsTrue};
 ghost use Rattle.oci_types.specs.Reading.{ReadsWord, ReadsWordBy};
 ghost use Rattle.oci_types.specs.Token.{IsToken, is_token, is_b64token, is_token_character, place_after, is_end};
 
@@ -9,6 +9,9 @@ use std::marker::Model;
 
 /// The most bytes of a token.
 pub const LONGEST_TOKEN: usize = 200;
+
+/// How many characters the beginning of a token has.
+const SHOWN: usize = 4;
 
 /// How far a token has been read.
 #[derive(Clone, Copy)]
@@ -103,5 +106,14 @@ impl Token {
     {
         let text = &self.text;
         text.as_str()
+    }
+
+    /// Its first four characters; all of them where it has no more. So a token is shown where it is not to be
+    /// told.
+    pub fn beginning(&self) -> &str
+        ensures { result.now ≡ take 4 self.now }
+    {
+        let text = self.as_str();
+        &text[..SHOWN.min(text.len())]
     }
 }

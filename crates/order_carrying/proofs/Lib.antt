@@ -1,3 +1,4 @@
+pub mod CallingLemmas
 pub mod FailedReads
 pub mod ListLemmas
 pub mod GrantLemmas

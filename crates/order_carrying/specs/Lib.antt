@@ -1,3 +1,5 @@
+pub mod Calling
+pub mod Calls
 pub mod Lists
 pub mod Grants
 pub mod Listed

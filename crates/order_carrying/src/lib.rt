@@ -8,6 +8,8 @@
 #![tactic(auto)]
 
 pub mod answering;
+pub mod caller;
+pub mod callers;
 pub mod carrying;
 mod grants;
 pub mod laws;
@@ -15,5 +17,6 @@ pub mod lists;
 mod reading;
 
 pub use answering::answer_line;
+pub use callers::Callers;
 pub use carrying::{Ended, carry_out, carry_over};
 pub use lists::list_text;

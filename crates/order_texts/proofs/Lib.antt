@@ -1,4 +1,3 @@
-pub mod PlainTokens
 pub mod TableLemmas
 pub mod TextLemmas
 pub mod NumberLemmas

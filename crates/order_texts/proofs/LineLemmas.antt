@@ -25,7 +25,7 @@ use Rattle.order_texts.specs.declared.reading.Unread.{Unread}
 use Rattle.order_texts.specs.declared.reading.Unread.TheVariants.{Malformed, Memory}
 use Rattle.order_texts.specs.Lines.{space, digit_of, form_word, held_word, shown_word, or_any, words_of_listing, words_of_change, words_of, line_of, IsProperName, IsProperToken, IsProperListing, IsProperChange, IsProper, AreWordsOf, Spells}
 use Rattle.order_texts.specs.Reading.{IsUnread, AreUnread}
-use Rattle.order_texts.proofs.PlainTokens.{plain, plain_token}
+use Rattle.oci_types.proofs.PlainTokens.{plain, plain_token}
 use Rattle.order_texts.proofs.PlainWords.{plain_name, plain_decimal, has_no_space, is_utf8}
 
 abbrev pub split : Text → List Text

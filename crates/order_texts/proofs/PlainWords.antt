@@ -12,7 +12,7 @@ use Rattle.oci_types.specs.Text.{Text}
 use Rattle.oci_types.specs.Byte.{is_lowercase_or_digit}
 use Rattle.oci_types.specs.RepoName.{is_repo_name, component, path}
 use Rattle.oci_types.proofs.RepoNameLaw.{is_repo_name_decides}
-use Rattle.order_texts.proofs.PlainTokens.{is_printing, plain, bounds, Prints, prints, printing_byte, ascii_at}
+use Rattle.oci_types.proofs.PlainTokens.{is_printing, plain, bounds, Prints, prints, printing_byte, ascii_at}
 
 printing_word : (b : ℕ) → is_lowercase_or_digit b ≡ true → is_printing b ≡ true
 printing_word b h = grind (arith, nat_tests)

@@ -1,6 +1,8 @@
 -- The texts of lists.
-use Rattle.std.proofs.Common.{◌≡◌, ◌∙◌, ℕ, ◌+◌, ◌<◌, List, [], ◌∷◌, ◌++◌, length, take, get_or, map, false, refl, sym, ap, append_assoc}
-use Rattle.std.proofs.lemmas.List.{take_more, map-append, flat_map_more}
+use Rattle.std.proofs.Common.{◌≡◌, ◌∙◌, ℕ, ◌+◌, ◌<◌, ◌≤◌, List, [], ◌∷◌, ◌++◌, Bor, length, take, get_or, map, false, refl, sym, ap, append-nil, append_assoc, Result, Ok, Err}
+use Rattle.std.specs.Prelude.{OnOk}
+use Rattle.std.specs.List.{join_with_byte}
+use Rattle.std.proofs.lemmas.List.{take_more, take_all, map-append, flat_map_more}
 use Rattle.serde_json.specs.Data.{Data}
 use Rattle.serde_json.specs.View.{view}
 use Rattle.serde_json.specs.declared.value.Value.{Value}
@@ -9,6 +11,7 @@ use Rattle.serde_json.specs.Written.{has_float, items_have_float}
 use Rattle.oci_types.specs.Text.{Text}
 use Rattle.oci_types.specs.Member.{text_items}
 use Rattle.registry_orders.specs.Outputs.{newline}
+use Rattle.order_texts.specs.Lines.{space}
 use Rattle.order_texts.specs.declared.items.Item.{Item}
 use Rattle.order_texts.specs.Items.{ItemShown, item_shown, repo_item, tag_item, blob_item, unnamed_item, grant_item}
 use Rattle.order_texts.specs.Texts.{behind_spaces, line_of, lines_of, data_of, list_data}
@@ -59,3 +62,30 @@ value_more shown xs i x old new value low is so_far pushed made =
     ap (map view) pushed ∙ map-append view old (value ∷ []) ∙ ap (λ ds. ds ++ view value ∷ []) so_far
     ∙ ap (λ (d : Data). map shown (take i xs) ++ d ∷ []) made
     ∙ sym (ap (map shown) (taken xs i x low is) ∙ map-append shown (take i xs) (x ∷ []))
+
+-- ---- words
+
+pub word_more : (words : List (Bor Text)) (i : ℕ) (d : Bor Text) (start a b c : Text) → i < length words
+    → a ≡ start ++ behind_spaces (map (λ word. word.now) (take i words)) → b ≡ a ++ 32 ∷ [] → c ≡ b ++ (get_or words i d).now
+    → c ≡ start ++ behind_spaces (map (λ word. word.now) (take (i + 1) words))
+word_more words i d start a b c low so_far between end =
+    let word : Bor Text = get_or words i d in
+    end ∙ ap (λ t. t ++ word.now) between ∙ append_assoc a (32 ∷ []) word.now ∙ ap (λ t. t ++ 32 ∷ word.now) so_far
+    ∙ flat_map_more (λ (w : Text). 32 ∷ w) start (map (λ (w : Bor Text). w.now) (take i words)) word.now
+    ∙ sym (ap (λ ws. start ++ behind_spaces (map (λ (w : Bor Text). w.now) ws)) (take_more words i d low)
+    ∙ ap (λ ws. start ++ behind_spaces ws) (map-append (λ (w : Bor Text). w.now) (take i words) (word ∷ [])))
+
+pub words_done : (words : List (Bor Text)) (i : ℕ) (start all : Text) → length words ≤ i
+    → all ≡ start ++ behind_spaces (map (λ word. word.now) (take i words)) → all ≡ start ++ behind_spaces (map (λ word. word.now) words)
+words_done words i start all done so_far =
+    so_far ∙ ap (λ ws. start ++ behind_spaces (map (λ (w : Bor Text). w.now) ws)) (take_all i words done)
+
+joined : (word : Text) (words : List Text) → word ++ behind_spaces words ≡ join_with_byte space (word ∷ words)
+joined word [] = append-nil word
+joined word (next ∷ words) = ap (λ (t : Text). word ++ 32 ∷ t) (joined next words)
+
+pub words_joined : {T E : Type 0} (r : Result T E) (words : List Text) (old first start all : Text) → start ≡ old ++ first
+    → OnOk r (all ≡ start ++ behind_spaces words) → OnOk r (all ≡ old ++ join_with_byte space (first ∷ words))
+words_joined (Ok v) words old first start all begun pushed =
+    pushed ∙ ap (λ t. t ++ behind_spaces words) begun ∙ append_assoc old first (behind_spaces words) ∙ ap (λ t. old ++ t) (joined first words)
+words_joined (Err e) words old first start all begun pushed = tt

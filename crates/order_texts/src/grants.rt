@@ -1,5 +1,5 @@
 //! The items of levels of tokens on repositories.
-ghost use Rattle.std.specs.Prelude.{◌≡◌, take, string_bytes, IfOk};
+ghost use Rattle.std.specs.Prelude.{◌≡◌, string_bytes, IfOk};
 ghost use Rattle.order_texts.specs.Items.{item_shown, items_shown, grant_item};
 ghost use Rattle.order_texts.specs.Grants.{written, is_asked, grants_of};
 
@@ -9,24 +9,13 @@ use registry_model::Level;
 use registry_orders::Shown;
 use std::alloc::{AllocError, Global};
 
-/// How many characters the beginning of a token has.
-const SHOWN: usize = 4;
-
-/// The first characters of a token; all of them where it has no more.
-fn beginning(token: &Token) -> &str
-    ensures { result.now ≡ take 4 token.now }
-{
-    let text = token.as_str();
-    &text[..SHOWN.min(text.len())]
-}
-
 /// A token as a list shows it.
 fn written(alloc: Global, token: &Token, shown: Shown) -> Result<String, AllocError>
     ensures { IfOk result (λ text. string_bytes text ≡ written shown token.now) }
 {
     match shown {
         Shown::Beginning => {
-            let beginning = beginning(token);
+            let beginning = token.beginning();
             format!(in alloc; "{beginning}...")
         }
         Shown::Whole => String::from_str(alloc, token.as_str()),

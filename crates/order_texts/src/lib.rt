@@ -20,6 +20,7 @@ pub mod reading;
 pub mod stopping;
 pub mod table;
 pub mod texts;
+mod words;
 pub mod writing;
 
 pub use answer::{Answer, read_answer, write_failure};

@@ -58,52 +58,56 @@ fn words_in<'a>(alloc: Global, text: &'a str) -> Result<Vec<&'a str>, AllocError
 }
 
 /// The level of a number.
-fn level_in(text: &str) -> Option<Level>
-    ensures { MatchOption result ((level : Level) → ¬ (text.now ≡ digit_of level))
-        (λ level. text.now ≡ digit_of level) }
+fn level_in(text: &str) -> Result<Level, Unread>
+    ensures read { IfOk result (λ level. text.now ≡ digit_of level) }
+    ensures refused { IfErr result (λ unread. (unread ≡ Unread.Malformed)
+        × ((level : Level) → ¬ (text.now ≡ digit_of level))) }
 {
     match text {
-        "1" => Some(Level::Pull),
-        "2" => Some(Level::Push),
-        "3" => Some(Level::Delete),
-        _ => None,
+        "1" => Ok(Level::Pull),
+        "2" => Ok(Level::Push),
+        "3" => Ok(Level::Delete),
+        _ => Err(Unread::Malformed),
     }
 }
 
 /// The form of a list.
-fn form_in(text: &str) -> Option<Form>
-    ensures { MatchOption result ((form : Form) → ¬ (text.now ≡ form_word form))
-        (λ form. text.now ≡ form_word form) }
+fn form_in(text: &str) -> Result<Form, Unread>
+    ensures read { IfOk result (λ form. text.now ≡ form_word form) }
+    ensures refused { IfErr result (λ unread. (unread ≡ Unread.Malformed)
+        × ((form : Form) → ¬ (text.now ≡ form_word form))) }
 {
     match text {
-        "lines" => Some(Form::Lines),
-        "json" => Some(Form::Json),
-        _ => None,
+        "lines" => Ok(Form::Lines),
+        "json" => Ok(Form::Json),
+        _ => Err(Unread::Malformed),
     }
 }
 
 /// What is listed of a repository.
-fn held_in(text: &str) -> Option<Held>
-    ensures { MatchOption result ((what : Held) → ¬ (text.now ≡ held_word what))
-        (λ what. text.now ≡ held_word what) }
+fn held_in(text: &str) -> Result<Held, Unread>
+    ensures read { IfOk result (λ what. text.now ≡ held_word what) }
+    ensures refused { IfErr result (λ unread. (unread ≡ Unread.Malformed)
+        × ((what : Held) → ¬ (text.now ≡ held_word what))) }
 {
     match text {
-        "tags" => Some(Held::Tags),
-        "blobs" => Some(Held::Blobs),
-        "unnamed" => Some(Held::Unnamed),
-        _ => None,
+        "tags" => Ok(Held::Tags),
+        "blobs" => Ok(Held::Blobs),
+        "unnamed" => Ok(Held::Unnamed),
+        _ => Err(Unread::Malformed),
     }
 }
 
 /// How much of a token is shown.
-fn shown_in(text: &str) -> Option<Shown>
-    ensures { MatchOption result ((shown : Shown) → ¬ (text.now ≡ shown_word shown))
-        (λ shown. text.now ≡ shown_word shown) }
+fn shown_in(text: &str) -> Result<Shown, Unread>
+    ensures read { IfOk result (λ shown. text.now ≡ shown_word shown) }
+    ensures refused { IfErr result (λ unread. (unread ≡ Unread.Malformed)
+        × ((shown : Shown) → ¬ (text.now ≡ shown_word shown))) }
 {
     match text {
-        "beginning" => Some(Shown::Beginning),
-        "whole" => Some(Shown::Whole),
-        _ => None,
+        "beginning" => Ok(Shown::Beginning),
+        "whole" => Ok(Shown::Whole),
+        _ => Err(Unread::Malformed),
     }
 }
 
@@ -183,7 +187,7 @@ fn list_of_one(form: &str, what: &str) -> Result<Order, Unread>
     match what {
         "repos" => Ok(Order::List {
             listing: Listing::Repos,
-            form: form_in(form).ok_or(Unread::Malformed)?,
+            form: form_in(form)?,
         }),
         _ => Err(Unread::Malformed),
     }
@@ -194,8 +198,8 @@ fn list_of_repo(alloc: Global, form: &str, what: &str, name: &str) -> Result<Ord
     ensures read { IfOk result (AreWordsOf (codes "list" ∷ form.now ∷ what.now ∷ name.now ∷ [])) }
     ensures refused { IfErr result (AreUnread (codes "list" ∷ form.now ∷ what.now ∷ name.now ∷ [])) }
 {
-    let form = form_in(form).ok_or(Unread::Malformed)?;
-    let what = held_in(what).ok_or(Unread::Malformed)?;
+    let form = form_in(form)?;
+    let what = held_in(what)?;
     let name = RepoName::parse(alloc, name)?;
     Ok(Order::List {
         listing: Listing::InRepo { name, what },
@@ -216,8 +220,8 @@ fn list_of_grants(
     ensures refused { IfErr result (AreUnread (codes "list" ∷ form.now ∷ codes "grants" ∷ shown.now
         ∷ name.now ∷ token.now ∷ [])) }
 {
-    let form = form_in(form).ok_or(Unread::Malformed)?;
-    let shown = shown_in(shown).ok_or(Unread::Malformed)?;
+    let form = form_in(form)?;
+    let shown = shown_in(shown)?;
     let name = name_in(alloc, name)?;
     let token = token_in(alloc, token)?;
     Ok(Order::List {
@@ -264,7 +268,7 @@ fn order_of_three(
         "grant" => Ok(Order::Change(Change::Grant {
             token: Token::parse(alloc, token)?,
             name: RepoName::parse(alloc, name)?,
-            level: level_in(level).ok_or(Unread::Malformed)?,
+            level: level_in(level)?,
         })),
         "list" => list_of_repo(alloc, name, level, token),
         _ => Err(Unread::Malformed),

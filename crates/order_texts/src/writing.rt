@@ -1,14 +1,13 @@
 //! The line that spells an order.
-ghost use Rattle.std.specs.Prelude.{◌≡◌, ◌<◌, ◌∷◌, [], codes, decimal, IfOk, string_bytes};
+ghost use Rattle.std.specs.Prelude.{◌≡◌, ◌∷◌, ◌++◌, [], decimal, IfOk, OnOk, string_bytes};
 ghost use Rattle.std.specs.List.{join_with_byte};
-ghost use Rattle.std.specs.Fmt.{WritesOnOk};
 ghost use Rattle.order_texts.specs.Lines.{line_of, digit_of, form_word, held_word, shown_word, or_any, space};
 
+use crate::words::{push_each, push_words};
 use oci_types::{RepoName, Token};
 use registry_model::{Level, Quota};
 use registry_orders::{Change, Form, Held, Listing, Order, Shown};
 use std::alloc::{AllocError, Global};
-use std::fmt;
 
 /// A line of an order has fewer bytes than this, without its end (`laws::lines_are_short`).
 pub const LONGEST_LINE: usize = 600;
@@ -17,8 +16,8 @@ pub const LONGEST_LINE: usize = 600;
 const ANY: &str = "*";
 
 /// The number of a level: 1 pull, 2 push, 3 delete.
-fn digit_of(level: Level) -> &'static str
-    ensures { result.now ≡ digit_of level }
+fn digit_of(level: &Level) -> &str
+    ensures { result.now ≡ digit_of level.now }
 {
     match level {
         Level::Pull => "1",
@@ -36,8 +35,8 @@ fn form_word(form: Form) -> &'static str
     }
 }
 
-fn held_word(what: Held) -> &'static str
-    ensures { result.now ≡ held_word what }
+fn held_word(what: &Held) -> &str
+    ensures { result.now ≡ held_word what.now }
 {
     match what {
         Held::Tags => "tags",
@@ -46,8 +45,8 @@ fn held_word(what: Held) -> &'static str
     }
 }
 
-fn shown_word(shown: Shown) -> &'static str
-    ensures { result.now ≡ shown_word shown }
+fn shown_word(shown: &Shown) -> &str
+    ensures { result.now ≡ shown_word shown.now }
 {
     match shown {
         Shown::Beginning => "beginning",
@@ -73,126 +72,74 @@ fn token_or_any(token: &Option<Token>) -> &str
     }
 }
 
-/// The words of a list.
-#[derive(Drop)]
-struct ListLine<'a> {
-    listing: &'a Listing,
-    form: Form,
-}
-
-impl<'a> fmt::Display for ListLine<'a> {
-    ghost use Rattle.std.specs.Prelude.{Some, ◌∷◌, codes};
-    ghost use Rattle.std.specs.List.{join_with_byte};
-    ghost use Rattle.order_texts.specs.Lines.{form_word, words_of_listing, space};
-
-    ghost output = { λ line. Some (join_with_byte space
-        (codes "list" ∷ form_word line.form ∷ words_of_listing line.listing.now)) };
-
-    fn fmt<W: fmt::Write>(&self, f: &mut fmt::Formatter<W>) -> fmt::Result {
-        let form = form_word(self.form);
-        match self.listing {
-            Listing::Repos => three_words(f, "list", form, "repos"),
-            Listing::InRepo { name, what } => {
-                four_words(f, "list", form, held_word(*what), name.as_str())
-            }
-            Listing::Grants { name, token, shown } => {
-                let shown = shown_word(*shown);
-                grant_list_words(f, form, shown, name_or_any(name), token_or_any(token))
-            }
+/// Writes the words of a list.
+fn push_listing(text: &mut String, listing: &Listing, form: Form) -> Result<(), AllocError>
+    ensures { OnOk result (string_bytes text.new ≡ string_bytes text.old
+        ++ line_of (Order.List listing.now form)) }
+{
+    push_words(text, "list", &[form_word(form)])?;
+    match listing {
+        Listing::Repos => text.push_str(" repos"),
+        Listing::InRepo { name, what } => push_each(text, &[held_word(what), name.as_str()]),
+        Listing::Grants { name, token, shown } => {
+            text.push_str(" grants")?;
+            push_each(
+                text,
+                &[shown_word(shown), name_or_any(name), token_or_any(token)],
+            )
         }
     }
 }
 
-/// Two words.
-fn two_words<W: fmt::Write>(f: &mut fmt::Formatter<W>, first: &str, second: &str) -> fmt::Result
-    ensures { WritesOnOk W.write_str_gives f.old result
-        (join_with_byte space (first.now ∷ second.now ∷ [])) f.new }
-{
-    write!(f, "{first} {second}")
-}
-
-/// Three words.
-fn three_words<W: fmt::Write>(
-    f: &mut fmt::Formatter<W>,
-    first: &str,
-    second: &str,
-    third: &str,
-) -> fmt::Result
-    ensures { WritesOnOk W.write_str_gives f.old result
-        (join_with_byte space (first.now ∷ second.now ∷ third.now ∷ [])) f.new }
-{
-    write!(f, "{first} {second} {third}")
-}
-
-/// Four words.
-fn four_words<W: fmt::Write>(
-    f: &mut fmt::Formatter<W>,
-    first: &str,
-    second: &str,
-    third: &str,
-    fourth: &str,
-) -> fmt::Result
-    ensures { WritesOnOk W.write_str_gives f.old result
-        (join_with_byte space (first.now ∷ second.now ∷ third.now ∷ fourth.now ∷ [])) f.new }
-{
-    write!(f, "{first} {second} {third} {fourth}")
-}
-
-/// The words of a list of levels.
-fn grant_list_words<W: fmt::Write>(
-    f: &mut fmt::Formatter<W>,
-    form: &str,
-    shown: &str,
-    name: &str,
-    token: &str,
-) -> fmt::Result
-    ensures { WritesOnOk W.write_str_gives f.old result (join_with_byte space
-        (codes "list" ∷ form.now ∷ codes "grants" ∷ shown.now ∷ name.now ∷ token.now ∷ [])) f.new }
-{
-    write!(f, "list {form} grants {shown} {name} {token}")
-}
-
-/// The words of a change of a repository's quota.
-fn quota_words<W: fmt::Write>(
-    f: &mut fmt::Formatter<W>,
+/// Writes the words of a change of a repository's quota.
+fn push_quota(
+    alloc: Global,
+    text: &mut String,
     word: &str,
     name: &RepoName,
     quota: Quota,
-) -> fmt::Result
-    ensures { WritesOnOk W.write_str_gives f.old result
-        (join_with_byte space (word.now ∷ name.now ∷ decimal quota.bytes ∷ [])) f.new }
+) -> Result<(), AllocError>
+    ensures { OnOk result (string_bytes text.new ≡ string_bytes text.old
+        ++ join_with_byte space (word.now ∷ name.now ∷ decimal quota.bytes ∷ [])) }
 {
-    write!(f, "{word} {} {}", name.as_str(), quota.bytes)
+    let bytes = format!(in alloc; "{}", quota.bytes)?;
+    push_words(text, word, &[name.as_str(), bytes.as_str()])
 }
 
-/// The words of a change.
-#[derive(Drop)]
-struct ChangeLine<'a>(&'a Change);
-
-impl<'a> fmt::Display for ChangeLine<'a> {
-    ghost use Rattle.std.specs.Prelude.{Some};
-    ghost use Rattle.std.specs.List.{join_with_byte};
-    ghost use Rattle.order_texts.specs.Lines.{words_of_change, space};
-
-    ghost output = { λ line. Some (join_with_byte space (words_of_change line.0.now)) };
-
-    fn fmt<W: fmt::Write>(&self, f: &mut fmt::Formatter<W>) -> fmt::Result {
-        match self.0 {
-            Change::AddRepo { name, quota } => quota_words(f, "repo", name, *quota),
-            Change::SetQuota { name, quota } => quota_words(f, "quota", name, *quota),
-            Change::DropRepo { name } => two_words(f, "drop", name.as_str()),
-            Change::DropSessions { name } => two_words(f, "sessions", name.as_str()),
-            Change::Prune { name } => two_words(f, "prune", name.as_str()),
-            Change::Grant { token, name, level } => {
-                let digit = digit_of(*level);
-                four_words(f, "grant", name.as_str(), digit, token.as_str())
-            }
-            Change::Revoke { token, name } => {
-                three_words(f, "revoke", name.as_str(), token.as_str())
-            }
-            Change::RevokeAll { token } => two_words(f, "revoke", token.as_str()),
-            Change::Clear => f.write_str("clear"),
+/// Writes the words of a change.
+fn push_change(alloc: Global, text: &mut String, change: &Change) -> Result<(), AllocError>
+    ensures { OnOk result (string_bytes text.new ≡ string_bytes text.old
+        ++ line_of (Order.Change change.now)) }
+{
+    match change {
+        Change::AddRepo { name, quota } => push_quota(alloc, text, "repo", name, *quota),
+        Change::SetQuota { name, quota } => push_quota(alloc, text, "quota", name, *quota),
+        Change::DropRepo { name } => push_words(text, "drop", &[name.as_str()]),
+        Change::DropSessions { name } => push_words(text, "sessions", &[name.as_str()]),
+        Change::Prune { name } => push_words(text, "prune", &[name.as_str()]),
+        Change::Grant { token, name, level } => {
+            push_words(
+                text,
+                "grant",
+                &[name.as_str(), digit_of(level), token.as_str()],
+            )
         }
+        Change::Revoke { token, name } => {
+            push_words(text, "revoke", &[name.as_str(), token.as_str()])
+        }
+        Change::RevokeAll { token } => push_words(text, "revoke", &[token.as_str()]),
+        Change::Clear => text.push_str("clear"),
+    }
+}
+
+/// Writes the words of an order.
+fn push_order(alloc: Global, text: &mut String, order: &Order) -> Result<(), AllocError>
+    ensures { OnOk result (string_bytes text.new ≡ string_bytes text.old ++ line_of order.now) }
+{
+    match order {
+        Order::Change(change) => push_change(alloc, text, change),
+        Order::Usage => text.push_str("usage"),
+        Order::List { listing, form } => push_listing(text, listing, *form),
     }
 }
 
@@ -200,12 +147,7 @@ impl<'a> fmt::Display for ChangeLine<'a> {
 pub fn write_order(alloc: Global, order: &Order) -> Result<String, AllocError>
     ensures { IfOk result (λ text. string_bytes text ≡ line_of order.now) }
 {
-    match order {
-        Order::Change(change) => format!(in alloc; "{}", ChangeLine(change)),
-        Order::Usage => String::from_str(alloc, "usage"),
-        Order::List { listing, form } => {
-            let form = *form;
-            format!(in alloc; "{}", ListLine { listing, form })
-        }
-    }
+    let mut text = String::new(alloc);
+    push_order(alloc, &mut text, order)?;
+    Ok(text)
 }

@@ -1,9 +1,9 @@
 //! The program over database files.
 use registry_databases::{Databases, Supposed};
+use registry_program::run_in_files;
 use sqlite::FileFrom;
 use std::convert::AsStr;
 use std::io::{Read, Write};
-use stored_program::run_in_files;
 
 /// Does what the words say, over files of which `F` says what is supposed.
 pub fn run<F: Supposed, T: AsStr, R: Read, W: Write, E: Write>(

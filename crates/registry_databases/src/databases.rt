@@ -2,7 +2,7 @@
 ghost use Rattle.registry_orders.specs.Failures.{IsOfOpening};
 
 use crate::progress::{Progress, show_looked_at};
-use database_files::{begin, cause_at};
+use crate::{begin, cause_at};
 use registry_checking::{Opener, Watch};
 use registry_model::Keeper;
 use registry_orders::{Cause, Failure};

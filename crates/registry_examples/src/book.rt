@@ -197,16 +197,24 @@ pub struct Book {
 impl Book {
     /// Whether a section of this kind has this name, of the examples one in this file.
     pub fn has(&self, kind: Kind, name: &str, file: &str) -> bool {
-        self.sections.iter().any(|section| {
-            section.kind == kind
+        for section in self.sections.iter() {
+            if section.kind == kind
                 && section.name.as_str() == name
                 && (kind != Kind::Example || section.file.as_str() == file)
-        })
+            {
+                return true;
+            }
+        }
+        false
     }
 
     /// The section of this kind and name, and its place.
     pub fn find(&self, kind: Kind, name: &str) -> Option<(usize, &Section)> {
-        self.sections.iter().enumerate().find(|(_, section)| section.kind == kind
-            && section.name.as_str() == name)
+        for (place, section) in self.sections.iter().enumerate() {
+            if section.kind == kind && section.name.as_str() == name {
+                return Some((place, section));
+            }
+        }
+        None
     }
 }

@@ -3,6 +3,7 @@ use oci_types::{Fault, RepoName, Token};
 use registry_model::{AdminCommand, AdminFault, Keeper, Level, Quota, Usage};
 use registry_service::Service;
 use std::alloc::Global;
+use std::fmt::{Debug, Write};
 
 /// Carries out `repo NAME QUOTA`, `quota NAME QUOTA`, `drop NAME`, `sessions NAME`, `prune NAME`,
 /// `grant TOKEN NAME LEVEL`, `revoke TOKEN NAME`, `revoke TOKEN` or `clear`. The inner result is the
@@ -12,50 +13,64 @@ fn carry_out<K: Keeper>(
     registry: &mut Service<K>,
     words: &[&str],
 ) -> Result<Result<(), AdminFault>> {
-    let done = match words {
-        ["repo", name, quota] => {
-            let name = &name_of(alloc, name)?;
-            let quota = quota_of(quota)?;
-            registry.admin(alloc, &AdminCommand::AddRepo { name, quota })
-        }
-        ["quota", name, quota] => {
-            let name = &name_of(alloc, name)?;
-            let quota = quota_of(quota)?;
-            registry.admin(alloc, &AdminCommand::SetQuota { name, quota })
-        }
-        ["grant", token, name, level] => {
-            let token = &token_of(alloc, token)?;
-            let name = &name_of(alloc, name)?;
-            let level = level_of(level)?;
-            registry.admin(alloc, &AdminCommand::Grant { token, name, level })
-        }
-        ["revoke", token, name] => {
-            let token = &token_of(alloc, token)?;
-            let name = &name_of(alloc, name)?;
-            registry.admin(alloc, &AdminCommand::Revoke { token, name })
-        }
-        ["revoke", token] => {
-            let token = &token_of(alloc, token)?;
-            registry.admin(alloc, &AdminCommand::RevokeAll { token })
-        }
-        ["clear"] => registry.admin(alloc, &AdminCommand::Clear),
-        [word, name] => {
-            let name = &name_of(alloc, name)?;
-            registry.admin(alloc, &command_on(word, name)?)
-        }
-        _ => bail!("no such command"),
-    };
-    Ok(done)
+    let named = Named::read(alloc, words)?;
+    let command = command_in(words, &named)?;
+    Ok(registry.admin(alloc, &command))
 }
 
-/// `drop`, `sessions` or `prune` on a repository.
-fn command_on<'a>(word: &str, name: &'a RepoName) -> Result<AdminCommand<'a>> {
-    Ok(match word {
-        "drop" => AdminCommand::DropRepo { name },
-        "sessions" => AdminCommand::DropSessions { name },
-        "prune" => AdminCommand::Prune { name },
+/// What a command names.
+#[derive(Drop)]
+enum Named {
+    Nothing,
+    Token(Token),
+    Repo(RepoName),
+    Both(Token, RepoName),
+}
+
+impl Named {
+    fn read(alloc: Global, words: &[&str]) -> Result<Named> {
+        match words {
+            ["revoke", token] => Ok(Named::Token(token_of(alloc, token)?)),
+            ["grant" | "revoke", token, name, ..] => {
+                let token = token_of(alloc, token)?;
+                Ok(Named::Both(token, name_of(alloc, name)?))
+            }
+            [_, name, ..] => Ok(Named::Repo(name_of(alloc, name)?)),
+            _ => Ok(Named::Nothing),
+        }
+    }
+}
+
+fn command_in<'a>(words: &[&str], named: &'a Named) -> Result<AdminCommand<'a>> {
+    match (named, words) {
+        (Named::Nothing, ["clear"]) => Ok(AdminCommand::Clear),
+        (Named::Token(token), _) => Ok(AdminCommand::RevokeAll { token }),
+        (Named::Both(token, name), ["revoke", _, _]) => Ok(AdminCommand::Revoke { token, name }),
+        (Named::Both(token, name), ["grant", _, _, level]) => {
+            let level = level_of(level)?;
+            Ok(AdminCommand::Grant { token, name, level })
+        }
+        (Named::Repo(name), [word, _, quota @ ..]) => command_on(word, name, quota),
         _ => bail!("no such command"),
-    })
+    }
+}
+
+/// `repo`, `quota`, `drop`, `sessions` or `prune` on a repository.
+fn command_on<'a>(word: &str, name: &'a RepoName, quota: &[&str]) -> Result<AdminCommand<'a>> {
+    if let [quota] = quota {
+        let quota = quota_of(quota)?;
+        return match word {
+            "repo" => Ok(AdminCommand::AddRepo { name, quota }),
+            "quota" => Ok(AdminCommand::SetQuota { name, quota }),
+            _ => bail!("no such command"),
+        };
+    }
+    match word {
+        "drop" if quota.is_empty() => Ok(AdminCommand::DropRepo { name }),
+        "sessions" if quota.is_empty() => Ok(AdminCommand::DropSessions { name }),
+        "prune" if quota.is_empty() => Ok(AdminCommand::Prune { name }),
+        _ => bail!("no such command"),
+    }
 }
 
 /// Asks what a repository holds, or carries out a command of `carry_out`; and what is answered: nothing where
@@ -70,23 +85,22 @@ pub fn commanded<K: Keeper>(
 ) -> Result<String> {
     let words: Vec<&str> = command.split(' ').collect(alloc)?;
     match words.as_slice() {
-        ["usage", name] => match usage_of(alloc, registry, name)? {
-            Ok(Usage { used, .. }) => Ok(format!(in alloc; "{used} bytes\r\n")?),
-            Err(fault) => Ok(format!(in alloc; "{fault:?}\r\n")?),
-        },
-        ["holds", name] => match usage_of(alloc, registry, name)? {
-            Ok(usage) => held(alloc, usage),
-            Err(fault) => Ok(format!(in alloc; "{fault:?}\r\n")?),
-        },
+        ["usage", name] => usage_line(alloc, usage_of(alloc, registry, name)?, false),
+        ["holds", name] => usage_line(alloc, usage_of(alloc, registry, name)?, true),
         ["levels", name] => levels_on(alloc, registry, name),
         words => match carry_out(alloc, registry, words)? {
             Ok(()) => Ok(String::new(alloc)),
-            Err(fault) => Ok(format!(in alloc; "{fault:?}\r\n")?),
+            Err(fault) => refused(alloc, &fault),
         },
     }
 }
 
-/// What is told of a repository.
+/// Why something is refused.
+pub fn refused<F: Debug>(alloc: Global, fault: &F) -> Result<String> {
+    Ok(format!(in alloc; "{fault:?}\r\n")?)
+}
+
+/// What the registry tells of a repository.
 fn usage_of<K: Keeper>(
     alloc: Global,
     registry: &mut Service<K>,
@@ -104,7 +118,8 @@ fn usage_of<K: Keeper>(
     bail!("`{name}` is no repository")
 }
 
-fn held(alloc: Global, usage: Usage) -> Result<String> {
+/// What is told of a repository: the number of bytes that are used, or all numbers.
+fn usage_line(alloc: Global, usage: Result<Usage, Fault>, is_whole: bool) -> Result<String> {
     let Usage {
         used,
         quota,
@@ -112,7 +127,13 @@ fn held(alloc: Global, usage: Usage) -> Result<String> {
         manifests,
         tags,
         sessions,
-    } = usage;
+    } = match usage {
+        Ok(usage) => usage,
+        Err(fault) => return refused(alloc, &fault),
+    };
+    if !is_whole {
+        return Ok(format!(in alloc; "{used} bytes\r\n")?);
+    }
     Ok(format!(in alloc;
         "{used} of {quota} bytes, {blobs} blobs, {manifests} manifests, {tags} tags, {sessions} sessions\r\n"
     )?)
@@ -121,15 +142,17 @@ fn held(alloc: Global, usage: Usage) -> Result<String> {
 /// A line for each token with a level on a repository.
 fn levels_on<K: Keeper>(alloc: Global, registry: &mut Service<K>, name: &str) -> Result<String> {
     let name = name_of(alloc, name)?;
-    let mut text = String::new(alloc);
     match registry.levels(alloc, &name) {
-        Ok(levels) => {
-            for (token, level) in levels.iter() {
-                let token = token.as_str();
-                text.push_str(format!(in alloc; "{token} {level:?}\r\n")?.as_str())?;
-            }
-        }
-        Err(fault) => text.push_str(format!(in alloc; "{fault:?}\r\n")?.as_str())?,
+        Ok(levels) => level_lines(alloc, levels.as_slice()),
+        Err(fault) => refused(alloc, &fault),
+    }
+}
+
+fn level_lines(alloc: Global, levels: &[(Token, Level)]) -> Result<String> {
+    let mut text = String::new(alloc);
+    for (token, level) in levels.iter() {
+        let token = token.as_str();
+        write!(text, "{token} {level:?}\r\n")?;
     }
     Ok(text)
 }

@@ -1,5 +1,6 @@
 //! What manifests say, and the first rules that they break, as the lines of an answer.
 
+use crate::commands::refused;
 use anyhow::Result;
 use oci_documents::read_manifest;
 use oci_types::Manifest;
@@ -8,39 +9,48 @@ use std::fmt::Write;
 
 /// `fits`, or the first rule that the manifest breaks.
 pub fn fault_in(alloc: Global, manifest: &[u8]) -> Result<String> {
-    let text = match read_manifest(alloc, manifest) {
-        Ok(_) => format!(in alloc; "fits\r\n"),
-        Err(fault) => format!(in alloc; "{fault:?}\r\n"),
+    let fault = match read_manifest(alloc, manifest) {
+        Ok(_) => None,
+        Err(fault) => Some(fault),
     };
-    Ok(text?)
+    match fault {
+        Some(fault) => refused(alloc, &fault),
+        None => Ok(String::from_str(alloc, "fits\r\n")?),
+    }
 }
 
 /// What the manifest says, or the first rule that it breaks.
 pub fn reading_of(alloc: Global, manifest: &[u8]) -> Result<String> {
     match read_manifest(alloc, manifest) {
-        Ok(manifest) => shown(alloc, &manifest),
-        Err(fault) => Ok(format!(in alloc; "{fault:?}\r\n")?),
+        Ok(manifest) => {
+            let mut text = String::new(alloc);
+            show(&mut text, &manifest)?;
+            Ok(text)
+        }
+        Err(fault) => refused(alloc, &fault),
     }
 }
 
-/// A line for the kind and the artifact type, and one for each further thing that it says.
-fn shown(alloc: Global, manifest: &Manifest) -> Result<String> {
-    let mut text = String::new(alloc);
+/// Adds a line for the kind and the artifact type, and one for each further thing that it says.
+fn show(text: &mut String, manifest: &Manifest) -> Result<()> {
     let kind = manifest.kind;
     write!(text, "{kind:?}\r\n")?;
     if let Some(artifact_type) = &manifest.artifact_type {
-        write!(text, "artifact type {artifact_type}\r\n")?;
+        add_line(text, "artifact type", artifact_type.as_str())?;
     }
     for digest in manifest.needs.iter() {
-        let digest = digest.as_str();
-        write!(text, "needs {digest}\r\n")?;
+        add_line(text, "needs", digest.as_str())?;
     }
     if let Some(digest) = &manifest.subject {
-        let digest = digest.as_str();
-        write!(text, "subject {digest}\r\n")?;
+        add_line(text, "subject", digest.as_str())?;
     }
     for (key, value) in manifest.annotations.iter() {
         write!(text, "annotation {key} = {value}\r\n")?;
     }
-    Ok(text)
+    Ok(())
+}
+
+fn add_line(text: &mut String, what: &str, said: &str) -> Result<()> {
+    write!(text, "{what} {said}\r\n")?;
+    Ok(())
 }

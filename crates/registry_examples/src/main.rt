@@ -19,33 +19,48 @@ mod texts;
 mod words;
 
 use anyhow::Result;
-use book::{Book, Kind};
+use book::{Book, Kind, Section};
 use patience::Patience;
 use playing::{Play, Told, differs_over_maps, differs_over_tables};
 use reader::Reader;
 use serving::Way;
 use std::process::ExitCode;
-use std::rt::{Env, Files};
 use std::{env, fs};
 
 /// The word that asks for patience.
 const PATIENT: &str = "--patient";
 
 /// The examples of the files, in order.
-fn read_all<R: Env + Files + AllocGlobal>(rt: &R) -> Result<Book> {
+fn read_all(rt: &HostRuntime) -> Result<Book> {
     let mut reader = Reader::new(rt.alloc());
-    for file in env::args(rt)?.skip(1) {
-        if file.as_str() != PATIENT {
-            let text = fs::read_to_string(rt, file.as_str())?;
-            reader.read(file.as_str(), text.as_str())?;
-        }
+    let mut words = env::args(rt)?;
+    drop(words.next());
+    for file in words {
+        read_file(rt, &mut reader, file.as_str())?;
     }
     Ok(reader.into_book())
 }
 
+fn read_file(rt: &HostRuntime, reader: &mut Reader, file: &str) -> Result<()> {
+    if file == PATIENT {
+        return Ok(());
+    }
+    let text = fs::read_to_string(rt, file)?;
+    reader.read(file, text.as_str())
+}
+
+fn asked_patience(rt: &HostRuntime) -> Result<Patience> {
+    for word in env::args(rt)? {
+        if word.as_str() == PATIENT {
+            return Ok(Patience::Once);
+        }
+    }
+    Ok(Patience::None)
+}
+
 /// Prints `ok` for each example that is answered as it says over both keepers, or where it first
 /// differs; whether none did.
-fn play_all<R: Print + AllocGlobal>(rt: &R, book: &Book, patience: Patience) -> Result<bool> {
+fn play_all(rt: &HostRuntime, book: &Book, patience: Patience) -> Result<bool> {
     let mut are_ok = true;
     let play = Play {
         alloc: rt.alloc(),
@@ -53,36 +68,44 @@ fn play_all<R: Print + AllocGlobal>(rt: &R, book: &Book, patience: Patience) -> 
         patience,
         way: Way::Whole,
     };
-    for example in book
-        .sections
-        .iter()
-        .filter(|section| section.kind == Kind::Example)
-    {
-        let name = example.name.as_str();
-        let file = example.file.as_str();
-        let mut told = Told::new(rt.alloc());
-        let over_maps = differs_over_maps(play, example, &mut told)?;
-        let over_tables = differs_over_tables(play, example, &mut told)?;
-        for (keeper, difference) in [("maps", &over_maps), ("tables", &over_tables)] {
-            if let Some(difference) = difference {
-                println!(rt; "{file}: {name} differs over {keeper}: {difference}")?;
-                are_ok = false;
-            }
-        }
-        if over_maps.is_none() && over_tables.is_none() {
-            println!(rt; "{file}: {name} ok")?;
+    for section in book.sections.iter() {
+        if section.kind == Kind::Example {
+            are_ok &= play_one(rt, play, section)?;
         }
     }
     Ok(are_ok)
 }
 
+fn play_one(rt: &HostRuntime, play: Play, example: &Section) -> Result<bool> {
+    let mut told = Told::new(rt.alloc());
+    let over_maps = differs_over_maps(play, example, &mut told)?;
+    let over_tables = differs_over_tables(play, example, &mut told)?;
+    let is_ok = over_maps.is_none() && over_tables.is_none();
+    print_difference(rt, example, "maps", &over_maps)?;
+    print_difference(rt, example, "tables", &over_tables)?;
+    if is_ok {
+        let (file, name) = (example.file.as_str(), example.name.as_str());
+        println!(rt; "{file}: {name} ok")?;
+    }
+    Ok(is_ok)
+}
+
+fn print_difference(
+    rt: &HostRuntime,
+    example: &Section,
+    keeper: &str,
+    difference: &Option<String>,
+) -> Result<()> {
+    if let Some(difference) = difference {
+        let (file, name) = (example.file.as_str(), example.name.as_str());
+        println!(rt; "{file}: {name} differs over {keeper}: {difference}")?;
+    }
+    Ok(())
+}
+
 fn main(rt: HostRuntime) -> Result<ExitCode> {
     let book = read_all(&rt)?;
-    let patience = if env::args(&rt)?.any(|word| word.as_str() == PATIENT) {
-        Patience::Once
-    } else {
-        Patience::None
-    };
+    let patience = asked_patience(&rt)?;
     if play_all(&rt, &book, patience)? || patience == Patience::Once {
         Ok(ExitCode::SUCCESS)
     } else {

@@ -11,6 +11,7 @@ use registry_maps::MapKeeper;
 use registry_model::Keeper;
 use registry_service::Service;
 use registry_store::{OpenFault, Store};
+use sqlite::Alter;
 use std::alloc::Global;
 use std::str;
 
@@ -83,24 +84,46 @@ pub fn differs_over_tables(
     told: &mut Told,
 ) -> Result<Option<String>> {
     for beginning in example.beginnings.iter() {
-        let made = match Store::memory(play.alloc) {
-            Err(OpenFault::Memory) => Store::memory(play.alloc),
-            made => made,
-        };
-        let Ok(keeper) = made else {
-            return Ok(Some(String::from_str(play.alloc, "no store is made")?));
-        };
-        let mut registry = Service::new(keeper);
-        let mut difference = differs(play, &mut registry, beginning, example, told)?;
-        if difference.is_none() && beginning.noise.is_none() {
-            let tables = registry.into_keeper().into_connection();
-            difference = differs_in_rows(play.alloc, tables, example)?;
-        }
-        if difference.is_some() {
-            return Ok(difference);
+        match differs_in_tables(play, beginning, example, told) {
+            Ok(None) => {}
+            ended => return ended,
         }
     }
     Ok(None)
+}
+
+/// The same behind one beginning.
+fn differs_in_tables(
+    play: Play,
+    beginning: &Beginning,
+    example: &Section,
+    told: &mut Told,
+) -> Result<Option<String>> {
+    let made = match Store::memory(play.alloc) {
+        Err(OpenFault::Memory) => Store::memory(play.alloc),
+        made => made,
+    };
+    match made {
+        Ok(keeper) => differs_over(play, keeper, beginning, example, told),
+        Err(_) => Ok(Some(String::from_str(play.alloc, "no store is made")?)),
+    }
+}
+
+/// The same over a store, whatever its tables are kept in.
+fn differs_over<S: Alter + Drop>(
+    play: Play,
+    keeper: Store<S>,
+    beginning: &Beginning,
+    example: &Section,
+    told: &mut Told,
+) -> Result<Option<String>> {
+    let mut registry = Service::new(keeper);
+    let difference = differs(play, &mut registry, beginning, example, told);
+    let mut tables = registry.into_keeper().into_connection();
+    match difference {
+        Ok(None) if beginning.noise.is_none() => differs_in_rows(play.alloc, &mut tables, example),
+        ended => ended,
+    }
 }
 
 /// Plays what comes before the example and then its steps, up to the first answer that differs.
@@ -136,7 +159,10 @@ fn plays<K: Keeper>(
     place: Option<usize>,
     told: &mut Told,
 ) -> Result<Option<String>> {
-    let Some(section) = place.and_then(|place| play.book.sections.get(place)) else {
+    let Some(place) = place else {
+        return Ok(None);
+    };
+    let Some(section) = play.book.sections.get(place) else {
         return Ok(None);
     };
     for step in section.steps.iter() {

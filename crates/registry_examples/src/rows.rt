@@ -2,18 +2,17 @@
 
 use crate::book::Section;
 use anyhow::Result;
-use sqlite::{Connection, MemStore};
+use sqlite::{Alter, Connection};
 use std::alloc::Global;
 
 /// Where the tables answer another number than the example says.
-pub fn differs_in_rows(
+pub fn differs_in_rows<S: Alter>(
     alloc: Global,
-    mut tables: Connection<MemStore>,
+    tables: &mut Connection<S>,
     example: &Section,
 ) -> Result<Option<String>> {
     for rows in example.rows.iter() {
-        let row = tables.query_row(rows.query.as_str(), &[])?;
-        let found: i64 = row.get(0)?;
+        let found: i64 = tables.query_row(rows.query.as_str(), &[])?.get(0)?;
         if found != rows.number {
             let file = example.file.as_str();
             let (line, wanted) = (rows.line, rows.number);

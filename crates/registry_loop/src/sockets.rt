@@ -11,7 +11,7 @@ use crate::peers::{forget, is_any_ready, leaves, note};
 use crate::stopping::is_end;
 use mio::net::TcpListener;
 use mio::{Events, Poll};
-use order_callers::Callers;
+use order_carrying::Callers;
 use registry_model::Keeper;
 use registry_server::{Connections, Turn};
 use registry_service::Service;

@@ -30,6 +30,14 @@ abbrev pub levels_of : Text → List (Text × Levels) → List (Text × Level)
 levels_of name [] = []
 levels_of name (e ∷ es) = with_level e.0 (btree.get text_cmp e.1 name) (levels_of name es)
 
+-- of what is left the first token has a level, or none
+module _ (name token : Text) (levels : Levels) (left rest : List (Text × Levels)) (steps : left ≡ (token, levels) ∷ rest) where
+  pub level_first : (level : Level) → Some level ≡ btree.get text_cmp levels name → levels_of name left ≡ (token, level) ∷ levels_of name rest
+  level_first level there = ap (levels_of name) steps ∙ ap (λ o. with_level token o (levels_of name rest)) (sym there)
+
+  pub no_level_first : None ≡ btree.get text_cmp levels name → levels_of name left ≡ levels_of name rest
+  no_level_first none = ap (levels_of name) steps ∙ ap (λ o. with_level token o (levels_of name rest)) (sym none)
+
 module _ (name : Text) where
   below : (x : Text) (es : List (Text × Levels)) → AllByRecursion (λ y. text_cmp x y ≡ Less) (keys_of es) → T (below_all text_cmp x (levels_of name es))
   below x [] h = tt

@@ -1,5 +1,5 @@
 -- Ordered maps, seen as finite maps.
-use Rattle.std.proofs.Common.{◌≡◌, ◌∙◌, suc, List, [], ◌∷◌, map, length, Bool, true, false, cond, None, Some, refl, sym, ap, subst}
+use Rattle.std.proofs.Common.{◌≡◌, ◌∙◌, suc, List, [], ◌∷◌, ◌++◌, append_assoc, map, length, Bool, true, false, cond, None, Some, refl, sym, ap, subst}
 use Rattle.std.specs.Prelude.{Option, option_map, is_some, bytes_eq, filter, T, ◌&&◌, Result, Ok, Err, IfOk, Vec}
 use Rattle.std.specs.declared.alloc.Global.{Global}
 use Rattle.std.specs.declared.alloc.AllocError.{AllocError}
@@ -235,3 +235,21 @@ pub shown_again : {K X Y Z : Type 0} (show : X → Y) (again : Y → Z) (es : Li
     → map {B = K × Z} (λ (e : K × Y). (e.0, again e.1)) (map {B = K × Y} (λ (e : K × X). (e.0, show e.1)) es) ≡ map {B = K × Z} (λ (e : K × X). (e.0, again (show e.1))) es
 shown_again show again [] = refl
 shown_again show again (e ∷ es) = ap (λ xs. (e.0, again (show e.1)) ∷ xs) (shown_again show again es)
+
+-- one more behind those so far, of what is left
+pub one_behind : {X : Type 0} (all more : List X) (x y : X) (left rest whole : List X) → more ≡ all ++ (y ∷ []) → y ≡ x → left ≡ x ∷ rest → all ++ left ≡ whole → more ++ rest ≡ whole
+one_behind all more x y left rest whole new same steps so =
+    let apart : (all ++ (y ∷ [])) ++ rest ≡ all ++ (y ∷ rest) = rw append_assoc refl in
+    ap (λ l. l ++ rest) new ∙ apart ∙ ap (λ z. all ++ (z ∷ rest)) same ∙ ap (λ l. all ++ l) (sym steps) ∙ so
+
+-- none of what is left is behind them
+pub none_behind : {X : Type 0} (all more left rest whole : List X) → more ≡ all → left ≡ rest → all ++ left ≡ whole → more ++ rest ≡ whole
+none_behind all more left rest whole same steps so = ap (λ l. l ++ rest) same ∙ ap (λ l. all ++ l) (sym steps) ∙ so
+
+-- a filter takes or leaves the first of what is left
+module _ {X : Type 0} (p : X → Bool) (x : X) (left rest : List X) (steps : left ≡ x ∷ rest) where
+  pub first_taken : p x ≡ true → filter p left ≡ x ∷ filter p rest
+  first_taken t = ap (filter p) steps ∙ ap (λ b. cond b (x ∷ filter p rest) (filter p rest)) t
+
+  pub first_left : p x ≡ false → filter p left ≡ filter p rest
+  first_left t = ap (filter p) steps ∙ ap (λ b. cond b (x ∷ filter p rest) (filter p rest)) t

@@ -1,4 +1,5 @@
-//! A value put into a map.
+//! A value put into a map, or behind the others of a list.
+ghost use Rattle.std.specs.Prelude.{◌≡◌, ◌++◌, ◌∷◌, [], OnOk};
 ghost use Rattle.registry_maps.specs.Maps.{Puts};
 
 use std::alloc::AllocError;
@@ -15,5 +16,13 @@ pub fn put<K: Ord + Drop, V: Drop>(
     ensures { Puts K.cmp result key value map.old map.new }
 {
     map.insert(key, value)?;
+    Ok(())
+}
+
+/// Puts a value behind the others. It is dropped here, for all lists, where there is no memory.
+pub fn push<T: Drop>(list: &mut Vec<T>, value: T) -> Result<(), AllocError>
+    ensures { OnOk result (list.new.items ≡ list.old.items ++ (value ∷ [])) }
+{
+    list.push(value)?;
     Ok(())
 }

@@ -1,5 +1,12 @@
 //! What an operator asks to see, and in which form.
+ghost use Rattle.std.specs.Prelude.{IfOk, IfErr};
+ghost use Rattle.clap.specs.Words.{found_of, rows_of};
+ghost use Rattle.registry_orders.specs.Failures.{IsOfWords};
+ghost use Rattle.registry_orders.specs.Orders.{IsHeldIn, IsShownIn, IsFormIn};
 
+use crate::failure::Failure;
+use crate::given::is_given;
+use clap::ArgMatches;
 use oci_types::{RepoName, Token};
 
 /// What is listed of a repository.
@@ -61,4 +68,39 @@ pub enum Form {
     Lines,
     /// One JSON array of objects, on one line.
     Json,
+}
+
+/// How much of a token a subcommand asks for.
+pub(crate) fn shown_in(matches: &ArgMatches) -> Shown
+    ensures { IsShownIn (rows_of (found_of matches.now)) result }
+{
+    if is_given(matches, "show-tokens") {
+        Shown::Whole
+    } else {
+        Shown::Beginning
+    }
+}
+
+/// In which form it asks for a list.
+pub(crate) fn form_in(matches: &ArgMatches) -> Form
+    ensures { IsFormIn (rows_of (found_of matches.now)) result }
+{
+    if is_given(matches, "json") {
+        Form::Json
+    } else {
+        Form::Lines
+    }
+}
+
+/// What a subcommand lists of a repository.
+pub(crate) fn held_in(word: &str, matches: &ArgMatches) -> Result<Held, Failure>
+    ensures read { IfOk result (IsHeldIn word.now (rows_of (found_of matches.now))) }
+    ensures refused { IfErr result IsOfWords }
+{
+    match word {
+        "tags" => Ok(Held::Tags),
+        "blobs" => Ok(Held::Blobs),
+        "prune" if is_given(matches, "dry-run") => Ok(Held::Unnamed),
+        _ => Err(Failure::InvalidOptions),
+    }
 }

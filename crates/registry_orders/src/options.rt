@@ -1,8 +1,8 @@
 ghost use Rattle.std.specs.Prelude.{◌≡◌, IfSome, IfOk, IfErr, map};
 ghost use Rattle.registry_orders.specs.Failures.{IsOfWords};
 ghost use Rattle.registry_orders.specs.Levels.{level_numbered};
-ghost use Rattle.registry_orders.specs.Options.{EachPair, IsDecimal, SpellsSetup};
-ghost use Rattle.registry_orders.specs.Splitting.{SplitsRepo, SplitsGrant, NamesRepo, NamesGrant, GivesToken};
+ghost use Rattle.registry_orders.specs.Options.{EachPair, IsDecimal, SpellsRepo, SpellsGrant, SpellsSetup};
+ghost use Rattle.registry_orders.specs.Splitting.{SplitsRepo, SplitsGrant};
 
 use crate::failure::{Failure, of_text};
 use oci_types::{RepoName, Token};
@@ -118,83 +118,74 @@ pub fn token_of(alloc: Global, text: &str) -> Result<Token, Failure>
     }
 }
 
-/// The texts of `--repo`, split.
-fn split_repos<'a>(alloc: Global, texts: &[&'a str]) -> Result<Vec<(&'a str, Quota)>, Failure>
-    ensures split { IfOk result (λ repos. EachPair SplitsRepo texts.now repos.items) }
+/// Whether the texts of `--repo` and of `--grant` split, each with a number in its range.
+fn all_split(repos: &[&str], grants: &[&str]) -> bool {
+    repos.iter().all(|text| split_repo(text).is_some())
+        && grants.iter().all(|text| split_grant(text).is_some())
+}
+
+/// Looks whether the names of grants are some.
+fn check_names(alloc: Global, grants: &[&str]) -> Result<(), Failure>
+    ensures refused { IfErr result IsOfWords }
+{
+    for text in grants {
+        let Some((_, name, _)) = split_grant(text) else {
+            return Err(Failure::InvalidOptions);
+        };
+        name_of(alloc, name)?;
+    }
+    Ok(())
+}
+
+/// The repository of a text of `--repo`.
+fn read_repo(alloc: Global, text: &str) -> Result<RepoOption, Failure>
+    ensures read { IfOk result (SpellsRepo text.now) }
+    ensures refused { IfErr result IsOfWords }
+{
+    let Some((name, quota)) = split_repo(text) else {
+        return Err(Failure::InvalidOptions);
+    };
+    let name = name_of(alloc, name)?;
+    Ok(RepoOption { name, quota })
+}
+
+/// The grant of a text of `--grant`.
+fn read_grant(alloc: Global, text: &str) -> Result<GrantOption, Failure>
+    ensures read { IfOk result (SpellsGrant text.now) }
+    ensures refused { IfErr result IsOfWords }
+{
+    let Some((token, name, level)) = split_grant(text) else {
+        return Err(Failure::InvalidOptions);
+    };
+    let token = token_of(alloc, token)?;
+    let name = name_of(alloc, name)?;
+    Ok(GrantOption { token, name, level })
+}
+
+/// The repositories of the texts of `--repo`.
+fn read_repos(alloc: Global, texts: &[&str]) -> Result<Vec<RepoOption>, Failure>
+    ensures read { IfOk result (λ repos.
+        EachPair SpellsRepo (map (λ text. text.now) texts.now) repos.items) }
     ensures refused { IfErr result IsOfWords }
 {
     let mut repos = Vec::new(alloc);
     for text in texts {
-        match split_repo(text) {
-            Some(repo) => repos.push(repo)?,
-            None => return Err(Failure::InvalidOptions),
-        }
+        let repo = read_repo(alloc, text)?;
+        repos.push(repo)?;
     }
     Ok(repos)
 }
 
-/// The texts of `--grant`, split.
-fn split_grants<'a>(
-    alloc: Global,
-    texts: &[&'a str],
-) -> Result<Vec<(&'a str, &'a str, Level)>, Failure>
-    ensures split { IfOk result (λ grants. EachPair SplitsGrant texts.now grants.items) }
+/// The grants of the texts of `--grant`.
+fn read_grants(alloc: Global, texts: &[&str]) -> Result<Vec<GrantOption>, Failure>
+    ensures read { IfOk result (λ grants.
+        EachPair SpellsGrant (map (λ text. text.now) texts.now) grants.items) }
     ensures refused { IfErr result IsOfWords }
 {
     let mut grants = Vec::new(alloc);
     for text in texts {
-        match split_grant(text) {
-            Some(grant) => grants.push(grant)?,
-            None => return Err(Failure::InvalidOptions),
-        }
-    }
-    Ok(grants)
-}
-
-/// The repositories, with names that are some.
-fn name_repos(alloc: Global, split: &[(&str, Quota)]) -> Result<Vec<RepoOption>, Failure>
-    ensures named { IfOk result (λ repos. EachPair NamesRepo split.now repos.items) }
-    ensures refused { IfErr result IsOfWords }
-{
-    let mut repos = Vec::new(alloc);
-    for (name, quota) in split {
-        let name = name_of(alloc, name)?;
-        repos.push(RepoOption {
-            name,
-            quota: *quota,
-        })?;
-    }
-    Ok(repos)
-}
-
-/// The grants, with names that are some.
-fn name_grants<'a>(
-    alloc: Global,
-    split: &[(&'a str, &'a str, Level)],
-) -> Result<Vec<(&'a str, RepoName, Level)>, Failure>
-    ensures named { IfOk result (λ grants. EachPair NamesGrant split.now grants.items) }
-    ensures refused { IfErr result IsOfWords }
-{
-    let mut grants = Vec::new(alloc);
-    for (token, name, level) in split {
-        let name = name_of(alloc, name)?;
-        grants.push((*token, name, *level))?;
-    }
-    Ok(grants)
-}
-
-/// The grants, with tokens that are some.
-fn token_grants(
-    alloc: Global,
-    named: Vec<(&str, RepoName, Level)>,
-) -> Result<Vec<GrantOption>, Failure>
-    ensures given { IfOk result (λ grants. EachPair GivesToken named.entry.items grants.items) }
-    ensures refused { IfErr result IsOfWords }
-{
-    let mut grants = Vec::new(alloc);
-    for (token, name, level) in named {
-        let token = token_of(alloc, token)?;
-        grants.push(GrantOption { token, name, level })?;
+        let grant = read_grant(alloc, text)?;
+        grants.push(grant)?;
     }
     Ok(grants)
 }
@@ -207,11 +198,12 @@ impl Setup {
             (SpellsSetup (map (λ text. text.now) repos.now) (map (λ text. text.now) grants.now)) }
         ensures refused { IfErr result IsOfWords }
     {
-        let repos = split_repos(alloc, repos)?;
-        let grants = split_grants(alloc, grants)?;
-        let repos = name_repos(alloc, &repos)?;
-        let grants = name_grants(alloc, &grants)?;
-        let grants = token_grants(alloc, grants)?;
+        if !all_split(repos, grants) {
+            return Err(Failure::InvalidOptions);
+        }
+        check_names(alloc, grants)?;
+        let repos = read_repos(alloc, repos)?;
+        let grants = read_grants(alloc, grants)?;
         Ok(Setup { repos, grants })
     }
 }

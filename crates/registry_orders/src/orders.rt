@@ -2,12 +2,12 @@ ghost use Rattle.std.specs.Prelude.{◌≡◌, Some, IfOk, IfErr, codes};
 ghost use Rattle.clap.specs.Words.{found_of, rows_of, one_of};
 ghost use Rattle.registry_orders.specs.Failures.{IsOfWords};
 ghost use Rattle.registry_orders.specs.Options.{IsNumberOf, IsLevelOf};
-ghost use Rattle.registry_orders.specs.Orders.{HasValue, HasToken, IsNameIf, IsTokenIf, IsCommandOf, IsChangeIn, IsTokenOrderIn, IsHeldIn, IsShownIn, IsFormIn, IsOrderIn};
+ghost use Rattle.registry_orders.specs.Orders.{HasValue, HasToken, IsNameIf, IsTokenIf, IsCommandOf, IsTokenOrderIn, IsOrderIn};
 ghost use Rattle.registry_orders.specs.Orders.{order_with};
 
 use crate::failure::Failure;
 use crate::given::{is_given, number_given, text_given};
-use crate::listing::{Form, Held, Listing, Shown};
+use crate::listing::{Form, Listing, Shown, form_in, held_in, shown_in};
 use crate::options::{level_numbered, name_of, token_of};
 use crate::tokens::is_token_given;
 use clap::ArgMatches;
@@ -255,24 +255,30 @@ fn level_in(matches: &ArgMatches) -> Result<Level, Failure>
     level_numbered(number).ok_or(Failure::InvalidOptions)
 }
 
-/// The change of a subcommand that names a repository alone, or a repository and a quota.
-fn change_of_repo(alloc: Global, word: &str, matches: &ArgMatches) -> Result<Change, Failure>
-    ensures read { IfOk result (IsChangeIn word.now (rows_of (found_of matches.now))) }
+/// The order of a subcommand that names a repository and a quota.
+fn order_of_quota(alloc: Global, word: &str, matches: &ArgMatches) -> Result<Order, Failure>
+    ensures read { IfOk result (IsOrderIn word.now (rows_of (found_of matches.now))) }
+    ensures refused { IfErr result IsOfWords }
+{
+    let name = name_in(alloc, matches)?;
+    let quota = quota_in(matches)?;
+    match word {
+        "repo" => Ok(Order::Change(Change::AddRepo { name, quota })),
+        "quota" => Ok(Order::Change(Change::SetQuota { name, quota })),
+        _ => Err(Failure::InvalidOptions),
+    }
+}
+
+/// The order of a subcommand that names a repository alone.
+fn order_of_name(alloc: Global, word: &str, matches: &ArgMatches) -> Result<Order, Failure>
+    ensures read { IfOk result (IsOrderIn word.now (rows_of (found_of matches.now))) }
     ensures refused { IfErr result IsOfWords }
 {
     let name = name_in(alloc, matches)?;
     match word {
-        "repo" => Ok(Change::AddRepo {
-            name,
-            quota: quota_in(matches)?,
-        }),
-        "quota" => Ok(Change::SetQuota {
-            name,
-            quota: quota_in(matches)?,
-        }),
-        "drop" => Ok(Change::DropRepo { name }),
-        "sessions" => Ok(Change::DropSessions { name }),
-        "prune" if !is_given(matches, "dry-run") => Ok(Change::Prune { name }),
+        "drop" => Ok(Order::Change(Change::DropRepo { name })),
+        "sessions" => Ok(Order::Change(Change::DropSessions { name })),
+        "prune" if !is_given(matches, "dry-run") => Ok(Order::Change(Change::Prune { name })),
         _ => Err(Failure::InvalidOptions),
     }
 }
@@ -310,41 +316,6 @@ fn order_of_token(alloc: Global, word: &str, matches: &ArgMatches) -> Result<Ord
     let order = read_token_order(alloc, word, matches)?;
     let token = token_in(alloc, matches)?;
     Ok(order.with(token))
-}
-
-/// How much of a token a list shows.
-fn shown_in(matches: &ArgMatches) -> Shown
-    ensures { IsShownIn (rows_of (found_of matches.now)) result }
-{
-    if is_given(matches, "show-tokens") {
-        Shown::Whole
-    } else {
-        Shown::Beginning
-    }
-}
-
-/// The form of a list.
-fn form_in(matches: &ArgMatches) -> Form
-    ensures { IsFormIn (rows_of (found_of matches.now)) result }
-{
-    if is_given(matches, "json") {
-        Form::Json
-    } else {
-        Form::Lines
-    }
-}
-
-/// What a subcommand lists of a repository.
-fn held_in(word: &str, matches: &ArgMatches) -> Result<Held, Failure>
-    ensures read { IfOk result (IsHeldIn word.now (rows_of (found_of matches.now))) }
-    ensures refused { IfErr result IsOfWords }
-{
-    match word {
-        "tags" => Ok(Held::Tags),
-        "blobs" => Ok(Held::Blobs),
-        "prune" if is_given(matches, "dry-run") => Ok(Held::Unnamed),
-        _ => Err(Failure::InvalidOptions),
-    }
 }
 
 /// The list of a subcommand that lists what a repository holds.
@@ -395,6 +366,7 @@ pub fn read_order(alloc: Global, word: &str, matches: &ArgMatches) -> Result<Ord
         "prune" if is_given(matches, "dry-run") => list_of_repo(alloc, word, matches),
         "grants" => list_of_grants(alloc, matches),
         "grant" | "revoke" => order_of_token(alloc, word, matches),
-        _ => change_of_repo(alloc, word, matches).map(Order::Change),
+        "repo" | "quota" => order_of_quota(alloc, word, matches),
+        _ => order_of_name(alloc, word, matches),
     }
 }

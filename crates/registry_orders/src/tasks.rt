@@ -128,9 +128,12 @@ fn database_task<'a>(word: &str, matches: &ArgMatches<'a>) -> Result<Task<'a>, F
     ensures read { IfOk result (IsTaskIn word.now (rows_of (found_of matches.now))) }
     ensures refused { IfErr result IsOfWords }
 {
-    match (text_given(matches, "db"), word) {
-        (Some(path), "check") => Ok(Task::Check { path }),
-        (Some(path), "migrate") => Ok(Task::Migration { path }),
+    let Some(path) = text_given(matches, "db") else {
+        return Err(Failure::InvalidOptions);
+    };
+    match word {
+        "check" => Ok(Task::Check { path }),
+        "migrate" => Ok(Task::Migration { path }),
         _ => Err(Failure::InvalidOptions),
     }
 }

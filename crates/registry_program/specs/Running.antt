@@ -11,7 +11,8 @@ use Rattle.registry_orders.specs.Failures.{status_of, status_if, IsOfWords}
 use Rattle.registry_orders.specs.Tasks.{IsTask}
 use Rattle.registry_orders.specs.Reading.{fit}
 use Rattle.registry_orders.specs.Outputs.{Output, IsSilent}
-use Rattle.registry_tasks.specs.Program.{Streams, IsUntouched, GivesUp, ServesMemory, Tells}
+use Rattle.registry_server.specs.Accepting.{Streams}
+use Rattle.registry_tasks.specs.Program.{IsUntouched, GivesUp, ServesMemory, Tells}
 use Rattle.registry_tasks.specs.Sockets.{ServesAddress}
 use Rattle.registry_tasks.specs.Sending.{IsSent}
 use Rattle.registry_tasks.specs.Opened.{Opened, output_of, RunsAt, RunsTokenOrder, LacksTokenOf, RunsCheck, RunsStored, EndsMigration}

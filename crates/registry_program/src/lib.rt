@@ -6,6 +6,8 @@
 
 pub mod gathering;
 pub mod program;
+pub mod stored;
 
 pub use gathering::serve_together;
 pub use program::run_words;
+pub use stored::run_in_files;

@@ -246,6 +246,17 @@ data_whole total size framing front v t u t' w t'' u' x good kept rest same last
       },
     )
 
+shorter : (t u passed w rest all : ℕ) → passed + w ≡ u → rest ≡ w - 2 → all ≡ t + passed → all + rest ≤ t + u
+shorter t u passed w rest all parts fewer more = omega arith
+
+-- what is passed stays, and two bytes go
+pub data_shorter : (size : ℕ) (t u t' w t'' u' : Text) → t' ≡ t ++ take size u → w ≡ drop size u → t'' ≡ t' → u' ≡ drop 2 w
+    → length t'' + length u' ≤ length t + length u
+data_shorter size t u t' w t'' u' kept rest same last =
+    shorter (length t) (length u) (length (take size u)) (length w) (length u') (length t'')
+    (ap (λ (n : ℕ). length (take size u) + n) (ap length rest) ∙ sym (length-append (take size u) (drop size u)) ∙ ap length (take-append-drop size u))
+    (ap length last ∙ length-drop 2 w) (ap length same ∙ ap length kept ∙ length-append t (take size u))
+
 -- ---- the trailer
 
 at_last : (front v t u : Text) (p : BehindZero front v t u) (P : Text → Type 0) (w y : Text)

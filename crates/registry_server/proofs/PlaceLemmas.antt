@@ -71,6 +71,9 @@ all_idle i xs le all = subst (λ (ys : List Connection). All (λ (s : Slot). s.s
 pub found_on : (n at : ℕ) (xs ys : List Connection) → xs ≡ ys → FoundAt n at (slots_of xs) → FoundAt n at (slots_of ys)
 found_on n at xs ys e f = subst (λ (zs : List Connection). FoundAt n at (slots_of zs)) e f
 
+pub none_on : (n : ℕ) (xs ys : List Connection) → xs ≡ ys → conversation_of n (slots_of xs) ≡ None → conversation_of n (slots_of ys) ≡ None
+none_on n xs ys e none = subst (λ (zs : List Connection). conversation_of n (slots_of zs) ≡ None) e none
+
 pub stirred_on : (at : ℕ) (xs ys : List Connection) → xs ≡ ys → StirredAt at (slots_of xs) → StirredAt at (slots_of ys)
 stirred_on at xs ys e f = subst (λ (zs : List Connection). StirredAt at (slots_of zs)) e f
 

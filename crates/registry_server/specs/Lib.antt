@@ -13,3 +13,4 @@ pub mod Accounts
 pub mod Events
 pub mod Turns
 pub mod Lives
+pub mod Accepting

@@ -30,8 +30,8 @@ fn decode_target(alloc: Global, target: &[u8]) -> Result<Texts<'_>, AllocError>
     ensures path { IfOk result (λ texts. cow_text texts.path ≡ path_text target.now) }
     ensures keys { IfOk result (λ texts. keys_shown texts.values ≡ keys_in (query_in target.now)) }
 {
-    let path = decode_path(alloc, target)?;
     let values = Values::of(alloc, split_target(target).query)?;
+    let path = decode_path(alloc, target)?;
     Ok(Texts { path, values })
 }
 

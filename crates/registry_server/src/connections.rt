@@ -1,7 +1,7 @@
 ghost use Rattle.std.specs.Prelude.{◌≡◌, true, false, ◌<◌, ◌≤◌, ◌⊎◌, ◌↔◌, length, option_map, ◌==◌, Some, None, All, IsTrue, IfOk, IfErr, IfSome, IfNone};
 ghost use Rattle.registry_server.specs.Open.{are_numbered};
 ghost use Rattle.registry_server.specs.Room.{IsWithin};
-ghost use Rattle.registry_server.specs.Slots.{slots_of};
+ghost use Rattle.registry_server.specs.Slots.{slot_of, slots_of};
 
 use crate::bounds::{Bounds, pool, room_beside};
 use crate::connection::{Connection, find, find_silent, find_stirred, going, over, to_back};
@@ -107,6 +107,16 @@ impl Connections {
         Ok(number)
     }
 
+    /// The connection of this number.
+    fn under(&self, number: u64) -> Option<&Connection>
+        ensures shown { option_map (λ c. (slot_of c.now).conversation) result
+            ≡ conversation_of number (connected self.now).slots }
+        ensures life { option_map (λ c. c.now.life) result ≡ life_of number self.now }
+    {
+        let at = find(&self.connections, number)?;
+        Some(&self.connections[at])
+    }
+
     /// How many bytes a connection may be given now; 0 where it is not open.
     ///
     /// Each may always hold `SHARE` bytes of requests, whatever others hold. Where what the others hold above
@@ -116,9 +126,9 @@ impl Connections {
         ensures { result ≡ room_of number (connected self.now) }
     {
         let all = over(&self.connections);
-        match find(&self.connections, number) {
-            Some(at) => {
-                let held = self.connections[at].conversation.coming();
+        match self.under(number) {
+            Some(connection) => {
+                let held = connection.conversation.coming();
                 room_beside(all, held, pool(&self.bounds))
             }
             None => 0,
@@ -165,8 +175,8 @@ impl Connections {
     pub fn outgoing(&self, number: u64) -> &[u8]
         ensures { result.now ≡ outgoing_of number (connected self.now).slots }
     {
-        match find(&self.connections, number) {
-            Some(at) => self.connections[at].conversation.outgoing(),
+        match self.under(number) {
+            Some(connection) => connection.conversation.outgoing(),
             None => &[],
         }
     }
@@ -208,8 +218,8 @@ impl Connections {
     pub fn silence(&self, number: u64) -> u64
         ensures { result ≡ silence_of number self.now }
     {
-        match find(&self.connections, number) {
-            Some(at) => self.time.saturating_sub(self.connections[at].life.since),
+        match self.under(number) {
+            Some(connection) => self.time.saturating_sub(connection.life.since),
             None => 0,
         }
     }
@@ -227,8 +237,8 @@ impl Connections {
     pub fn wants(&self, number: u64) -> Option<Wants>
         ensures { result ≡ option_map wants_of (conversation_of number (connected self.now).slots) }
     {
-        match find(&self.connections, number) {
-            Some(at) => Some(self.connections[at].conversation.wants()),
+        match self.under(number) {
+            Some(connection) => Some(connection.conversation.wants()),
             None => None,
         }
     }
@@ -236,8 +246,8 @@ impl Connections {
     /// The request in hand on a connection, or else the one that was answered last, as a log tells it; none
     /// where it is not open. No contract speaks of it.
     pub fn exchange(&self, number: u64) -> Option<&Exchange> {
-        match find(&self.connections, number) {
-            Some(at) => Some(self.connections[at].conversation.exchange()),
+        match self.under(number) {
+            Some(connection) => Some(connection.conversation.exchange()),
             None => None,
         }
     }
@@ -246,8 +256,8 @@ impl Connections {
     pub fn held(&self, number: u64) -> usize
         ensures { result ≡ held_of number (connected self.now).slots }
     {
-        match find(&self.connections, number) {
-            Some(at) => self.connections[at].conversation.held(),
+        match self.under(number) {
+            Some(connection) => connection.conversation.held(),
             None => 0,
         }
     }

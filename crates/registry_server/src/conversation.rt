@@ -1,4 +1,4 @@
-ghost use Rattle.std.specs.Prelude.{◌≡◌, ◌+◌, ◌<◌, ◌≤◌, [], true, false, length, drop, min, IfOk, vec_len};
+ghost use Rattle.std.specs.Prelude.{◌≡◌, ◌+◌, ◌<◌, ◌≤◌, [], true, false, length, drop, min, IfOk, IfSome, IfNone, vec_len};
 ghost use Rattle.std.specs.Bool.{MatchBool};
 ghost use Rattle.oci_types.specs.Text.{Text};
 
@@ -7,12 +7,13 @@ use crate::heading::{FoundHead, Heading, find_head};
 use crate::part::{Part, Taken, take_body};
 use crate::phase::{Phase, Step, Wants};
 use crate::replying::reply_to;
-use httparse::spans::{EMPTY_HEADER_SPAN, HeaderSpan};
+use crate::whole_connection::refuse;
+use httparse::spans::{EMPTY_HEADER_SPAN, HeaderSpan, RequestSpans};
 use registry_http::buffer::Buffer;
 use registry_http::framing::Framing;
 use registry_http::head::{Parsed, parse_head};
 use registry_http::intake::LINES;
-use registry_http::reply_text::{write_continue, write_refusal};
+use registry_http::reply_text::write_continue;
 use registry_http::{End, FramingRefusal};
 use registry_model::Keeper;
 use registry_service::Service;
@@ -22,8 +23,7 @@ use std::alloc::{AllocError, Global};
 ///
 /// It reads nothing and writes nothing itself. However its input is cut, what was taken of a body is not
 /// looked at again; a head, the line of a chunk and a trailer are looked for again from their first byte
-/// when more has come, and are 16,384, 1,024 and 16,384 bytes at most. A reply is copied into what is to go
-/// out, once.
+/// when more has come, and are 16,384, 1,024 and 16,384 bytes at most. A reply is copied once, to go out.
 ///
 /// Where memory for what is to go out is wanting, it ends with `WriteFailed`: of the text in hand exactly the
 /// first `written` bytes are to go out, and a request whose reply it was took effect.
@@ -116,12 +116,8 @@ impl Conversation {
         ensures { Refuses result refusal (shown self.old) (shown self.new) }
     {
         self.let_go();
-        match write_refusal(refusal, &mut self.out) {
-            Ok(()) => self.end(End::Refused(refusal)),
-            Err(fault) => self.end(End::WriteFailed {
-                written: fault.written,
-            }),
-        }
+        let end = refuse(&mut self.out, refusal);
+        self.end(end)
     }
 
     /// These bytes came. Bytes behind the end of the input, or on a conversation that has ended, are none of
@@ -259,12 +255,20 @@ impl Conversation {
         }
     }
 
-    /// Finds the head that was taken.
-    fn taken_head(&mut self) -> Parsed
-        ensures parses { Parses result (shown self.old).taken self.new.fields.items }
+    /// Finds the head that what was taken begins with.
+    fn taken_head(&mut self) -> Option<RequestSpans>
+        ensures found { IfSome result (λ spans.
+            Parses (Parsed.Whole spans) (shown self.old).taken self.new.fields.items) }
+        ensures none { IfNone result ((b said : Text)
+            → HoldsWhole (shown self.old).taken (shown self.old).unread b said → ⊥) }
         ensures same { shown self.new ≡ shown self.old }
     {
-        parse_head(self.buffer.before(), &mut self.fields)
+        let taken = self.buffer.before();
+        match parse_head(taken, &mut self.fields) {
+            Parsed::Whole(spans) => Some(spans),
+            Parsed::NotYet => None,
+            Parsed::Never => None,
+        }
     }
 
     /// Answers the request that was taken. Its head is found again where it stands, and so need not be
@@ -278,11 +282,8 @@ impl Conversation {
             → ActsAs result b said (shown self.old).going (K.state service.old) (K.state service.new)
             (shown self.new) }
     {
-        let spans = match self.taken_head() {
-            Parsed::Whole(spans) => spans,
-            // What was taken begins with a head.
-            Parsed::NotYet => return self.refuse(FramingRefusal::UnreadableHead),
-            Parsed::Never => return self.refuse(FramingRefusal::UnreadableHead),
+        let Some(spans) = self.taken_head() else {
+            return self.refuse(FramingRefusal::UnreadableHead);
         };
         let taken = self.buffer.before();
         self.exchange

@@ -48,7 +48,7 @@ fn reply_to<W: Write, K: Keeper>(
 }
 
 /// Writes a refusal.
-fn refuse<W: Write>(writer: &mut W, refusal: FramingRefusal) -> End
+pub(crate) fn refuse<W: Write>(writer: &mut W, refusal: FramingRefusal) -> End
     ensures { SendsRefusal result refusal (W.contents writer.old) (W.contents writer.new) }
 {
     match write_refusal(refusal, writer) {

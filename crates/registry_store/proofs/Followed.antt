@@ -19,12 +19,13 @@ use Rattle.store_statements.specs.Clauses.{Lasts, WorldHas}
 use Rattle.store_statements.proofs.SettledAfter.{stays_then}
 use Rattle.store_statements.proofs.Transactions.{registry, survives_all}
 use Rattle.store_reads.specs.declared.usage_change.Change.{Change}
-use Rattle.store_reads.specs.declared.known_usages.KnownUsages.{KnownUsages}
+use Rattle.registry_store.specs.declared.known_usages.KnownUsages.{KnownUsages}
 use Rattle.store_session_writes.specs.Whole.{DoneWhereSo}
-use Rattle.store_reads.specs.Usages.{known_at, Knows, IsKnown, StaysKnown, Sets, Foretells, IsNext, or_untold}
+use Rattle.store_reads.specs.Usages.{Foretells, or_untold}
+use Rattle.registry_store.specs.Usages.{known_at, Knows, IsKnown, StaysKnown, Sets, IsNext}
 use Rattle.store_reads.proofs.CleanBefore.{was_clean}
 use Rattle.store_reads.proofs.Foretold.{earlier, later, if_told, untold_settled, session_has_repo}
-use Rattle.store_reads.proofs.KnownWorlds.{follows, unfollowed, forgets}
+use Rattle.registry_store.proofs.KnownWorlds.{follows, unfollowed, forgets}
 use Rattle.registry_store.proofs.KnownAnswers.{whether_then}
 use Rattle.registry_store.proofs.KeeperAnswers.{made}
 

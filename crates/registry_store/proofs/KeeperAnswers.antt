@@ -14,10 +14,10 @@ use Rattle.store_statements.specs.Tables.{Tables}
 use Rattle.store_statements.specs.Held.{IsSettled, StaysSettled, SettlesOn, is_storage, world_in, held}
 use Rattle.store_statements.specs.Between.{Tells, Stays, StaysOnMemory, MakesWorld}
 use Rattle.store_statements.specs.Clauses.{Lasts}
-use Rattle.store_reads.specs.declared.known_usages.KnownUsages.{KnownUsages}
-use Rattle.store_reads.specs.Usages.{Knows, IsKnown, StaysKnown}
+use Rattle.registry_store.specs.declared.known_usages.KnownUsages.{KnownUsages}
+use Rattle.registry_store.specs.Usages.{Knows, IsKnown, StaysKnown}
 use Rattle.store_reads.proofs.CleanBefore.{was_clean}
-use Rattle.store_reads.proofs.KnownWorlds.{still_knows, untouched}
+use Rattle.registry_store.proofs.KnownWorlds.{still_knows, untouched}
 use Rattle.registry_store.proofs.KeeperStates.{found, found_so, wrote, stood}
 
 abbrev tables : {S : Type 0} → Ghosts S → Held S → Tables

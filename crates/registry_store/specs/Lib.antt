@@ -1,3 +1,4 @@
 pub mod Kept
 pub mod Opening
 pub mod Unwritten
+pub mod Usages

@@ -6,13 +6,14 @@ ghost use Rattle.registry_model.specs.World.{has_repo};
 ghost use Rattle.registry_model.specs.Lookups.{put_blob, mount, delete_blob};
 ghost use Rattle.store_statements.specs.Between.{MakesWorld, StaysOnMemory};
 ghost use Rattle.store_statements.specs.Clauses.{Lasts, WorldHas};
-ghost use Rattle.store_reads.specs.Usages.{IsKnown, StaysKnown};
+ghost use Rattle.registry_store.specs.Usages.{IsKnown, StaysKnown};
 
 use crate::following::follow_made;
+use crate::known_usages::KnownUsages;
 use oci_types::{Digest, Fault, RepoName};
 use sqlite::{Alter, Connection};
 use std::alloc::Global;
-use store_reads::{KnownUsages, mount_change, or_untold, put_change};
+use store_reads::{mount_change, or_untold, put_change};
 
 /// Puts a blob in; a digest that is there keeps its bytes.
 pub(crate) fn put_blob<S: Alter>(

@@ -8,13 +8,14 @@ ghost use Rattle.registry_model.specs.World.{has_repo};
 ghost use Rattle.registry_model.specs.Lookups.{put_manifest};
 ghost use Rattle.store_statements.specs.Between.{MakesWorld, StaysOnMemory};
 ghost use Rattle.store_statements.specs.Clauses.{Lasts, WorldHas};
-ghost use Rattle.store_reads.specs.Usages.{IsKnown, StaysKnown};
+ghost use Rattle.registry_store.specs.Usages.{IsKnown, StaysKnown};
 
 use crate::following::follow_made;
+use crate::known_usages::KnownUsages;
 use oci_types::{Digest, Fault, Manifest, RepoName, Tag};
 use sqlite::{Alter, Connection};
 use std::alloc::Global;
-use store_reads::{KnownUsages, manifest_change, or_untold};
+use store_reads::{manifest_change, or_untold};
 
 /// Adds a manifest, where the repository has not its digest, and sets the tag to it, if one is given.
 pub(crate) fn put_manifest<S: Alter>(

@@ -10,13 +10,14 @@ ghost use Rattle.store_statements.specs.Held.{IsSettled};
 ghost use Rattle.store_statements.specs.Between.{MakesWorld, StaysOnMemory};
 ghost use Rattle.store_statements.specs.Clauses.{Lasts, WorldHas};
 ghost use Rattle.store_session_writes.specs.Whole.{DoneWhereSo};
-ghost use Rattle.store_reads.specs.Usages.{IsKnown, StaysKnown};
+ghost use Rattle.registry_store.specs.Usages.{IsKnown, StaysKnown};
 
 use crate::following::{follow_done, follow_made};
+use crate::known_usages::KnownUsages;
 use oci_types::{Digest, Fault, RepoName};
 use sqlite::{Alter, Connection};
 use std::alloc::Global;
-use store_reads::{KnownUsages, finish_change, known_finish_change, or_untold};
+use store_reads::{finish_change, known_finish_change, or_untold};
 
 /// Ends an open session and puts its whole bytes in as a blob; a digest that is there keeps its bytes.
 pub(crate) fn finish<S: Alter>(

@@ -1,9 +1,10 @@
 //! What is known of usages follows what was written.
 ghost use Rattle.std.specs.Prelude.{◌≡◌, true, Ok, OnOk, OnErr};
-ghost use Rattle.store_reads.specs.Usages.{known_at, Sets, IsNext};
+ghost use Rattle.registry_store.specs.Usages.{known_at, Sets, IsNext};
 
+use crate::known_usages::KnownUsages;
 use oci_types::{Fault, RepoName};
-use store_reads::{Change, KnownUsages};
+use store_reads::Change;
 
 /// What is known of the repository follows the change, where the write was made.
 pub(crate) fn follow_made<T>(

@@ -11,7 +11,7 @@ use crate::fault_noting::note_fault;
 use crate::following::follow_made;
 use crate::origin::Origin;
 use crate::store::Store;
-use crate::{counted_blobs, counted_manifests, counted_sessions};
+use crate::{counted_blobs, counted_manifests, counted_sessions, usage_reads};
 use oci_types::{Digest, Fault, Kind, Manifest, RepoName, Tag, Token};
 use registry_model::{Keeper, Level, Quota, Usage};
 use sqlite::Alter;
@@ -145,7 +145,7 @@ impl<S: Alter, O: Origin> Keeper for Store<S, O> {
     fn usage(&mut self, repo: &RepoName) -> Result<Usage, Fault> {
         unless_spent!(
             self,
-            store_reads::recalled_usage(self.alloc, &mut self.conn, &mut self.known, repo)
+            usage_reads::recalled_usage(self.alloc, &mut self.conn, &mut self.known, repo)
         )
     }
 
@@ -183,13 +183,13 @@ impl<S: Alter, O: Origin> Keeper for Store<S, O> {
     }
 
     fn open_session(&mut self, repo: &RepoName) -> Result<u64, Fault> {
-        let one_more = Change {
-            opened: 1,
-            ..NO_CHANGE
-        };
         unless_spent!(
             self,
             {
+                let one_more = Change {
+                    opened: 1,
+                    ..NO_CHANGE
+                };
                 let opened = store_session_writes::open_session(&mut self.conn, repo);
                 follow_made(&mut self.known, repo, Some(one_more), &opened);
                 opened
@@ -198,13 +198,13 @@ impl<S: Alter, O: Origin> Keeper for Store<S, O> {
     }
 
     fn append(&mut self, repo: &RepoName, number: u64, bytes: &[u8]) -> Result<(), Fault> {
-        let longer = Change {
-            added: bytes.len() as u64,
-            ..NO_CHANGE
-        };
         unless_spent!(
             self,
             {
+                let longer = Change {
+                    added: bytes.len() as u64,
+                    ..NO_CHANGE
+                };
                 let made = store_session_writes::append(
                     self.alloc,
                     &mut self.conn,

@@ -7,8 +7,11 @@ mod counted_sessions;
 mod fault_noting;
 mod following;
 mod keeper;
+mod known_usages;
+mod next_usage;
 mod origin;
 mod store;
+mod usage_reads;
 mod written;
 
 pub use origin::{Foreign, Origin, Ours};

@@ -14,6 +14,7 @@ ghost use Rattle.store_opening.specs.Opening.{IsIdle, IsOpenedBeside, HoldsRegis
 ghost use Rattle.store_opening.specs.Asking.{IsWanting, IsWantingOr, IsTold, IsOfSchema, NamesNotTwo, ShowsAlone};
 ghost use Rattle.registry_store.specs.Opening.{IsOurs, OpensOn};
 
+use crate::known_usages::KnownUsages;
 use crate::origin::{Origin, Ours};
 use crate::written::Written;
 use sqlite::{Alter, Connection, Error, FileFrom, FileStore, MemStore};
@@ -21,7 +22,6 @@ use sqlite_disk::Disk;
 use std::alloc::Global;
 use std::marker::{Model, PhantomData};
 use store_opening::{OpenFault, fault_in_opening, let_go, take_up};
-use store_reads::KnownUsages;
 
 /// Keeps a registry's world in the tables of a database, and knows besides what some of its repositories
 /// hold. Once the storage has failed it is spent, and answers `Fault::Storage` alone.
@@ -39,7 +39,7 @@ impl<S: Alter, O: Origin> Model for Store<S, O> {
     ghost use Rattle.sqlite.specs.State.{HasCleanDisk};
     ghost use Rattle.sqlite.specs.Held.{state};
     ghost use Rattle.registry_store.specs.Kept.{Kept, kept_code};
-    ghost use Rattle.store_reads.specs.Usages.{Knows};
+    ghost use Rattle.registry_store.specs.Usages.{Knows};
     ghost use Rattle.store_statements.specs.Held.{IsSettled, world_in};
 
     ghost Value = { Kept S };

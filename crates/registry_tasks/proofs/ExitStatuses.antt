@@ -20,7 +20,8 @@ use Rattle.registry_orders.specs.Failures.{status_of, IsOfConnection, IsOfOpenin
 use Rattle.registry_orders.specs.Setting.{with_repos, with_levels, levels_if, world_by, world_from, SetsUp}
 use Rattle.registry_tasks.specs.Checking.{IsOfCheck}
 use Rattle.registry_tasks.specs.Failures.{status_after}
-use Rattle.registry_tasks.specs.Program.{Streams, GivesUp, IsUntouched, ServesFrom, ServesMemory, ServesSetUp, ServesStored, Tells}
+use Rattle.registry_server.specs.Accepting.{Streams}
+use Rattle.registry_tasks.specs.Program.{GivesUp, IsUntouched, ServesFrom, ServesMemory, ServesSetUp, ServesStored, Tells}
 
 pub served : (setup : Setup) (w : World) (status : ℕ) (e : Streams) → world_by setup ≡ Ok w → ServesFrom w status e → ServesMemory setup status e
 served setup w status e m s = inr (subst (λ r. MatchResult r (λ w. ServesFrom w status e) (λ f. GivesUp f status e)) (sym m) s)

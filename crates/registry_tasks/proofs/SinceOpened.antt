@@ -5,8 +5,8 @@ use Rattle.registry_http.specs.declared.ending.End.{End}
 use Rattle.registry_http.specs.Serving.{Run, served}
 use Rattle.registry_http.specs.Privacy.{IsPrivateRun}
 use Rattle.registry_http.proofs.PrivacyLemmas.{private_run, runs_join, served_runs}
-use Rattle.registry_tasks.specs.Program.{traffic_of}
-use Rattle.registry_tasks.specs.Sockets.{Connects, ServesMany, served_by, ServesSome}
+use Rattle.registry_server.specs.Accepting.{Connects, traffic_of}
+use Rattle.registry_tasks.specs.Sockets.{ServesMany, served_by, ServesSome}
 
 -- connections one after the other are one run
 served_by_runs : (n : ℕ) (s s' : State) (h : ServesMany n s s') → Run s (served_by n s s' h).0 (served_by n s s' h).1 s'

@@ -1,6 +1,6 @@
 -- What tasks come to over a registry that is opened for them. Here `over P` is that P is told of a registry
 -- that was opened, from its first state to its last, and `at path` is the same of the registry at a path.
-use Rattle.std.specs.Prelude.{◌≡◌, ℕ, ◌⊎◌}
+use Rattle.std.specs.Prelude.{◌≡◌, ℕ, ◌⊎◌, ⊤, Option}
 use Rattle.oci_types.specs.Text.{Text}
 use Rattle.registry_model.specs.Keeping.{State}
 use Rattle.registry_orders.specs.declared.failure.Failure.{Failure}
@@ -15,7 +15,8 @@ use Rattle.registry_orders.specs.Tokens.{IsFirstLine}
 use Rattle.registry_orders.specs.Failures.{status_of, IsOfWords, IsOfOpening}
 use Rattle.registry_orders.specs.Outputs.{Output, output, IsSilent}
 use Rattle.order_carrying.specs.Carrying.{IsCarriedOut}
-use Rattle.registry_tasks.specs.Program.{Streams, ServesStored}
+use Rattle.registry_server.specs.Accepting.{Streams}
+use Rattle.registry_tasks.specs.Program.{ServesStored}
 use Rattle.registry_tasks.specs.Checking.{IsChecked}
 use Rattle.registry_tasks.specs.Sending.{IsSent}
 
@@ -56,6 +57,16 @@ abbrev pub RunsTokenOrder : (Text → Opened) → Place → TokenSource → Toke
 RunsTokenOrder at place Input order status e = RunsByInput at place order status e
 RunsTokenOrder at place (File path) order status e =
     (e.left' ≡ e.left) × RunsByFile at place order status (output_of e)
+
+-- the token is the first line of standard input, of which no more is read; or nothing of that is read
+abbrev pub GivesToken : TokenSource → Option Text → Option Text → Text → Type 0
+GivesToken Input left left' token = IsFirstLine left left' token
+GivesToken (File path) left left' token = left' ≡ left
+
+-- standard input is read for a token alone
+abbrev pub IsReadFor : TokenSource → Option Text → Option Text → Type 0
+IsReadFor Input left left' = ⊤
+IsReadFor (File path) left left' = left' ≡ left
 
 -- what was read is no token, or nothing could be read; no registry is opened, and nothing is sent
 abbrev pub IsWithoutToken : ℕ → Output → Type 0

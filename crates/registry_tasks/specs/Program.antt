@@ -5,36 +5,19 @@ use Rattle.oci_types.specs.Text.{Text}
 use Rattle.registry_model.specs.World.{World}
 use Rattle.registry_model.specs.Keeping.{State}
 use Rattle.registry_model.specs.Doing.{keeps}
-use Rattle.registry_http.specs.Serving.{Traffic, Serves}
+use Rattle.registry_http.specs.Serving.{Serves}
 use Rattle.registry_http.specs.declared.ending.End.{End}
 use Rattle.registry_orders.specs.declared.failure.Failure.{Failure}
 use Rattle.registry_orders.specs.declared.failure.Failure.TheVariants.{OutOfMemory, ConnectionFailure}
 use Rattle.registry_orders.specs.declared.options.Setup.{Setup}
 use Rattle.registry_orders.specs.Failures.{status_of}
 use Rattle.registry_orders.specs.Setting.{world_by, world_from, SetsUp}
+use Rattle.registry_server.specs.Accepting.{Streams, traffic_of}
 use Rattle.registry_tasks.specs.Failures.{status_after}
 
--- the bytes that standard input had left before and after, and those that standard output held, where they
--- are known
-pub record Streams : Type 0 where
-  pub left : Option Text
-  pub left' : Option Text
-  pub held : Option Text
-  pub held' : Option Text
-
+-- what the program read from standard input and wrote to standard output
 abbrev pub streams : Option Text → Option Text → Option Text → Option Text → Streams
 streams left left' held held' = record { left = left; left' = left'; held = held; held' = held' }
-
--- what a connection over these ends took and gave, from one state to another
-abbrev pub traffic_of : Streams → State → State → Traffic
-traffic_of e s s' = record {
-  left = e.left;
-  left' = e.left';
-  held = e.held;
-  held' = e.held';
-  state = s;
-  state' = s';
-}
 
 -- nothing was read from standard input, and nothing written to standard output
 pub record IsUntouched (e : Streams) : Type 0 where

@@ -4,23 +4,14 @@ use Rattle.std.specs.Io.KnownBytes.{Appends}
 use Rattle.oci_types.specs.Text.{Text}
 use Rattle.registry_model.specs.Keeping.{State}
 use Rattle.registry_http.specs.Spelling.{Item}
-use Rattle.registry_http.specs.Serving.{Serves, served}
+use Rattle.registry_http.specs.Serving.{served}
 use Rattle.registry_http.specs.Privacy.{IsPrivateRun}
 use Rattle.registry_http.specs.declared.ending.End.{End}
 use Rattle.registry_orders.specs.declared.failure.Failure.{Failure}
 use Rattle.registry_orders.specs.Failures.{IsOfServing}
-use Rattle.registry_tasks.specs.Program.{Streams, traffic_of}
+use Rattle.registry_server.specs.Accepting.{Connects, traffic_of}
 use Rattle.registry_orders.specs.Outputs.{Output}
 use Rattle.registry_orders.specs.Outputs.{newline}
-
--- some connection was served to this end, from one state to another
-abbrev pub Connects : End → State → State → Type 0
-Connects end s s' = (e : Streams) × Serves end (traffic_of e s s')
-
--- one connection was taken and served; or none was taken, and nothing is done
-abbrev pub ServesNext : {E : Type 0} → Result End E → State → State → Type 0
-ServesNext (Ok end) s s' = Connects end s s'
-ServesNext (Err e) s s' = s' ≡ s
 
 -- so many connections were served one after the other, each by a storage that had not failed
 abbrev pub ServesMany : ℕ → State → State → Type 0

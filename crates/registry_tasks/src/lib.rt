@@ -19,7 +19,7 @@ pub use checking::run_check;
 pub use opened::{run_migration, run_order_at, run_stored};
 pub use order_socket::listen_for_orders;
 pub use sending::{send_order, send_stop};
-pub use sockets::{Entrance, connections_are_private, serve, serve_one};
+pub use sockets::{connections_are_private, serve};
 pub use stdio::{serve_from, serve_memory, serve_stdio};
 pub use telling::tell;
 pub use tokens::run_token_order;

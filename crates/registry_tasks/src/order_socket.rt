@@ -23,21 +23,35 @@ fn cause_of_error(error: io::Error) -> Option<Cause> {
     cause_of(error.kind())
 }
 
+/// Whether what is at a path is a socket.
+fn is_socket(rt: &HostRuntime, path: &str) -> Result<bool, ErrorKind> {
+    match fs::symlink_metadata(rt, path) {
+        Ok(found) => Ok(found.file_type().is_socket()),
+        Err(error) => Err(error.kind()),
+    }
+}
+
+/// Asks whether a server listens at a path. The error is why none can be asked.
+fn knock(rt: &HostRuntime, path: &str) -> Result<(), ErrorKind> {
+    match UnixStream::connect(rt, path) {
+        Ok(_) => Ok(()),
+        Err(error) => Err(error.kind()),
+    }
+}
+
 /// Takes away the socket that a dead server left at a path. The error is that something else is there, or a
 /// server that lives.
 fn clear(rt: &HostRuntime, path: &str) -> Result<(), Option<Cause>> {
-    match fs::symlink_metadata(rt, path) {
-        Ok(found) if found.file_type().is_socket() => {}
-        Ok(_) => return Err(Some(Cause::NoSocket)),
-        Err(error) if error.kind() == ErrorKind::NotFound => return Ok(()),
-        Err(error) => return Err(cause_of(error.kind())),
+    match is_socket(rt, path) {
+        Ok(true) => {}
+        Ok(false) => return Err(Some(Cause::NoSocket)),
+        Err(ErrorKind::NotFound) => return Ok(()),
+        Err(kind) => return Err(cause_of(kind)),
     }
-    match UnixStream::connect(rt, path) {
-        Ok(_) => Err(Some(Cause::ServerThere)),
-        Err(error) if error.kind() == ErrorKind::ConnectionRefused => {
-            fs::remove_file(rt, path).map_err(cause_of_error)
-        }
-        Err(error) => Err(cause_of(error.kind())),
+    match knock(rt, path) {
+        Ok(()) => Err(Some(Cause::ServerThere)),
+        Err(ErrorKind::ConnectionRefused) => fs::remove_file(rt, path).map_err(cause_of_error),
+        Err(kind) => Err(cause_of(kind)),
     }
 }
 

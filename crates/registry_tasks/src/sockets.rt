@@ -3,59 +3,17 @@ ghost use Rattle.std.specs.Io.KnownBytes.{Appends};
 ghost use Rattle.registry_orders.specs.Failures.{IsOfOpening, IsOfServing};
 ghost use Rattle.registry_orders.specs.Outputs.{output};
 ghost use Rattle.registry_tasks.specs.Stored.{Over};
-ghost use Rattle.registry_tasks.specs.Sockets.{ServesNext, ServesMany, ServesSome, ServesAddress, served_by, greeting};
+ghost use Rattle.registry_tasks.specs.Sockets.{ServesMany, ServesSome, ServesAddress, served_by, greeting};
 ghost use Rattle.registry_model.specs.Keeping.{State};
 ghost use Rattle.registry_http.specs.Privacy.{IsPrivateRun};
 
 use registry_checking::Opener;
-use registry_http::End;
 use registry_model::Keeper;
 use registry_orders::Failure;
-use registry_server::serve_connection;
+use registry_server::Entrance;
 use registry_service::Service;
 use std::alloc::Global;
-use std::io;
 use std::io::Write;
-use std::net::TcpListener;
-
-/// Where connections come from.
-pub trait Entrance {
-    /// Waits for the next connection, and serves it to its end. An error is that none could be taken.
-    fn serve_next<K: Keeper>(&mut self, alloc: Global, service: &mut Service<K>) -> io::Result<End>
-        ensures honest { K.is_honest service.new → K.is_honest service.old }
-        ensures serves { K.is_honest service.new
-            → ServesNext result (K.state service.old) (K.state service.new) };
-}
-
-impl Entrance for TcpListener {
-    fn serve_next<K: Keeper>(
-        &mut self,
-        alloc: Global,
-        service: &mut Service<K>,
-    ) -> io::Result<End> {
-        serve_one(alloc, self, service)
-    }
-}
-
-/// Takes one connection, and serves it to its end. An error is a failed accept, and then nothing is
-/// done. What is written goes out at once (`TCP_NODELAY`); a socket that refuses that is served too.
-pub fn serve_one<K: Keeper>(
-    alloc: Global,
-    listener: &TcpListener,
-    service: &mut Service<K>,
-) -> io::Result<End>
-    ensures honest { K.is_honest service.new → K.is_honest service.old }
-    ensures serves { K.is_honest service.new → ServesNext result (K.state service.old) (K.state service.new) }
-{
-    let stream = match listener.accept() {
-        Ok((stream, _)) => stream,
-        Err(error) => return Err(error),
-    };
-    let _ = stream.set_nodelay(true);
-    let mut reader = &stream;
-    let mut writer = &stream;
-    Ok(serve_connection(alloc, service, &mut reader, &mut writer))
-}
 
 /// The service, or another over the registry that is opened again where this one is spent.
 pub fn resume<K: Keeper, O: Opener<K>>(

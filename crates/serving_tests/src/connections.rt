@@ -10,7 +10,7 @@ const TWO: &[u8] = b"GET /v2/ HTTP/1.1\r\nHost: r\r\n\r\nGET /v2/ HTTP/1.1\r\nHo
 
 /// Two connections with two requests each take turns, one request at a time, and none before its last reply
 /// has gone out.
-const TURNS: [Act; 25] = [
+static TURNS: [Act; 25] = [
     Act::Open(Ok(0)),
     Act::Open(Ok(1)),
     Act::Open(Err(Refusal::Full)),
@@ -39,7 +39,7 @@ const TURNS: [Act; 25] = [
 ];
 
 /// Nothing of a connection that is gone is answered, and its number is given to no other.
-const GONE: [Act; 14] = [
+static GONE: [Act; 14] = [
     Act::Open(Ok(0)),
     Act::Hear(0, SMALL, Receipt::Taken),
     Act::Close(0, true),
@@ -61,7 +61,7 @@ const REST: usize = SHARE - LARGE_HEAD.len();
 
 /// Of two large requests the second waits where there is room for one, and a small one does not; the second
 /// goes on when the first was answered.
-const LARGE: [Act; 20] = [
+static LARGE: [Act; 20] = [
     Act::Open(Ok(0)),
     Act::Open(Ok(1)),
     Act::Open(Ok(2)),
@@ -85,7 +85,7 @@ const LARGE: [Act; 20] = [
 ];
 
 /// Where a reply fills the room for replies, none is answered before it has gone out.
-const FULL: [Act; 9] = [
+static FULL: [Act; 9] = [
     Act::Open(Ok(0)),
     Act::Hear(0, SMALL, Receipt::Taken),
     Act::Open(Ok(1)),

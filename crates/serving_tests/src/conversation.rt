@@ -14,11 +14,20 @@ use std::process::Abort;
 const BY_LENGTH: &str = "Content-Length: 5\r\n\r\nhello";
 
 /// A conversation, the registry that it is had with, and what went out of it.
-#[derive(Drop)]
 struct Talk {
     conversation: Conversation,
     registry: Registry,
     output: Vec<u8>,
+}
+
+impl Drop for Talk {
+    fn drop(self) {
+        let Talk {
+            conversation: _,
+            registry: _,
+            output: _,
+        } = self;
+    }
 }
 
 fn new_talk(rt: &impl Abort, alloc: Global) -> Talk {
@@ -157,7 +166,7 @@ fn all_happens(rt: &impl Abort, alloc: Global, events: &[Event]) {
 }
 
 /// Three requests that came at once take three turns, and a log is told each in its turn.
-const AT_ONCE: [Event; 7] = [
+static AT_ONCE: [Event; 7] = [
     Event::Hear(THREE_REQUESTS, BY_LENGTH),
     Event::Answers("POST /v2/{name}/blobs/uploads/", 5),
     Event::Answers("GET /v2/{name}/blobs/{digest}", 0),
@@ -178,7 +187,7 @@ const CONTINUE_AND_CREATED: &str = "HTTP/1.1 100 Continue\r\n\r\n\
       Location: /v2/{name}/blobs/{digest}\r\n\r\n";
 
 /// A client that waits is told so once, before its body came.
-const WAITING: [Event; 11] = [
+static WAITING: [Event; 11] = [
     Event::Hear(PUSH, "Expect: 100-continue\r\nContent-Length: 5\r\n\r\n"),
     Event::Turn(Step::Waits),
     Event::Went(CONTINUE),
@@ -200,7 +209,7 @@ fn continue_before_the_body(rt: HostRuntime) {
 const REFUSED: Step = Step::Ended(End::Refused(FramingRefusal::UnreadableChunk));
 
 /// A refusal is the end, and bytes behind it come to nothing.
-const REFUSAL: [Event; 9] = [
+static REFUSAL: [Event; 9] = [
     Event::Hear(
         "POST / HTTP/1.1\r\nHost: r\r\nTransfer-Encoding: chunked\r\n\r\n3\r\nabcX",
         "",
@@ -221,7 +230,7 @@ fn refusal_ends_it(rt: HostRuntime) {
 }
 
 /// Whatever comes behind the end of the input completes no head.
-const CUT: [Event; 11] = [
+static CUT: [Event; 11] = [
     Event::Holds(0, Wants::Bytes),
     Event::Hear("GET /v2/ HT", ""),
     Event::Turn(Step::Waits),

@@ -34,12 +34,22 @@ const CREATED_AND_FOUND: &str =
       Docker-Content-Digest: {digest}\r\n\r\n{body}";
 
 /// Both, and how long the push is, and the reply to it.
-#[derive(Drop)]
 struct Pair {
     input: String,
     pushed: usize,
     output: String,
     created: usize,
+}
+
+impl Drop for Pair {
+    fn drop(self) {
+        let Pair {
+            input: _,
+            pushed: _,
+            output: _,
+            created: _,
+        } = self;
+    }
 }
 
 /// The push of `abc` with these fields and this body, and the fetch of it.
@@ -194,7 +204,7 @@ type Long = (usize, usize, &'static str, &'static str);
 const CHUNKS: &str = "Transfer-Encoding: chunked\r\n\r\n{body}0\r\n\r\n";
 
 /// By its length, in chunks of 1,000 and in chunks of 40,000.
-const LONG_BODIES: [Long; 3] = [
+static LONG_BODIES: [Long; 3] = [
     (200_000, 1, "{body}", "Content-Length: 200000\r\n\r\n{body}"),
     (1_000, 200, "3e8\r\n{body}\r\n", CHUNKS),
     (40_000, 5, "9c40\r\n{body}\r\n", CHUNKS),

@@ -20,7 +20,7 @@ const BASES: &str =
       HTTP/1.1 200 OK\r\nContent-Length: 2\r\nContent-Type: application/json\r\n\r\n{}";
 
 /// Heads that no byte can complete.
-const HOPELESS: [&[u8]; 5] = [
+static HOPELESS: [&[u8]; 5] = [
     // The first bytes of a ClientHello, as OpenSSL sends it.
     b"\x16\x03\x01\x02\x00\x01\x00\x01\xfc\x03\x03\x37\xf9\xe5\x33\x86\x6b\x5e\x26\x1f\
       \x04\xa2\x85\xea\xa9\x27\x85\x35\x11\x48\xa4\x08\xa9\x40\xf5\x19\x9a\x52\x69\xe5\
@@ -160,7 +160,7 @@ fn are_stopped(rt: &impl Abort, alloc: Global, stops: &[Stop]) {
 const NO_TOKEN: &str = "GET /v2/ HTTP/1.1\r\nHost: r\r\n\r\n";
 
 /// Writers that take one byte a call, and then fail.
-const FAILING: [Stop; 5] = [
+static FAILING: [Stop; 5] = [
     (TWICE, true, 82, End::WriteFailed { written: 10 }, BASES),
     (TWICE, true, 0, End::WriteFailed { written: 0 }, BASES),
     (TWICE, true, 72, End::WriteFailed { written: 0 }, BASES),
@@ -187,9 +187,9 @@ const BODY: &str = "Content-Length: 3\r\n\r\nabc";
 const WAITING: &str = "POST /v2/{name}/blobs/uploads/?digest={digest} HTTP/1.1\r\nHost: r\r\n\
       Authorization: Bearer t1\r\nExpect: 100-continue\r\n{body}";
 
-const NOT_TOLD: Stop = (WAITING, true, 5, End::WriteFailed { written: 5 }, CONTINUE);
+static NOT_TOLD: Stop = (WAITING, true, 5, End::WriteFailed { written: 5 }, CONTINUE);
 
-const NO_REPLY: Stop = (PUSH, true, 0, End::WriteFailed { written: 0 }, "");
+static NO_REPLY: Stop = (PUSH, true, 0, End::WriteFailed { written: 0 }, "");
 
 /// The blob of a push whose client was not told to go on is not there; the one whose reply could not be
 /// written is.
@@ -204,7 +204,7 @@ fn writer_fails_behind_a_push(rt: HostRuntime) {
 }
 
 /// Writers that take no more. The replies have 72 bytes.
-const FULL: [Stop; 7] = [
+static FULL: [Stop; 7] = [
     (TWICE, false, 0, End::WriteFailed { written: 0 }, BASES),
     (TWICE, false, 1, End::WriteFailed { written: 1 }, BASES),
     (TWICE, false, 71, End::WriteFailed { written: 71 }, BASES),

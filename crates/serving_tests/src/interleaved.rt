@@ -9,13 +9,24 @@ use std::alloc::Global;
 use std::process::Abort;
 
 /// A connection's number, what comes on it and how much of that came, and what went out on it and is to.
-#[derive(Drop)]
 struct Client {
     number: u64,
     input: String,
     came: usize,
     output: Vec<u8>,
     wanted: String,
+}
+
+impl Drop for Client {
+    fn drop(self) {
+        let Client {
+            number: _,
+            input: _,
+            came: _,
+            output: _,
+            wanted: _,
+        } = self;
+    }
 }
 
 /// A body that comes in chunks.
@@ -95,7 +106,7 @@ fn come(rt: &impl Abort, alloc: Global, play: &mut Play, name: &str) -> Client {
 }
 
 /// Their repositories.
-const NAMES: [&str; 8] = [
+static NAMES: [&str; 8] = [
     "team/a0", "team/a1", "team/a2", "team/a3", "team/a4", "team/a5", "team/a6", "team/a7",
 ];
 

@@ -36,7 +36,7 @@ const LEVEL_WHOLE: &str = "0\nteam/app t1 3\n";
 const LEVEL_JSON: &str = "0\n[{\"level\":3,\"name\":\"team/app\",\"token\":\"t1...\"}]\n";
 
 /// Lines, one after the other, and the answer to each.
-const TALK: [(&str, &str); 33] = [
+static TALK: [(&str, &str); 33] = [
     ("usage", NO_ROWS),
     ("drop team/app", NO_REPO),
     ("repo team/app 1000", DONE),
@@ -73,7 +73,7 @@ const TALK: [(&str, &str); 33] = [
 ];
 
 /// Lines that spell no order.
-const MALFORMED_LINES: [&[u8]; 41] = [
+static MALFORMED_LINES: [&[u8]; 41] = [
     b"",
     b" ",
     b"usage ",
@@ -205,7 +205,7 @@ fn lists_of_levels_are_written(rt: HostRuntime) {
 }
 
 /// Bytes, and the status and the text of the answer that they are.
-const ANSWERS: [(&[u8], Option<(u8, &[u8])>); 8] = [
+static ANSWERS: [(&[u8], Option<(u8, &[u8])>); 8] = [
     (
         b"1\nregistry: no such repository\n",
         Some((1, b"registry: no such repository\n")),
@@ -231,7 +231,7 @@ fn answers_are_read(rt: HostRuntime) {
 }
 
 /// Lines that do not ask a server to stop.
-const NO_STOPS: [&[u8]; 7] = [
+static NO_STOPS: [&[u8]; 7] = [
     b"", b"sto", b"stops", b"stop ", b" stop", b"STOP", b"stop\n",
 ];
 

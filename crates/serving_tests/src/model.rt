@@ -25,7 +25,7 @@ fn quotas_end_below_2_to_63(rt: HostRuntime) {
 }
 
 /// Before, after, and whether that is over a quota of 10.
-const USES: [(u64, u64, bool); 5] = [
+static USES: [(u64, u64, bool); 5] = [
     (0, 10, false),
     (0, 11, true),
     (10, 11, true),
@@ -42,7 +42,7 @@ fn over_quota_is_more_than_before_and_than_the_quota(rt: HostRuntime) {
 }
 
 /// Refusals, their statuses, and how long their bodies are.
-const REFUSALS: [(Refusal, u16, usize); 20] = [
+static REFUSALS: [(Refusal, u16, usize); 20] = [
     (Refusal::TokenRequired, 401, 63),
     (Refusal::NoEndpoint, 404, 64),
     (Refusal::InvalidName, 400, 72),

@@ -6,10 +6,18 @@ use std::alloc::Global;
 use std::process::Abort;
 
 /// Connections, and the registry that they are served by.
-#[derive(Drop)]
 pub struct Play {
     pub connections: Connections,
     pub registry: Registry,
+}
+
+impl Drop for Play {
+    fn drop(self) {
+        let Play {
+            connections: _,
+            registry: _,
+        } = self;
+    }
 }
 
 /// One thing that happens, and what it comes to. The first number is a connection's.

@@ -38,7 +38,7 @@ type Row = (
 );
 
 /// What `t1` is told, alone.
-const ALONE: [Row; 4] = [
+static ALONE: [Row; 4] = [
     (Asked::Push(b"abc"), "t1", "team/app", ABC, CREATED),
     (
         Asked::Blob(Verb::Get),
@@ -53,7 +53,7 @@ const ALONE: [Row; 4] = [
 
 /// The same, and what `t2` and the administrator do elsewhere in between, who makes the repository `third`,
 /// gives `t2` a level on it and wants to make it again.
-const AMONG_OTHERS: [Row; 10] = [
+static AMONG_OTHERS: [Row; 10] = [
     (Asked::Push(b"hello"), "t2", "other", HELLO, CREATED),
     (Asked::Push(b"abc"), "t1", "team/app", ABC, CREATED),
     (Asked::Push(b"hello"), "t2", "team/app", HELLO, DENIED),
@@ -73,14 +73,14 @@ const AMONG_OTHERS: [Row; 10] = [
 ];
 
 /// To the two tokens of a repository it is one: what one of them deletes the other does not find.
-const TEAM: [Row; 3] = [
+static TEAM: [Row; 3] = [
     (Asked::Push(b"abc"), "t3", "team/app", ABC, CREATED),
     (Asked::Blob(Verb::Delete), "t1", "team/app", ABC, DELETED),
     (Asked::Blob(Verb::Get), "t3", "team/app", ABC, BLOB_UNKNOWN),
 ];
 
 /// Another's push of the same bytes and the administrator's clearing change none of their replies.
-const TEAM_AMONG_OTHERS: [Row; 6] = [
+static TEAM_AMONG_OTHERS: [Row; 6] = [
     (Asked::Push(b"abc"), "t3", "team/app", ABC, CREATED),
     (Asked::Push(b"abc"), "t2", "other", ABC, CREATED),
     (Asked::Clear, "", "", "", ""),

@@ -42,7 +42,7 @@ fn all_but_one(rt: &impl Abort, alloc: Global) -> Registry {
 }
 
 /// What is asked, one after the other, and the reply to each.
-const ASKED: [(&str, &str); 5] = [
+static ASKED: [(&str, &str); 5] = [
     (OPEN, OPENED),
     (OPEN, TOO_MANY),
     (CLOSE, CREATED),

@@ -58,10 +58,10 @@ pub fn grant(
 }
 
 /// The repositories of the setting.
-const NAMES: [&str; 3] = ["team/app", "team/lib", "other"];
+static NAMES: [&str; 3] = ["team/app", "team/lib", "other"];
 
 /// The tokens of the setting, and their levels.
-const GRANTS: [(&str, &str, Level); 3] = [
+static GRANTS: [(&str, &str, Level); 3] = [
     ("t1", "team/app", Level::Delete),
     ("t1", "team/lib", Level::Delete),
     ("t2", "other", Level::Push),

@@ -12,13 +12,13 @@ use std::process::Abort;
 const BEGIN: u64 = 5_000;
 
 /// Two connections come then.
-const BOTH_COME: [Act; 3] = [Act::Tick(BEGIN), Act::Open(Ok(0)), Act::Open(Ok(1))];
+static BOTH_COME: [Act; 3] = [Act::Tick(BEGIN), Act::Open(Ok(0)), Act::Open(Ok(1))];
 
 /// For how long one was silent whose head came a byte a second.
 const OF_HEAD: u64 = 1_000 * (LARGE_HEAD.len() as u64 - 1);
 
 /// 65,536 bytes are a sign of life, whether they were taken or let fall; the head was taken before these.
-const BEHIND_HEAD: [Act; 5] = [
+static BEHIND_HEAD: [Act; 5] = [
     Act::See(Sight::Silence(0, OF_HEAD)),
     Act::HearBody(0, SIGN_OF_LIFE - LARGE_HEAD.len() - 1, Receipt::Taken),
     Act::See(Sight::Silence(0, OF_HEAD)),
@@ -27,7 +27,7 @@ const BEHIND_HEAD: [Act; 5] = [
 ];
 
 /// The last byte of a reply is a sign of life, and none before it.
-const REPLY: [Act; 14] = [
+static REPLY: [Act; 14] = [
     Act::Tick(BEGIN),
     Act::Open(Ok(0)),
     Act::Open(Ok(1)),
@@ -45,7 +45,7 @@ const REPLY: [Act; 14] = [
 ];
 
 /// One that has been silent for just so long is named, and none that is gone.
-const NAMED: [Act; 12] = [
+static NAMED: [Act; 12] = [
     Act::Tick(BEGIN),
     Act::Open(Ok(0)),
     Act::Open(Ok(1)),

@@ -7,9 +7,7 @@ pub mod SessionBytes
 pub mod ReferrerBytes
 pub mod DigestsFound
 pub mod CleanBefore
-pub mod KnownChanges
 pub mod MapSums
 pub mod UsageTurns
 pub mod Foretold
-pub mod KnownWorlds
 pub mod Behind

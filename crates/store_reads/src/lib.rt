@@ -1,11 +1,10 @@
-//! What a store reads of a registry's world, and what it knows besides of what some repositories hold.
+//! What a store reads of a registry's world, and what a write is going to change of it.
 #![tactic(auto)]
 
 mod blobs;
 mod change_lookups;
 mod contents;
 mod grants;
-mod known_usages;
 mod level_lists;
 mod manifests;
 mod pages;
@@ -17,14 +16,12 @@ mod tags;
 mod tallies;
 mod uploads;
 mod usage_change;
-mod usage_reads;
 
 pub use blobs::{blob, blob_digests, blob_size};
 pub use change_lookups::{
     finish_change, known_finish_change, manifest_change, mount_change, or_untold, put_change,
 };
 pub use grants::{known, level};
-pub use known_usages::KnownUsages;
 pub use level_lists::levels;
 pub use manifests::{manifest, manifest_digests, manifest_size};
 pub use pages::tags_after;
@@ -35,4 +32,3 @@ pub use sessions::session_numbered;
 pub use tags::tag;
 pub use uploads::{session_size, sessions_open};
 pub use usage_change::{Change, NO_CHANGE};
-pub use usage_reads::recalled_usage;

@@ -1,6 +1,5 @@
 -- What the reads of repositories show.
-use Rattle.std.proofs.Common.{◌≡◌, ◌∙◌, ◌+◌, ◌<◌, ◌++◌, ℕ, List, [], ◌∷◌, map, length, take, get_or, false, Ok, Err, IfOk, ap, sym, subst, refl}
-use Rattle.std.proofs.lemmas.List.{take_more, map-append}
+use Rattle.std.proofs.Common.{◌≡◌, ◌∙◌, ℕ, List, [], ◌∷◌, map, false, Ok, Err, IfOk, ap, sym, subst, refl}
 use Rattle.std.specs.Prelude.{find}
 use Rattle.std.specs.List.{AllByRecursion}
 use Rattle.std.specs.Ordering.{is_eq}
@@ -85,11 +84,3 @@ pub shows_names : (old new : State) (r : Answer) → HoldsTables old.now → IfO
     → IfOk r (λ rows. rows.items ≡ map (λ r. column r 1 ∷ []) (sort_by by_name (held old).repos))
 shows_names old new (Err e) h ran = tt
 shows_names old new (Ok rows) h ran = listed old new rows.items h ran
-
--- ---- what rows read as
-
-pub names_more : (rows : List Row) (at : ℕ) (row : Row) (name : List ℕ) (names news : List (List ℕ)) → at < length rows → row ≡ get_or rows at row → name ≡ bytes_at row 0
-    → names ≡ map (λ r. bytes_at r 0) (take at rows) → news ≡ names ++ name ∷ [] → news ≡ map (λ r. bytes_at r 0) (take (at + 1) rows)
-names_more rows at row name names news low is read e f =
-    f ∙ ap (λ xs. xs ++ name ∷ []) e ∙ ap (λ x. map (λ r. bytes_at r 0) (take at rows) ++ x ∷ []) read
-    ∙ sym (map-append (λ r. bytes_at r 0) (take at rows) (row ∷ [])) ∙ ap (map (λ r. bytes_at r 0)) (sym (take_more rows at row low ∙ ap (λ x. take at rows ++ x ∷ []) (sym is)))

@@ -1,5 +1,5 @@
 //! The rows of links to blobs.
-ghost use Rattle.std.specs.Prelude.{◌≡◌, ◌<◌, ◌^◌, IfOk, map, filter, find, None, option_map, slice_get};
+ghost use Rattle.std.specs.Prelude.{◌≡◌, ◌<◌, ◌^◌, map, filter, find, None, option_map};
 ghost use Rattle.std.specs.List.Sorted.{IsPermutation};
 ghost use Rattle.sqlite_keyed.specs.Lists.{sort_by};
 ghost use Rattle.store_schema.specs.Rows.{bytes_at, natural_at};
@@ -11,15 +11,13 @@ ghost use Rattle.store_statements.specs.FirstRows.{blob_shown};
 ghost use Rattle.store_statements.specs.ManifestShown.{by_second};
 ghost use Rattle.store_statements.specs.Shown.{blob_link, content_named};
 ghost use Rattle.store_statements.specs.Steps.{blobs_without, BlobComes};
-ghost use Rattle.store_statements.specs.Told.{IsRead};
 
-use crate::columns::{all_contents, all_numbers};
-use crate::names::all_digests;
-use crate::telling::{checked, done, told};
+use crate::reading::{FromRow, all, first};
+use crate::telling::{checked, done};
 use oci_types::{Digest, Fault};
 use sqlite::{Alter, Connection, Error, Row, Transaction, params};
 use std::alloc::Global;
-use store_contents::{ContentId, fault_of};
+use store_contents::ContentId;
 
 /// What a repository has of a blob: its size in bytes, and the content that it is.
 #[derive(Clone, Copy)]
@@ -82,35 +80,16 @@ pub fn add_blob_link<S: Alter>(
     ))
 }
 
-/// The link that the row shows.
-fn link_in(row: &Row) -> Result<BlobLink, Error>
-    ensures { IfOk result (λ link. link ≡ blob_shown row.now) }
-{
-    let size: u64 = row.get(0)?;
-    let id: i64 = row.get(1)?;
-    Ok(BlobLink {
-        size,
-        content: ContentId::new(id),
-    })
-}
+impl FromRow for BlobLink {
+    ghost shown = { blob_shown };
 
-/// The link that the first row shows, if there is a row.
-fn link_of(rows: &[Row]) -> Result<Option<BlobLink>, Error>
-    ensures { IfOk result (λ o. o ≡ option_map blob_shown (slice_get rows.now 0)) }
-{
-    match rows.first() {
-        Some(row) => Ok(Some(link_in(row)?)),
-        None => Ok(None),
-    }
-}
-
-/// The same of what a query gave.
-fn first_link(shown: Result<Vec<Row>, Error>) -> Result<Option<BlobLink>, Fault>
-    ensures { IsRead shown result (λ rows o. o ≡ option_map blob_shown (slice_get rows 0)) }
-{
-    match shown {
-        Ok(rows) => told(link_of(&rows)),
-        Err(error) => Err(fault_of(error)),
+    fn read(_alloc: Global, row: &Row) -> Result<BlobLink, Error> {
+        let size: u64 = row.get(0)?;
+        let id: i64 = row.get(1)?;
+        Ok(BlobLink {
+            size,
+            content: ContentId::new(id),
+        })
     }
 }
 
@@ -129,7 +108,7 @@ pub fn find_blob_link<S: Alter>(
         "SELECT size, content FROM registry_blob_links WHERE repo = ?1 AND digest = ?2",
         params![repo, digest],
     );
-    let found = first_link(shown);
+    let found = first(shown);
     checked(conn, found)
 }
 
@@ -149,7 +128,7 @@ pub fn blob_sizes<S: Alter>(
         "SELECT size FROM registry_blob_links WHERE repo = ?1",
         params![repo],
     );
-    let found = all_numbers(alloc, shown);
+    let found = all(alloc, shown);
     checked(conn, found)
 }
 
@@ -169,7 +148,7 @@ pub fn list_blob_digests<S: Alter>(
         "SELECT digest FROM registry_blob_links WHERE repo = ?1 ORDER BY digest",
         params![repo],
     );
-    let found = all_digests(alloc, shown);
+    let found = all(alloc, shown);
     checked(conn, found)
 }
 
@@ -185,7 +164,7 @@ pub fn blob_contents<S: Alter>(
     ensures same_reference { tx.new.conn.ghost_name ≡ tx.old.conn.ghost_name }
     ensures survives { LastsUncommitted S.Store tx.old.conn.now tx.new.conn.now }
 {
-    all_contents(
+    all(
         alloc,
         tx.query_all("SELECT content FROM registry_blob_links", &[]),
     )

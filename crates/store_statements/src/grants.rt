@@ -1,5 +1,5 @@
 //! The rows of grants: what level a token has on a repository.
-ghost use Rattle.std.specs.Prelude.{◌≡◌, ◌∷◌, [], pos, map, nat_lt, option_map, find, filter, length, None, IfOk, slice_get};
+ghost use Rattle.std.specs.Prelude.{◌≡◌, ◌∷◌, [], pos, map, nat_lt, option_map, find, filter, length, None};
 ghost use Rattle.sqlite.specs.Order.{column};
 ghost use Rattle.sqlite_keyed.specs.Lists.{sort_by};
 ghost use Rattle.store_schema.specs.Rows.{natural_at};
@@ -10,14 +10,13 @@ ghost use Rattle.store_statements.specs.Between.{ChangesNothing, FailsAsWas, Fin
 ghost use Rattle.store_statements.specs.Clauses.{Adds, Changes, FindsInside, KeepsInside, Lasts, LastsUncommitted};
 ghost use Rattle.store_statements.specs.Shown.{by_token};
 ghost use Rattle.store_statements.specs.Steps.{grants_without, grants_changed, GrantComes};
-ghost use Rattle.store_statements.specs.Told.{IsRead};
 
-use crate::columns::any_row;
+use crate::reading::{FromRow, any_row, first};
 use crate::telling::{checked, done, told};
 use oci_types::Fault;
 use registry_model::Level;
 use sqlite::{Alter, Connection, Error, Row, Transaction, params};
-use store_contents::fault_of;
+use std::alloc::Global;
 
 /// A level as a column has it.
 fn number_of(level: Level) -> i64
@@ -125,27 +124,12 @@ pub fn level_in(number: u64) -> Level
     }
 }
 
-/// The level that the first row shows, if there is a row.
-fn level_shown(rows: &[Row]) -> Result<Option<Level>, Error>
-    ensures { IfOk result (λ o. o ≡ option_map (λ row. level_of (natural_at row 0)) (slice_get rows.now 0)) }
-{
-    match rows.first() {
-        Some(row) => {
-            let number: u64 = row.get(0)?;
-            Ok(Some(level_in(number)))
-        }
-        None => Ok(None),
-    }
-}
+impl FromRow for Level {
+    ghost shown = { λ row. level_of (natural_at row 0) };
 
-/// The same of what a query gave.
-fn first_level(shown: Result<Vec<Row>, Error>) -> Result<Option<Level>, Fault>
-    ensures { IsRead shown result
-        (λ rows o. o ≡ option_map (λ row. level_of (natural_at row 0)) (slice_get rows 0)) }
-{
-    match shown {
-        Ok(rows) => told(level_shown(&rows)),
-        Err(error) => Err(fault_of(error)),
+    fn read(_alloc: Global, row: &Row) -> Result<Level, Error> {
+        let number: u64 = row.get(0)?;
+        Ok(level_in(number))
     }
 }
 
@@ -165,7 +149,7 @@ pub fn find_level<S: Alter>(
         "SELECT level FROM registry_grants WHERE token = ?1 AND repo = ?2",
         params![token, repo],
     );
-    let found = first_level(shown);
+    let found = first(shown);
     checked(conn, found)
 }
 

@@ -8,15 +8,14 @@
 
 pub mod blob_storing;
 pub mod blobs;
-mod columns;
 pub mod contents;
 pub mod grants;
 pub mod laws;
 pub mod manifests;
-mod names;
 pub mod numbers;
 pub mod open_check;
 pub mod pieces;
+mod reading;
 pub mod repos;
 pub mod subjects;
 pub mod tag_pages;

@@ -1,5 +1,5 @@
 //! The rows of the links to manifests.
-ghost use Rattle.std.specs.Prelude.{◌≡◌, ◌<◌, ◌^◌, IfOk, map, find, filter, option_map, slice_get, None};
+ghost use Rattle.std.specs.Prelude.{◌≡◌, ◌<◌, ◌^◌, map, find, filter, option_map, None};
 ghost use Rattle.std.specs.List.Sorted.{IsPermutation};
 ghost use Rattle.sqlite_keyed.specs.Lists.{sort_by};
 ghost use Rattle.store_schema.specs.Rows.{bytes_at, natural_at};
@@ -9,15 +9,13 @@ ghost use Rattle.store_statements.specs.Between.{Finds, Stays};
 ghost use Rattle.store_statements.specs.Clauses.{Adds, Changes, ChangesNothingInside, FindsInside, KeepsInside, Lasts, LastsUncommitted};
 ghost use Rattle.store_statements.specs.Steps.{manifests_without, ManifestComes};
 ghost use Rattle.store_statements.specs.ManifestShown.{by_second, link_shown, manifest_link, manifest_content};
-ghost use Rattle.store_statements.specs.Told.{IsRead};
 
-use crate::columns::{all_contents, all_numbers};
-use crate::names::all_digests;
+use crate::reading::{FromRow, all, first};
 use crate::telling::{checked, done};
 use oci_types::{Digest, Fault, Kind};
 use sqlite::{Alter, Connection, Error, ErrorCode, Row, Transaction, params};
 use std::alloc::Global;
-use store_contents::{ContentId, fault_of};
+use store_contents::ContentId;
 
 /// A manifest of a repository: its size in bytes, its kind, and the content that is its bytes.
 #[derive(Clone, Copy)]
@@ -92,45 +90,23 @@ pub fn take_manifest_links<S: Alter>(tx: &mut Transaction<'_, S>, repo: &str) ->
     ))
 }
 
-/// The link that the row shows. A kind of another number is `Err`.
-fn link_in(row: &Row) -> Result<ManifestLink, Error>
-    ensures { IfOk result (λ link. link ≡ link_shown row.now) }
-{
-    let size: u64 = row.get(0)?;
-    let number: u64 = row.get(1)?;
-    let id: i64 = row.get(2)?;
-    let kind = match number {
-        1 => Kind::Image,
-        2 => Kind::Index,
-        _ => return Err(Error::SqliteFailure(ErrorCode::DatabaseCorrupt)),
-    };
-    Ok(ManifestLink {
-        size,
-        kind,
-        content: ContentId::new(id),
-    })
-}
+impl FromRow for ManifestLink {
+    ghost shown = { link_shown };
 
-/// The link that the first row shows, if there is a row.
-fn link_of(rows: &[Row]) -> Result<Option<ManifestLink>, Fault>
-    ensures { IfOk result (λ o. o ≡ option_map link_shown (slice_get rows.now 0)) }
-{
-    match rows.first() {
-        Some(row) => match link_in(row) {
-            Ok(link) => Ok(Some(link)),
-            Err(error) => Err(fault_of(error)),
-        },
-        None => Ok(None),
-    }
-}
-
-/// The same of what a query gave.
-fn first_link(shown: Result<Vec<Row>, Error>) -> Result<Option<ManifestLink>, Fault>
-    ensures { IsRead shown result (λ rows o. o ≡ option_map link_shown (slice_get rows 0)) }
-{
-    match shown {
-        Ok(rows) => link_of(&rows),
-        Err(error) => Err(fault_of(error)),
+    fn read(_alloc: Global, row: &Row) -> Result<ManifestLink, Error> {
+        let size: u64 = row.get(0)?;
+        let number: u64 = row.get(1)?;
+        let id: i64 = row.get(2)?;
+        let kind = match number {
+            1 => Kind::Image,
+            2 => Kind::Index,
+            _ => return Err(Error::SqliteFailure(ErrorCode::DatabaseCorrupt)),
+        };
+        Ok(ManifestLink {
+            size,
+            kind,
+            content: ContentId::new(id),
+        })
     }
 }
 
@@ -149,7 +125,7 @@ pub fn find_manifest_link<S: Alter>(
         "SELECT size, kind, content FROM registry_manifest_links WHERE repo = ?1 AND digest = ?2",
         params![repo, digest],
     );
-    let found = first_link(shown);
+    let found = first(shown);
     checked(conn, found)
 }
 
@@ -169,7 +145,7 @@ pub fn manifest_sizes<S: Alter>(
         "SELECT size FROM registry_manifest_links WHERE repo = ?1",
         params![repo],
     );
-    let found = all_numbers(alloc, shown);
+    let found = all(alloc, shown);
     checked(conn, found)
 }
 
@@ -189,7 +165,7 @@ pub fn list_manifest_digests<S: Alter>(
         "SELECT digest FROM registry_manifest_links WHERE repo = ?1 ORDER BY digest",
         params![repo],
     );
-    let found = all_digests(alloc, shown);
+    let found = all(alloc, shown);
     checked(conn, found)
 }
 
@@ -205,7 +181,7 @@ pub fn manifest_contents<S: Alter>(
     ensures same_reference { tx.new.conn.ghost_name ≡ tx.old.conn.ghost_name }
     ensures survives { LastsUncommitted S.Store tx.old.conn.now tx.new.conn.now }
 {
-    all_contents(
+    all(
         alloc,
         tx.query_all("SELECT content FROM registry_manifest_links", &[]),
     )

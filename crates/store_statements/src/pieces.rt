@@ -9,7 +9,7 @@ ghost use Rattle.store_statements.specs.Clauses.{Adds, Changes, ChangesNothingIn
 ghost use Rattle.store_statements.specs.Shown.{content_named};
 ghost use Rattle.store_statements.specs.Steps.{pieces_without, PieceComes};
 
-use crate::columns::all_contents;
+use crate::reading::all;
 use crate::telling::{checked, done};
 use oci_types::Fault;
 use sqlite::{Alter, Connection, Transaction, params};
@@ -94,7 +94,7 @@ pub fn pieces_in_order<S: Alter>(
         "SELECT content FROM registry_pieces WHERE repo = ?1 AND number = ?2 ORDER BY start",
         params![repo, number as i64],
     );
-    let found = all_contents(alloc, shown);
+    let found = all(alloc, shown);
     checked(conn, found)
 }
 
@@ -110,7 +110,7 @@ pub fn piece_contents<S: Alter>(
     ensures same_reference { tx.new.conn.ghost_name ≡ tx.old.conn.ghost_name }
     ensures survives { LastsUncommitted S.Store tx.old.conn.now tx.new.conn.now }
 {
-    all_contents(
+    all(
         alloc,
         tx.query_all("SELECT content FROM registry_pieces", &[]),
     )

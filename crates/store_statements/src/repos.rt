@@ -1,5 +1,5 @@
 //! The rows of repositories.
-ghost use Rattle.std.specs.Prelude.{◌≡◌, ◌<◌, ◌^◌, map, option_map, OnOk, IfOk, find, filter, length, None, slice_get};
+ghost use Rattle.std.specs.Prelude.{◌≡◌, ◌<◌, ◌^◌, map, option_map, OnOk, find, filter, length, None};
 ghost use Rattle.sqlite.specs.State.{HasCleanDisk};
 ghost use Rattle.sqlite_keyed.specs.Lists.{sort_by};
 ghost use Rattle.store_schema.specs.Rows.{bytes_at};
@@ -13,13 +13,12 @@ ghost use Rattle.store_statements.specs.Shown.{repo_row, by_name};
 ghost use Rattle.store_statements.specs.Steps.{repos_without, repos_changed, RepoComes};
 ghost use Rattle.store_statements.specs.Drops.{HasNoChildren};
 ghost use Rattle.store_statements.specs.FirstRows.{repo_shown};
-ghost use Rattle.store_statements.specs.Told.{IsRead};
 
+use crate::reading::{FromRow, all, first};
 use crate::telling::{checked, done, told};
-use oci_types::{Fault, NameFault, RepoName};
-use sqlite::{Alter, Connection, Error, ErrorCode, Row, Transaction, params};
+use oci_types::{Fault, RepoName};
+use sqlite::{Alter, Connection, Error, Row, Transaction, params};
 use std::alloc::Global;
-use store_contents::fault_of;
 
 /// What the row of a repository has beside its name: the quota in bytes, and the last number that an upload
 /// session got, 0 where none was opened.
@@ -101,32 +100,13 @@ pub fn take_repo<S: Alter>(tx: &mut Transaction<'_, S>, name: &str) -> Result<()
     done(tx.execute("DELETE FROM registry_repos WHERE name = ?1", params![name]))
 }
 
-/// What the row shows.
-fn repo_in(row: &Row) -> Result<RepoRow, Error>
-    ensures { IfOk result (λ repo. repo ≡ repo_shown row.now) }
-{
-    let quota: u64 = row.get(0)?;
-    let last: u64 = row.get(1)?;
-    Ok(RepoRow { quota, last })
-}
+impl FromRow for RepoRow {
+    ghost shown = { repo_shown };
 
-/// What the first row shows, if there is a row.
-fn repo_of(rows: &[Row]) -> Result<Option<RepoRow>, Error>
-    ensures { IfOk result (λ o. o ≡ option_map repo_shown (slice_get rows.now 0)) }
-{
-    match rows.first() {
-        Some(row) => Ok(Some(repo_in(row)?)),
-        None => Ok(None),
-    }
-}
-
-/// The same of what a query gave.
-fn first_repo(shown: Result<Vec<Row>, Error>) -> Result<Option<RepoRow>, Fault>
-    ensures { IsRead shown result (λ rows o. o ≡ option_map repo_shown (slice_get rows 0)) }
-{
-    match shown {
-        Ok(rows) => told(repo_of(&rows)),
-        Err(error) => Err(fault_of(error)),
+    fn read(_alloc: Global, row: &Row) -> Result<RepoRow, Error> {
+        let quota: u64 = row.get(0)?;
+        let last: u64 = row.get(1)?;
+        Ok(RepoRow { quota, last })
     }
 }
 
@@ -141,41 +121,8 @@ pub fn find_repo<S: Alter>(conn: &mut Connection<S>, name: &str) -> Result<Optio
         "SELECT quota, last_session FROM registry_repos WHERE name = ?1",
         params![name],
     );
-    let found = first_repo(shown);
+    let found = first(shown);
     checked(conn, found)
-}
-
-/// The name in the row's first column. What is none is told as a failure of the database.
-fn name_in(alloc: Global, row: &Row) -> Result<RepoName, Error>
-    ensures { IfOk result (λ name. name ≡ bytes_at row.now 0) }
-{
-    let text: String = row.get(0)?;
-    match RepoName::parse(alloc, text.as_str()) {
-        Ok(name) => Ok(name),
-        Err(NameFault::Memory) => Err(Error::SqliteFailure(ErrorCode::OutOfMemory)),
-        Err(_) => Err(Error::SqliteFailure(ErrorCode::DatabaseCorrupt)),
-    }
-}
-
-fn names_in(alloc: Global, rows: &[Row]) -> Result<Vec<RepoName>, Error>
-    ensures { IfOk result (λ names. names.items ≡ map (λ r. bytes_at r 0) rows.now) }
-{
-    let mut names = Vec::new(alloc);
-    for row in rows {
-        let name = name_in(alloc, row)?;
-        names.push(name)?;
-    }
-    Ok(names)
-}
-
-/// The names of what a query gave.
-fn all_names(alloc: Global, shown: Result<Vec<Row>, Error>) -> Result<Vec<RepoName>, Fault>
-    ensures { IsRead shown result (λ rows names. names.items ≡ map (λ r. bytes_at r 0) rows) }
-{
-    match shown {
-        Ok(rows) => told(names_in(alloc, &rows)),
-        Err(error) => Err(fault_of(error)),
-    }
 }
 
 /// The name of each repository, in the order of their bytes.
@@ -186,6 +133,6 @@ pub fn list_repos<S: Alter>(alloc: Global, conn: &mut Connection<S>) -> Result<V
     ensures survives { Lasts S.Store conn.old conn.new }
 {
     let shown = conn.query_all("SELECT name FROM registry_repos ORDER BY name", &[]);
-    let found = all_names(alloc, shown);
+    let found = all(alloc, shown);
     checked(conn, found)
 }

@@ -1,57 +1,26 @@
 //! The manifests that name a digest as their subject.
-ghost use Rattle.std.specs.Prelude.{◌≡◌, true, IfOk, map, filter};
+ghost use Rattle.std.specs.Prelude.{◌≡◌, true, map, filter};
 ghost use Rattle.sqlite_keyed.specs.Lists.{sort_by};
 ghost use Rattle.oci_types.specs.Digest.{is_digest};
 ghost use Rattle.store_statements.specs.Keys.{on_subject};
 ghost use Rattle.store_statements.specs.Between.{Finds, Stays};
 ghost use Rattle.store_statements.specs.Clauses.{Lasts};
 ghost use Rattle.store_statements.specs.ManifestShown.{by_second, referrer, referrer_shown};
-ghost use Rattle.store_statements.specs.Told.{IsRead};
 
-use crate::names::digest_at;
+use crate::reading::{FromRow, all};
 use crate::telling::checked;
 use oci_types::{Digest, Fault};
 use sqlite::{Alter, Connection, Error, Row, params};
 use std::alloc::Global;
-use store_contents::{ContentId, fault_of};
+use store_contents::ContentId;
 
-/// The digest and the content that the row shows.
-fn referrer_in(alloc: Global, row: &Row) -> Result<(Digest, ContentId), Fault>
-    ensures { IfOk result (λ it. it ≡ referrer_shown row.now) }
-{
-    let id: i64 = match row.get(1) {
-        Ok(id) => id,
-        Err(error) => return Err(fault_of(error)),
-    };
-    match digest_at(alloc, row, 0) {
-        Ok(digest) => Ok((digest, ContentId::new(id))),
-        Err(fault) => Err(fault),
-    }
-}
+impl FromRow for (Digest, ContentId) {
+    ghost shown = { referrer_shown };
 
-fn referrers_in(alloc: Global, rows: &[Row]) -> Result<Vec<(Digest, ContentId)>, Fault>
-    ensures { IfOk result (λ found. found.items ≡ map referrer_shown rows.now) }
-{
-    let mut referrers = Vec::new(alloc);
-    for row in rows {
-        let referrer = referrer_in(alloc, row)?;
-        let Ok(()) = referrers.push(referrer) else {
-            return Err(Fault::Memory);
-        };
-    }
-    Ok(referrers)
-}
-
-/// The same of what a query gave.
-fn all_referrers(
-    alloc: Global,
-    shown: Result<Vec<Row>, Error>,
-) -> Result<Vec<(Digest, ContentId)>, Fault>
-    ensures { IsRead shown result (λ rows found. found.items ≡ map referrer_shown rows) }
-{
-    match shown {
-        Ok(rows) => referrers_in(alloc, &rows),
-        Err(error) => Err(fault_of(error)),
+    fn read(alloc: Global, row: &Row) -> Result<(Digest, ContentId), Error> {
+        let id: i64 = row.get(1)?;
+        let digest = Digest::read(alloc, row)?;
+        Ok((digest, ContentId::new(id)))
     }
 }
 
@@ -75,6 +44,6 @@ pub fn manifests_on_subject<S: Alter>(
          ORDER BY digest",
         params![repo, digest],
     );
-    let found = all_referrers(alloc, shown);
+    let found = all(alloc, shown);
     checked(conn, found)
 }

@@ -7,9 +7,9 @@ ghost use Rattle.store_statements.specs.Clauses.{Lasts};
 ghost use Rattle.store_statements.specs.TagPages.{tags_behind, IsEnough, first_rows, are_more};
 ghost use Rattle.store_statements.specs.Told.{IsRead};
 
-use crate::names::tag_at;
 use crate::numbers::LARGEST;
-use crate::telling::checked;
+use crate::reading::each;
+use crate::telling::{checked, told};
 use oci_types::{Fault, Tag};
 use sqlite::{Alter, Connection, Error, Row, params};
 use std::alloc::Global;
@@ -32,20 +32,6 @@ fn rows_for(n: Option<u64>) -> i64
     }
 }
 
-/// The tags that the rows show, in the order of the rows.
-fn tags_in(alloc: Global, rows: &[Row]) -> Result<Vec<Tag>, Fault>
-    ensures { IfOk result (λ tags. tags.items ≡ map (λ row. bytes_at row 0) rows.now) }
-{
-    let mut tags = Vec::new(alloc);
-    for row in rows {
-        let tag = tag_at(alloc, row, 0)?;
-        let Ok(()) = tags.push(tag) else {
-            return Err(Fault::Memory);
-        };
-    }
-    Ok(tags)
-}
-
 fn first(rows: &[Row], n: Option<u64>) -> &[Row]
     ensures { result.now ≡ first_rows n rows.now }
 {
@@ -64,12 +50,12 @@ fn has_more(count: usize, n: Option<u64>) -> bool
     }
 }
 
-fn page_in(alloc: Global, rows: &[Row], n: Option<u64>) -> Result<TagPage, Fault>
+fn page_in(alloc: Global, rows: &[Row], n: Option<u64>) -> Result<TagPage, Error>
     ensures { IfOk result
         (λ page. (page.tags.items ≡ map (λ row. bytes_at row 0) (first_rows n rows.now)) ×
         (page.more ≡ are_more n (length rows.now))) }
 {
-    let tags = tags_in(alloc, first(rows, n))?;
+    let tags = each(alloc, first(rows, n))?;
     Ok(TagPage {
         tags,
         more: has_more(rows.len(), n),
@@ -83,7 +69,7 @@ fn page_of(alloc: Global, shown: Result<Vec<Row>, Error>, n: Option<u64>) -> Res
         (page.more ≡ are_more n (length rows))) }
 {
     match shown {
-        Ok(rows) => page_in(alloc, &rows, n),
+        Ok(rows) => told(page_in(alloc, &rows, n)),
         Err(error) => Err(fault_of(error)),
     }
 }

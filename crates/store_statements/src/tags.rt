@@ -7,8 +7,7 @@ ghost use Rattle.store_statements.specs.Between.{Finds, Stays};
 ghost use Rattle.store_statements.specs.Clauses.{Adds, Changes, FindsInside, KeepsInside, Lasts, LastsUncommitted};
 ghost use Rattle.store_statements.specs.Steps.{names_digest, tags_without, tags_changed, TagComes};
 
-use crate::columns::count_rows;
-use crate::names::first_digest;
+use crate::reading::{count_rows, first_on};
 use crate::telling::{checked, done, told};
 use oci_types::{Digest, Fault};
 use sqlite::{Alter, Connection, Transaction, params};
@@ -114,7 +113,7 @@ pub fn find_tag<S: Alter>(
         "SELECT digest FROM registry_tags WHERE repo = ?1 AND tag = ?2",
         params![repo, tag],
     );
-    let found = first_digest(alloc, shown);
+    let found = first_on(alloc, shown);
     checked(conn, found)
 }
 

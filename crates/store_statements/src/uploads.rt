@@ -8,7 +8,7 @@ ghost use Rattle.store_statements.specs.Between.{Finds, Stays};
 ghost use Rattle.store_statements.specs.Clauses.{Adds, Changes, FindsInside, KeepsInside, Lasts, LastsUncommitted};
 ghost use Rattle.store_statements.specs.Steps.{uploads_without, uploads_changed, UploadComes};
 
-use crate::columns::{all_numbers, count_rows, first_number};
+use crate::reading::{all, count_rows, first};
 use crate::telling::{checked, done, told};
 use oci_types::Fault;
 use sqlite::{Alter, Connection, Transaction, params};
@@ -106,7 +106,7 @@ pub fn find_upload<S: Alter>(
         "SELECT size FROM registry_uploads WHERE repo = ?1 AND number = ?2",
         params![repo, number as i64],
     );
-    let found = first_number(shown);
+    let found = first(shown);
     checked(conn, found)
 }
 
@@ -141,6 +141,6 @@ pub fn upload_sizes<S: Alter>(
         "SELECT size FROM registry_uploads WHERE repo = ?1",
         params![repo],
     );
-    let found = all_numbers(alloc, shown);
+    let found = all(alloc, shown);
     checked(conn, found)
 }

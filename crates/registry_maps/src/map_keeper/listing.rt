@@ -5,6 +5,7 @@ ghost use Rattle.registry_model.specs.Keeping.{usages_shown};
 ghost use Rattle.registry_maps.specs.Maps.{world_of};
 
 use super::MapKeeper;
+use crate::putting::push;
 use oci_types::{RepoName, Token};
 use registry_model::{Level, Usage};
 use std::alloc::{AllocError, Global};
@@ -17,7 +18,7 @@ impl MapKeeper {
     {
         let mut all = Vec::new(alloc);
         for (name, repository) in self.repos.iter() {
-            all.push((name.clone()?, repository.usage()))?;
+            push(&mut all, (name.clone()?, repository.usage()))?;
         }
         Ok(all)
     }
@@ -34,7 +35,7 @@ impl MapKeeper {
         let mut all = Vec::new(alloc);
         for (token, levels) in self.grants.iter() {
             if let Some(level) = levels.get(name) {
-                all.push((token.clone()?, *level))?;
+                push(&mut all, (token.clone()?, *level))?;
             }
         }
         Ok(all)

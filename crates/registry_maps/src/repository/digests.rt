@@ -3,6 +3,7 @@ ghost use Rattle.std.specs.Prelude.{◌≡◌, IfOk};
 ghost use Rattle.std.specs.BTreeMap.{keys, IsOrdered};
 ghost use Rattle.registry_model.specs.World.{text_cmp};
 
+use crate::putting::push;
 use oci_types::Digest;
 use std::alloc::{AllocError, Global};
 use std::collections::BTreeMap;
@@ -17,7 +18,7 @@ pub(super) fn digests_of<V>(
 {
     let mut found = Vec::new(alloc);
     for digest in held.keys() {
-        found.push(digest.clone()?)?;
+        push(&mut found, digest.clone()?)?;
     }
     Ok(found)
 }

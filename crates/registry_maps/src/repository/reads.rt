@@ -1,16 +1,18 @@
 //! What a repository tells.
-ghost use Rattle.std.specs.Prelude.{◌≡◌, ◌+◌, length, option_map, sum_by, IfOk};
+ghost use Rattle.std.specs.Prelude.{◌≡◌, ◌+◌, Some, length, option_map, sum_by, IfOk};
+ghost use Rattle.std.specs.Ordering.{is_lt};
 ghost use Rattle.std.specs.FinMap.{get, keys, len};
 ghost use Rattle.std.specs.BTreeMap.{values, IsOrdered};
 ghost use Rattle.registry_model.specs.World.{text_cmp};
 ghost use Rattle.registry_model.specs.Usage.{in_64_bits, used, usage_of};
 ghost use Rattle.registry_model.specs.Manifests.{kind_in};
-ghost use Rattle.registry_model.specs.TagPage.{tags_behind, page_behind};
+ghost use Rattle.registry_model.specs.TagPage.{first_of, more_than, tags_behind, page_behind};
 ghost use Rattle.registry_model.specs.Referrers.{manifests_on};
 ghost use Rattle.registry_model.specs.Keeping.{bytes_in, manifest_shown, page_shown, entries_shown, digests_shown};
 ghost use Rattle.registry_maps.specs.Maps.{repo_of};
 
 use crate::kept_manifest::KeptManifest;
+use crate::putting::push;
 use crate::repository::Repository;
 use crate::repository::digests::digests_of;
 use oci_types::{Digest, Kind, Tag};
@@ -50,6 +52,25 @@ fn with_manifests(before: u64, held: &BTreeMap<Digest, KeptManifest>) -> u64
         total = total.saturating_add(manifest.len());
     }
     total
+}
+
+/// Whether a tag is behind a text, in byte order.
+fn is_behind(tag: &Tag, last: &str) -> bool
+    ensures { result ≡ is_lt (text_cmp last.now tag.now) }
+{
+    last < tag.as_str()
+}
+
+/// The first `n` of the tags, and whether more follow behind a page that is not empty by its size.
+fn first_page(mut tags: Vec<Tag>, n: u64) -> (Vec<Tag>, bool)
+    ensures { page_shown result
+        ≡ record { tags = first_of (Some n) tags.items; more = more_than (Some n) tags.items } }
+{
+    if n >= tags.len() as u64 {
+        return (tags, false);
+    }
+    tags.truncate(n as usize);
+    (tags, n > 0)
 }
 
 impl Repository {
@@ -110,8 +131,8 @@ impl Repository {
     {
         let mut behind = Vec::new(alloc);
         for tag in self.tags.keys() {
-            if last < tag.as_str() {
-                behind.push(tag.clone()?)?;
+            if is_behind(tag, last) {
+                push(&mut behind, tag.clone()?)?;
             }
         }
         Ok(behind)
@@ -125,15 +146,11 @@ impl Repository {
     ) -> Result<(Vec<Tag>, bool), AllocError>
         ensures { IfOk result (λ page. page_shown page ≡ page_behind (repo_of self.now) last.now n) }
     {
-        let mut tags = self.tags_behind(alloc, last)?;
-        let Some(n) = n else {
-            return Ok((tags, false));
-        };
-        if n >= tags.len() as u64 {
-            return Ok((tags, false));
+        let tags = self.tags_behind(alloc, last)?;
+        match n {
+            Some(n) => Ok(first_page(tags, n)),
+            None => Ok((tags, false)),
         }
-        tags.truncate(n as usize);
-        Ok((tags, n > 0))
     }
 
     pub fn manifests_of_subject(
@@ -146,7 +163,7 @@ impl Repository {
         let mut found = Vec::new(alloc);
         for (name, kept) in self.manifests.iter() {
             if kept.has_subject(digest) {
-                found.push((name.clone()?, kept.to_vec(alloc)?))?;
+                push(&mut found, (name.clone()?, kept.to_vec(alloc)?))?;
             }
         }
         Ok(found)

@@ -26,3 +26,9 @@ returns-in-clear c = record { read = c.in-clear.is; refused = tt }
 
 pub returns-in-repos : goal.returns-in-repos
 returns-in-repos c = record { read = (c.in-repos.is, c.form_in.ensures); refused = tt }
+
+pub returns-in-repo : goal.returns-in-repo
+returns-in-repo c = record { read = c.order_of_quota.ensures.read; refused = c.order_of_quota.ensures.refused }
+
+pub returns-in_default : goal.returns-in_default
+returns-in_default c = record { read = c.order_of_name.ensures.read; refused = c.order_of_name.ensures.refused }

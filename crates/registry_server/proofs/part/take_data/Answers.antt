@@ -1,11 +1,26 @@
-use Rattle.registry_server.proofs.PartLemmas.{data_never, data_whole}
+use Rattle.std.proofs.Common.{arith}
+use Rattle.registry_server.proofs.PartLemmas.{data_cut, data_never, data_whole, data_shorter}
 use Rattle.registry_server.proofs.part.take_data.Goals as goal
 
-pub returns-in-Never-clause-takes : goal.returns-in-Never-clause-takes
-returns-in-Never-clause-takes c = λ framing front v x.
-    data_never c.args.total c.args.size framing front v _ _ x (λ tail. rw c.behind.ensures at (c.in-Never.ensures tail))
+pub returns-in-NotYet : goal.returns-in-NotYet
+returns-in-NotYet c = record {
+  takes = λ framing front v x. (x, data_cut c.args.total c.args.size framing front v _ _ x (rw c.behind.ensures at c.in-NotYet.ensures));
+  fewer = omega arith;
+  smaller = tt;
+}
 
-pub returns-clause-takes : goal.returns-clause-takes
-returns-clause-takes c = λ framing front v x.
-    data_whole c.args.total c.args.size framing front v _ _ _ _ _ _ x (rw c.behind.ensures at c.in-Whole.ensures) c.pass.ensures.before c.pass.ensures.behind
-    c.skip.ensures.before c.skip.ensures.behind
+pub returns-in-Never : goal.returns-in-Never
+returns-in-Never c = record {
+  takes = λ framing front v x. data_never c.args.total c.args.size framing front v _ _ x (λ tail. rw c.behind.ensures at (c.in-Never.ensures tail));
+  fewer = omega arith;
+  smaller = tt;
+}
+
+pub returns : goal.returns
+returns c = record {
+  takes = λ framing front v x.
+      data_whole c.args.total c.args.size framing front v _ _ _ _ _ _ x (rw c.behind.ensures at c.in-Whole.ensures) c.pass.ensures.before c.pass.ensures.behind
+      c.skip.ensures.before c.skip.ensures.behind;
+  fewer = data_shorter c.args.size _ _ _ _ _ _ c.pass.ensures.before c.pass.ensures.behind c.skip.ensures.before c.skip.ensures.behind;
+  smaller = omega arith;
+}

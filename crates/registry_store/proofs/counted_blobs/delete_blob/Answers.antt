@@ -1,6 +1,6 @@
 use Rattle.registry_model.specs.Blobs.{without_blob}
 use Rattle.registry_model.specs.Lookups.{delete_blob}
-use Rattle.store_reads.proofs.KnownWorlds.{beside}
+use Rattle.registry_store.proofs.KnownWorlds.{beside}
 use Rattle.registry_store.proofs.Followed.{forgotten}
 use Rattle.registry_store.proofs.counted_blobs.delete_blob.Goals as goal
 

@@ -8,18 +8,19 @@ use Rattle.registry_tasks.proofs.stdio.give_levels.Goals as goal
 pub loop-grant-init : goal.loop-grant-init
 loop-grant-init g c = record { honest = λ h. h; so_far = λ h. refl }
 
-pub returns-in-Err-clause-honest : goal.returns-in-Err-clause-honest
-returns-in-Err-clause-honest g c honest = c.loop-grant.invariant.honest (c.admin.ensures.honest honest)
-
-pub returns-in-Err-clause-given : goal.returns-in-Err-clause-given
-returns-in-Err-clause-given g c honest =
+pub returns-in-Err : goal.returns-in-Err
+returns-in-Err g c =
     let s = g.K.Keeper.state c.loop-grant.service in
     let others = drop (c.loop-grant.grant-index + 1) c.args.grants.now in
-    level_told s (g.K.Keeper.state c.admin.new.self) _ _ c.grant-item.result others c.in-Err.fault _ (rw c.in-Err.is at (c.admin.ensures.does honest)) refl
-    (c.loop-grant.invariant.so_far (c.admin.ensures.honest honest)
-    ∙ at_drop_more (with_levels s.world) c.args.grants.now c.loop-grant.grant-index c.grant-item.result c.loop-grant-test.true
-    ∙ ap (λ (o : GrantOption). with_levels s.world (o ∷ others)) (sym c.grant-item.is))
-    c.of_command.ensures
+    record {
+      honest = λ honest. c.loop-grant.invariant.honest (c.admin.ensures.honest honest);
+      given = λ honest.
+          level_told s (g.K.Keeper.state c.admin.new.self) _ _ c.grant-item.result others c.in-Err.fault _ (rw c.in-Err.is at (c.admin.ensures.does honest)) refl
+          (c.loop-grant.invariant.so_far (c.admin.ensures.honest honest)
+          ∙ at_drop_more (with_levels s.world) c.args.grants.now c.loop-grant.grant-index c.grant-item.result c.loop-grant-test.true
+          ∙ ap (λ (o : GrantOption). with_levels s.world (o ∷ others)) (sym c.grant-item.is))
+          c.of_command.ensures;
+    }
 
 pub loop-grant-preserved : goal.loop-grant-preserved
 loop-grant-preserved g c =

@@ -8,18 +8,19 @@ use Rattle.registry_tasks.proofs.stdio.make_repos.Goals as goal
 pub loop-repo-init : goal.loop-repo-init
 loop-repo-init g c = record { honest = λ h. h; so_far = λ h. refl }
 
-pub returns-in-Err-clause-honest : goal.returns-in-Err-clause-honest
-returns-in-Err-clause-honest g c honest = c.loop-repo.invariant.honest (c.admin.ensures.honest honest)
-
-pub returns-in-Err-clause-made : goal.returns-in-Err-clause-made
-returns-in-Err-clause-made g c honest =
+pub returns-in-Err : goal.returns-in-Err
+returns-in-Err g c =
     let s = g.K.Keeper.state c.loop-repo.service in
     let others = drop (c.loop-repo.repo-index + 1) c.args.repos.now in
-    repo_told s (g.K.Keeper.state c.admin.new.self) _ _ c.repo-item.result others c.in-Err.fault _ (rw c.in-Err.is at (c.admin.ensures.does honest)) refl
-    (c.loop-repo.invariant.so_far (c.admin.ensures.honest honest)
-    ∙ at_drop_more (with_repos s.world) c.args.repos.now c.loop-repo.repo-index c.repo-item.result c.loop-repo-test.true
-    ∙ ap (λ (o : RepoOption). with_repos s.world (o ∷ others)) (sym c.repo-item.is))
-    c.of_command.ensures
+    record {
+      honest = λ honest. c.loop-repo.invariant.honest (c.admin.ensures.honest honest);
+      made = λ honest.
+          repo_told s (g.K.Keeper.state c.admin.new.self) _ _ c.repo-item.result others c.in-Err.fault _ (rw c.in-Err.is at (c.admin.ensures.does honest)) refl
+          (c.loop-repo.invariant.so_far (c.admin.ensures.honest honest)
+          ∙ at_drop_more (with_repos s.world) c.args.repos.now c.loop-repo.repo-index c.repo-item.result c.loop-repo-test.true
+          ∙ ap (λ (o : RepoOption). with_repos s.world (o ∷ others)) (sym c.repo-item.is))
+          c.of_command.ensures;
+    }
 
 pub loop-repo-preserved : goal.loop-repo-preserved
 loop-repo-preserved g c =

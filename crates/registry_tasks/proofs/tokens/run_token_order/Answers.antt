@@ -1,24 +1,31 @@
-use Rattle.std.proofs.Common.{◌≡◌, ◌⊎◌, inl, inr, refl}
+use Rattle.std.proofs.Common.{inl, inr, refl}
+use Rattle.registry_tasks.specs.Program.{streams}
+use Rattle.registry_tasks.specs.Stored.{OverAt}
+use Rattle.registry_tasks.proofs.StatusBounds.{status_at_most}
+use Rattle.registry_tasks.proofs.TokenLemmas.{runs_with, lacks}
 use Rattle.registry_tasks.proofs.tokens.run_token_order.Goals as goal
 
--- what is so of both is so of either
-beside : {S N R L : Type 0} → S → (N × R) ⊎ L → (N × (S × R)) ⊎ (S × L)
-beside s (inl ran) = inl (ran.0, (s, ran.1))
-beside s (inr lacks) = inr (s, lacks)
-
-pub returns-in-Input : goal.returns-in-Input
-returns-in-Input g c = record {
-  runs = rw c.in-Input.is c.run_by_input.ensures.runs;
-  silent = c.run_by_input.ensures.silent;
-  status = c.run_by_input.ensures.status;
-}
-
-pub returns-in-File : goal.returns-in-File
-returns-in-File g c =
-    let left = g.R.Read.remaining c.args.reader.now in
-    let unread : left ≡ left = refl in
+pub returns-in-Ok : goal.returns-in-Ok
+returns-in-Ok g c =
+    let e = streams (g.R.Read.remaining c.args.reader.now) (g.R.Read.remaining c.token_of.new.reader)
+    (g.W.Write.contents c.args.out.now) (g.W.Write.contents c.run_order_at.new.out) in
     record {
-      runs = rw c.in-File.is (beside unread c.run_by_file.ensures.runs);
-      silent = c.run_by_file.ensures.silent;
-      status = c.run_by_file.ensures.status;
+      runs = inl (
+        c.run_order_at.ensures.read,
+        runs_with (OverAt g.K.Keeper.is_honest g.K.Keeper.state (g.O.Opener.opens c.args.opener.now)) c.args.place c.args.source c.args.order c.run_order_at.result e
+            c.in-Ok.token c.in-Ok.ensures.given (rw c.with.ensures at c.run_order_at.ensures.runs),
+      );
+      silent = c.run_order_at.ensures.silent;
+      status = c.run_order_at.ensures.status;
+    }
+
+pub returns-in-Err : goal.returns-in-Err
+returns-in-Err g c =
+    let e = streams (g.R.Read.remaining c.args.reader.now) (g.R.Read.remaining c.token_of.new.reader)
+    (g.W.Write.contents c.args.out.now) (g.W.Write.contents c.args.out.now) in
+    let none = c.in-Err.none.failure in
+    record {
+      runs = inr (lacks c.args.source c.say_at.result e c.token_of.ensures.spared (none, c.in-Err.ensures.refused, c.say_at.ensures, refl));
+      silent = λ more less. refl;
+      status = status_at_most none c.say_at.result c.say_at.ensures;
     }

@@ -19,7 +19,7 @@ returns g c =
     let new = state g.S.Store c.query_all-shown.new.self in
     let o = find (has_key c.args.repo.now c.args.digest.now) (held old).blobs in
     let it = reads g.S.Store c.args.conn.now c.query_all-shown.new.self c.checked.new.conn _ _ c.query_all-shown.result c.query_all-shown.ensures.ok c.query_all-shown.ensures.err
-    (λ rows o. o ≡ option_map blob_shown (slice_get rows 0)) c.first_link-found.result c.checked.result c.first_link-found.ensures c.checked.ensures.told
+    (λ rows o. o ≡ option_map blob_shown (slice_get rows 0)) c.first-found.result c.checked.result c.first-found.ensures c.checked.ensures.told
     _ c.query_all-shown.ensures.survives (λ is. is.holds.known.blob_texts.find.plain) _ (given c.params-to_sql.ensures (given c.params-to_sql-2.ensures refl))
     (λ v. v ≡ option_map blob_link o) (λ rows. rows.items ≡ map (λ r. column r 3 ∷ column r 4 ∷ []) (option_to_list o))
     (found_rows c.args.repo.now c.args.digest.now old new c.query_all-shown.result)

@@ -18,7 +18,7 @@ returns g c =
     let new = state g.S.Store c.query_all-shown.new.self in
     let xs = sort_by by_second (filter (of_first c.args.repo.now) (held old).blobs) in
     let it = reads g.S.Store c.args.conn.now c.query_all-shown.new.self c.checked.new.conn _ _ c.query_all-shown.result c.query_all-shown.ensures.ok c.query_all-shown.ensures.err
-    (λ rows digests. digests.items ≡ map (λ row. bytes_at row 0) rows) c.all_digests-found.result c.checked.result c.all_digests-found.ensures c.checked.ensures.told
+    (λ rows digests. digests.items ≡ map (λ row. bytes_at row 0) rows) c.all-found.result c.checked.result c.all-found.ensures c.checked.ensures.told
     _ c.query_all-shown.ensures.survives (λ is. is.holds.known.blob_texts.digests.plain) _ (given c.params-to_sql.ensures refl)
     (λ v. v.items ≡ map (λ r. bytes_at r 2) xs) (λ rows. rows.items ≡ map (λ r. column r 2 ∷ []) xs)
     (blob_digests_shown old new c.args.repo.now c.query_all-shown.result)

@@ -3,25 +3,39 @@ use Rattle.std.specs.Prelude.{Bool}
 use Rattle.sqlite.specs.State.{HasCleanDisk}
 use Rattle.sqlite.specs.Held.{state}
 use Rattle.store_contents.specs.Contents.{bytes_in}
+use Rattle.store_statements.proofs.Checks.{survives_here}
 use Rattle.store_statements.proofs.SettledAfter.{stays_read, stays_failed, is_memory}
+use Rattle.store_statements.proofs.Transactions.{survives_all}
 use Rattle.store_statements.proofs.ContentDigests.{told, other}
 use Rattle.store_statements.proofs.contents.has_digest.Goals as goal
 
-pub returns-in-Ok-clause-found : goal.returns-in-Ok-clause-found
-returns-in-Ok-clause-found g c clean is =
-    c.in-Ok.ensures.found clean is.holds.contents ∙ told c.args.digest.now c.in-Some.sha256.now (bytes_in (state g.S.Store c.args.conn.now).now c.args.content.id) c.in-Some.ensures.cases
+pub returns-in-Ok : goal.returns-in-Ok
+returns-in-Ok g c =
+    let old = state g.S.Store c.args.conn.now in
+    record {
+      found = λ clean is. c.in-Ok.ensures.found clean is.holds.contents ∙ told c.args.digest.now c.in-Some.sha256.now (bytes_in old.now c.args.content.id) c.in-Some.ensures.cases;
+      settled = λ clean is unspent. stays_read old (state g.S.Store c.is_hashed.new.conn) is (c.in-Ok.ensures.same clean is.holds.contents);
+      survives = c.is_hashed.ensures.lasts;
+    }
 
-pub returns-in-Ok-clause-settled : goal.returns-in-Ok-clause-settled
-returns-in-Ok-clause-settled g c clean is unspent =
-    stays_read (state g.S.Store c.args.conn.now) (state g.S.Store c.is_hashed.new.conn) is (c.in-Ok.ensures.same clean is.holds.contents)
+pub returns-in-Err : goal.returns-in-Err
+returns-in-Err g c =
+    let old = state g.S.Store c.args.conn.now in
+    let mid = state g.S.Store c.is_hashed.new.conn in
+    let new = state g.S.Store c.checked_fault.new.conn in
+    record {
+      found = λ clean is. tt;
+      settled = λ clean is unspent.
+          let early : HasCleanDisk mid = omega (arith, c.checked_fault.ensures.survives.clean) in
+          stays_failed old mid new is (c.in-Err.ensures.failed early is.holds.contents) (c.checked_fault.ensures.memory clean (is_memory Bool _ unspent));
+      survives = survives_all old mid new _ _ c.is_hashed.ensures.lasts c.checked_fault.ensures.survives;
+    }
 
-pub returns-in-Err-clause-settled : goal.returns-in-Err-clause-settled
-returns-in-Err-clause-settled g c clean is unspent =
-    let mid : HasCleanDisk (state g.S.Store c.is_hashed.new.conn) = omega (arith, c.checked_fault.ensures.survives.clean) in
-    stays_failed (state g.S.Store c.args.conn.now) (state g.S.Store c.is_hashed.new.conn) (state g.S.Store c.checked_fault.new.conn) is (c.in-Err.ensures.failed mid is.holds.contents) (c.checked_fault.ensures.memory clean (is_memory Bool _ unspent))
-
-pub returns-in-None-clause-found : goal.returns-in-None-clause-found
-returns-in-None-clause-found g c clean is = other c.args.digest.now (bytes_in (state g.S.Store c.args.conn.now).now c.args.content.id) c.in-None.ensures.cases
-
-pub returns-in-None-clause-settled : goal.returns-in-None-clause-settled
-returns-in-None-clause-settled g c clean is unspent = (is, refl)
+pub returns-in-None : goal.returns-in-None
+returns-in-None g c =
+    let old = state g.S.Store c.args.conn.now in
+    record {
+      found = λ clean is. other c.args.digest.now (bytes_in old.now c.args.content.id) c.in-None.ensures.cases;
+      settled = λ clean is unspent. (is, refl);
+      survives = survives_here old;
+    }

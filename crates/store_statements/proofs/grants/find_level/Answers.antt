@@ -19,7 +19,7 @@ returns g c =
     let new = state g.S.Store c.query_all-shown.new.self in
     let o = find (has_key c.args.token.now c.args.repo.now) (held old).grants in
     let it = reads g.S.Store c.args.conn.now c.query_all-shown.new.self c.checked.new.conn _ _ c.query_all-shown.result c.query_all-shown.ensures.ok c.query_all-shown.ensures.err
-    (λ rows o. o ≡ option_map (λ row. level_of (natural_at row 0)) (slice_get rows 0)) c.first_level-found.result c.checked.result c.first_level-found.ensures c.checked.ensures.told
+    (λ rows o. o ≡ option_map (λ row. level_of (natural_at row 0)) (slice_get rows 0)) c.first-found.result c.checked.result c.first-found.ensures c.checked.ensures.told
     _ c.query_all-shown.ensures.survives (λ is. is.holds.known.grant_texts.find.plain) _ (given c.params-to_sql.ensures (given c.params-to_sql-2.ensures refl))
     (λ v. v ≡ option_map (λ r. level_of (natural_at r 3)) o) (λ rows. rows.items ≡ map (λ r. column r 3 ∷ []) (option_to_list o))
     (shows_level c.args.token.now c.args.repo.now old new c.query_all-shown.result)

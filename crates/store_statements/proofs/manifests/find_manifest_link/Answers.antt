@@ -18,7 +18,7 @@ returns g c =
     let new = state g.S.Store c.query_all-shown.new.self in
     let o = find (has_key c.args.repo.now c.args.digest.now) (held old).manifests in
     let it = reads g.S.Store c.args.conn.now c.query_all-shown.new.self c.checked.new.conn _ _ c.query_all-shown.result c.query_all-shown.ensures.ok c.query_all-shown.ensures.err
-    (λ rows o. o ≡ option_map link_shown (slice_get rows 0)) c.first_link-found.result c.checked.result c.first_link-found.ensures c.checked.ensures.told
+    (λ rows o. o ≡ option_map link_shown (slice_get rows 0)) c.first-found.result c.checked.result c.first-found.ensures c.checked.ensures.told
     _ c.query_all-shown.ensures.survives (λ is. is.holds.known.manifest_texts.find.plain) _ (given c.params-to_sql.ensures (given c.params-to_sql-2.ensures refl))
     (λ v. v ≡ option_map manifest_link o) (λ rows. rows.items ≡ map (λ r. column r 3 ∷ column r 4 ∷ column r 6 ∷ []) (option_to_list o))
     (link_rows_shown old new c.args.repo.now c.args.digest.now c.query_all-shown.result)

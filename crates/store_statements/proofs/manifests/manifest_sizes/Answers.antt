@@ -17,7 +17,7 @@ returns g c =
     let new = state g.S.Store c.query_all-shown.new.self in
     let xs = filter (of_first c.args.repo.now) (held old).manifests in
     let it = reads g.S.Store c.args.conn.now c.query_all-shown.new.self c.checked.new.conn _ _ c.query_all-shown.result c.query_all-shown.ensures.ok c.query_all-shown.ensures.err
-    (λ rows numbers. numbers.items ≡ map (λ r. natural_at r 0) rows) c.all_numbers-found.result c.checked.result c.all_numbers-found.ensures c.checked.ensures.told
+    (λ rows numbers. numbers.items ≡ map (λ r. natural_at r 0) rows) c.all-found.result c.checked.result c.all-found.ensures c.checked.ensures.told
     _ c.query_all-shown.ensures.survives (λ is. is.holds.known.manifest_texts.sizes.plain) _ (given c.params-to_sql.ensures refl)
     (λ v. IsPermutation (map (λ r. natural_at r 3) xs) v.items) (λ rows. IsPermutation (map (λ r. column r 3 ∷ []) xs) rows.items)
     (sizes_shown old new c.args.repo.now c.query_all-shown.result)

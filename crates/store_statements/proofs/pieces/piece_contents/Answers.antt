@@ -15,7 +15,7 @@ returns g c =
     let new = state g.S.Store c.query_all.new.self.conn.now in
     let xs = (held old).pieces in
     let it = reads_inside g.S.Store c.args.tx.now.conn.now c.query_all.new.self.conn.now _ _ c.query_all.result c.query_all.ensures.ok c.query_all.ensures.err (λ is. is.holds.known.piece_texts.contents.plain)
-    (λ rows ids. ids.items ≡ map (content_named 0) rows) c.all_contents.result c.all_contents.ensures
+    (λ rows ids. ids.items ≡ map (content_named 0) rows) c.all.result c.all.ensures
     (λ v. IsPermutation (map (content_named 5) xs) v.items) (λ rows. IsPermutation (map (λ r. column r 5 ∷ []) xs) rows.items)
     (content_rows old new c.query_all.result)
     (λ rows v q p. lists_of (content_named 0) (λ r. column r 5 ∷ []) xs rows.items v.items q p) in

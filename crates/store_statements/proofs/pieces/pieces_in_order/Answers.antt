@@ -19,7 +19,7 @@ returns g c =
     let whole : to_z w64 c.args.number ≡ pos c.args.number = omega (arith, ints) in
     let xs = pieces_of (held old).pieces c.args.repo.now c.args.number in
     let it = reads g.S.Store c.args.conn.now c.query_all-shown.new.self c.checked.new.conn _ _ c.query_all-shown.result c.query_all-shown.ensures.ok c.query_all-shown.ensures.err
-    (λ rows ids. ids.items ≡ map (content_named 0) rows) c.all_contents-found.result c.checked.result c.all_contents-found.ensures c.checked.ensures.told
+    (λ rows ids. ids.items ≡ map (content_named 0) rows) c.all-found.result c.checked.result c.all-found.ensures c.checked.ensures.told
     _ c.query_all-shown.ensures.survives (λ is. is.holds.known.piece_texts.list.plain) _ (given c.params-to_sql.ensures (given (c.params-to_sql-2.ensures ∙ ap Int whole) refl))
     (λ v. v.items ≡ map (content_named 5) xs) (λ rows. rows.items ≡ map (λ r. column r 5 ∷ []) xs)
     (list_rows c.args.repo.now c.args.number old new c.query_all-shown.result)

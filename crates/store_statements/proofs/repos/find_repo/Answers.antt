@@ -19,7 +19,7 @@ returns g c =
     let new = state g.S.Store c.query_all-shown.new.self in
     let o = find (of_first c.args.name.now) (held old).repos in
     let it = reads g.S.Store c.args.conn.now c.query_all-shown.new.self c.checked.new.conn _ _ c.query_all-shown.result c.query_all-shown.ensures.ok c.query_all-shown.ensures.err
-    (λ rows o. o ≡ option_map repo_shown (slice_get rows 0)) c.first_repo-found.result c.checked.result c.first_repo-found.ensures c.checked.ensures.told
+    (λ rows o. o ≡ option_map repo_shown (slice_get rows 0)) c.first-found.result c.checked.result c.first-found.ensures c.checked.ensures.told
     _ c.query_all-shown.ensures.survives (λ is. is.holds.known.repo_texts.find.plain) _ (given c.params-to_sql.ensures refl)
     (λ v. v ≡ option_map repo_row o) (λ rows. rows.items ≡ map (λ r. column r 2 ∷ column r 3 ∷ []) (option_to_list o))
     (shows_repo c.args.name.now old new c.query_all-shown.result)

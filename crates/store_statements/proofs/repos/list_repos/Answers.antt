@@ -16,7 +16,7 @@ returns g c =
     let new = state g.S.Store c.query_all-shown.new.self in
     let xs = sort_by by_name (held old).repos in
     let it = reads g.S.Store c.args.conn.now c.query_all-shown.new.self c.checked.new.conn _ _ c.query_all-shown.result c.query_all-shown.ensures.ok c.query_all-shown.ensures.err
-    (λ rows names. names.items ≡ map (λ r. bytes_at r 0) rows) c.all_names-found.result c.checked.result c.all_names-found.ensures c.checked.ensures.told
+    (λ rows names. names.items ≡ map (λ r. bytes_at r 0) rows) c.all-found.result c.checked.result c.all-found.ensures c.checked.ensures.told
     _ c.query_all-shown.ensures.survives (λ is. is.holds.known.repo_texts.list.plain) _ refl
     (λ v. v.items ≡ map (λ r. bytes_at r 1) xs) (λ rows. rows.items ≡ map (λ r. column r 1 ∷ []) xs)
     (shows_names old new c.query_all-shown.result)

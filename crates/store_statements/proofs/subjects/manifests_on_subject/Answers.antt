@@ -17,7 +17,7 @@ returns g c =
     let new = state g.S.Store c.query_all-shown.new.self in
     let xs = sort_by by_second (filter (on_subject c.args.repo.now c.args.digest.now) (held old).manifests) in
     let it = reads g.S.Store c.args.conn.now c.query_all-shown.new.self c.checked.new.conn _ _ c.query_all-shown.result c.query_all-shown.ensures.ok c.query_all-shown.ensures.err
-    (λ rows found. found.items ≡ map referrer_shown rows) c.all_referrers-found.result c.checked.result c.all_referrers-found.ensures c.checked.ensures.told
+    (λ rows found. found.items ≡ map referrer_shown rows) c.all-found.result c.checked.result c.all-found.ensures c.checked.ensures.told
     _ c.query_all-shown.ensures.survives (λ is. is.holds.known.manifest_texts.subject.plain) _ (given c.params-to_sql.ensures (given c.params-to_sql-2.ensures refl))
     (λ v. v.items ≡ map referrer xs) (λ rows. rows.items ≡ map (λ r. column r 2 ∷ column r 6 ∷ []) xs)
     (λ holds ran. subject_shown old new c.args.repo.now c.args.digest.now c.query_all-shown.result holds c.requires.digest ran)

@@ -17,7 +17,7 @@ returns g c =
     let old = state g.S.Store c.args.conn.now in
     let o = find (has_key c.args.repo.now c.args.tag.now) (held old).tags in
     let it = reads g.S.Store c.args.conn.now c.query_all-shown.new.self c.checked.new.conn _ _ c.query_all-shown.result c.query_all-shown.ensures.ok c.query_all-shown.ensures.err
-    (λ rows o. o ≡ option_map (λ row. bytes_at row 0) (slice_get rows 0)) c.first_digest-found.result c.checked.result c.first_digest-found.ensures c.checked.ensures.told
+    (λ rows o. o ≡ option_map (λ row. bytes_at row 0) (slice_get rows 0)) c.first_on-found.result c.checked.result c.first_on-found.ensures c.checked.ensures.told
     _ c.query_all-shown.ensures.survives (λ is. is.holds.known.tag_texts.find.plain) _ (given c.params-to_sql.ensures (given c.params-to_sql-2.ensures refl))
     (λ v. v ≡ option_map (λ r. bytes_at r 3) o) (λ rows. rows.items ≡ map (λ r. column r 3 ∷ []) (option_to_list o))
     (digest_shown old (state g.S.Store c.query_all-shown.new.self) c.args.repo.now c.args.tag.now c.query_all-shown.result)

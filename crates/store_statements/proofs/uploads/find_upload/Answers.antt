@@ -21,7 +21,7 @@ returns g c =
     let whole : to_z w64 c.args.number ≡ pos c.args.number = omega (arith, ints) in
     let o = find (of_session c.args.repo.now c.args.number) (held old).uploads in
     let it = reads g.S.Store c.args.conn.now c.query_all-shown.new.self c.checked.new.conn _ _ c.query_all-shown.result c.query_all-shown.ensures.ok c.query_all-shown.ensures.err
-    (λ rows o. o ≡ option_map (λ r. natural_at r 0) (slice_get rows 0)) c.first_number-found.result c.checked.result c.first_number-found.ensures c.checked.ensures.told
+    (λ rows o. o ≡ option_map (λ r. natural_at r 0) (slice_get rows 0)) c.first-found.result c.checked.result c.first-found.ensures c.checked.ensures.told
     _ c.query_all-shown.ensures.survives (λ is. is.holds.known.upload_texts.find.plain) _ (given c.params-to_sql.ensures (given (c.params-to_sql-2.ensures ∙ ap Int whole) refl))
     (λ v. v ≡ option_map (λ r. natural_at r 3) o) (λ rows. rows.items ≡ map (λ r. column r 3 ∷ []) (option_to_list o))
     (found_rows c.args.repo.now c.args.number old new c.query_all-shown.result)

@@ -5,7 +5,7 @@ use Rattle.registry_model.specs.World.{Repo}
 use Rattle.registry_model.specs.Usage.{usage_of}
 use Rattle.registry_maps.specs.Maps.{repo_of}
 use Rattle.registry_model.proofs.TextOrder.{text_total, exact_texts}
-use Rattle.registry_maps.proofs.SeenMaps.{entries_seen, shown_again}
+use Rattle.registry_maps.proofs.SeenMaps.{entries_seen, shown_again, one_behind}
 use Rattle.registry_maps.proofs.map_keeper.MapKeeper.all_usages.Goals as goal
 
 pub returns : goal.returns
@@ -14,3 +14,8 @@ returns c =
     let all = entries_seen text_total exact_texts repo_of m c.iter-name-items.ensures.ordered in
     let found : c.loop-name.all.items ≡ map (λ (e : Text × Repository). (e.0, usage_of (repo_of e.1))) m.entries = search rules in
     found ∙ sym (ap (map (λ (e : Text × Repo). (e.0, usage_of e.1))) all ∙ shown_again repo_of usage_of m.entries)
+
+pub loop-name-preserved : goal.loop-name-preserved
+loop-name-preserved c =
+    let copy : c.in_ok-clone.field-0 ≡ c.in-Some.name.now = search rules in
+    one_behind c.loop-name.all.items _ _ _ _ _ _ c.in_ok-push.ensures (λ i. (copy i, c.usage.ensures i)) (ap (map (λ (e : Text × Repository). (e.0, usage_of (repo_of e.1)))) c.in-Some.ensures.steps) c.loop-name.invariant

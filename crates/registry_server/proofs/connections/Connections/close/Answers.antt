@@ -1,5 +1,5 @@
 use Rattle.std.proofs.Common.{true, refl}
-use Rattle.registry_server.proofs.PlaceLemmas.{found_on, closes, closed_numbers}
+use Rattle.registry_server.proofs.PlaceLemmas.{found_on, none_on, closes, closed_numbers}
 use Rattle.registry_server.specs.Slots.{slots_of}
 use Rattle.registry_server.proofs.RoomLemmas.{within_closed}
 use Rattle.registry_server.proofs.SlotLemmas.{opened}
@@ -17,26 +17,18 @@ invariant_of-self c = record {
       c.args.self.now.within;
 }
 
-pub returns-in-Some-clause-closes : goal.returns-in-Some-clause-closes
-returns-in-Some-clause-closes c = (
-  closes c.args.self.now.next c.args.number c.in-Some.at c.args.self.now.connections.items c.remove.new.self.items
-      (found_on c.args.number c.in-Some.at c.deref.result.now c.args.self.now.connections.items c.deref.ensures.value c.in-Some.ensures.found) c.args.self.now.numbered c.remove.ensures.items,
-  refl,
-)
-
-pub returns-in-Some-clause-leads : goal.returns-in-Some-clause-leads
-returns-in-Some-clause-leads c = of_closed true c.args.number _ _ (returns-in-Some-clause-closes c)
-
-pub returns-in-None-clause-leads : goal.returns-in-None-clause-leads
-returns-in-None-clause-leads c = carries_none _
-
-pub returns-in-Some-clause-lives : goal.returns-in-Some-clause-lives
-returns-in-Some-clause-lives c =
+pub returns-in-Some : goal.returns-in-Some
+returns-in-Some c =
     let items = c.args.self.now.connections.items in
-    let but = closed_life c.args.self.now.next c.args.number c.in-Some.at items c.remove.new.self.items
-    (found_on c.args.number c.in-Some.at c.deref.result.now c.args.self.now.connections.items c.deref.ensures.value c.in-Some.ensures.found)
+    let f = found_on c.args.number c.in-Some.at c.deref.result.now items c.deref.ensures.value c.in-Some.ensures.found in
+    let but = closed_life c.args.self.now.next c.args.number c.in-Some.at items c.remove.new.self.items f
     (opened c.args.self.now.next (slots_of items) c.args.self.now.numbered) c.remove.ensures.items in
-    record { time = refl; is = but.is; others = but.others }
+    let gone = closes c.args.self.now.next c.args.number c.in-Some.at items c.remove.new.self.items f c.args.self.now.numbered c.remove.ensures.items in
+    record { closes = (gone, refl); lives = record { time = refl; is = but.is; others = but.others }; leads = of_closed true c.args.number _ _ (gone, refl) }
 
-pub returns-in-None-clause-lives : goal.returns-in-None-clause-lives
-returns-in-None-clause-lives c = record { time = refl; is = no_life_on c.args.number c.args.self.now.connections.items c.deref.result.now c.deref.ensures.value c.in-None.ensures.none; others = λ m ne. refl }
+pub returns-in-None : goal.returns-in-None
+returns-in-None c = record {
+  closes = (none_on c.args.number c.deref.result.now c.args.self.now.connections.items c.deref.ensures.value c.in-None.ensures.none, refl);
+  lives = record { time = refl; is = no_life_on c.args.number c.args.self.now.connections.items c.deref.result.now c.deref.ensures.value c.in-None.ensures.none; others = λ m ne. refl };
+  leads = carries_none _;
+}

@@ -1,6 +1,6 @@
 use Rattle.std.proofs.Common.{true, refl, ap}
 use Rattle.registry_server.specs.Open.{Slot, Finishes, hears}
-use Rattle.registry_server.proofs.PlaceLemmas.{found_on, changed, changed_numbers}
+use Rattle.registry_server.proofs.PlaceLemmas.{found_on, none_on, changed, changed_numbers}
 use Rattle.registry_server.specs.Slots.{slots_of}
 use Rattle.registry_server.proofs.RoomLemmas.{within_changed, as_many_ended}
 use Rattle.registry_server.proofs.LifeLemmas.{same_lives}
@@ -17,26 +17,24 @@ invariant_of-self c = record {
       c.args.self.now.within;
 }
 
-pub returns-in-Some-clause-finishes : goal.returns-in-Some-clause-finishes
-returns-in-Some-clause-finishes c = (
-  changed c.args.number c.in-Some.at (Finishes) hears c.args.self.now.connections.items c.index_mut.result.now c.finish.new.self
-      c.index_mut.ensures.value (found_on c.args.number c.in-Some.at c.deref.result.now c.args.self.now.connections.items c.deref.ensures.value c.in-Some.ensures.found) c.finish.ensures.becomes,
-  refl,
-)
+pub returns-in-Some : goal.returns-in-Some
+returns-in-Some c =
+    let items = c.args.self.now.connections.items in
+    let f = found_on c.args.number c.in-Some.at c.deref.result.now items c.deref.ensures.value c.in-Some.ensures.found in
+    let ended = changed c.args.number c.in-Some.at (Finishes) hears items c.index_mut.result.now c.finish.new.self c.index_mut.ensures.value f c.finish.ensures.becomes in
+    record {
+      finishes = (ended, refl);
+      lives = record {
+        time = refl;
+        all = same_lives c.args.number c.in-Some.at items c.index_mut.result.now c.finish.new.self c.index_mut.ensures.value f
+            (ap (λ (s : Slot). s.number) c.finish.ensures.becomes.1) c.finish.ensures.lives;
+      };
+      leads = of_finished true c.args.number _ _ (ended, refl);
+    }
 
-pub returns-in-Some-clause-leads : goal.returns-in-Some-clause-leads
-returns-in-Some-clause-leads c = of_finished true c.args.number _ _ (returns-in-Some-clause-finishes c)
-
-pub returns-in-None-clause-leads : goal.returns-in-None-clause-leads
-returns-in-None-clause-leads c = carries_none _
-
-pub returns-in-Some-clause-lives : goal.returns-in-Some-clause-lives
-returns-in-Some-clause-lives c = record {
-  time = refl;
-  all = same_lives c.args.number c.in-Some.at c.args.self.now.connections.items c.index_mut.result.now c.finish.new.self c.index_mut.ensures.value
-      (found_on c.args.number c.in-Some.at c.deref.result.now c.args.self.now.connections.items c.deref.ensures.value c.in-Some.ensures.found)
-      (ap (λ (s : Slot). s.number) c.finish.ensures.becomes.1) c.finish.ensures.lives;
+pub returns-in-None : goal.returns-in-None
+returns-in-None c = record {
+  finishes = (none_on c.args.number c.deref.result.now c.args.self.now.connections.items c.deref.ensures.value c.in-None.ensures.none, refl);
+  lives = record { time = refl; all = λ n. refl };
+  leads = carries_none _;
 }
-
-pub returns-in-None-clause-lives : goal.returns-in-None-clause-lives
-returns-in-None-clause-lives c = record { time = refl; all = λ n. refl }

@@ -13,15 +13,20 @@ invariant_of-self c = record {
       (sym (unchanged c.in-Some.at c.args.self.now.connections.items c.index_mut.result.now c.give_back.new.self c.index_mut.ensures.value c.give_back.ensures.same)) c.args.self.now.within;
 }
 
-pub returns-in-Some-clause-same : goal.returns-in-Some-clause-same
-returns-in-Some-clause-same c =
-    ap (λ (ys : List Slot). record { slots = ys; next = c.args.self.now.next; bounds = c.args.self.now.bounds })
-    (unchanged c.in-Some.at c.args.self.now.connections.items c.index_mut.result.now c.give_back.new.self c.index_mut.ensures.value c.give_back.ensures.same)
+pub returns-in-Some : goal.returns-in-Some
+returns-in-Some c =
+    let items = c.args.self.now.connections.items in
+    let y = c.give_back.new.self in
+    record {
+      same = ap (λ (ys : List Slot). record { slots = ys; next = c.args.self.now.next; bounds = c.args.self.now.bounds })
+          (unchanged c.in-Some.at items c.index_mut.result.now y c.index_mut.ensures.value c.give_back.ensures.same);
+      lives = record {
+        time = refl;
+        all = same_lives c.args.number c.in-Some.at items c.index_mut.result.now y c.index_mut.ensures.value
+            (found_on c.args.number c.in-Some.at c.deref.result.now items c.deref.ensures.value c.in-Some.ensures.found)
+            (ap (λ (s : Slot). s.number) c.give_back.ensures.same) c.give_back.ensures.lives;
+      };
+    }
 
-pub returns-in-Some-clause-lives : goal.returns-in-Some-clause-lives
-returns-in-Some-clause-lives c = record {
-  time = refl;
-  all = same_lives c.args.number c.in-Some.at c.args.self.now.connections.items c.index_mut.result.now c.give_back.new.self c.index_mut.ensures.value
-      (found_on c.args.number c.in-Some.at c.deref.result.now c.args.self.now.connections.items c.deref.ensures.value c.in-Some.ensures.found)
-      (ap (λ (s : Slot). s.number) c.give_back.ensures.same) c.give_back.ensures.lives;
-}
+pub returns-in_default : goal.returns-in_default
+returns-in_default c = record { same = refl; lives = record { time = refl; all = λ n. refl } }

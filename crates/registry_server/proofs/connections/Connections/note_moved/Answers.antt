@@ -15,20 +15,23 @@ invariant_of-self c = record {
       (sym (unchanged c.in-Some.at c.args.self.now.connections.items c.index_mut.result.now c.note_moved.new.self c.index_mut.ensures.value c.note_moved.ensures.same)) c.args.self.now.within;
 }
 
-pub returns-in-Some-clause-same : goal.returns-in-Some-clause-same
-returns-in-Some-clause-same c =
-    ap (λ (ys : List Slot). record { slots = ys; next = c.args.self.now.next; bounds = c.args.self.now.bounds })
-    (unchanged c.in-Some.at c.args.self.now.connections.items c.index_mut.result.now c.note_moved.new.self c.index_mut.ensures.value c.note_moved.ensures.same)
-
-pub returns-in-Some-clause-lives : goal.returns-in-Some-clause-lives
-returns-in-Some-clause-lives c =
-    let but = changed_life c.args.number c.in-Some.at (moved_by c.args.count c.args.self.now.time) c.args.self.now.connections.items c.index_mut.result.now c.note_moved.new.self
-    c.index_mut.ensures.value
-    (found_on c.args.number c.in-Some.at c.deref.result.now c.args.self.now.connections.items c.deref.ensures.value c.in-Some.ensures.found)
+pub returns-in-Some : goal.returns-in-Some
+returns-in-Some c =
+    let items = c.args.self.now.connections.items in
+    let y = c.note_moved.new.self in
+    let but = changed_life c.args.number c.in-Some.at (moved_by c.args.count c.args.self.now.time) items c.index_mut.result.now y c.index_mut.ensures.value
+    (found_on c.args.number c.in-Some.at c.deref.result.now items c.deref.ensures.value c.in-Some.ensures.found)
     (ap (λ (s : Slot). s.number) c.note_moved.ensures.same) c.note_moved.ensures.lives in
-    record { time = refl; is = but.is; others = but.others }
+    record {
+      same = ap (λ (ys : List Slot). record { slots = ys; next = c.args.self.now.next; bounds = c.args.self.now.bounds })
+          (unchanged c.in-Some.at items c.index_mut.result.now y c.index_mut.ensures.value c.note_moved.ensures.same);
+      lives = record { time = refl; is = but.is; others = but.others };
+    }
 
-pub returns-in_default-clause-lives : goal.returns-in_default-clause-lives
-returns-in_default-clause-lives c =
+pub returns-in_default : goal.returns-in_default
+returns-in_default c =
     let none = no_life_on c.args.number c.args.self.now.connections.items c.deref.result.now c.deref.ensures.value c.in_default.ensures.none in
-    record { time = refl; is = none ∙ sym (ap (option_map (moved_by c.args.count c.args.self.now.time)) none); others = λ m ne. refl }
+    record {
+      same = refl;
+      lives = record { time = refl; is = none ∙ sym (ap (option_map (moved_by c.args.count c.args.self.now.time)) none); others = λ m ne. refl };
+    }

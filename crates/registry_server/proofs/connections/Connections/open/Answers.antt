@@ -22,17 +22,17 @@ invariant_of-self-2 c = record {
       (omega (arith, c.len.ensures, c.if-len-self.false, length-map c.args.self.now.connections.items slot_of)) refl c.args.self.now.within);
 }
 
-pub returns-clause-opens : goal.returns-clause-opens
-returns-clause-opens c =
-    opens c.args.self.now.bounds c.args.self.now.next c.args.self.now.connections.items c.push.new.self.items _ (omega (arith, c.len.ensures, c.if-len-self.false)) c.args.self.now.numbered c.in-Ok-push.ensures.items
-    (λ i. record { number = c.args.self.now.next; conversation = c.in-Ok.ensures i; stirred = false })
-
-pub returns-clause-leads : goal.returns-clause-leads
-returns-clause-leads c = of_opened c.args.self.now.next _ _ (returns-clause-opens c)
-
-pub returns-clause-begins : goal.returns-clause-begins
-returns-clause-begins c =
-    let items = c.args.self.now.connections.items in
-    let but = came_life c.args.self.now.next items c.push.new.self.items _ c.in-Ok-push.ensures.items refl
-    (opened c.args.self.now.next (slots_of items) c.args.self.now.numbered) in
-    record { time = refl; is = but.is ∙ ap (λ (l : Life). Some l) c.at.ensures; others = but.others }
+pub returns : goal.returns
+returns c =
+    let u = c.args.self.now in
+    let items = u.connections.items in
+    let but = came_life u.next items c.push.new.self.items _ c.in-Ok-push.ensures.items refl (opened u.next (slots_of items) u.numbered) in
+    let came = opens u.bounds u.next items c.push.new.self.items _ (omega (arith, c.len.ensures, c.if-len-self.false)) u.numbered c.in-Ok-push.ensures.items
+    (λ i. record { number = u.next; conversation = c.in-Ok.ensures i; stirred = false }) in
+    record {
+      opens = came;
+      begins = record { time = refl; is = but.is ∙ ap (λ (l : Life). Some l) c.at.ensures; others = but.others };
+      refuses = tt;
+      lives = tt;
+      leads = of_opened u.next _ _ came;
+    }

@@ -3,7 +3,7 @@ use Rattle.registry_server.specs.Open.{Slot, Hears, hears}
 use Rattle.registry_server.specs.Room.{room_of}
 use Rattle.registry_server.specs.Showing.{connected}
 use Rattle.registry_server.specs.declared.receipt.Receipt.TheVariants.{Taken}
-use Rattle.registry_server.proofs.PlaceLemmas.{found_on, found_there, changed, changed_numbers}
+use Rattle.registry_server.proofs.PlaceLemmas.{found_on, none_on, found_there, changed, changed_numbers}
 use Rattle.registry_server.proofs.RoomLemmas.{within_received}
 use Rattle.registry_server.proofs.LifeLemmas.{changed_life}
 use Rattle.registry_server.specs.Lives.{moved_by}
@@ -23,39 +23,32 @@ invariant_of-self c =
           room c.args.self.now.within;
     }
 
-pub returns-else-bytes-room-clause-receives : goal.returns-else-bytes-room-clause-receives
-returns-else-bytes-room-clause-receives c =
+pub returns-else-bytes-room : goal.returns-else-bytes-room
+returns-else-bytes-room c =
     let items = c.args.self.now.connections.items in
-    let f = found_on c.args.number c.in-Some.at c.deref.result.now items c.deref.ensures.value c.in-Some.ensures.found in (
-      changed c.args.number c.in-Some.at (Hears c.args.bytes.now) hears items c.index_mut.result.now c.receive.new.self c.index_mut.ensures.value f c.receive.ensures.becomes,
-      refl,
-      omega (arith, c.room-room.ensures, c.if-bytes-room.false),
-    )
-
-pub returns-else-bytes-room-clause-leads : goal.returns-else-bytes-room-clause-leads
-returns-else-bytes-room-clause-leads c = of_received Taken c.args.number c.args.bytes.now _ _ (returns-else-bytes-room-clause-receives c)
-
-pub returns-then-bytes-room-clause-receives : goal.returns-then-bytes-room-clause-receives
-returns-then-bytes-room-clause-receives c =
-    let f = found_on c.args.number c.in-Some.at c.deref.result.now c.args.self.now.connections.items c.deref.ensures.value c.in-Some.ensures.found in
-    (f.slot.conversation, found_there c.args.number c.in-Some.at _ f, omega (arith, c.room-room.ensures, c.if-bytes-room.true), refl)
-
-pub returns-then-bytes-room-clause-leads : goal.returns-then-bytes-room-clause-leads
-returns-then-bytes-room-clause-leads c = carries_none _
-
-pub returns-in-None-clause-leads : goal.returns-in-None-clause-leads
-returns-in-None-clause-leads c = carries_none _
-
-pub returns-else-bytes-room-clause-lives : goal.returns-else-bytes-room-clause-lives
-returns-else-bytes-room-clause-lives c =
-    let items = c.args.self.now.connections.items in
+    let f = found_on c.args.number c.in-Some.at c.deref.result.now items c.deref.ensures.value c.in-Some.ensures.found in
+    let heard = changed c.args.number c.in-Some.at (Hears c.args.bytes.now) hears items c.index_mut.result.now c.receive.new.self c.index_mut.ensures.value f c.receive.ensures.becomes in
+    let room : length c.args.bytes.now ≤ room_of c.args.number (connected c.args.self.now) = omega (arith, c.room-room.ensures, c.if-bytes-room.false) in
     let but = changed_life c.args.number c.in-Some.at (moved_by (length c.args.bytes.now) c.args.self.now.time) items c.index_mut.result.now c.receive.new.self
-    c.index_mut.ensures.value (found_on c.args.number c.in-Some.at c.deref.result.now items c.deref.ensures.value c.in-Some.ensures.found)
-    (ap (λ (s : Slot). s.number) c.receive.ensures.becomes.1) c.receive.ensures.lives in
-    record { time = refl; is = but.is; others = but.others }
+    c.index_mut.ensures.value f (ap (λ (s : Slot). s.number) c.receive.ensures.becomes.1) c.receive.ensures.lives in
+    record {
+      receives = (heard, refl, room);
+      lives = record { time = refl; is = but.is; others = but.others };
+      leads = of_received Taken c.args.number c.args.bytes.now _ _ (heard, refl, room);
+    }
 
-pub returns-then-bytes-room-clause-lives : goal.returns-then-bytes-room-clause-lives
-returns-then-bytes-room-clause-lives c = record { time = refl; all = λ n. refl }
+pub returns-then-bytes-room : goal.returns-then-bytes-room
+returns-then-bytes-room c =
+    let f = found_on c.args.number c.in-Some.at c.deref.result.now c.args.self.now.connections.items c.deref.ensures.value c.in-Some.ensures.found in
+    record {
+      receives = (f.slot.conversation, found_there c.args.number c.in-Some.at _ f, omega (arith, c.room-room.ensures, c.if-bytes-room.true), refl);
+      lives = record { time = refl; all = λ n. refl };
+      leads = carries_none _;
+    }
 
-pub returns-in-None-clause-lives : goal.returns-in-None-clause-lives
-returns-in-None-clause-lives c = record { time = refl; all = λ n. refl }
+pub returns-in-None : goal.returns-in-None
+returns-in-None c = record {
+  receives = (none_on c.args.number c.deref.result.now c.args.self.now.connections.items c.deref.ensures.value c.in-None.ensures.none, refl);
+  lives = record { time = refl; all = λ n. refl };
+  leads = carries_none _;
+}

@@ -1,19 +1,15 @@
-use Rattle.std.proofs.Common.{◌≡◌, List, Option, ap, sym, ◌∙◌, arith}
+use Rattle.std.proofs.Common.{◌≡◌, List, Option, ap, ◌∙◌, arith}
 use Rattle.registry_server.specs.Shown.{Shown}
 use Rattle.registry_server.specs.declared.connection.Connection.{Connection}
 use Rattle.registry_server.specs.Room.{over_sum, room_beside, room_in}
 use Rattle.registry_server.specs.Slots.{slots_of}
 use Rattle.registry_server.specs.Showing.{connected}
-use Rattle.registry_server.proofs.PlaceLemmas.{found_on, found_is}
 use Rattle.registry_server.proofs.connections.Connections.room.Goals as goal
 
 pub returns-in-Some : goal.returns-in-Some
 returns-in-Some c =
     let u = connected c.args.self.now in
-    let items = c.args.self.now.connections.items in
-    let f = found_on c.args.number c.in-Some.at c.deref-2.result.now items c.deref-2.ensures.value c.in-Some.ensures.found in
-    let there = found_is c.args.number c.in-Some.at items c.index.result.now c.index.ensures f in
-    let all : c.over-all.result ≡ over_sum (slots_of items) =
+    let all : c.over-all.result ≡ over_sum u.slots =
     omega (
       arith,
       c.over-all.ensures,
@@ -25,4 +21,7 @@ returns-in-Some c =
     ) in
     c.room_beside.ensures
     ∙ (λ i. room_beside (all i) (c.coming-held.ensures i) (c.pool.ensures.is i))
-    ∙ sym (ap (λ (o : Option Shown). room_in o u) there)
+    ∙ ap (λ (o : Option Shown). room_in o u) c.in-Some.ensures.shown
+
+pub returns-in-None : goal.returns-in-None
+returns-in-None c = ap (λ (o : Option Shown). room_in o (connected c.args.self.now)) c.in-None.ensures.shown

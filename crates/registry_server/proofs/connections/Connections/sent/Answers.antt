@@ -2,7 +2,7 @@ use Rattle.std.proofs.Common.{true, refl, sym, ap, ◌∙◌, ◌==◌, ◌≤�
 use Rattle.std.specs.Prelude.{option_map}
 use Rattle.registry_server.specs.Shown.{Shown}
 use Rattle.registry_server.specs.Open.{Slot, conversation_of, going_in, outgoing_of, Sends, sends}
-use Rattle.registry_server.proofs.PlaceLemmas.{found_on, changed, changed_numbers, changed_is, found_is}
+use Rattle.registry_server.proofs.PlaceLemmas.{found_on, none_on, changed, changed_numbers, changed_is, found_is}
 use Rattle.registry_server.specs.Slots.{slots_of}
 use Rattle.registry_server.proofs.RoomLemmas.{within_changed, as_many_told}
 use Rattle.registry_server.proofs.LifeLemmas.{changed_life, no_life_on}
@@ -25,33 +25,30 @@ invariant_of-self c = record {
       c.args.self.now.within;
 }
 
-pub returns-in-Some-clause-sends : goal.returns-in-Some-clause-sends
-returns-in-Some-clause-sends c = (
-  changed c.args.number c.in-Some.at (Sends c.args.count) (sends c.args.count) c.args.self.now.connections.items c.index_mut.result.now c.sent.new.self
-      c.index_mut.ensures.value (found_on c.args.number c.in-Some.at c.deref.result.now c.args.self.now.connections.items c.deref.ensures.value c.in-Some.ensures.found) c.sent.ensures.becomes,
-  refl,
-)
-
-pub returns-in-Some-clause-leads : goal.returns-in-Some-clause-leads
-returns-in-Some-clause-leads c = of_sent true c.args.number c.args.count _ _ (returns-in-Some-clause-sends c)
-
-pub returns-in-None-clause-leads : goal.returns-in-None-clause-leads
-returns-in-None-clause-leads c = carries_none _
-
-pub returns-in-Some-clause-lives : goal.returns-in-Some-clause-lives
-returns-in-Some-clause-lives c =
+pub returns-in-Some : goal.returns-in-Some
+returns-in-Some c =
     let items = c.args.self.now.connections.items in
     let y = c.sent.new.self in
     let number = ap (λ (s : Slot). s.number) c.sent.ensures.becomes.1 in
     let f = found_on c.args.number c.in-Some.at c.deref.result.now items c.deref.ensures.value c.in-Some.ensures.found in
+    let went = changed c.args.number c.in-Some.at (Sends c.args.count) (sends c.args.count) items c.index_mut.result.now y c.index_mut.ensures.value f c.sent.ensures.becomes in
     let whole = ap (λ (o : Option Shown). length (going_in o) == 0) (changed_is c.args.number c.in-Some.at items c.index_mut.result.now y c.index_mut.ensures.value f number) in
     let but = changed_life c.args.number c.in-Some.at (sent_by c.args.count (length (going_in (conversation_of c.args.number (slots_of (set items c.in-Some.at y)))) == 0) c.args.self.now.time)
     items c.index_mut.result.now y c.index_mut.ensures.value f number
     (c.sent.ensures.lives ∙ (λ i. sent_by c.args.count (sym whole i) c.args.self.now.time c.index_mut.result.now.life)) in
-    record { time = refl; is = but.is; others = but.others }
+    record {
+      sends = (went, refl);
+      lives = record { time = refl; is = but.is; others = but.others };
+      leads = of_sent true c.args.number c.args.count _ _ (went, refl);
+    }
 
-pub returns-in-None-clause-lives : goal.returns-in-None-clause-lives
-returns-in-None-clause-lives c =
-    let none = no_life_on c.args.number c.args.self.now.connections.items c.deref.result.now c.deref.ensures.value c.in-None.ensures.none in
-    let f = sent_by c.args.count (length (outgoing_of c.args.number (slots_of c.args.self.now.connections.items)) == 0) c.args.self.now.time in
-    record { time = refl; is = none ∙ sym (ap (option_map f) none); others = λ m ne. refl }
+pub returns-in-None : goal.returns-in-None
+returns-in-None c =
+    let items = c.args.self.now.connections.items in
+    let none = no_life_on c.args.number items c.deref.result.now c.deref.ensures.value c.in-None.ensures.none in
+    let f = sent_by c.args.count (length (outgoing_of c.args.number (slots_of items)) == 0) c.args.self.now.time in
+    record {
+      sends = (none_on c.args.number c.deref.result.now items c.deref.ensures.value c.in-None.ensures.none, refl);
+      lives = record { time = refl; is = none ∙ sym (ap (option_map f) none); others = λ m ne. refl };
+      leads = carries_none _;
+    }

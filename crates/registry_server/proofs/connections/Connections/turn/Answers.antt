@@ -26,35 +26,27 @@ invariant_of-self g c =
           c.args.self.now.within;
     }
 
-pub returns-clause-takes : goal.returns-clause-takes
-returns-clause-takes g c =
-    let items = c.args.self.now.connections.items in
-    let f = stirred_on c.in_ok-at.at c.deref.result.now items c.deref.ensures.value c.in_ok-at.ensures.found in
-    let y = c.answer_next-turn.new.self in (
-      turned c.args.self.now.next c.answer_next-turn.result.number c.in_ok-at.at c.answer_next-turn.result.step _ items _ c.index_mut.result.now y c.index_mut.ensures.value f
-          c.args.self.now.numbered c.answer_next-turn.ensures.number
-          ((c.answer_next-turn.ensures.acts.0, c.answer_next-turn.ensures.fewer), c.answer_next-turn.ensures.acts.1)
-          (moved_in c.in_ok-at.at c.args.self.now.connections.len items c.deref_mut.result.now c.to_back.new.connections y
-          c.deref_mut.ensures.value c.deref_mut.ensures.len (within_found c.in_ok-at.at items f.front f.back f.slot f.was f.place) c.to_back.ensures),
-      refl,
-      c.has_room_for_reply.ensures.0 c.if-not-has_room_for_reply.false,
-    )
-
-pub returns-clause-leads : goal.returns-clause-leads
-returns-clause-leads g c honest =
-    let t = returns-clause-takes g c in
-    of_turn c.answer_next-turn.result.number c.answer_next-turn.result.step _ _ _ _ t.0 t.1 t.2 honest
-
-pub returns-clause-lives : goal.returns-clause-lives
-returns-clause-lives g c =
+pub returns : goal.returns
+returns g c =
     let items = c.args.self.now.connections.items in
     let f = stirred_on c.in_ok-at.at c.deref.result.now items c.deref.ensures.value c.in_ok-at.ensures.found in
     let y = c.answer_next-turn.new.self in
-    let lt = within_found c.in_ok-at.at items f.front f.back f.slot f.was f.place in record {
-      time = refl;
-      all = turned_lives c.args.self.now.next c.in_ok-at.at items _ c.index_mut.result.now y c.index_mut.ensures.value lt
-          (opened c.args.self.now.next (slots_of items) c.args.self.now.numbered)
-          (ap (λ (s : Slot). s.number) c.answer_next-turn.ensures.acts.1) c.answer_next-turn.ensures.lives
-          (moved_in c.in_ok-at.at c.args.self.now.connections.len items c.deref_mut.result.now c.to_back.new.connections y
-          c.deref_mut.ensures.value c.deref_mut.ensures.len lt c.to_back.ensures);
+    let lt = within_found c.in_ok-at.at items f.front f.back f.slot f.was f.place in
+    let m = moved_in c.in_ok-at.at c.args.self.now.connections.len items c.deref_mut.result.now c.to_back.new.connections y
+    c.deref_mut.ensures.value c.deref_mut.ensures.len lt c.to_back.ensures in
+    let room = c.has_room_for_reply.ensures.0 c.if-not-has_room_for_reply.false in
+    let took = turned c.args.self.now.next c.answer_next-turn.result.number c.in_ok-at.at c.answer_next-turn.result.step _ items _ c.index_mut.result.now y c.index_mut.ensures.value f
+    c.args.self.now.numbered c.answer_next-turn.ensures.number
+    ((c.answer_next-turn.ensures.acts.0, c.answer_next-turn.ensures.fewer), c.answer_next-turn.ensures.acts.1) m in
+    record {
+      honest = c.answer_next-turn.ensures.honest;
+      takes = (took, refl, room);
+      idle = tt;
+      lives = record {
+        time = refl;
+        all = turned_lives c.args.self.now.next c.in_ok-at.at items _ c.index_mut.result.now y c.index_mut.ensures.value lt
+            (opened c.args.self.now.next (slots_of items) c.args.self.now.numbered)
+            (ap (λ (s : Slot). s.number) c.answer_next-turn.ensures.acts.1) c.answer_next-turn.ensures.lives m;
+      };
+      leads = of_turn c.answer_next-turn.result.number c.answer_next-turn.result.step _ _ _ _ took refl room;
     }

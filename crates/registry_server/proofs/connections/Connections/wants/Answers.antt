@@ -1,9 +1,10 @@
-use Rattle.std.proofs.Common.{ap, sym, ◌∙◌, Some, option_map}
+use Rattle.std.proofs.Common.{ap, Some, ◌∙◌}
+use Rattle.std.specs.Prelude.{option_map}
 use Rattle.registry_server.specs.Shown.{wants_of}
-use Rattle.registry_server.proofs.PlaceLemmas.{found_on, found_is}
 use Rattle.registry_server.proofs.connections.Connections.wants.Goals as goal
 
 pub returns-in-Some : goal.returns-in-Some
-returns-in-Some c =
-    ap Some c.wants.ensures
-    ∙ sym (ap (option_map wants_of) (found_is c.args.number c.in-Some.at c.args.self.now.connections.items c.index.result.now c.index.ensures (found_on c.args.number c.in-Some.at c.deref.result.now c.args.self.now.connections.items c.deref.ensures.value c.in-Some.ensures.found)))
+returns-in-Some c = ap Some c.wants.ensures ∙ ap (option_map wants_of) c.in-Some.ensures.shown
+
+pub returns-in-None : goal.returns-in-None
+returns-in-None c = ap (option_map wants_of) c.in-None.ensures.shown

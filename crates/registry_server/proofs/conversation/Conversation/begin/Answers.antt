@@ -1,6 +1,8 @@
 use Rattle.std.proofs.Common.{◌≡◌, ◌⊎◌, [], ◌++◌, subst, sym, ◌∙◌}
 use Rattle.oci_types.specs.Text.{Text}
 use Rattle.registry_http.specs.Spelling.{HeadIsCut, HeadIsUnreadable}
+use Rattle.registry_server.specs.Headings.{BeginsAt}
+use Rattle.registry_server.specs.Stepping.{Acts}
 use Rattle.registry_server.specs.ConversationShowing.{shown}
 use Rattle.registry_server.proofs.SteppingLemmas.{held_at_head, empty_from, some_from, nothing_came, head_cut, head_never, waited_same, none_left}
 use Rattle.registry_server.proofs.conversation.Conversation.begin.Goals as goal
@@ -37,4 +39,17 @@ returns-in-Never g c = record {
       let old = shown c.args.self.now in
       head_never c.refuse.result b said old _ _ x (held_at_head old b said at_head x) c.refuse.ensures
       (λ tail. subst (λ (y : Text). HeadIsUnreadable (y ++ tail)) c.behind.ensures (c.in-Never.ensures tail));
+}
+
+pub returns-in-Whole : goal.returns-in-Whole
+returns-in-Whole g c = record {
+  honest = c.take_head.ensures.honest;
+  finished = c.take_head.ensures.finished;
+  fewer = c.take_head.ensures.fewer;
+  acts = λ honest at_head b said x.
+      let old = shown c.args.self.now in
+      let held = held_at_head old b said at_head x in
+      let begins = subst (BeginsAt c.in-Whole.heading) (c.behind.ensures ∙ held.1) c.in-Whole.ensures in
+      subst (λ (y : Text). Acts c.take_head.result b y old (g.K.Keeper.state c.args.service.now) (g.K.Keeper.state c.take_head.new.service) (shown c.take_head.new.self))
+      (sym held.2) (c.take_head.ensures.acts honest b begins held.0 held.1);
 }

@@ -9,24 +9,16 @@ use Rattle.registry_server.specs.Holding.{HoldsWhole}
 use Rattle.registry_server.specs.Shown.{Shown, with_going, coming_len}
 use Rattle.registry_server.specs.ConversationShowing.{shown}
 use Rattle.registry_server.specs.Stepping.{ActsAs}
-use Rattle.registry_server.proofs.HoldingLemmas.{item_taken, not_without_head, not_hopeless}
+use Rattle.registry_server.proofs.HoldingLemmas.{item_taken}
 use Rattle.registry_server.proofs.SteppingLemmas.{going_on, answered_first, replied_in_part, part_ends, none_left}
 use Rattle.registry_server.proofs.conversation.Conversation.reply.Goals as goal
 
-pub returns-in-NotYet : goal.returns-in-NotYet
-returns-in-NotYet g c = record {
+pub returns-in_default : goal.returns-in_default
+returns-in_default g c = record {
   honest = λ honest. honest;
   finished = c.refuse.ensures.finished ∙ ap (λ (k : Shown). k.finished) c.taken_head.ensures.same;
   fewer = none_left (shown c.args.self.now) (shown c.refuse.new.self) c.refuse.ensures.none_held;
-  acts = λ honest b said w. absurd (not_without_head _ _ b said w c.in-NotYet.ensures.parses.1);
-}
-
-pub returns-in-Never : goal.returns-in-Never
-returns-in-Never g c = record {
-  honest = λ honest. honest;
-  finished = c.refuse-in-Never.ensures.finished ∙ ap (λ (k : Shown). k.finished) c.taken_head.ensures.same;
-  fewer = none_left (shown c.args.self.now) (shown c.refuse-in-Never.new.self) c.refuse-in-Never.ensures.none_held;
-  acts = λ honest b said w. absurd (not_hopeless _ _ b said w c.in-Never.ensures.parses);
+  acts = λ honest b said w. absurd (c.in_default.ensures.none b said w);
 }
 
 pub returns-in-Ok : goal.returns-in-Ok
@@ -37,13 +29,13 @@ returns-in-Ok g c = record {
   acts = λ honest b said w.
       let mid = c.taken_head.new.self in
       let same : shown mid ≡ shown c.args.self.now = c.taken_head.ensures.same in
-      let found = c.in-Whole.ensures.parses in
+      let found = c.in-Some.ensures.found in
       let v = subst (λ (k : Shown). HoldsWhole k.taken k.unread b said) (sym same) w in
       let i : Item = record { head = v.head; coded = v.body.coded; body = v.body.body } in
-      let read = subst (λ (k : Shown). HeadIsRead k.taken mid.fields.items c.in-Whole.spans found.0) (sym same) found.1 in
-      let there = subst (λ (y : List HeaderSpan). IsTaken c.before-taken.result.now y c.in-Whole.spans i) (sym c.deref.ensures.value)
-      (subst (λ (x : Text). IsTaken x mid.fields.items c.in-Whole.spans i) (sym c.before-taken.ensures)
-      (item_taken (shown mid).taken (shown mid).unread b said v mid.fields.items c.in-Whole.spans found.0 read)) in
+      let read = subst (λ (k : Shown). HeadIsRead k.taken mid.fields.items c.in-Some.spans found.0) (sym same) found.1 in
+      let there = subst (λ (y : List HeaderSpan). IsTaken c.before-taken.result.now y c.in-Some.spans i) (sym c.deref.ensures.value)
+      (subst (λ (x : Text). IsTaken x mid.fields.items c.in-Some.spans i) (sym c.before-taken.ensures)
+      (item_taken (shown mid).taken (shown mid).unread b said v mid.fields.items c.in-Some.spans found.0 read)) in
       let sent = c.in-Ok.ensures.replies honest i there in
       let within : mid.gone ≤ length mid.out.items = omega (arith, mid.within, mid.out.ok.0) in
       subst (λ (k : Shown). ActsAs step.Answered b said k.going (g.K.Keeper.state c.args.service.now) (g.K.Keeper.state c.reply_to.new.service) (shown c.close_if.new.self)) same
@@ -59,13 +51,13 @@ returns-in-Err g c = record {
   acts = λ honest b said w.
       let mid = c.taken_head.new.self in
       let same : shown mid ≡ shown c.args.self.now = c.taken_head.ensures.same in
-      let found = c.in-Whole.ensures.parses in
+      let found = c.in-Some.ensures.found in
       let v = subst (λ (k : Shown). HoldsWhole k.taken k.unread b said) (sym same) w in
       let i : Item = record { head = v.head; coded = v.body.coded; body = v.body.body } in
-      let read = subst (λ (k : Shown). HeadIsRead k.taken mid.fields.items c.in-Whole.spans found.0) (sym same) found.1 in
-      let there = subst (λ (y : List HeaderSpan). IsTaken c.before-taken.result.now y c.in-Whole.spans i) (sym c.deref.ensures.value)
-      (subst (λ (x : Text). IsTaken x mid.fields.items c.in-Whole.spans i) (sym c.before-taken.ensures)
-      (item_taken (shown mid).taken (shown mid).unread b said v mid.fields.items c.in-Whole.spans found.0 read)) in
+      let read = subst (λ (k : Shown). HeadIsRead k.taken mid.fields.items c.in-Some.spans found.0) (sym same) found.1 in
+      let there = subst (λ (y : List HeaderSpan). IsTaken c.before-taken.result.now y c.in-Some.spans i) (sym c.deref.ensures.value)
+      (subst (λ (x : Text). IsTaken x mid.fields.items c.in-Some.spans i) (sym c.before-taken.ensures)
+      (item_taken (shown mid).taken (shown mid).unread b said v mid.fields.items c.in-Some.spans found.0 read)) in
       let sent = c.in-Err.ensures.replies honest i there in
       let within : mid.gone ≤ length mid.out.items = omega (arith, mid.within, mid.out.ok.0) in
       subst (λ (k : Shown). ActsAs c.end.result b said k.going (g.K.Keeper.state c.args.service.now) (g.K.Keeper.state c.reply_to.new.service) (shown c.end.new.self)) same

@@ -1,5 +1,5 @@
 use Rattle.registry_model.specs.Command.{drop_repo}
-use Rattle.store_reads.proofs.KnownWorlds.{beside_gone}
+use Rattle.registry_store.proofs.KnownWorlds.{beside_gone}
 use Rattle.registry_store.proofs.Followed.{forgotten}
 use Rattle.registry_store.proofs.KeeperAnswers.{spends_told, still_spent, was_honest, write_holds, write_says}
 use Rattle.registry_store.proofs.keeper.StoreKeeper.drop_repo.Goals as goal

@@ -1,6 +1,6 @@
 use Rattle.registry_model.specs.Command.{drop_sessions}
 use Rattle.registry_model.specs.Command.{without_sessions}
-use Rattle.store_reads.proofs.KnownWorlds.{beside}
+use Rattle.registry_store.proofs.KnownWorlds.{beside}
 use Rattle.registry_store.proofs.Followed.{forgotten}
 use Rattle.registry_store.proofs.KeeperAnswers.{spends_told, still_spent, was_honest, write_holds, write_says}
 use Rattle.registry_store.proofs.keeper.StoreKeeper.drop_sessions.Goals as goal

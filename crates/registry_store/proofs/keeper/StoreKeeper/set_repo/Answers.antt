@@ -1,7 +1,7 @@
 use Rattle.registry_model.specs.Command.{set_repo}
 use Rattle.registry_model.specs.Command.{with_quota}
 use Rattle.registry_model.specs.World.{repo_at}
-use Rattle.store_reads.proofs.KnownWorlds.{beside_put}
+use Rattle.registry_store.proofs.KnownWorlds.{beside_put}
 use Rattle.registry_store.proofs.Followed.{forgotten}
 use Rattle.registry_store.proofs.KeeperAnswers.{spends_told, still_spent, was_honest, write_holds, write_says}
 use Rattle.registry_store.proofs.keeper.StoreKeeper.set_repo.Goals as goal

@@ -1,7 +1,0 @@
-use Rattle.std.proofs.Common.{take}
-use Rattle.registry_orders.specs.Options.{EachPair}
-use Rattle.registry_orders.specs.Splitting.{SplitsRepo}
-use Rattle.registry_orders.proofs.options.split_repos.Given as goal
-
-abbrev pub invariant-loop-text : goal.invariant-loop-text
-invariant-loop-text l = EachPair SplitsRepo (take l.text-index l.texts) l.repos.items

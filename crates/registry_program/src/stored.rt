@@ -1,0 +1,63 @@
+//! The program over the tables of databases. The layers are each generic in one piece of a store's type,
+//! which keeps their proofs small.
+ghost use Rattle.std.specs.Prelude.{◌<◌, ◌≤◌, true, map};
+ghost use Rattle.sqlite.specs.Files.{over_files};
+ghost use Rattle.registry_tasks.specs.Program.{streams};
+ghost use Rattle.registry_tasks.specs.Stored.{OverAt};
+ghost use Rattle.registry_program.specs.Running.{RunsWords, IsSparedFor};
+ghost use Rattle.registry_store.specs.Kept.{IsHonest, shown};
+
+use crate::program::run_words;
+use registry_checking::Opener;
+use registry_store::Store;
+use sqlite::{Alter, FileStore};
+use sqlite_disk::Disk;
+use std::convert::AsStr;
+use std::io::{Read, Write};
+
+/// `run_words` over the tables of databases.
+fn run_over<S: Alter, O: Opener<Store<S>>, T: AsStr, R: Read, W: Write, E: Write>(
+    rt: &HostRuntime,
+    opener: &O,
+    words: &[T],
+    reader: &mut R,
+    out: &mut W,
+    err: &mut E,
+) -> u8
+    ensures runs { RunsWords (OverAt (IsHonest S.Store true) (shown S.Store) (O.opens opener.now))
+        (map T.text words.now) result
+        (streams (R.remaining reader.old) (R.remaining reader.new)
+        (W.contents out.old) (W.contents out.new)) }
+    ensures refused { 0 < result → result < 3
+        → IsSparedFor (map T.text words.now)
+        (streams (R.remaining reader.old) (R.remaining reader.new)
+        (W.contents out.old) (W.contents out.new)) }
+    ensures status { result ≤ 4 }
+{
+    run_words(rt, opener, words, reader, out, err)
+}
+
+/// Does what the words behind the program's name say, over databases in files, with these ends for standard
+/// input, output and error; gives the exit status, as `run_words` does.
+pub fn run_in_files<D: Disk, O: Opener<Store<FileStore<D>>>, T: AsStr, R: Read, W: Write, E: Write>(
+    rt: &HostRuntime,
+    opener: &O,
+    words: &[T],
+    reader: &mut R,
+    out: &mut W,
+    err: &mut E,
+) -> u8
+    ensures runs { RunsWords
+        (OverAt (IsHonest (over_files {g = D.Disk}) true) (shown (over_files {g = D.Disk}))
+        (O.opens opener.now))
+        (map T.text words.now) result
+        (streams (R.remaining reader.old) (R.remaining reader.new)
+        (W.contents out.old) (W.contents out.new)) }
+    ensures refused { 0 < result → result < 3
+        → IsSparedFor (map T.text words.now)
+        (streams (R.remaining reader.old) (R.remaining reader.new)
+        (W.contents out.old) (W.contents out.new)) }
+    ensures status { result ≤ 4 }
+{
+    run_over::<FileStore<D>, O, T, R, W, E>(rt, opener, words, reader, out, err)
+}

@@ -1,0 +1,150 @@
+-- What is known of usages, of the world after a change.
+use Rattle.std.proofs.Common.{◌≡◌, ◌≢◌, ◌∙◌, ◌<◌, ◌+◌, ℕ, min, Bool, true, false, cond, None, Some, Ok, Err, Result, OnOk, refl, sym, ap, subst, arith}
+use Rattle.std.specs.Prelude.{Option, is_some, IfSome}
+use Rattle.std.specs.Option.{option_map_or}
+use Rattle.std.specs.Ordering.{eq_by_cmp}
+use Rattle.std.specs.Cmp.{eq_by_cmp_equiv}
+use Rattle.std.specs.FinMap.{get, remove, get-insert, get-remove}
+use Rattle.std.proofs.lemmas.Bool.Decides.{nat_tests}
+use Rattle.oci_types.specs.Text.{Text}
+use Rattle.oci_types.specs.declared.fault.Fault.{Fault}
+use Rattle.oci_types.specs.declared.fault.Fault.TheVariants.{Memory, Storage}
+use Rattle.sqlite.specs.State.{State}
+use Rattle.registry_model.specs.World.{Repo, World, text_cmp, repo_at, has_repo, with_repo, update_repo}
+use Rattle.registry_model.specs.declared.quota.Usage.{Usage}
+use Rattle.registry_model.specs.Usage.{used, usage_of, in_64_bits}
+use Rattle.registry_model.specs.Lookups.{usage_at, no_usage}
+use Rattle.registry_model.proofs.TextOrder.{text_total, same_key}
+use Rattle.store_statements.specs.Held.{IsSettled, StaysSettled, SettlesOn, is_storage, world_in}
+use Rattle.store_reads.specs.declared.usage_change.Change.{Change}
+use Rattle.registry_store.specs.declared.known_usages.KnownUsages.{KnownUsages}
+use Rattle.store_reads.specs.Usages.{Turns, Foretells}
+use Rattle.registry_store.specs.Usages.{known_at, Knows, Sets, Applies, IsNext}
+use Rattle.store_reads.proofs.Foretold.{later}
+
+-- ---- numbers
+
+as_min : (n : ℕ) → in_64_bits n ≡ min n 18446744073709551615
+as_min n = grind (arith, nat_tests)
+
+bytes_after : (n m x y a g : ℕ) → x ≡ in_64_bits n → x < 18446744073709551615 → y + g ≡ x + a → m + g ≡ n + a → y < 18446744073709551616 → y ≡ in_64_bits m
+bytes_after n m x y a g is exact told made fits =
+    let was : x ≡ min n 18446744073709551615 = is ∙ as_min n in
+    least n m x y a g was exact told made fits ∙ sym (as_min m)
+  where
+    least : (n m x y a g : ℕ) → x ≡ min n 18446744073709551615 → x < 18446744073709551615 → y + g ≡ x + a → m + g ≡ n + a → y < 18446744073709551616 → y ≡ min m 18446744073709551615
+    least n m x y a g was exact told made fits = omega arith
+
+-- a usage that was changed as the repository is the repository's
+applied : (c : Change) (r s : Repo) (v u : Usage) → v ≡ usage_of r → Applies c v u → Turns c r s → u ≡ usage_of s
+applied c r s v u is a t =
+    let bytes = bytes_after (used r) (used s) v.used u.used c.added c.gone (ap (λ x. x.used) is) a.exact a.bytes t.bytes a.fits in
+    let quota = a.quota ∙ ap (λ x. x.quota) is ∙ sym t.quota in
+    let blobs = a.blobs ∙ ap (λ x. x.blobs + c.blobs) is ∙ sym t.blobs in
+    let manifests = a.manifests ∙ ap (λ x. x.manifests + c.manifests) is ∙ sym t.manifests in
+    let tags = a.tags ∙ ap (λ x. x.tags + c.tags) is ∙ sym t.tags in
+    let sessions = same_rest c.ended _ _ (a.sessions ∙ ap (λ x. x.sessions + c.opened) is ∙ sym t.sessions) in
+    λ i. record { used = bytes i; quota = quota i; blobs = blobs i; manifests = manifests i; tags = tags i; sessions = sessions i }
+  where
+    same_rest : (k m n : ℕ) → m + k ≡ n + k → m ≡ n
+    same_rest k m n e = omega arith
+
+-- ---- other repositories
+
+other_name : (q name : Text) → q ≢ name → eq_by_cmp text_cmp q name ≡ false
+other_name q name apart = by (eq_by_cmp text_cmp q name) refl
+  where
+    by : (b : Bool) → eq_by_cmp text_cmp q name ≡ b → b ≡ false
+    by true e = absurd (apart (same_key q name e))
+    by false e = refl
+
+module _ (w : World) (name : Text) where
+  pub beside_put : (r : Repo) (q : Text) → q ≢ name → repo_at (with_repo w name r) q ≡ repo_at w q
+  beside_put r q apart = get-insert text_total w.repos name r q ∙ ap (λ b. cond b (Some r) (get w.repos q)) (other_name q name apart)
+
+  pub beside_gone : (q : Text) → q ≢ name → get (remove w.repos name) q ≡ repo_at w q
+  beside_gone q apart = get-remove text_total w.repos name q ∙ ap (λ b. cond b None (get w.repos q)) (other_name q name apart)
+
+  pub beside : (f : Repo → Repo) (q : Text) → q ≢ name → repo_at (update_repo w name f (repo_at w name)) q ≡ repo_at w q
+  beside f q apart = by (repo_at w name)
+    where
+      by : (o : Option Repo) → repo_at (update_repo w name f o) q ≡ repo_at w q
+      by None = refl
+      by (Some r) = beside_put (f r) q apart
+
+  put_there : (r : Repo) → repo_at (with_repo w name r) name ≡ Some r
+  put_there r = get-insert text_total w.repos name r name ∙ ap (λ b. cond b (Some r) (get w.repos name)) ((eq_by_cmp_equiv text_total).refl name)
+
+usage_from : (w : World) (q : Text) (o : Option Repo) → repo_at w q ≡ o → usage_at w q ≡ option_map_or usage_of o no_usage
+usage_from w q o e = ap (λ x. option_map_or usage_of x no_usage) e
+
+-- ---- what is known
+
+-- of one name it is so, and the world has of all others what it had
+pub set_knows : (old new : KnownUsages) (w after : World) (name : Text) (IsSo : Usage → Type 0) → Knows old w → Sets old new name IsSo
+    → ((q : Text) → q ≢ name → repo_at after q ≡ repo_at w q) → ((u : Usage) → IsSo u → u ≡ usage_at after name) → Knows new after
+set_knows old new w after name IsSo knows sets same so q u is = by (eq_by_cmp text_cmp q name) refl
+  where
+    by : (b : Bool) → eq_by_cmp text_cmp q name ≡ b → u ≡ usage_at after q
+    by true e = let at = same_key q name e in so u (sets.here u (ap (known_at new) (sym at) ∙ is)) ∙ ap (usage_at after) (sym at)
+    by false e =
+        let apart : q ≢ name = λ at. let bad : true ≡ false = sym (ap (λ x. eq_by_cmp text_cmp x name) at ∙ (eq_by_cmp_equiv text_total).refl name) ∙ e in absurd cc in
+        knows q u (sets.others q u apart is) ∙ sym (usage_from after q (repo_at w q) (same q apart))
+
+-- a change that was foretold
+next_is : (w : World) (name : Text) (r : Repo) (f : Repo → Repo) (o : Option Usage) (change : Option Change) (u : Usage) → repo_at w name ≡ Some r → ((v : Usage) → o ≡ Some v → v ≡ usage_at w name)
+    → IfSome change (Foretells w name f) → IsNext o change u → u ≡ usage_at (with_repo w name (f r)) name
+next_is w name r f None change u at was told next = absurd next
+next_is w name r f (Some v) None u at was told next = absurd next
+next_is w name r f (Some v) (Some c) u at was told next =
+    applied c r (f r) v u (was v refl ∙ usage_from w name (Some r) at) next (told r at) ∙ sym (usage_from (with_repo w name (f r)) name (Some (f r)) (put_there w name (f r)))
+
+followed : (old new : KnownUsages) (w : World) (name : Text) (f : Repo → Repo) (change : Option Change) → Knows old w → has_repo w name ≡ true
+    → IfSome change (Foretells w name f) → Sets old new name (IsNext (known_at old name) change) → Knows new (update_repo w name f (repo_at w name))
+followed old new w name f change knows there told sets = by (repo_at w name) refl there
+  where
+    by : (o : Option Repo) → repo_at w name ≡ o → is_some o ≡ true → Knows new (update_repo w name f o)
+    by None at h = absurd cc
+    by (Some r) at h =
+        set_knows old new w (with_repo w name (f r)) name (IsNext (known_at old name) change) knows sets (beside_put w name (f r))
+        (λ u next. next_is w name r f (known_at old name) change u at (λ v e. knows name v e) told next)
+
+-- after a write that was foretold
+pub follows : (old new : KnownUsages) (s : State) (w : World) (name : Text) (f : Repo → Repo) (change : Option Change) → Knows old w → has_repo w name ≡ true
+    → IfSome change (Foretells w name f) → Sets old new name (IsNext (known_at old name) change) → world_in s ≡ update_repo w name f (repo_at w name) → Knows new (world_in s)
+follows old new s w name f change knows there told sets made = subst (Knows new) (sym made) (followed old new w name f change knows there told sets)
+
+-- a fault that is no failure of the storage
+pub unfollowed : {A : Type 0} (known : KnownUsages) (old new : State) (f : Fault) → Knows known (world_in old) → is_storage {A = A} (Err f) ≡ false
+    → (◌≡◌ {A = Result A Fault} (Err f) (Err Memory) → StaysSettled old new) → Knows known (world_in new)
+unfollowed known old new Memory knows sound stays = later (Knows known) old new (stays refl).1 knows
+unfollowed known old new Storage knows sound stays = absurd cc
+
+-- a write to a repository that was forgotten
+pub forgets : {A : Type 0} (old new : KnownUsages) (before after : State) (name : Text) (f : World → World) (answer : Result A Fault) → Knows old (world_in before) → Sets old new name (λ _. ⊥)
+    → ((q : Text) → q ≢ name → repo_at (f (world_in before)) q ≡ repo_at (world_in before) q) → is_storage answer ≡ false
+    → OnOk answer (SettlesOn after (f (world_in before))) → (answer ≡ Err Memory → StaysSettled before after) → Knows new (world_in after)
+forgets old new before after name f (Ok v) knows sets same sound made stays =
+    subst (Knows new) (sym made.1) (set_knows old new (world_in before) (f (world_in before)) name (λ _. ⊥) knows sets same (λ u none. absurd none))
+forgets old new before after name f (Err Memory) knows sets same sound made stays =
+    later (Knows new) before after (stays refl).1 (set_knows old new (world_in before) (world_in before) name (λ _. ⊥) knows sets (λ q apart. refl) (λ u none. absurd none))
+forgets old new before after name f (Err Storage) knows sets same sound made stays = absurd cc
+
+-- a usage that was read is kept
+pub keeps : (old new : KnownUsages) (before after : State) (name : Text) (usage : Usage) → Knows old (world_in before) → Sets old new name (λ u. u ≡ usage) → usage ≡ usage_at (world_in before) name
+    → after.now ≡ before.now → Knows new (world_in after)
+keeps old new before after name usage knows sets is same =
+    later (Knows new) before after same (set_knows old new (world_in before) (world_in before) name (λ u. u ≡ usage) knows sets (λ q apart. refl) (λ u e. e ∙ is))
+
+-- ---- what holds of a store
+
+-- after a read
+pub still_knows : (known : KnownUsages) (old new : State) → StaysSettled old new → Knows known (world_in old) → IsSettled new × Knows known (world_in new)
+still_knows known old new stays knows = (stays.0, later (Knows known) old new stays.1 knows)
+
+-- after a write to no repository
+pub untouched : {A : Type 0} (known : KnownUsages) (old new : State) (f : World → World) (answer : Result A Fault) → Knows known (world_in old) → Knows known (f (world_in old)) → is_storage answer ≡ false
+    → OnOk answer (SettlesOn new (f (world_in old))) → (answer ≡ Err Memory → StaysSettled old new) → Knows known (world_in new)
+untouched known old new f (Ok v) knows after sound made stays = subst (Knows known) (sym made.1) after
+untouched known old new f (Err Memory) knows after sound made stays = later (Knows known) old new (stays refl).1 knows
+untouched known old new f (Err Storage) knows after sound made stays = absurd cc

@@ -1,0 +1,26 @@
+-- Orders that lack a token: what it comes to that there is one, or none.
+use Rattle.std.proofs.Common.{ℕ, Result, Ok, Err}
+use Rattle.std.specs.Prelude.{IfOk}
+use Rattle.oci_types.specs.Text.{Text}
+use Rattle.registry_orders.specs.declared.place.Place.{Place}
+use Rattle.registry_orders.specs.declared.tokens.TokenSource.{TokenSource}
+use Rattle.registry_orders.specs.declared.tokens.TokenSource.TheVariants.{Input, File}
+use Rattle.registry_orders.specs.declared.orders.TokenOrder.{TokenOrder}
+use Rattle.registry_orders.specs.Orders.{order_with}
+use Rattle.registry_server.specs.Accepting.{Streams}
+use Rattle.registry_tasks.specs.Opened.{Opened, output_of, RunsAt, GivesToken, IsReadFor, RunsTokenOrder, IsWithoutToken, LacksTokenOf}
+
+pub runs_with : (at : Text → Opened) (place : Place) (source : TokenSource) (order : TokenOrder) (status : ℕ) (e : Streams) (token : Text)
+    → GivesToken source e.left e.left' token → RunsAt at place (order_with order token) status (output_of e)
+    → RunsTokenOrder at place source order status e
+runs_with at place Input order status e token given runs = (token, given, runs)
+runs_with at place (File path) order status e token given runs = (given, (token, runs))
+
+pub lacks : (source : TokenSource) (status : ℕ) (e : Streams) → IsReadFor source e.left e.left' → IsWithoutToken status (output_of e)
+    → LacksTokenOf source status e
+lacks Input status e spared without = without
+lacks (File path) status e spared without = (spared, without)
+
+pub whatever_it_is : {A E : Type 0} (r : Result A E) (P : A → Type 0) → ((x : A) → P x) → IfOk r P
+whatever_it_is (Ok x) P h = h x
+whatever_it_is (Err e) P h = tt

@@ -1,5 +1,0 @@
-use Rattle.store_reads.proofs.KnownChanges.{added}
-use Rattle.store_reads.proofs.known_usages.KnownUsages.add.Goals as goal
-
-pub returns : goal.returns
-returns c = added c.args.self.now.usages c.insert-old.new.self c.args.name c.args.usage c.insert-old.result c.requires c.insert-old.ensures.updates c.insert-old.ensures.err

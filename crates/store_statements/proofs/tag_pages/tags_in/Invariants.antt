@@ -1,7 +1,0 @@
-use Rattle.std.proofs.Common.{◌≡◌, map, take}
-use Rattle.store_schema.specs.Rows.{bytes_at}
-use Rattle.store_statements.proofs.tag_pages.tags_in.Given as goal
-
--- the tags so far
-abbrev pub invariant-loop-row : goal.invariant-loop-row
-invariant-loop-row l = l.tags.items ≡ map (λ row. bytes_at row 0) (take l.row-index l.rows)
