@@ -1,5 +1,5 @@
 -- Blobs in a repository that is there.
-use Rattle.std.proofs.Common.{◌≡◌, ◌∙◌, ℕ, ◌<◌, ◌≤◌, arith, Bool, true, false, cond, None, Some, refl, sym, ap, subst}
+use Rattle.std.proofs.Common.{◌≡◌, ◌∙◌, ℕ, ◌<◌, ◌≤◌, arith, Bool, true, false, not, cond, None, Some, refl, sym, ap, subst}
 use Rattle.std.proofs.lemmas.Bool.Decides.{nat_tests}
 use Rattle.std.specs.Prelude.{Result, Option, option_map, is_some, length, nat_lt, ◌&&◌}
 use Rattle.std.specs.Option.{option_and_then}
@@ -7,6 +7,8 @@ use Rattle.std.specs.FinMap.{get}
 use Rattle.oci_types.specs.Text.{Text}
 use Rattle.oci_types.specs.Digest.{is_digest, is_verified, matches, verdict_of}
 use Rattle.oci_types.specs.declared.digest.Verdict.TheVariants.{Matches, Differs, Unsupported}
+use Rattle.oci_types.specs.declared.digest.Verdict.{Verdict}
+use Rattle.registry_model.specs.declared.refusal.Refusal.{Refusal}
 use Rattle.registry_model.specs.declared.refusal.Refusal.TheVariants.{BlobUnknown, InvalidDigest, DigestMismatch, ContentTooLarge, QuotaExceeded}
 use Rattle.registry_model.specs.declared.reply.Status.TheVariants.{Accepted}
 use Rattle.oci_types.specs.declared.fault.Fault.{Fault}
@@ -22,9 +24,11 @@ use Rattle.registry_model.specs.Lookups as lookups
 use Rattle.registry_model.specs.Keeping.{State}
 use Rattle.registry_model.specs.Limits.{largest_blob}
 use Rattle.registry_model.specs.Usage.{goes_over}
+use Rattle.registry_model.specs.Doing.{course_of_answer, answered}
 use Rattle.operation_parts.specs.Quota.{blob_grows_over, grows_over, new_length}
-use Rattle.operation_parts.proofs.DigestLemmas.{unsupported, and_false}
 use Rattle.operation_parts.proofs.QuotaLemmas.{push_over}
+use Rattle.std.proofs.lemmas.Option.{same_Some}
+use Rattle.blob_operations.specs.Pushing.{push_refusal}
 use Rattle.operation_parts.proofs.RepoOutcomes.{there_is, Done, told, made}
 
 blob_told : (digest : Text) (o : Option Text) → found_blob digest o ≡ tells (found_blob digest o).reply
@@ -98,81 +102,58 @@ module _ (s s' : State) (name : Text) (unspent : s.spent ≡ false) (there : has
       (λ r here. ap (λ b. cond b (makes (bare_answer Accepted) (without_blob r text)) (refuses BlobUnknown))
       (ap is_some (named_there s.world name text valid r here) ∙ some_size (blob_at s.world name text) some)) after e
 
--- what a size that was asked for tells
-nothing_sized : (o : Option ℕ) → is_some o ≡ false → None ≡ o
-nothing_sized None e = refl
-nothing_sized (Some size) e = absurd (cc)
-
-module _ (w : World) (name digest text : Text) (same : digest ≡ text) (o : Option ℕ) (at : o ≡ blob_size_at w name digest) where
-  pub absent_size : is_some o ≡ false → None ≡ blob_size_at w name text
-  absent_size none = nothing_sized o none ∙ at ∙ ap (blob_size_at w name) same
-
-  pub there_size : is_some o ≡ true → is_some (blob_size_at w name text) ≡ true
-  there_size some = sym (ap is_some (at ∙ ap (blob_size_at w name) same)) ∙ some
+-- a blob of which there is a length is there
+pub sized_there : (s mid : State) (name digest : Text) (size : ℕ) → mid ≡ s → Some size ≡ blob_size_at s.world name digest → is_some (blob_at mid.world name digest) ≡ true
+sized_there s mid name digest size same at = subst (λ (x : State). is_some (blob_at x.world name digest) ≡ true) (sym same) (by_bytes (blob_at s.world name digest) at)
+  where
+    by_bytes : (o : Option Text) → Some size ≡ option_map length o → is_some o ≡ true
+    by_bytes None e = absurd (cc)
+    by_bytes (Some bytes) e = refl
 
 -- ---- pushes
 
-matched : (v m : Bool) → cond v (cond m Matches Differs) Unsupported ≡ Matches → (v ≡ true) × (m ≡ true)
-matched true true e = (refl, refl)
-matched true false e = absurd (cc)
-matched false m e = absurd (cc)
+is_small : (n : ℕ) → nat_lt largest_blob n ≡ false → n ≤ largest_blob
+is_small n h = grind (arith, nat_tests)
 
-differing : (v m : Bool) → cond v (cond m Matches Differs) Unsupported ≡ Differs → (v ≡ true) × (m ≡ false)
-differing true true e = absurd (cc)
-differing true false e = (refl, refl)
-differing false m e = absurd (cc)
+-- what comes of a push, by why it is refused
+module _ (r : Repo) (name text body : Text) where
+  abbrev by_refusal : Option Refusal → Decision
+  by_refusal None = within_quota r (with_blob r text body) (created_blob name text)
+  by_refusal (Some refusal) = refuses refusal
 
-is_large : (n : ℕ) → largest_blob < n → nat_lt largest_blob n ≡ true
-is_large n h = grind (arith, nat_tests)
+  by_tests : (v m large : Bool)
+      → cond (not v) (refuses InvalidDigest) (cond large (refuses ContentTooLarge) (cond (not m) (refuses DigestMismatch) (within_quota r (with_blob r text body) (created_blob name text))))
+      ≡ by_refusal (push_refusal (cond v (cond m Matches Differs) Unsupported) large)
+  by_tests true true true = refl
+  by_tests true true false = refl
+  by_tests true false true = refl
+  by_tests true false false = refl
+  by_tests false m large = refl
 
-not_large : (n : ℕ) → n ≤ largest_blob → nat_lt largest_blob n ≡ false
-not_large n h = grind (arith, nat_tests)
+  push_is : is_digest text ≡ true → push_blob r name text body ≡ by_refusal (push_refusal (verdict_of text body) (nat_lt largest_blob (length body)))
+  push_is d =
+      ap (λ b. cond (not (b && is_verified text)) (refuses InvalidDigest) (cond (nat_lt largest_blob (length body)) (refuses ContentTooLarge)
+      (cond (not (matches text body)) (refuses DigestMismatch) (within_quota r (with_blob r text body) (created_blob name text))))) d
+      ∙ by_tests (is_verified text) (matches text body) (nat_lt largest_blob (length body))
 
-module _ (text body : Text) where
-  verified : is_digest text ≡ true → is_verified text ≡ true → can_verify text ≡ true
-  verified d v = ap (λ b. b && is_verified text) d ∙ v
-
-  unverified : is_verified text ≡ false → can_verify text ≡ false
-  unverified v = ap (λ b. is_digest text && b) v ∙ and_false (is_digest text)
-
-  module _ (r : Repo) (name : Text) where
-    push_invalid : can_verify text ≡ false → push_blob r name text body ≡ refuses InvalidDigest
-    push_invalid v = rw v refl
-
-    push_large : can_verify text ≡ true → nat_lt largest_blob (length body) ≡ true → push_blob r name text body ≡ refuses ContentTooLarge
-    push_large v l = rw (v, l) refl
-
-    push_other : can_verify text ≡ true → nat_lt largest_blob (length body) ≡ false → matches text body ≡ false → push_blob r name text body ≡ refuses DigestMismatch
-    push_other v l m = rw (v, l, m) refl
-
-    pub push_matches : can_verify text ≡ true → nat_lt largest_blob (length body) ≡ false → matches text body ≡ true
-        → push_blob r name text body ≡ within_quota r (with_blob r text body) (created_blob name text)
-    push_matches v l m = rw (v, l, m) refl
+  push_invalid : is_digest text ≡ false → push_blob r name text body ≡ refuses InvalidDigest
+  push_invalid d =
+      ap (λ b. cond (not (b && is_verified text)) (refuses InvalidDigest) (cond (nat_lt largest_blob (length body)) (refuses ContentTooLarge)
+      (cond (not (matches text body)) (refuses DigestMismatch) (within_quota r (with_blob r text body) (created_blob name text))))) d
 
 module _ (s s' : State) (name : Text) (unspent : s.spent ≡ false) (there : has_repo s.world name ≡ true) (text body : Text) (a : Answer) where
   module _ (stays : s' ≡ s) where
     pub pushes_invalid : is_digest text ≡ false → a ≡ refused InvalidDigest → Done a name (λ r. push_blob r name text body) s s'
     pushes_invalid d e =
         tells_it s s' name unspent there (λ r. push_blob r name text body) a (refused InvalidDigest)
-        (λ r here. push_invalid text body r name (ap (λ b. b && is_verified text) d)) stays e
+        (λ r here. push_invalid r name text body d) stays e
 
-    pub pushes_unverified : verdict_of text body ≡ Unsupported → a ≡ refused InvalidDigest → Done a name (λ r. push_blob r name text body) s s'
-    pushes_unverified v e =
-        tells_it s s' name unspent there (λ r. push_blob r name text body) a (refused InvalidDigest)
-        (λ r here. push_invalid text body r name (unverified text body (unsupported (is_verified text) (matches text body) v))) stays e
-
-    -- a body that is too large, whether it matches or not
-    pub pushes_large : is_digest text ≡ true → is_verified text ≡ true → largest_blob < length body → a ≡ refused ContentTooLarge → Done a name (λ r. push_blob r name text body) s s'
-    pushes_large d v large e =
-        tells_it s s' name unspent there (λ r. push_blob r name text body) a (refused ContentTooLarge)
-        (λ r here. push_large text body r name (verified text body d v) (is_large (length body) large)) stays e
-
-    -- one that does not match
-    pub pushes_other : is_digest text ≡ true → verdict_of text body ≡ Differs → length body ≤ largest_blob → a ≡ refused DigestMismatch → Done a name (λ r. push_blob r name text body) s s'
-    pushes_other d v small e =
-        let found = differing (is_verified text) (matches text body) v in
-        tells_it s s' name unspent there (λ r. push_blob r name text body) a (refused DigestMismatch)
-        (λ r here. push_other text body r name (verified text body d found.0) (not_large (length body) small) found.1) stays e
+    -- a digest that is not verified, or a body that is too large or does not match
+    pub pushes_refused : (refusal : Refusal) → is_digest text ≡ true → Some refusal ≡ push_refusal (verdict_of text body) (nat_lt largest_blob (length body)) → a ≡ refused refusal
+        → Done a name (λ r. push_blob r name text body) s s'
+    pushes_refused refusal d why e =
+        tells_it s s' name unspent there (λ r. push_blob r name text body) a (refused refusal)
+        (λ r here. push_is r name text body d ∙ sym (ap (by_refusal r name text body) why)) stays e
 
   -- the quota's verdict is that of the repository which is there
   over_there : (r : Repo) → repo_at s.world name ≡ Some r → (b : Bool) → b ≡ blob_grows_over s.world name text (length body) 0 → goes_over r (with_blob r text body) ≡ b
@@ -192,16 +173,32 @@ module _ (s s' : State) (name : Text) (unspent : s.spent ≡ false) (there : has
       makes_it s s' name unspent there (λ r. within_quota r (with_blob r text body) (created_blob name text)) a (created_blob name text) (λ r. with_blob r text body)
       (λ r here. ap (λ b. cond b (refuses QuotaExceeded) (makes (created_blob name text) (with_blob r text body))) (over_there r here false within)) after e
 
-pub differs_by : (text body : Text) → verdict_of text body ≡ Differs → is_verified text ≡ true
-differs_by text body v = (differing (is_verified text) (matches text body) v).0
+no_refusal : (v m large : Bool) → None ≡ push_refusal (cond v (cond m Matches Differs) Unsupported) large → (v ≡ true) × (m ≡ true) × (large ≡ false)
+no_refusal true true true e = absurd (cc)
+no_refusal true true false e = (refl, refl, refl)
+no_refusal true false true e = absurd (cc)
+no_refusal true false false e = absurd (cc)
+no_refusal false m large e = absurd (cc)
 
-pub matched_by : (text body : Text) → verdict_of text body ≡ Matches → (is_verified text ≡ true) × (matches text body ≡ true)
-matched_by text body v = matched (is_verified text) (matches text body) v
+-- what is not refused matches, and fits
+pub may_push : (digest body : Text) → None ≡ push_refusal (verdict_of digest body) (nat_lt largest_blob (length body)) → (matches digest body ≡ true) × (length body ≤ largest_blob)
+may_push digest body e =
+    let h = no_refusal (is_verified digest) (matches digest body) (nat_lt largest_blob (length body)) e in
+    (h.1, is_small (length body) h.2)
 
--- a body that matches, added under the digest of the text
-pub push_added : (r : Result Reply Fault) (s s' : State) (name text body digest : Text) → digest ≡ text → is_digest text ≡ true → verdict_of text body ≡ Matches
-    → length body ≤ largest_blob → Operates r name (λ x. within_quota x (with_blob x digest body) (created_blob name digest)) s s' → Operates r name (λ x. push_blob x name text body) s s'
-push_added r s s' name text body digest same valid v small h =
-    let m = matched_by text body v in
-    subst (λ act. Operates r name act s s') (sym (λ i x. push_matches text body x name (verified text body valid m.0) (not_large (length body) small) m.1 i))
+-- a refusal is an answer
+pub refusal_answers : (refusal : Refusal) (v : Verdict) (large : Bool) → Some refusal ≡ push_refusal v large → course_of_answer (refused refusal) ≡ answered
+refusal_answers refusal Unsupported large e = ap (λ r. course_of_answer (refused r)) (same_Some refusal InvalidDigest e)
+refusal_answers refusal Differs true e = ap (λ r. course_of_answer (refused r)) (same_Some refusal ContentTooLarge e)
+refusal_answers refusal Differs false e = ap (λ r. course_of_answer (refused r)) (same_Some refusal DigestMismatch e)
+refusal_answers refusal Matches true e = ap (λ r. course_of_answer (refused r)) (same_Some refusal ContentTooLarge e)
+refusal_answers refusal Matches false e = absurd (cc)
+
+-- a body that is not refused, added under the digest of the text
+pub push_added : (r : Result Reply Fault) (s s' : State) (name text body digest : Text) → digest ≡ text → is_digest text ≡ true
+    → None ≡ push_refusal (verdict_of digest body) (nat_lt largest_blob (length body))
+    → Operates r name (λ x. within_quota x (with_blob x digest body) (created_blob name digest)) s s' → Operates r name (λ x. push_blob x name text body) s s'
+push_added r s s' name text body digest same valid why h =
+    let taken : None ≡ push_refusal (verdict_of text body) (nat_lt largest_blob (length body)) = why ∙ ap (λ d. push_refusal (verdict_of d body) (nat_lt largest_blob (length body))) same in
+    subst (λ (act : Repo → Decision). Operates r name act s s') (λ i x. (ap (by_refusal x name text body) taken ∙ sym (push_is x name text body valid)) i)
     (subst (λ d. Operates r name (λ x. within_quota x (with_blob x d body) (created_blob name d)) s s') same h)

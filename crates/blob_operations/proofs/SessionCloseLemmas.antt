@@ -21,7 +21,7 @@ use Rattle.registry_model.specs.Keeping.{State, Writes}
 use Rattle.registry_model.specs.Closing.{session_matches, WritesWhereSo}
 use Rattle.registry_model.specs.Lookups.{bytes_or_none, session_at}
 use Rattle.operation_parts.specs.Quota.{grows_over, new_length, blob_grows_over}
-use Rattle.blob_operations.specs.Uploads.{upload_at, chunk_refusal, bytes_so_far, finish_with}
+use Rattle.blob_operations.specs.Uploads.{upload_at, chunk_refusal, bytes_so_far, finish_with, given_digest}
 use Rattle.blob_operations.specs.declared.uploads.Upload.{Upload}
 use Rattle.operation_parts.specs.Digests.{verifiable_in}
 use Rattle.operation_parts.proofs.DigestLemmas.{some_by, none_by}
@@ -64,6 +64,11 @@ module _ (w : World) (name : Text) (number size : ℕ) (f : Found w name number 
   -- a session with no bytes: the chunk is all
   pub none_so_far : (digest body : Text) → size ≡ 0 → finish_with f.repo name number digest (bytes_so_far f.repo number ++ body) ≡ finish_with f.repo name number digest body
   none_so_far digest body e = ap (λ t. finish_with f.repo name number digest (t ++ body)) (so_far ∙ no_bytes f.bytes (f.long ∙ e))
+
+-- the bytes of a session that were read, and a chunk behind them
+pub held_so_far : (w : World) (name : Text) (number size : ℕ) (f : Found w name number size) (bytes body : Text) → Some bytes ≡ session_at w name number → bytes_so_far f.repo number ++ body ≡ bytes ++ body
+held_so_far w name number size f bytes body at =
+    ap (λ o. bytes_or_none o ++ body) (sym (at ∙ ap (λ o. option_and_then (λ r. get r.sessions number) o) f.at))
 
 -- ---- an end without the bytes
 
@@ -150,7 +155,7 @@ ends_unknown s s' name reference given range body there none a is unspent stays 
     (ap (close_to here.0 name given range body) (unnamed s.world name reference here.0 here.1 none))
 
 -- no digest
-pub ends_undigested : (s s' : State) (name reference : Text) (u : Upload) → Some u ≡ upload_at s.world name reference → (given range : Option Text) (body : Text) → given ≡ None → (a : Answer) → a ≡ refused InvalidDigest
+ends_undigested : (s s' : State) (name reference : Text) (u : Upload) → Some u ≡ upload_at s.world name reference → (given range : Option Text) (body : Text) → given ≡ None → (a : Answer) → a ≡ refused InvalidDigest
     → s.spent ≡ false → s' ≡ s → Done a name (λ r. close_session r name reference given range body) s s'
 ends_undigested s s' name reference u e given range body none a is unspent stays = by_session (found_session s.world name u.number u.size (upload_is s.world name reference u e).1)
   where
@@ -163,7 +168,7 @@ module _ (s s' : State) (name reference : Text) (u : Upload) (e : Some u ≡ upl
   f : Found s.world name u.number u.size
   f = found_session s.world name u.number u.size (upload_is s.world name reference u e).1
 
-  pub ends_unverified : (a : Answer) → a ≡ refused InvalidDigest → s.spent ≡ false → s' ≡ s → None ≡ verifiable_in text → Done a name (λ r. close_session r name reference given range body) s s'
+  ends_unverified : (a : Answer) → a ≡ refused InvalidDigest → s.spent ≡ false → s' ≡ s → None ≡ verifiable_in text → Done a name (λ r. close_session r name reference given range body) s s'
   ends_unverified a is unspent stays none =
       told s s' name (λ r. close_session r name reference given range body) f.repo f.at a (refused InvalidDigest) is unspent stays
       (ap (λ o. close_session f.repo name reference o range body) said ∙ bad_digest s.world name reference u f e range body text none)
@@ -179,3 +184,14 @@ module _ (s s' : State) (name reference : Text) (u : Upload) (e : Some u ≡ upl
     ends_taken result s1 stays h comes =
         same_act result name (λ r. finish_with r name u.number digest (bytes_so_far r u.number ++ body)) (λ r. close_session r name reference given range body) s s1 s' f.repo stays f.at
         (ap (λ o. close_session f.repo name reference o range body) said ∙ put_taken s.world name reference u f e range body digest text read v is h) comes
+
+-- no digest is given, or one against which nothing can be verified
+pub ends_ungiven : (s s' : State) (name reference : Text) (u : Upload) → Some u ≡ upload_at s.world name reference → (given range : Option Text) (body : Text) → None ≡ given_digest given → (a : Answer) → a ≡ refused InvalidDigest
+    → s.spent ≡ false → s' ≡ s → Done a name (λ r. close_session r name reference given range body) s s'
+ends_ungiven s s' name reference u e None range body none a is unspent stays = ends_undigested s s' name reference u e None range body refl a is unspent stays
+ends_ungiven s s' name reference u e (Some text) range body none a is unspent stays = ends_unverified s s' name reference u e (Some text) range body text refl a is unspent stays none
+
+-- the text of one that is given
+pub given_is : (given : Option Text) (d : Text) → Some d ≡ given_digest given → (text : Text) × (given ≡ Some text) × (Some d ≡ verifiable_in text)
+given_is None d e = absurd (cc)
+given_is (Some text) d e = (text, refl, e)

@@ -1,6 +1,6 @@
 -- Upload sessions in a repository that is there.
-use Rattle.std.proofs.Common.{◌≡◌, ◌∙◌, ℕ, ◌+◌, ◌≤◌, ◌++◌, length, arith, Bool, true, false, cond, None, Some, refl, sym, ap, subst}
-use Rattle.std.specs.Prelude.{Option, option_map, nat_lt, nat_le, ◌||◌}
+use Rattle.std.proofs.Common.{◌≡◌, ◌∙◌, ℕ, ◌+◌, ◌<◌, ◌≤◌, ◌++◌, length, length-append, arith, Bool, true, false, cond, None, Some, refl, sym, ap, subst}
+use Rattle.std.specs.Prelude.{Option, option_map, is_some, nat_lt, nat_le, ◌||◌}
 use Rattle.std.specs.Option.{option_and_then, option_map_or}
 use Rattle.std.specs.FinMap.{get, len}
 use Rattle.std.proofs.lemmas.Bool.Decides.{nat_tests}
@@ -18,10 +18,10 @@ use Rattle.registry_model.specs.Heads.{is_sent}
 use Rattle.registry_model.specs.Range.{range_verdict}
 use Rattle.registry_model.specs.Decision.{Decision, refuses, tells, makes, within_quota}
 use Rattle.registry_model.specs.Sessions.{is_full, opened, open_session, read_session, show_session, Session, session_numbered, session_named, session_reply, range_checked, appended, append_to, append_chunk}
-use Rattle.registry_model.specs.Lookups.{session_size_at, bytes_or_none}
+use Rattle.registry_model.specs.Lookups.{session_at, session_size_at, sessions_open_at, last_number_at, bytes_or_none}
 use Rattle.registry_model.specs.Lookups as lookups
 use Rattle.operation_parts.specs.Quota.{grows_over, grows_over_at}
-use Rattle.blob_operations.specs.Uploads.{upload_at, next_number_at, chunk_refusal, bytes_so_far, append_more}
+use Rattle.blob_operations.specs.Uploads.{IsOpen, upload_at, next_number_at, chunk_refusal, bytes_so_far, append_more}
 use Rattle.blob_operations.specs.declared.uploads.Upload.{Upload}
 use Rattle.registry_model.specs.Keeping.{State}
 use Rattle.operation_parts.proofs.QuotaLemmas.{append_over}
@@ -47,6 +47,36 @@ found_in w name number size (Some r) at e = by_bytes (get r.sessions number) ref
 
 pub found_session : (w : World) (name : Text) (number size : ℕ) → session_size_at w name number ≡ Some size → Found w name number size
 found_session w name number size e = found_in w name number size (repo_at w name) refl e
+
+-- the session of an upload is open still
+pub open_there : (s mid : State) (name : Text) (u : Upload) → mid ≡ s → IsOpen s name u → is_some (session_at mid.world name u.number) ≡ true
+open_there s mid name u same is_open = subst (λ (x : State). is_some (session_at x.world name u.number) ≡ true) (sym same) (by_length (session_at s.world name u.number) is_open)
+  where
+    by_length : (o : Option Text) → option_map length o ≡ Some u.size → is_some o ≡ true
+    by_length None e = absurd (cc)
+    by_length (Some bytes) e = refl
+
+-- so there are bytes of it
+pub open_held : (s : State) (name : Text) (u : Upload) → IsOpen s name u → None ≡ session_at s.world name u.number → ⊥
+open_held s name u is_open none = absurd (let gone = ap (option_map length) none in cc)
+
+-- and a chunk behind them that fits
+pub held_fits : (s : State) (name : Text) (u : Upload) (bytes body all : Text) → IsOpen s name u → Some bytes ≡ session_at s.world name u.number → all ≡ bytes ++ body → u.size + length body ≤ largest_blob
+    → length all ≤ largest_blob
+held_fits s name u bytes body all is_open held is fits =
+    let long : length bytes ≡ u.size = same_Some (length bytes) u.size (ap (option_map length) held ∙ is_open) in
+    subst (λ t. length t ≤ largest_blob) (sym is) (omega (arith, length-append bytes body, long))
+
+-- and has as many bytes
+pub open_fits : (s mid : State) (name : Text) (u : Upload) (more : ℕ) → mid ≡ s → IsOpen s name u → u.size + more ≤ largest_blob
+    → length (bytes_or_none (session_at mid.world name u.number)) + more ≤ largest_blob
+open_fits s mid name u more same is_open fits =
+    subst (λ (x : State). length (bytes_or_none (session_at x.world name u.number)) + more ≤ largest_blob) (sym same)
+    (subst (λ n. n + more ≤ largest_blob) (sym (by_length (session_at s.world name u.number) is_open)) fits)
+  where
+    by_length : (o : Option Text) → option_map length o ≡ Some u.size → length (bytes_or_none o) ≡ u.size
+    by_length None e = absurd (cc)
+    by_length (Some bytes) e = same_Some (length bytes) u.size e
 
 by_number : (u : Upload) (n : ℕ) (o : Option ℕ) → Some u ≡ option_map (λ size. record { number = n; size = size }) o → (n ≡ u.number) × (o ≡ Some u.size)
 by_number u n None e = absurd (cc)
@@ -96,6 +126,14 @@ unnamed w name reference r at e =
     by_number_of : (o : Option ℕ) → None ≡ option_and_then (λ n. option_map (λ size. uploaded n size) (option_map length (get r.sessions n))) o → option_and_then (session_numbered r) o ≡ None
     by_number_of None e = refl
     by_number_of (Some n) e = by_bytes n (get r.sessions n) e
+
+pub no_upload : (w : World) (name reference : Text) → session_number_of reference ≡ None → None ≡ upload_at w name reference
+no_upload w name reference none = sym (ap (λ o. option_and_then (λ n. option_map (λ size. uploaded n size) (session_size_at w name n)) o) none)
+
+pub upload_by : (w : World) (name reference : Text) (n : ℕ) → session_number_of reference ≡ Some n → (o : Option ℕ) → o ≡ session_size_at w name n
+    → option_map (λ size. uploaded n size) o ≡ upload_at w name reference
+upload_by w name reference n some o e =
+    ap (λ x. option_map (λ size. uploaded n size) x) e ∙ sym (ap (λ o. option_and_then (λ n. option_map (λ size. uploaded n size) (session_size_at w name n)) o) some)
 
 -- ---- chunks
 
@@ -209,6 +247,20 @@ none_next false n e = absurd (cc)
 some_next : (b : Bool) (k n : ℕ) → Some k ≡ cond b None (Some n) → (b ≡ false) × (k ≡ n)
 some_next true k n e = absurd (cc)
 some_next false k n e = (refl, same_Some k n e)
+
+-- where there is a next number, fewer are open than may be, and the last is not the largest
+not_full : (many last k n : ℕ) → Some k ≡ cond (nat_le most_sessions many || nat_le largest last) None (Some n) → (many < most_sessions) × (last < largest)
+not_full many last k n e = by_tests (nat_le most_sessions many) (nat_le largest last) refl refl e
+  where
+    by_tests : (few below : Bool) → nat_le most_sessions many ≡ few → nat_le largest last ≡ below → Some k ≡ cond (few || below) None (Some n) → (many < most_sessions) × (last < largest)
+    by_tests true below few_is below_is e = absurd (cc)
+    by_tests false true few_is below_is e = absurd (cc)
+    by_tests false false few_is below_is e = (grind (arith, nat_tests), grind (arith, nat_tests))
+
+pub next_fits : (s mid : State) (name : Text) (number : ℕ) → mid ≡ s → Some number ≡ next_number_at s.world name → (sessions_open_at mid.world name < most_sessions) × (last_number_at mid.world name < largest)
+next_fits s mid name number same e =
+    subst (λ (x : State). (sessions_open_at x.world name < most_sessions) × (last_number_at x.world name < largest)) (sym same)
+    (not_full (sessions_open_at s.world name) (last_number_at s.world name) number (last_number_at s.world name + 1) e)
 
 module _ (s mid : State) (name : Text) (there : has_repo s.world name ≡ true) (unspent : s.spent ≡ false) (first : mid ≡ s) (a : Answer) where
   -- no more can be opened

@@ -1,2 +1,4 @@
 pub mod Uploads
 pub mod Mounting
+pub mod Early
+pub mod Pushing

@@ -9,6 +9,7 @@ use Rattle.registry_model.specs.declared.range.RangeVerdict.{RangeVerdict}
 use Rattle.registry_model.specs.declared.range.RangeVerdict.TheVariants.{Fits, Malformed, OutOfOrder, Unequal}
 use Rattle.registry_model.specs.declared.refusal.Refusal.TheVariants.{DigestMismatch, ContentTooLarge, InvalidRange, RangeLength}
 use Rattle.registry_model.specs.declared.reply.Status.TheVariants.{Accepted}
+use Rattle.operation_parts.specs.Digests.{verifiable_in}
 use Rattle.registry_model.specs.World.{Repo, World}
 use Rattle.registry_model.specs.Limits.{largest, largest_blob, most_sessions}
 use Rattle.registry_model.specs.Answer.{Answer, refused}
@@ -44,6 +45,10 @@ chunk_refusal Fits name u length =
 chunk_refusal Malformed name u length = Some (refused InvalidRange)
 chunk_refusal OutOfOrder name u length = Some ((refuses_order name u.number u.size).reply)
 chunk_refusal Unequal name u length = Some (refused RangeLength)
+
+-- the digest that is given, where bytes can be verified against it
+abbrev pub given_digest : Option Text → Option Text
+given_digest given = option_and_then verifiable_in given
 
 -- the bytes of a session so far
 abbrev pub bytes_so_far : Repo → ℕ → Text

@@ -1,11 +1,13 @@
-ghost use Rattle.std.specs.Prelude.{◌≡◌, ◌≤◌, true, length};
+ghost use Rattle.std.specs.Prelude.{◌≡◌, ◌≤◌, true, length, nat_lt};
 ghost use Rattle.oci_types.specs.Digest.{matches};
 ghost use Rattle.registry_model.specs.Limits.{largest_blob};
 ghost use Rattle.registry_model.specs.Decision.{within_quota};
 ghost use Rattle.registry_model.specs.Blobs.{created_blob, with_blob, read_blob, size_blob, delete_blob, push_blob};
 ghost use Rattle.registry_model.specs.Keeping.{Spends};
 ghost use Rattle.operation_parts.specs.Operating.{Operates, IsUnspent, HasRepo, Answers, Carries};
+ghost use Rattle.blob_operations.specs.Pushing.{push_refusal};
 
+use crate::early::{after, found_or, within_quota};
 use oci_types::{Digest, Fault, RepoName, Verdict};
 use operation_parts::digests::read_digest;
 use operation_parts::quota::blob_goes_over;
@@ -29,12 +31,13 @@ pub fn read_blob<K: Keeper>(
     ensures spends { Spends result (K.state keeper.old) (K.state keeper.new) }
     ensures honest { K.is_honest keeper.new → K.is_honest keeper.old }
 {
-    let Some(digest) = read_digest(alloc, text)? else {
-        return Ok(Reply::refusal(Refusal::BlobUnknown));
+    let digest = match found_or(read_digest(alloc, text), Refusal::BlobUnknown) {
+        Ok(digest) => digest,
+        Err(reply) => return reply,
     };
-    match keeper.blob(alloc, name, &digest)? {
-        None => Ok(Reply::refusal(Refusal::BlobUnknown)),
-        Some(bytes) => Ok(found(digest, "application/octet-stream", Body::Owned(bytes))),
+    match found_or(keeper.blob(alloc, name, &digest), Refusal::BlobUnknown) {
+        Ok(bytes) => Ok(found(digest, "application/octet-stream", Body::Owned(bytes))),
+        Err(reply) => reply,
     }
 }
 
@@ -53,12 +56,13 @@ pub fn size_blob<K: Keeper>(
     ensures spends { Spends result (K.state keeper.old) (K.state keeper.new) }
     ensures honest { K.is_honest keeper.new → K.is_honest keeper.old }
 {
-    let Some(digest) = read_digest(alloc, text)? else {
-        return Ok(Reply::refusal(Refusal::BlobUnknown));
+    let digest = match found_or(read_digest(alloc, text), Refusal::BlobUnknown) {
+        Ok(digest) => digest,
+        Err(reply) => return reply,
     };
-    match keeper.blob_size(name, &digest)? {
-        None => Ok(Reply::refusal(Refusal::BlobUnknown)),
-        Some(size) => Ok(found(digest, "application/octet-stream", Body::Unsent(size))),
+    match found_or(keeper.blob_size(name, &digest), Refusal::BlobUnknown) {
+        Ok(size) => Ok(found(digest, "application/octet-stream", Body::Unsent(size))),
+        Err(reply) => reply,
     }
 }
 
@@ -78,14 +82,18 @@ pub fn delete_blob<K: Keeper>(
     ensures spends { Spends result (K.state keeper.old) (K.state keeper.new) }
     ensures honest { K.is_honest keeper.new → K.is_honest keeper.old }
 {
-    let Some(digest) = read_digest(alloc, text)? else {
-        return Ok(Reply::refusal(Refusal::BlobUnknown));
+    let digest = match found_or(read_digest(alloc, text), Refusal::BlobUnknown) {
+        Ok(digest) => digest,
+        Err(reply) => return reply,
     };
-    if keeper.blob_size(name, &digest)?.is_none() {
-        return Ok(Reply::refusal(Refusal::BlobUnknown));
+    let size = keeper.blob_size(name, &digest);
+    match found_or(size, Refusal::BlobUnknown) {
+        Ok(_) => after(
+            keeper.delete_blob(name, &digest),
+            Reply::bare(Status::Accepted),
+        ),
+        Err(reply) => reply,
     }
-    keeper.delete_blob(name, &digest)?;
-    Ok(Reply::bare(Status::Accepted))
 }
 
 /// Adds a blob within the quota of a repository that is there. The reply's memory is taken before the
@@ -109,14 +117,39 @@ fn add_blob<K: Keeper>(
     ensures spends { Spends result (K.state keeper.old) (K.state keeper.new) }
     ensures honest { K.is_honest keeper.new → K.is_honest keeper.old }
 {
-    if blob_goes_over(keeper, name, &digest, body.len() as u64, 0)? {
-        return Ok(Reply::refusal(Refusal::QuotaExceeded));
+    let over = blob_goes_over(keeper, name, &digest, body.len() as u64, 0);
+    match within_quota(over) {
+        Ok(()) => {}
+        Err(reply) => return reply,
     }
     let Ok(location) = blob_location(alloc, name, &digest) else {
         return Err(Fault::Memory);
     };
-    keeper.put_blob(name, &digest, body)?;
-    Ok(created_blob(location, digest))
+    let added = keeper.put_blob(name, &digest, body);
+    after(added, created_blob(location, digest))
+}
+
+/// Why so many bytes are not pushed, if they are not, by the verdict on their digest.
+fn push_refusal(verdict: Verdict, length: u64) -> Option<Refusal>
+    ensures { result ≡ push_refusal verdict (nat_lt largest_blob length) }
+{
+    match verdict {
+        Verdict::Unsupported => Some(Refusal::InvalidDigest),
+        Verdict::Differs => {
+            if length > LARGEST_BLOB {
+                Some(Refusal::ContentTooLarge)
+            } else {
+                Some(Refusal::DigestMismatch)
+            }
+        }
+        Verdict::Matches => {
+            if length > LARGEST_BLOB {
+                Some(Refusal::ContentTooLarge)
+            } else {
+                None
+            }
+        }
+    }
 }
 
 /// The push of a whole blob to a repository that is there. The body is hashed once.
@@ -136,24 +169,12 @@ pub fn push_blob<K: Keeper>(
     ensures spends { Spends result (K.state keeper.old) (K.state keeper.new) }
     ensures honest { K.is_honest keeper.new → K.is_honest keeper.old }
 {
-    let Some(digest) = read_digest(alloc, text)? else {
-        return Ok(Reply::refusal(Refusal::InvalidDigest));
+    let digest = match found_or(read_digest(alloc, text), Refusal::InvalidDigest) {
+        Ok(digest) => digest,
+        Err(reply) => return reply,
     };
-    match digest.verifies(body) {
-        Verdict::Unsupported => Ok(Reply::refusal(Refusal::InvalidDigest)),
-        Verdict::Differs => {
-            if body.len() as u64 > LARGEST_BLOB {
-                Ok(Reply::refusal(Refusal::ContentTooLarge))
-            } else {
-                Ok(Reply::refusal(Refusal::DigestMismatch))
-            }
-        }
-        Verdict::Matches => {
-            if body.len() as u64 > LARGEST_BLOB {
-                Ok(Reply::refusal(Refusal::ContentTooLarge))
-            } else {
-                add_blob(keeper, alloc, name, digest, body)
-            }
-        }
+    match push_refusal(digest.verifies(body), body.len() as u64) {
+        Some(refusal) => Ok(Reply::refusal(refusal)),
+        None => add_blob(keeper, alloc, name, digest, body),
     }
 }

@@ -10,6 +10,7 @@ ghost use Rattle.operation_parts.specs.Operating.{IsUnspent, HasRepo, Answers, C
 ghost use Rattle.blob_operations.specs.Mounting.{source_at};
 ghost use Rattle.operation_parts.specs.Finding.{Finds};
 
+use crate::early::{after, found_or, within_quota};
 use crate::uploads::open_session;
 use oci_types::{Digest, Fault, NameFault, RepoName, Token};
 use operation_parts::digests::read_digest;
@@ -79,14 +80,15 @@ fn mount_from<K: Keeper>(
     ensures spends { Spends result (K.state keeper.old) (K.state keeper.new) }
     ensures honest { K.is_honest keeper.new → K.is_honest keeper.old }
 {
-    if blob_goes_over(keeper, name, &digest, source.size, 0)? {
-        return Ok(Reply::refusal(Refusal::QuotaExceeded));
+    match within_quota(blob_goes_over(keeper, name, &digest, source.size, 0)) {
+        Ok(()) => {}
+        Err(reply) => return reply,
     }
     let Ok(location) = blob_location(alloc, name, &digest) else {
         return Err(Fault::Memory);
     };
-    keeper.mount(&source.name, name, &digest)?;
-    Ok(created_blob(location, digest))
+    let mounted = keeper.mount(&source.name, name, &digest);
+    after(mounted, created_blob(location, digest))
 }
 
 /// POST with `mount`: adds a blob that another repository has (OCI Distribution Specification 1.1,
@@ -110,8 +112,9 @@ pub fn mount_blob<K: Keeper>(
     ensures spends { Spends result (K.state keeper.old) (K.state keeper.new) }
     ensures honest { K.is_honest keeper.new → K.is_honest keeper.old }
 {
-    let Some(wanted) = read_digest(alloc, digest)? else {
-        return Ok(Reply::refusal(Refusal::InvalidDigest));
+    let wanted = match found_or(read_digest(alloc, digest), Refusal::InvalidDigest) {
+        Ok(digest) => digest,
+        Err(reply) => return reply,
     };
     match find_source(keeper, alloc, token, from, &wanted)? {
         None => open_session(keeper, alloc, name),

@@ -1,6 +1,6 @@
 //! The end of an upload session: its bytes become a blob.
 
-ghost use Rattle.std.specs.Prelude.{◌≡◌, ◌≤◌, ◌+◌, ◌++◌, true, length};
+ghost use Rattle.std.specs.Prelude.{◌≡◌, ◌≤◌, ◌+◌, ◌++◌, true, length, MatchResult};
 ghost use Rattle.oci_types.specs.Digest.{is_verified};
 ghost use Rattle.registry_model.specs.Limits.{largest_blob};
 ghost use Rattle.registry_model.specs.Ask.{text_in};
@@ -8,8 +8,9 @@ ghost use Rattle.registry_model.specs.Keeping.{Spends};
 ghost use Rattle.registry_model.specs.Sessions as sessions;
 ghost use Rattle.registry_model.specs.Sessions.{last_range_verdict};
 ghost use Rattle.operation_parts.specs.Operating.{Operates, IsUnspent, HasRepo, Answers, Carries};
-ghost use Rattle.blob_operations.specs.Uploads.{bytes_so_far, finish_with, IsOpen};
+ghost use Rattle.blob_operations.specs.Uploads.{bytes_so_far, finish_with, given_digest, IsOpen};
 
+use crate::early::{after, found_or, within_quota};
 use crate::uploads::{Upload, chunk_refusal, find_upload};
 use oci_types::{Digest, Fault, RepoName};
 use operation_parts::digests::{has_digest, verifiable_digest};
@@ -58,14 +59,16 @@ fn finish<K: Keeper>(
     if !has_digest(&digest, bytes) {
         return Ok(Reply::refusal(Refusal::DigestMismatch));
     }
-    if blob_goes_over(keeper, name, &digest, length, upload.size)? {
-        return Ok(Reply::refusal(Refusal::QuotaExceeded));
+    let over = blob_goes_over(keeper, name, &digest, length, upload.size);
+    match within_quota(over) {
+        Ok(()) => {}
+        Err(reply) => return reply,
     }
     let Ok(location) = blob_location(alloc, name, &digest) else {
         return Err(Fault::Memory);
     };
-    keeper.finish(name, upload.number, &digest, bytes)?;
-    Ok(created_blob(location, digest))
+    let finished = keeper.finish(name, upload.number, &digest, bytes);
+    after(finished, created_blob(location, digest))
 }
 
 /// Ends an upload session with a last chunk that is not refused, from the session's bytes, which are read
@@ -90,8 +93,10 @@ fn close_read<K: Keeper>(
     ensures spends { Spends result (K.state keeper.old) (K.state keeper.new) }
     ensures honest { K.is_honest keeper.new → K.is_honest keeper.old }
 {
-    let Some(mut bytes) = keeper.session(alloc, name, upload.number)? else {
-        return Ok(Reply::refusal(Refusal::UploadUnknown));
+    let held = keeper.session(alloc, name, upload.number);
+    let mut bytes = match found_or(held, Refusal::UploadUnknown) {
+        Ok(bytes) => bytes,
+        Err(reply) => return reply,
     };
     let Ok(()) = bytes.extend_from_slice(body) else {
         return Err(Fault::Memory);
@@ -138,6 +143,17 @@ fn close_with<K: Keeper>(
     close_read(keeper, alloc, name, upload, digest, body)
 }
 
+/// The digest that is given, where bytes can be verified against it.
+fn given_digest(alloc: Global, digest: Option<&str>) -> Result<Option<Digest>, Fault>
+    ensures { MatchResult result (λ found. found ≡ given_digest (text_in digest.entry))
+        (λ fault. fault ≡ Fault.Memory) }
+{
+    match digest {
+        Some(text) => verifiable_digest(alloc, text),
+        None => Ok(None),
+    }
+}
+
 /// PUT: ends an upload session, with a last chunk or none, and adds its bytes as a blob (OCI
 /// Distribution Specification 1.1, Pushing blobs). A refused request leaves the session as it was.
 pub fn close_session<K: Keeper>(
@@ -159,14 +175,13 @@ pub fn close_session<K: Keeper>(
     ensures spends { Spends result (K.state keeper.old) (K.state keeper.new) }
     ensures honest { K.is_honest keeper.new → K.is_honest keeper.old }
 {
-    let Some(upload) = find_upload(keeper, name, reference)? else {
-        return Ok(Reply::refusal(Refusal::UploadUnknown));
+    let upload = match found_or(find_upload(keeper, name, reference), Refusal::UploadUnknown) {
+        Ok(upload) => upload,
+        Err(reply) => return reply,
     };
-    let Some(text) = digest else {
-        return Ok(Reply::refusal(Refusal::InvalidDigest));
-    };
-    let Some(verifiable) = verifiable_digest(alloc, text)? else {
-        return Ok(Reply::refusal(Refusal::InvalidDigest));
+    let verifiable = match found_or(given_digest(alloc, digest), Refusal::InvalidDigest) {
+        Ok(digest) => digest,
+        Err(reply) => return reply,
     };
     let verdict = last_verdict(range, upload.size, body);
     match chunk_refusal(alloc, name, upload, verdict, body.len() as u64) {

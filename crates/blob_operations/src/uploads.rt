@@ -11,6 +11,7 @@ ghost use Rattle.operation_parts.specs.Operating.{Operates, IsUnspent, HasRepo, 
 ghost use Rattle.blob_operations.specs.Uploads.{upload_at, next_number_at, chunk_refusal, append_more, IsOpen};
 ghost use Rattle.operation_parts.specs.Finding.{Finds};
 
+use crate::early::{after, found_or, within_quota};
 use oci_types::{Fault, RepoName, session_number};
 use operation_parts::quota::goes_over;
 use operation_parts::replies::{out_of_order, session_reply};
@@ -80,14 +81,14 @@ pub fn open_session<K: Keeper>(
     ensures spends { Spends result (K.state keeper.old) (K.state keeper.new) }
     ensures honest { K.is_honest keeper.new → K.is_honest keeper.old }
 {
-    let Some(number) = next_number(keeper, name)? else {
-        return Ok(Reply::refusal(Refusal::TooManyUploads));
+    let number = match found_or(next_number(keeper, name), Refusal::TooManyUploads) {
+        Ok(number) => number,
+        Err(reply) => return reply,
     };
     let Ok(reply) = session_reply(alloc, Status::Accepted, name, number, 0) else {
         return Err(Fault::Memory);
     };
-    keeper.open_session(name)?;
-    Ok(reply)
+    after(keeper.open_session(name), reply)
 }
 
 /// GET or HEAD: how far an upload session is (OCI Distribution Specification 1.1, Pushing a blob in
@@ -107,8 +108,9 @@ pub fn read_session<K: Keeper>(
     ensures spends { Spends result (K.state keeper.old) (K.state keeper.new) }
     ensures honest { K.is_honest keeper.new → K.is_honest keeper.old }
 {
-    let Some(upload) = find_upload(keeper, name, reference)? else {
-        return Ok(Reply::refusal(Refusal::UploadUnknown));
+    let upload = match found_or(find_upload(keeper, name, reference), Refusal::UploadUnknown) {
+        Ok(upload) => upload,
+        Err(reply) => return reply,
     };
     match session_reply(alloc, Status::NoContent, name, upload.number, upload.size) {
         Ok(reply) => Ok(reply),
@@ -173,15 +175,15 @@ fn append<K: Keeper>(
     ensures honest { K.is_honest keeper.new → K.is_honest keeper.old }
 {
     let length = body.len() as u64;
-    if goes_over(keeper, name, length, 0)? {
-        return Ok(Reply::refusal(Refusal::QuotaExceeded));
+    match within_quota(goes_over(keeper, name, length, 0)) {
+        Ok(()) => {}
+        Err(reply) => return reply,
     }
     let size = upload.size + length;
     let Ok(reply) = session_reply(alloc, Status::Accepted, name, upload.number, size) else {
         return Err(Fault::Memory);
     };
-    keeper.append(name, upload.number, body)?;
-    Ok(reply)
+    after(keeper.append(name, upload.number, body), reply)
 }
 
 /// PATCH: puts a chunk behind the bytes of an upload session (OCI Distribution Specification 1.1,
@@ -204,8 +206,9 @@ pub fn append_chunk<K: Keeper>(
     ensures spends { Spends result (K.state keeper.old) (K.state keeper.new) }
     ensures honest { K.is_honest keeper.new → K.is_honest keeper.old }
 {
-    let Some(upload) = find_upload(keeper, name, reference)? else {
-        return Ok(Reply::refusal(Refusal::UploadUnknown));
+    let upload = match found_or(find_upload(keeper, name, reference), Refusal::UploadUnknown) {
+        Ok(upload) => upload,
+        Err(reply) => return reply,
     };
     let length = body.len() as u64;
     let verdict = range_fits(range, upload.size, length);

@@ -38,8 +38,8 @@ fn flag<'a>(alloc: Global, word: &'a str, help: &'a str) -> Arg<'a>
 }
 
 /// The argument that reads an option.
-pub(crate) fn argument<'a>(alloc: Global, given: SubOption<'a>) -> Arg<'a>
-    ensures { HasRule (rule_shown given.entry) result }
+pub(crate) fn argument<'a>(alloc: Global, given: &SubOption<'a>) -> Arg<'a>
+    ensures { HasRule (rule_shown given.now) result }
 {
     let word = given.word;
     let help = given.help;

@@ -8,6 +8,6 @@ pub mod arguments;
 pub mod grammar;
 mod options;
 mod results;
-pub mod subcommands;
+mod subcommands;
 
 pub use grammar::command;

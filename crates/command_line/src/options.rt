@@ -1,5 +1,4 @@
-//! The options of subcommands, in tables: each with its word, what it takes and its help. The tables are
-//! statics: a constant is written out, row by row, in each function that names it.
+//! The options of subcommands: each with its word, what it takes and its help.
 
 /// The largest number that an option takes: also the largest quota, and the most connections.
 const MOST: u64 = 9_223_372_036_854_775_807;
@@ -8,7 +7,6 @@ const MOST: u64 = 9_223_372_036_854_775_807;
 const LEAST_BUFFER: u64 = 134_217_728;
 
 /// What an option takes. Values are called in the help by the name that is given.
-#[derive(Clone, Copy)]
 pub enum Takes<'a> {
     /// Nothing: it is given or not.
     Nothing,
@@ -34,7 +32,6 @@ pub enum Takes<'a> {
 }
 
 /// An option of a subcommand.
-#[derive(Clone, Copy)]
 pub struct SubOption<'a> {
     pub word: &'a str,
     pub takes: Takes<'a>,
@@ -91,7 +88,7 @@ const JSON: SubOption<'static> = SubOption {
     help: "As one JSON array",
 };
 
-pub static STDIO: [SubOption<'static>; 4] = [
+pub const STDIO: &[SubOption<'static>] = &[
     DATABASE,
     SubOption {
         word: "memory",
@@ -111,7 +108,7 @@ pub static STDIO: [SubOption<'static>; 4] = [
 ];
 
 /// Of one that serves connections within limits.
-pub static SERVE: [SubOption<'static>; 9] = [
+pub const SERVE: &[SubOption<'static>] = &[
     DATABASE_WANTED,
     SubOption {
         word: "listen",
@@ -175,23 +172,23 @@ pub static SERVE: [SubOption<'static>; 9] = [
     },
 ];
 
-pub static STOP: [SubOption<'static>; 1] = [SubOption {
+pub const STOP: &[SubOption<'static>] = &[SubOption {
     word: "orders",
     takes: Takes::Required("PATH"),
     help: "The socket at which it takes orders",
 }];
 
 /// Of one over a database that no server holds.
-pub static OVER_DATABASE: [SubOption<'static>; 1] = [DATABASE_WANTED];
+pub const OVER_DATABASE: &[SubOption<'static>] = &[DATABASE_WANTED];
 
 /// Of one that orders something, of a database or of the server that holds it.
-pub static ORDERING: [SubOption<'static>; 2] = [DATABASE, ORDERS];
+pub const ORDERING: &[SubOption<'static>] = &[DATABASE, ORDERS];
 
 /// Of one over a repository.
-pub static OVER_REPO: [SubOption<'static>; 3] = [DATABASE, ORDERS, NAME];
+pub const OVER_REPO: &[SubOption<'static>] = &[DATABASE, ORDERS, NAME];
 
 /// Of one that sets the repository's quota.
-pub static OVER_QUOTA: [SubOption<'static>; 4] = [
+pub const OVER_QUOTA: &[SubOption<'static>] = &[
     DATABASE,
     ORDERS,
     NAME,
@@ -207,7 +204,7 @@ pub static OVER_QUOTA: [SubOption<'static>; 4] = [
 ];
 
 /// Of one that takes away what no manifest names, or lists it.
-pub static PRUNE: [SubOption<'static>; 4] = [
+pub const PRUNE: &[SubOption<'static>] = &[
     DATABASE,
     ORDERS,
     NAME,
@@ -219,13 +216,13 @@ pub static PRUNE: [SubOption<'static>; 4] = [
 ];
 
 /// Of one that lists something.
-pub static LISTING: [SubOption<'static>; 3] = [DATABASE, ORDERS, JSON];
+pub const LISTING: &[SubOption<'static>] = &[DATABASE, ORDERS, JSON];
 
 /// Of one that lists something of a repository.
-pub static LISTING_OF_REPO: [SubOption<'static>; 4] = [DATABASE, ORDERS, NAME, JSON];
+pub const LISTING_OF_REPO: &[SubOption<'static>] = &[DATABASE, ORDERS, NAME, JSON];
 
 /// Of one that lists the levels of one token or of all, on one repository or on all.
-pub static LISTING_OF_GRANTS: [SubOption<'static>; 7] = [
+pub const LISTING_OF_GRANTS: &[SubOption<'static>] = &[
     DATABASE,
     ORDERS,
     TOKEN,
@@ -239,7 +236,7 @@ pub static LISTING_OF_GRANTS: [SubOption<'static>; 7] = [
     JSON,
 ];
 
-pub static GRANT: [SubOption<'static>; 6] = [
+pub const GRANT: &[SubOption<'static>] = &[
     DATABASE,
     ORDERS,
     TOKEN,
@@ -257,4 +254,4 @@ pub static GRANT: [SubOption<'static>; 6] = [
 ];
 
 /// Of one that takes a level away, or all of a token's levels.
-pub static REVOKE: [SubOption<'static>; 5] = [DATABASE, ORDERS, TOKEN, TOKEN_FILE, NAME_IF];
+pub const REVOKE: &[SubOption<'static>] = &[DATABASE, ORDERS, TOKEN, TOKEN_FILE, NAME_IF];

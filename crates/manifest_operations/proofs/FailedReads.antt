@@ -40,3 +40,7 @@ read_ran_out show value (Ok x) e s s' before after is memory stays unspent late 
 read_ran_out {A} {B} show value (Err f) e s s' before after is memory stays unspent late honest =
     subst (λ (x : Fault). Told {A = A} {B = B} show (Err x) value s s' before after) (sym (is.1 ∙ memory))
     (let whole : Told {A = A} {B = B} show (Err Memory) value s s' before after = record { found = stays; spends = (unspent, late); honest = honest } in whole)
+
+-- what a read tells, in other words
+pub read_as : {A B : Type 0} (show : A → B) (r : Result A Fault) (value other : B) (s s' : State) (before after : Type 0) → value ≡ other → Told show r value s s' before after → Told show r other s s' before after
+read_as {A} {B} show r value other s s' before after same h = subst (λ x. Told {A = A} {B = B} show r x s s' before after) same h

@@ -1,4 +1,5 @@
 pub mod FailedReads
+pub mod EarlyLemmas
 pub mod ManifestLemmas
 pub mod PushLemmas
 pub mod ListingLemmas

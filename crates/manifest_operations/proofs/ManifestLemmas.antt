@@ -15,15 +15,16 @@ use Rattle.oci_types.proofs.ReferenceLaw.{no_tag_is_digest}
 use Rattle.oci_types.specs.declared.kind.Kind.{Kind}
 use Rattle.registry_model.specs.declared.refusal.Refusal.TheVariants.{ManifestUnknown}
 use Rattle.registry_model.specs.declared.reply.Reply.{Reply}
-use Rattle.registry_model.specs.declared.reply.Status.TheVariants.{OK}
+use Rattle.registry_model.specs.declared.reply.Status.TheVariants.{OK, Accepted}
 use Rattle.oci_types.specs.Kind.{media_type_of}
 use Rattle.registry_model.specs.World.{Repo, repo_at, has_repo}
 use Rattle.registry_model.specs.Answer.{Answer, Content, bare_answer, refused, sent, unsent}
-use Rattle.registry_model.specs.Decision.{Decision, refuses, tells}
-use Rattle.registry_model.specs.Manifests.{reference_digest, kind_in, manifest_reply, manifest_of_digest, found_manifest, read_manifest, found_manifest_size, size_manifest, delete_tag, delete_digest, delete_manifest}
-use Rattle.registry_model.specs.Lookups.{manifest_at, manifest_size_at}
+use Rattle.registry_model.specs.Decision.{Decision, refuses, tells, makes}
+use Rattle.registry_model.specs.Manifests.{reference_digest, kind_in, manifest_reply, manifest_of_digest, found_manifest, read_manifest, found_manifest_size, size_manifest, delete_tag, delete_digest, delete_manifest, without_tag, without_manifest}
+use Rattle.registry_model.specs.Lookups.{manifest_at, manifest_bytes_at, manifest_size_at, tag_at}
+use Rattle.registry_model.specs.Lookups as lookups
 use Rattle.registry_model.specs.Keeping.{State}
-use Rattle.operation_parts.proofs.RepoOutcomes.{there_is, Done, told}
+use Rattle.operation_parts.proofs.RepoOutcomes.{there_is, Done, told, made}
 use Rattle.operation_parts.specs.Operating.{Operates}
 
 -- ---- references
@@ -59,6 +60,12 @@ names_itself (Some r) h reference digest same d =
     ap Some same ∙ sym (ap (λ b. cond b (get r.tags reference) (cond (is_digest reference) (Some reference) None)) (digest_is_no_tag reference d)
     ∙ ap (λ b. cond b (Some reference) None) d)
 
+-- a tag names what it was set to
+pub names_tagged : (o : Option Repo) (reference tag : Text) → tag ≡ reference → is_tag reference ≡ true
+    → option_and_then (λ (r : Repo). get r.tags tag) o ≡ option_and_then (λ r. reference_digest r reference) o
+names_tagged None reference tag same t = refl
+names_tagged (Some r) reference tag same t = ap (get r.tags) same ∙ sym (ap (λ b. cond b (get r.tags reference) (cond (is_digest reference) (Some reference) None)) t)
+
 -- what is neither a tag nor a digest names nothing
 pub names_nothing : (o : Option Repo) → is_some o ≡ true → (reference : Text) → is_reference reference ≡ false
     → None ≡ option_and_then (λ r. reference_digest r reference) o
@@ -74,6 +81,10 @@ by_digest reference digest same d r =
     ap (delete_digest r) same ∙ sym (ap (λ b. cond b (delete_tag r reference) (cond (is_digest reference) (delete_digest r reference) (refuses ManifestUnknown))) (digest_is_no_tag reference d)
     ∙ ap (λ b. cond b (delete_digest r reference) (refuses ManifestUnknown)) d)
 
+sized : (o : Option Text) (size : Kind × ℕ) → Some size ≡ option_map (λ bytes. (kind_in bytes, length bytes)) o → is_some o ≡ true
+sized None size e = absurd (cc)
+sized (Some bytes) size e = refl
+
 -- deletion by a digest is that of the digest
 pub deletes_digest : (result : Result Reply Fault) (name reference digest : Text) (s s' : State) → digest ≡ reference → is_digest reference ≡ true
     → Operates result name (λ r. delete_digest r digest) s s' → Operates result name (λ r. delete_manifest r reference) s s'
@@ -88,6 +99,59 @@ deletes_nothing s name reference there unspent n a e =
     told s s name (λ r. delete_manifest r reference) r.0 r.1 a _ e unspent refl
     (ap (λ b. cond b (delete_tag r.0 reference) (cond (is_digest reference) (delete_digest r.0 reference) (refuses ManifestUnknown))) (no_reference_is_no_tag reference n)
     ∙ ap (λ b. cond b (delete_digest r.0 reference) (refuses ManifestUnknown)) (no_reference_is_no_digest reference n))
+
+-- and deletion by a tag that of the tag
+pub deletes_tag : (result : Result Reply Fault) (name reference tag : Text) (s s' : State) → tag ≡ reference → is_tag reference ≡ true
+    → Operates result name (λ r. delete_tag r tag) s s' → Operates result name (λ r. delete_manifest r reference) s s'
+deletes_tag result name reference tag s s' same t h =
+    subst (λ (act : Repo → Decision). Operates result name act s s')
+    (λ i r. (ap (delete_tag r) same ∙ sym (ap (λ b. cond b (delete_tag r reference) (cond (is_digest reference) (delete_digest r reference) (refuses ManifestUnknown))) t)) i) h
+
+module _ (s s' : State) (name : Text) (there : has_repo s.world name ≡ true) (unspent : s.spent ≡ false) (a : Answer) where
+  pub tag_unknown : (tag : Text) → s' ≡ s → None ≡ tag_at s.world name tag → a ≡ refused ManifestUnknown → Done a name (λ r. delete_tag r tag) s s'
+  tag_unknown tag stays none e =
+      let r = there_is (repo_at s.world name) there in
+      let here : get r.0.tags tag ≡ None = sym (none ∙ ap (λ o. option_and_then (λ (r : Repo). get r.tags tag) o) r.1) in
+      told s s' name (λ r. delete_tag r tag) r.0 r.1 a _ e unspent stays (ap (λ o. cond (is_some o) (makes (bare_answer Accepted) (without_tag r.0 tag)) (refuses ManifestUnknown)) here)
+
+  pub tag_taken : (tag digest : Text) → Some digest ≡ tag_at s.world name tag → s' ≡ record { world = lookups.delete_tag s.world name tag; spent = false } → a ≡ bare_answer Accepted
+      → Done a name (λ r. delete_tag r tag) s s'
+  tag_taken tag digest some after e =
+      let r = there_is (repo_at s.world name) there in
+      let here : get r.0.tags tag ≡ Some digest = sym (some ∙ ap (λ o. option_and_then (λ (r : Repo). get r.tags tag) o) r.1) in
+      made s s' name (λ r. delete_tag r tag) r.0 r.1 a _ e (λ r. without_tag r tag) after
+      (ap (λ o. cond (is_some o) (makes (bare_answer Accepted) (without_tag r.0 tag)) (refuses ManifestUnknown)) here)
+
+  pub digest_unknown : (digest : Text) → s' ≡ s → None ≡ manifest_size_at s.world name digest → a ≡ refused ManifestUnknown → Done a name (λ r. delete_digest r digest) s s'
+  digest_unknown digest stays none e =
+      let r = there_is (repo_at s.world name) there in
+      let here : is_some (get r.0.manifests digest) ≡ false =
+      unsized (get r.0.manifests digest) (none ∙ ap (λ o. option_map (λ bytes. (kind_in bytes, length bytes)) (option_and_then (λ (r : Repo). get r.manifests digest) o)) r.1) in
+      told s s' name (λ r. delete_digest r digest) r.0 r.1 a _ e unspent stays (ap (λ b. cond b (makes (bare_answer Accepted) (without_manifest r.0 digest)) (refuses ManifestUnknown)) here)
+    where
+      unsized : (o : Option Text) → None ≡ option_map {U = Kind × ℕ} (λ bytes. (kind_in bytes, length bytes)) o → is_some o ≡ false
+      unsized None e = refl
+      unsized (Some bytes) e = absurd (cc)
+
+  pub digest_taken : (digest : Text) (size : Kind × ℕ) → Some size ≡ manifest_size_at s.world name digest → s' ≡ record { world = lookups.delete_manifest s.world name digest; spent = false }
+      → a ≡ bare_answer Accepted → Done a name (λ r. delete_digest r digest) s s'
+  digest_taken digest size some after e =
+      let r = there_is (repo_at s.world name) there in
+      let here : is_some (get r.0.manifests digest) ≡ true =
+      sized (get r.0.manifests digest) size (some ∙ ap (λ o. option_map (λ bytes. (kind_in bytes, length bytes)) (option_and_then (λ (r : Repo). get r.manifests digest) o)) r.1) in
+      made s s' name (λ r. delete_digest r digest) r.0 r.1 a _ e (λ r. without_manifest r digest) after
+      (ap (λ b. cond b (makes (bare_answer Accepted) (without_manifest r.0 digest)) (refuses ManifestUnknown)) here)
+
+pub tag_there : (s mid : State) (name tag digest : Text) → mid ≡ s → Some digest ≡ tag_at s.world name tag → is_some (tag_at mid.world name tag) ≡ true
+tag_there s mid name tag digest same some = subst (λ (x : State). is_some (tag_at x.world name tag) ≡ true) (sym same) (ap is_some (sym some))
+
+pub digest_there : (s mid : State) (name digest : Text) (size : Kind × ℕ) → mid ≡ s → Some size ≡ manifest_size_at s.world name digest → is_some (manifest_at mid.world name digest) ≡ true
+digest_there s mid name digest size same some =
+    subst (λ (x : State). is_some (manifest_at x.world name digest) ≡ true) (sym same) (shown (manifest_bytes_at s.world name digest) (sized (manifest_bytes_at s.world name digest) size some))
+  where
+    shown : (o : Option Text) → is_some o ≡ true → is_some (option_map {U = Kind × Text} (λ bytes. (kind_in bytes, bytes)) o) ≡ true
+    shown None e = absurd (cc)
+    shown (Some bytes) e = refl
 
 -- ---- GET and HEAD
 

@@ -1,5 +1,5 @@
 -- The push of a manifest to a repository that is there.
-use Rattle.std.proofs.Common.{◌≡◌, ◌∙◌, ℕ, zero, suc, ◌+◌, ◌<◌, List, [], ◌∷◌, ◌++◌, length, take, get_or, add-one, Bool, true, false, cond, not, ◌&&◌, ◌||◌, None, Some, Ok, Err, refl, sym, ap, subst, arith}
+use Rattle.std.proofs.Common.{◌≡◌, ◌∙◌, ℕ, zero, suc, ◌+◌, ◌<◌, List, [], ◌∷◌, ◌++◌, length, take, get_or, add-one, Bool, true, false, cond, not, ◌&&◌, ◌||◌, None, Some, Ok, Err, String, Global, refl, sym, ap, subst, arith}
 use Rattle.std.specs.Prelude.{Option, option_map, is_some, nat_lt, Result}
 use Rattle.std.specs.Option.{option_and_then, option_map_or}
 use Rattle.std.specs.List.{list_all}
@@ -9,7 +9,7 @@ use Rattle.std.proofs.lemmas.List.Folds.{list_all-append}
 use Rattle.oci_types.specs.Text.{Text}
 use Rattle.oci_types.specs.Tag.{is_tag}
 use Rattle.oci_types.specs.Digest.{is_digest, is_verified, matches, sha256_digest, verdict_of}
-use Rattle.oci_types.specs.Reference.{IsSaidBy}
+use Rattle.oci_types.specs.Reference.{IsSaidBy, is_reference}
 use Rattle.oci_types.specs.declared.reference.Reference.{Reference}
 use Rattle.oci_types.specs.declared.reference.Reference.TheVariants.{Tag, Digest}
 use Rattle.oci_types.specs.declared.fault.Fault.{Fault}
@@ -18,7 +18,10 @@ use Rattle.oci_types.specs.declared.digest.Verdict.TheVariants.{Matches, Differs
 use Rattle.oci_types.specs.declared.manifest_fault.ManifestFault.{ManifestFault}
 use Rattle.oci_types.specs.Manifest.{ManifestShown, manifest_in}
 use Rattle.registry_model.specs.declared.refusal.Refusal.TheVariants.{InvalidReference, ContentTooLarge, InvalidDigest, DigestMismatch, InvalidManifest, ManifestBlobUnknown, QuotaExceeded}
+use Rattle.registry_model.specs.declared.refusal.Refusal.{Refusal}
 use Rattle.registry_model.specs.declared.reply.Reply.{Reply}
+use Rattle.registry_model.specs.Doing.{course_of_answer, answered}
+use Rattle.registry_model.specs.Heads.{is_sent}
 use Rattle.registry_model.specs.World.{Repo, World, repo_at, has_repo}
 use Rattle.registry_model.specs.Limits.{largest_manifest}
 use Rattle.registry_model.specs.Answer.{Answer, refused}
@@ -28,10 +31,11 @@ use Rattle.registry_model.specs.Lookups.{blob_size_at, put_manifest}
 use Rattle.registry_model.specs.Keeping.{State}
 use Rattle.operation_parts.specs.Operating.{Operates}
 use Rattle.operation_parts.specs.Quota.{grows_over, new_length, manifest_grows_over}
-use Rattle.manifest_operations.specs.Push.{has_needs_at, keep_manifest, push_typed, push_under, push_checked}
+use Rattle.manifest_operations.specs.Push.{has_needs_at, kept_answer, keep_manifest, push_typed, push_under, push_checked}
 use Rattle.operation_parts.proofs.RepoOutcomes.{there_is, Done, told, made}
-use Rattle.manifest_operations.proofs.ManifestLemmas.{digest_is_no_tag}
+use Rattle.manifest_operations.proofs.ManifestLemmas.{digest_is_no_tag, no_reference_is_no_tag, no_reference_is_no_digest}
 use Rattle.operation_parts.proofs.DigestLemmas.{and_false}
+use Rattle.manifest_operations.proofs.EarlyLemmas.{refusal_answers}
 use Rattle.operation_parts.proofs.QuotaLemmas.{manifest_over}
 
 -- ---- what is needed
@@ -109,6 +113,15 @@ module _ (s : State) (name digest : Text) (tag : Option Text) (body : Text) (m :
         (wrote ∙ ap {A = State} {B = State} (λ m. record { world = put_manifest m.world name digest body tag; spent = false }) (second ∙ first))
         (at_repo r.0 r.1 ∙ ap (λ b. cond b (refuses QuotaExceeded) (makes (created_manifest name digest m.subject) (with_manifest r.0 digest body tag))) fails)
 
+-- what is kept is answered, with its content
+pub kept_answers : (digest : Text) (subject : Option Text) (it : Result (String Global) Refusal) → course_of_answer (kept_answer digest subject it) ≡ answered
+kept_answers digest subject (Ok location) = refl
+kept_answers digest subject (Err e) = refusal_answers e
+
+pub kept_sent : (digest : Text) (subject : Option Text) (it : Result (String Global) Refusal) → is_sent (kept_answer digest subject it).body ≡ true
+kept_sent digest subject (Ok location) = refl
+kept_sent digest subject (Err e) = refl
+
 -- a content type of its kind
 pub of_its_kind : (s s' : State) (name digest : Text) (tag content_type : Option Text) (body : Text) (m : ManifestShown) (b : Bool) → b ≡ content_type_fits content_type m.kind → b ≡ true
     → (a : Answer) → Done a name (λ r. keep_manifest r name digest tag body m) s s' → Done a name (λ r. push_typed r name digest tag content_type body m) s s'
@@ -151,6 +164,15 @@ module _ (s : State) (name digest : Text) (content_type : Option Text) (body : T
       told s s name (λ r. push_checked r name digest content_type body (verdict_of digest body)) r.0 r.1 a _ e unspent refl
       (ap (push_checked r.0 name digest content_type body) (sym is ∙ found))
 
+matched : (v m : Bool) → cond v (cond m Matches Differs) Unsupported ≡ Matches → m ≡ true
+matched true true e = refl
+matched true false e = absurd (cc)
+matched false m e = absurd (cc)
+
+-- bytes of that digest
+pub matches_it : (digest body : Text) → verdict_of digest body ≡ Matches → matches digest body ≡ true
+matches_it digest body e = matched (is_verified digest) (matches digest body) e
+
 -- ---- the whole push, by its steps
 
 read_is : (r : Repo) (name reference : Text) (content_type : Option Text) (body : Text) (read : Result ManifestShown ManifestFault)
@@ -189,6 +211,12 @@ module _ (r : Repo) (name reference : Text) (content_type : Option Text) (body :
       ∙ ap (λ d. by_tests false d (nat_lt largest_manifest (length body)) (is_verified reference) (matches reference body)) d
       ∙ ap (λ l. by_tests false true l (is_verified reference) (matches reference body)) l
 
+  unnamed : is_reference reference ≡ false → push_manifest r name reference content_type body ≡ refuses InvalidReference
+  unfolding by_tests
+  unnamed n =
+      whole ∙ ap (λ t. by_tests t (is_digest reference) (nat_lt largest_manifest (length body)) (is_verified reference) (matches reference body)) (no_reference_is_no_tag reference n)
+      ∙ ap (λ d. by_tests false d (nat_lt largest_manifest (length body)) (is_verified reference) (matches reference body)) (no_reference_is_no_digest reference n)
+
   by_tag : is_tag reference ≡ true → nat_lt largest_manifest (length body) ≡ false
       → push_manifest r name reference content_type body ≡ push_under r name (sha256_digest body) (Some reference) content_type body (manifest_in body)
   unfolding by_tests
@@ -223,6 +251,12 @@ module _ (name reference : Text) (content_type : Option Text) (body : Text) wher
     refuses_large_digest d l e =
         let r = there_is (repo_at s.world name) there in
         told s s name (λ r. push_manifest r name reference content_type body) r.0 r.1 a _ e unspent refl (large_digest r.0 name reference content_type body d l)
+
+    -- no reference
+    pub refuses_unnamed : is_reference reference ≡ false → a ≡ refused InvalidReference → Done a name (λ r. push_manifest r name reference content_type body) s s
+    refuses_unnamed n e =
+        let r = there_is (repo_at s.world name) there in
+        told s s name (λ r. push_manifest r name reference content_type body) r.0 r.1 a _ e unspent refl (unnamed r.0 name reference content_type body n)
 
     pub refuses_large : (v : Reference) → IsSaidBy reference v → nat_lt largest_manifest (length body) ≡ true → a ≡ refused ContentTooLarge
         → Done a name (λ r. push_manifest r name reference content_type body) s s

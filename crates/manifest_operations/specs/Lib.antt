@@ -1,3 +1,4 @@
 pub mod Push
 pub mod Listing
 pub mod Pruning
+pub mod Early

@@ -4,7 +4,8 @@ use Rattle.std.specs.List.{filter_map}
 use Rattle.oci_types.specs.Text.{Text}
 use Rattle.oci_types.specs.Referrers.{ReferrerShown}
 use Rattle.registry_model.specs.Manifests.{is_text}
-use Rattle.registry_model.specs.Referrers.{referrer_in, is_wanted}
+use Rattle.registry_model.specs.Answer.{Answer}
+use Rattle.registry_model.specs.Referrers.{referrer_in, is_wanted, referrers_reply}
 
 -- a filter lets an artifact type through
 abbrev pub lets_through : Option Text → Option Text → Bool
@@ -19,3 +20,7 @@ added_by wanted (Some referrer) = if lets_through wanted referrer.artifact_type 
 -- of manifests the referrers that are wanted; what does not read is none
 abbrev pub wanted_of : Option Text → List (Text × Text) → List ReferrerShown
 wanted_of wanted entries = filter (is_wanted wanted) (filter_map referrer_in entries)
+
+-- the reply that lists them
+abbrev pub manifests_reply : Option Text → List (Text × Text) → Answer
+manifests_reply wanted entries = referrers_reply wanted (wanted_of wanted entries)

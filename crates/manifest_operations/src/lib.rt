@@ -3,6 +3,7 @@
 #![tactic(auto)]
 
 mod content_type;
+mod early;
 pub mod listing;
 pub mod manifest_push;
 pub mod manifests;

@@ -9,8 +9,9 @@ ghost use Rattle.registry_model.specs.TagPage.{size_in, text_or_empty, link_behi
 ghost use Rattle.registry_model.specs.Referrers.{referrer_in, filter_in, referrers_reply, list_referrers};
 ghost use Rattle.oci_types.specs.Referrers.{referrer_shown, referrers_shown};
 ghost use Rattle.operation_parts.specs.Operating.{Operates, IsUnspent, HasRepo, Answers, Carries};
-ghost use Rattle.manifest_operations.specs.Listing.{lets_through, added_by, wanted_of};
+ghost use Rattle.manifest_operations.specs.Listing.{lets_through, added_by, wanted_of, manifests_reply};
 
+use crate::early::found_or;
 use oci_documents::{read_manifest, referrers_text, tags_text};
 use oci_types::{Digest, Fault, Kind, Manifest, ManifestFault, Referrer, RepoName, Tag};
 use operation_parts::digests::read_digest;
@@ -108,7 +109,7 @@ pub fn list_tags<K: Keeper>(
         return Ok(Reply::refusal(Refusal::InvalidPageSize));
     };
     let (tags, more) = keeper.tags_after(alloc, name, text_or_empty(last), n)?;
-    Ok(tags_reply(alloc, name, n, &tags, more)?)
+    tags_reply(alloc, name, n, &tags, more)
 }
 
 /// The artifact type that a query asks for, if it does.
@@ -222,6 +223,20 @@ fn referrers_reply(
     Ok(reply)
 }
 
+/// The referrers among manifests as a reply.
+fn manifests_reply(
+    alloc: Global,
+    manifests: Vec<(Digest, Vec<u8>)>,
+    wanted: Option<&str>,
+) -> Result<Reply, Fault>
+    ensures { MatchResult result
+        (λ reply. answer_of reply ≡ manifests_reply (text_in wanted.entry) (entries_shown manifests))
+        (λ fault. fault ≡ Fault.Memory) }
+{
+    let referrers = read_referrers(alloc, manifests, wanted)?;
+    referrers_reply(alloc, wanted, &referrers)
+}
+
 /// The manifests of a repository that is there whose subject is the digest, there or not, of the
 /// artifact type that is asked for.
 pub fn list_referrers<K: Keeper>(
@@ -241,11 +256,10 @@ pub fn list_referrers<K: Keeper>(
     ensures spends { Spends result (K.state keeper.old) (K.state keeper.new) }
     ensures honest { K.is_honest keeper.new → K.is_honest keeper.old }
 {
-    let Some(digest) = read_digest(alloc, digest)? else {
-        return Ok(Reply::refusal(Refusal::InvalidDigest));
+    let digest = match found_or(read_digest(alloc, digest), Refusal::InvalidDigest) {
+        Ok(digest) => digest,
+        Err(reply) => return reply,
     };
     let manifests = keeper.manifests_of_subject(alloc, name, &digest)?;
-    let wanted = filter_in(artifact_type);
-    let referrers = read_referrers(alloc, manifests, wanted)?;
-    Ok(referrers_reply(alloc, wanted, &referrers)?)
+    manifests_reply(alloc, manifests, filter_in(artifact_type))
 }

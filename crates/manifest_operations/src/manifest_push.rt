@@ -9,7 +9,8 @@ ghost use Rattle.registry_model.specs.Ask.{text_in};
 ghost use Rattle.registry_model.specs.Keeping.{Spends};
 ghost use Rattle.registry_model.specs.Manifests.{push_manifest};
 ghost use Rattle.operation_parts.specs.Operating.{Operates, IsUnspent, HasRepo, Answers, Carries};
-ghost use Rattle.manifest_operations.specs.Push.{has_needs_at, push_typed, Keeps, push_under, push_checked};
+ghost use Rattle.manifest_operations.specs.Early.{Says};
+ghost use Rattle.manifest_operations.specs.Push.{has_needs_at, push_typed, kept_answer, Keeps, push_under, push_checked};
 ghost use Rattle.operation_parts.specs.Finding.{Finds};
 
 use crate::content_type::content_type_fits;
@@ -84,6 +85,21 @@ fn subject_of(manifest: Manifest) -> Option<Digest>
     subject
 }
 
+/// The reply of a manifest that was kept, or of why it was not.
+fn kept_reply(
+    kept: Result<Result<String, Refusal>, Fault>,
+    digest: Digest,
+    subject: Option<Digest>,
+) -> Result<Reply, Fault>
+    ensures { Says (kept_answer digest subject) kept result }
+{
+    match kept {
+        Err(fault) => Err(fault),
+        Ok(Err(refusal)) => Ok(Reply::refusal(refusal)),
+        Ok(Ok(location)) => Ok(created_manifest(location, digest, subject)),
+    }
+}
+
 /// The same, and the reply. What a manifest owns is dear to drop at each end, so it has one here.
 fn keep_manifest<K: Keeper>(
     keeper: &mut K,
@@ -118,12 +134,7 @@ fn keep_manifest<K: Keeper>(
         body,
         &manifest,
     );
-    let subject = subject_of(manifest);
-    match kept {
-        Err(fault) => Err(fault),
-        Ok(Err(refusal)) => Ok(Reply::refusal(refusal)),
-        Ok(Ok(location)) => Ok(created_manifest(location, digest, subject)),
-    }
+    kept_reply(kept, digest, subject_of(manifest))
 }
 
 /// The push of bytes that match the digest.

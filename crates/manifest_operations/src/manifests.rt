@@ -6,6 +6,7 @@ ghost use Rattle.registry_model.specs.Manifests.{reference_digest, read_manifest
 ghost use Rattle.operation_parts.specs.Operating.{Operates, IsUnspent, HasRepo, Answers, Carries};
 ghost use Rattle.operation_parts.specs.Finding.{FindsIn};
 
+use crate::early::{after, found_or};
 use oci_types::{Digest, Fault, NameFault, Reference, RepoName, Tag};
 use operation_parts::replies::found;
 use registry_model::{Body, Keeper, Refusal, Reply, Status};
@@ -52,12 +53,17 @@ pub fn read_manifest<K: Keeper>(
     ensures spends { Spends result (K.state keeper.old) (K.state keeper.new) }
     ensures honest { K.is_honest keeper.new → K.is_honest keeper.old }
 {
-    let Some(digest) = find_digest(keeper, alloc, name, reference)? else {
-        return Ok(Reply::refusal(Refusal::ManifestUnknown));
+    let named = find_digest(keeper, alloc, name, reference);
+    let digest = match found_or(named, Refusal::ManifestUnknown) {
+        Ok(digest) => digest,
+        Err(reply) => return reply,
     };
-    match keeper.manifest(alloc, name, &digest)? {
-        None => Ok(Reply::refusal(Refusal::ManifestUnknown)),
-        Some((kind, bytes)) => Ok(found(digest, kind.media_type(), Body::Owned(bytes))),
+    match found_or(
+        keeper.manifest(alloc, name, &digest),
+        Refusal::ManifestUnknown,
+    ) {
+        Ok((kind, bytes)) => Ok(found(digest, kind.media_type(), Body::Owned(bytes))),
+        Err(reply) => reply,
     }
 }
 
@@ -76,12 +82,17 @@ pub fn size_manifest<K: Keeper>(
     ensures spends { Spends result (K.state keeper.old) (K.state keeper.new) }
     ensures honest { K.is_honest keeper.new → K.is_honest keeper.old }
 {
-    let Some(digest) = find_digest(keeper, alloc, name, reference)? else {
-        return Ok(Reply::refusal(Refusal::ManifestUnknown));
+    let named = find_digest(keeper, alloc, name, reference);
+    let digest = match found_or(named, Refusal::ManifestUnknown) {
+        Ok(digest) => digest,
+        Err(reply) => return reply,
     };
-    match keeper.manifest_size(name, &digest)? {
-        None => Ok(Reply::refusal(Refusal::ManifestUnknown)),
-        Some((kind, size)) => Ok(found(digest, kind.media_type(), Body::Unsent(size))),
+    match found_or(
+        keeper.manifest_size(name, &digest),
+        Refusal::ManifestUnknown,
+    ) {
+        Ok((kind, size)) => Ok(found(digest, kind.media_type(), Body::Unsent(size))),
+        Err(reply) => reply,
     }
 }
 
@@ -92,6 +103,7 @@ fn delete_tag<K: Keeper>(
     name: &RepoName,
     tag: &Tag,
 ) -> Result<Reply, Fault>
+    requires unspent { IsUnspent (K.state keeper.old) }
     requires there { K.is_honest keeper.old → HasRepo (K.state keeper.old) name.now }
     ensures comes { K.is_honest keeper.new →
         Operates result name.now (λ r. delete_tag r tag.now) (K.state keeper.old) (K.state keeper.new) }
@@ -100,11 +112,10 @@ fn delete_tag<K: Keeper>(
     ensures spends { Spends result (K.state keeper.old) (K.state keeper.new) }
     ensures honest { K.is_honest keeper.new → K.is_honest keeper.old }
 {
-    if keeper.tag(alloc, name, tag)?.is_none() {
-        return Ok(Reply::refusal(Refusal::ManifestUnknown));
+    match found_or(keeper.tag(alloc, name, tag), Refusal::ManifestUnknown) {
+        Ok(_) => after(keeper.delete_tag(name, tag), Reply::bare(Status::Accepted)),
+        Err(reply) => reply,
     }
-    keeper.delete_tag(name, tag)?;
-    Ok(Reply::bare(Status::Accepted))
 }
 
 /// Takes a manifest away, and each tag that names it.
@@ -113,6 +124,7 @@ fn delete_digest<K: Keeper>(
     name: &RepoName,
     digest: &Digest,
 ) -> Result<Reply, Fault>
+    requires unspent { IsUnspent (K.state keeper.old) }
     requires there { K.is_honest keeper.old → HasRepo (K.state keeper.old) name.now }
     ensures comes { K.is_honest keeper.new →
         Operates result name.now (λ r. delete_digest r digest.now) (K.state keeper.old) (K.state keeper.new) }
@@ -121,11 +133,13 @@ fn delete_digest<K: Keeper>(
     ensures spends { Spends result (K.state keeper.old) (K.state keeper.new) }
     ensures honest { K.is_honest keeper.new → K.is_honest keeper.old }
 {
-    if keeper.manifest_size(name, digest)?.is_none() {
-        return Ok(Reply::refusal(Refusal::ManifestUnknown));
+    match found_or(keeper.manifest_size(name, digest), Refusal::ManifestUnknown) {
+        Ok(_) => after(
+            keeper.delete_manifest(name, digest),
+            Reply::bare(Status::Accepted),
+        ),
+        Err(reply) => reply,
     }
-    keeper.delete_manifest(name, digest)?;
-    Ok(Reply::bare(Status::Accepted))
 }
 
 /// DELETE in a repository that is there: by tag of that tag alone, by digest of the manifest and of

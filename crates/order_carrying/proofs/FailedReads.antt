@@ -1,5 +1,5 @@
 -- What is returned where a read of the service failed, or memory ran out.
-use Rattle.std.proofs.Common.{◌≡◌, ◌∙◌, Bool, false, Ok, Err, sym, subst}
+use Rattle.std.proofs.Common.{◌≡◌, ◌∙◌, Bool, false, List, ◌++◌, Ok, Err, sym, subst}
 use Rattle.std.specs.Prelude.{Result, Option, String, ⊤}
 use Rattle.std.specs.Result.{IsErr, IsErrAnd}
 use Rattle.std.specs.declared.alloc.Global.{Global}
@@ -7,7 +7,7 @@ use Rattle.oci_types.specs.Text.{Text}
 use Rattle.oci_types.specs.declared.fault.Fault.{Fault}
 use Rattle.oci_types.specs.declared.fault.Fault.TheVariants.{Memory, Storage}
 use Rattle.registry_model.specs.Keeping.{State, ReadsBy, ReadsSo, Spends}
-use Rattle.order_carrying.specs.Reading.{TellsText}
+use Rattle.order_carrying.specs.Reading.{TellsText, IsAdded}
 
 -- nothing changed, where memory was wanting
 abbrev pub Stays : Fault → State → State → Type 0
@@ -74,3 +74,56 @@ tells (Err f) IsSo e s s' before after is h = by_fault f (subst (λ x. Failed x 
     by_fault : (f : Fault) → Failed f s s' before after → record { found : after → TellsText (Err f) IsSo s s'; spends : Spends {A = Option (String Global)} (Err f) s s'; honest : after → before }
     by_fault Memory h = record { found = h.stays; spends = h.spends; honest = h.honest }
     by_fault Storage h = record { found = λ honest. tt; spends = h.spends; honest = h.honest }
+
+-- ---- a read of which what it found is returned
+
+pub so_by : {A B : Type 0} (show : A → B) (IsSo : A → Type 0) (r : Result A Fault) (value : B) (s mid s' : State) → ReadsBy show r value mid s' → mid ≡ s → ((v : A) → show v ≡ value → IsSo v) → ReadsSo IsSo r s s'
+so_by show IsSo (Ok v) value s mid s' read same is = (is v read.0, read.1 ∙ same)
+so_by show IsSo (Err Memory) value s mid s' read same is = read ∙ same
+so_by show IsSo (Err Storage) value s mid s' read same is = tt
+
+pub spends_later : {A : Type 0} (r : Result A Fault) (s mid s' : State) → s.spent ≡ false → Spends r mid s' → Spends r s s'
+spends_later (Ok v) s mid s' unspent spends = (unspent, spends.1)
+spends_later (Err Memory) s mid s' unspent spends = (unspent, spends.1)
+spends_later (Err Storage) s mid s' unspent spends = spends
+
+-- ---- a read of which what it found is put behind other items
+
+pub not_pushed : {A B : Type 0} (shown : A → List B) (found : Result A Fault) (e : Fault) (r : Result (Unit {0}) Fault) (old new : List B) → found ≡ Err e → IsErr r × IsErrAnd r (λ f. f ≡ e) → IsAdded found r shown old new
+not_pushed shown (Ok x) e r old new was is = absurd (let bad : Ok x ≡ Err e = was in cc)
+not_pushed shown (Err f) e (Ok v) old new was is = absurd is.1
+not_pushed shown (Err f) e (Err fault) old new was is = let same : f ≡ e = cc in is.1 ∙ sym same
+
+pub record Added {A B C : Type 0} (show : A → C) (shown : A → List B) (value : C) (old new : List B) (s s' : State) (before after : Type 0) : Type 0 where
+  pub item : A
+  pub added : new ≡ old ++ shown item
+  pub told : after → (show item ≡ value) × (s' ≡ s)
+  pub unspent : s'.spent ≡ false
+  pub honest : after → before
+
+pub added_by : {A B C : Type 0} (show : A → C) (shown : A → List B) (r : Result A Fault) (v : Unit {0}) (value : C) (old new : List B) (s s' : State) (before after : Type 0) → By show r value s s' before after → IsAdded r (Ok v) shown old new → Added show shown value old new s s' before after
+added_by show shown (Ok x) v value old new s s' before after read added = record { item = x; added = added; told = read.found; unspent = read.spends.1; honest = read.honest }
+added_by show shown (Err f) v value old new s s' before after read added = absurd added
+
+pub not_added_by : {A B C : Type 0} (show : A → C) (shown : A → List B) (r : Result A Fault) (e : Fault) (value : C) (old new : List B) (s s' : State) (before after : Type 0) → By show r value s s' before after → IsAdded r (Err e) shown old new → Failed e s s' before after
+not_added_by show shown (Ok x) e value old new s s' before after read added =
+    ran_out e s s' before after added (λ honest. (read.found honest).1) read.spends.0 read.spends.1 read.honest
+not_added_by show shown (Err f) e value old new s s' before after read added =
+    subst (λ x. Failed x s s' before after) (sym added) (by_failed f value s s' before after read)
+
+pub record AddedSo {A B : Type 0} (IsSo : A → Type 0) (shown : A → List B) (old new : List B) (s s' : State) (before after : Type 0) : Type 0 where
+  pub item : A
+  pub added : new ≡ old ++ shown item
+  pub told : after → IsSo item × (s' ≡ s)
+  pub unspent : s'.spent ≡ false
+  pub honest : after → before
+
+pub added_so : {A B : Type 0} (IsSo : A → Type 0) (shown : A → List B) (r : Result A Fault) (v : Unit {0}) (old new : List B) (s s' : State) (before after : Type 0) → So IsSo r s s' before after → IsAdded r (Ok v) shown old new → AddedSo IsSo shown old new s s' before after
+added_so IsSo shown (Ok x) v old new s s' before after read added = record { item = x; added = added; told = read.found; unspent = read.spends.1; honest = read.honest }
+added_so IsSo shown (Err f) v old new s s' before after read added = absurd added
+
+pub not_added_so : {A B : Type 0} (IsSo : A → Type 0) (shown : A → List B) (r : Result A Fault) (e : Fault) (old new : List B) (s s' : State) (before after : Type 0) → So IsSo r s s' before after → IsAdded r (Err e) shown old new → Failed e s s' before after
+not_added_so IsSo shown (Ok x) e old new s s' before after read added =
+    ran_out e s s' before after added (λ honest. (read.found honest).1) read.spends.0 read.spends.1 read.honest
+not_added_so IsSo shown (Err f) e old new s s' before after read added =
+    subst (λ x. Failed x s s' before after) (sym added) (so_failed f s s' before after read)

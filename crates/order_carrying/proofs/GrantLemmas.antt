@@ -97,7 +97,7 @@ over_all asked shown s s1 yielded all items so whole told same =
     ap (map (λ (e : Text × Usage). e.0)) (sym (map-id yielded) ∙ whole ∙ told) ∙ names_are s.world in
     subst (λ (ns : List Text). AreGrantsOver s.world ns asked shown items) names (subst (λ (z : State). AreGrantsOver z.world (map (λ e. e.0) yielded) asked shown items) same so)
 
--- ---- on one repository, and of one that is there or not, or of all
+-- ---- on one repository, and of one that is there or not
 
 pub grants_read : (name : Text) (asked : Option Text) (shown : Shown) (items : List ItemShown) (read levels : List (Text × Level)) → read ≡ levels → items ≡ grants_of name asked shown read → items ≡ grants_of name asked shown levels
 grants_read name asked shown items read levels same is = is ∙ ap (grants_of name asked shown) same
@@ -109,6 +109,3 @@ pub grants_there : (s mid : State) (o : Option Text) (name : Text) (asked : Opti
     → AreGrantsOn mid.world name asked shown items → AreGrantsOf s.world o asked shown (Some items)
 grants_there s mid o name asked shown b items some told there same on =
     rw (some, sym told ∙ there) (subst (λ (z : State). AreGrantsOn z.world name asked shown items) same on)
-
-pub grants_over : (w : World) (o : Option Text) (asked : Option Text) (shown : Shown) (items : List ItemShown) → o ≡ None → AreGrantsOver w (keys w.repos) asked shown items → AreGrantsOf w o asked shown (Some items)
-grants_over w o asked shown items none over = rw none over

@@ -65,6 +65,12 @@ names_alone : (es : List (Text × Repo)) → map (λ (e : Text × Usage). repo_i
 names_alone [] = refl
 names_alone (e ∷ es) = ap (λ (t : List ItemShown). repo_item e.0 ∷ t) (names_alone es)
 
+-- one repository more of those that a loop goes over
+pub repo_more : (so_far more : List ItemShown) (yielded : List (Text × Usage)) (e : Text × Usage) → so_far ≡ map (λ (e : Text × Usage). repo_item e.0) yielded → more ≡ so_far ++ repo_item e.0 ∷ []
+    → more ≡ map (λ (e : Text × Usage). repo_item e.0) (yielded ++ e ∷ [])
+repo_more so_far more yielded e found added =
+    added ∙ ap (λ xs. xs ++ repo_item e.0 ∷ []) found ∙ sym (map-append (λ (e : Text × Usage). repo_item e.0) yielded (e ∷ []))
+
 pub repos_are : (w : World) → map (λ (e : Text × Usage). repo_item e.0) (usages_of w) ≡ repos_of w
 repos_are w = names_alone (entries w.repos)
 

@@ -1,5 +1,5 @@
 -- The items of lists, as they are looked up.
-use Rattle.std.specs.Prelude.{◌≡◌, List, [], map, filter, string_bytes, String, Option, option_map, Result, Ok, Err, Vec, ⊤}
+use Rattle.std.specs.Prelude.{◌≡◌, List, [], ◌++◌, map, filter, string_bytes, String, Option, option_map, Result, Ok, Err, Vec, ⊤}
 use Rattle.std.specs.Option.{option_map_or}
 use Rattle.std.specs.declared.alloc.Global.{Global}
 use Rattle.oci_types.specs.Text.{Text}
@@ -55,3 +55,11 @@ abbrev pub TellsText : Result (Option (String Global)) Fault → (Option Text �
 TellsText (Ok o) IsSo s s' = IsSo (text_if o) × (s' ≡ s)
 TellsText (Err Memory) IsSo s s' = s' ≡ s
 TellsText (Err Storage) IsSo s s' = ⊤
+
+-- what a read found was put behind what was there, or memory for that was wanting, or its fault was passed on
+abbrev pub IsAdded : {A B : Type 0} → Result A Fault → Result (Unit {0}) Fault → (A → List B)
+    → List B → List B → Type 0
+IsAdded (Ok found) (Ok v) shown old new = new ≡ old ++ shown found
+IsAdded (Ok found) (Err fault) shown old new = fault ≡ Memory
+IsAdded (Err e) (Ok v) shown old new = ⊥
+IsAdded (Err e) (Err fault) shown old new = fault ≡ e

@@ -1,10 +1,10 @@
 //! The levels of tokens on repositories, read of a service.
-ghost use Rattle.std.specs.Prelude.{◌≡◌, ◌++◌, IfErr, OnOk};
+ghost use Rattle.std.specs.Option.{IsSomeAnd};
 ghost use Rattle.std.specs.FinMap.{keys};
 ghost use Rattle.registry_model.specs.Keeping.{ReadsSo, Spends};
 ghost use Rattle.order_texts.specs.Items.{items_shown};
 ghost use Rattle.order_carrying.specs.Grants.{AreGrantsOn, AreGrantsOver, AreGrantsOf};
-ghost use Rattle.order_carrying.specs.Reading.{items_if};
+ghost use Rattle.order_carrying.specs.Reading.{items_if, IsAdded};
 
 use oci_types::{Fault, RepoName, Token};
 use order_texts::{Item, grants_of};
@@ -34,10 +34,11 @@ fn on_one<K: Keeper>(
     }
 }
 
-fn push_all(items: &mut Vec<Item>, mut others: Vec<Item>) -> Result<(), Fault>
-    ensures added { OnOk result (items_shown items.new ≡ items_shown items.old ++ items_shown others) }
-    ensures memory { IfErr result (λ fault. fault ≡ Fault.Memory) }
+/// Adds the items that a read found; its fault is passed on.
+fn push_all(items: &mut Vec<Item>, found: Result<Vec<Item>, Fault>) -> Result<(), Fault>
+    ensures { IsAdded found result items_shown (items_shown items.old) (items_shown items.new) }
 {
+    let mut others = found?;
     match items.append(&mut others) {
         Ok(()) => Ok(()),
         Err(_) => Err(Fault::Memory),
@@ -50,10 +51,10 @@ fn on_all<K: Keeper>(
     service: &mut Service<K>,
     asked: &Option<Token>,
     shown: Shown,
-) -> Result<Vec<Item>, Fault>
+) -> Result<Option<Vec<Item>>, Fault>
     ensures found { K.is_honest service.new → ReadsSo
         (λ items. let w = (K.state service.old).world in
-        AreGrantsOver w (keys w.repos) asked.now shown (items_shown items))
+        IsSomeAnd (items_if items) (AreGrantsOver w (keys w.repos) asked.now shown))
         result (K.state service.old) (K.state service.new) }
     ensures spends { Spends result (K.state service.old) (K.state service.new) }
     ensures honest { K.is_honest service.new → K.is_honest service.old }
@@ -61,10 +62,10 @@ fn on_all<K: Keeper>(
     let usages = service.usages(alloc)?;
     let mut items = Vec::new(alloc);
     for (name, _) in usages {
-        let others = on_one(alloc, service, &name, asked, shown)?;
-        push_all(&mut items, others)?;
+        let found = on_one(alloc, service, &name, asked, shown);
+        push_all(&mut items, found)?;
     }
-    Ok(items)
+    Ok(Some(items))
 }
 
 /// The levels on the repository of a name, or on all; none where the one of the name is not there.
@@ -88,6 +89,6 @@ pub fn grants<K: Keeper>(
             }
             Ok(Some(on_one(alloc, service, name, asked, shown)?))
         }
-        None => Ok(Some(on_all(alloc, service, asked, shown)?)),
+        None => on_all(alloc, service, asked, shown),
     }
 }

@@ -25,12 +25,13 @@ fn items<K: Keeper>(
     ensures honest { K.is_honest service.new → K.is_honest service.old }
 {
     match listing {
-        Listing::Repos => Ok(Some(repos(alloc, service)?)),
+        Listing::Repos => repos(alloc, service),
         Listing::InRepo { name, what } => {
-            if !service.has_repo(name)? {
-                return Ok(None);
+            if service.has_repo(name)? {
+                held(alloc, service, name, *what)
+            } else {
+                Ok(None)
             }
-            Ok(Some(held(alloc, service, name, *what)?))
         }
         Listing::Grants { name, token, shown } => grants(alloc, service, name, token, *shown),
     }

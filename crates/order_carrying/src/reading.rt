@@ -1,11 +1,12 @@
 //! The items of lists, read of a service.
-ghost use Rattle.std.specs.Prelude.{◌≡◌, [], ◌∷◌, ◌++◌, map, IfOk, IfErr, OnOk, option_map};
+ghost use Rattle.std.specs.Prelude.{◌≡◌, [], ◌∷◌, ◌++◌, map, Some, IfOk, IfErr, OnOk, option_map};
 ghost use Rattle.std.specs.List.{cons_option};
 ghost use Rattle.registry_model.specs.Keeping.{ReadsBy, Spends};
 ghost use Rattle.registry_model.specs.Pruning.{is_among};
 ghost use Rattle.order_texts.specs.Items.{item_shown, items_shown, tag_item, blob_item};
 ghost use Rattle.order_carrying.specs.Lists.{repos_of};
 ghost use Rattle.order_carrying.specs.Reading.{naming_shown, namings_shown, namings_at, namers_among, held_at};
+ghost use Rattle.order_carrying.specs.Reading.{items_if, IsAdded};
 
 use oci_types::{Digest, Fault, RepoName, Tag};
 use order_texts::Item;
@@ -41,9 +42,9 @@ fn push(items: &mut Vec<Item>, item: Item) -> Result<(), Fault>
 }
 
 /// The repositories, in byte order of their names.
-pub fn repos<K: Keeper>(alloc: Global, service: &mut Service<K>) -> Result<Vec<Item>, Fault>
+pub fn repos<K: Keeper>(alloc: Global, service: &mut Service<K>) -> Result<Option<Vec<Item>>, Fault>
     ensures found { K.is_honest service.new
-        → ReadsBy items_shown result (repos_of (K.state service.old).world)
+        → ReadsBy items_if result (Some (repos_of (K.state service.old).world))
         (K.state service.old) (K.state service.new) }
     ensures spends { Spends result (K.state service.old) (K.state service.new) }
     ensures honest { K.is_honest service.new → K.is_honest service.old }
@@ -53,16 +54,20 @@ pub fn repos<K: Keeper>(alloc: Global, service: &mut Service<K>) -> Result<Vec<I
     for (name, _) in usages {
         push(&mut items, Item::Repo { name })?;
     }
-    Ok(items)
+    Ok(Some(items))
 }
 
-/// Adds a tag that names a digest.
-fn push_tag(items: &mut Vec<Item>, tag: Tag, digest: Option<Digest>) -> Result<(), Fault>
-    ensures added { OnOk result (items_shown items.new
-        ≡ items_shown items.old ++ cons_option (option_map (tag_item tag) digest) []) }
-    ensures memory { IfErr result (λ fault. fault ≡ Fault.Memory) }
+/// Adds a tag, if a read found that it names a digest; the read's fault is passed on.
+fn push_tag(
+    items: &mut Vec<Item>,
+    tag: Tag,
+    found: Result<Option<Digest>, Fault>,
+) -> Result<(), Fault>
+    ensures { IsAdded found result (λ digest. cons_option (option_map (tag_item tag) digest) [])
+        (items_shown items.old) (items_shown items.new) }
 {
-    match digest {
+    let named = found?;
+    match named {
         Some(digest) => push(items, Item::Tag { tag, digest }),
         None => Ok(()),
     }
@@ -73,9 +78,9 @@ fn tags<K: Keeper>(
     alloc: Global,
     service: &mut Service<K>,
     name: &RepoName,
-) -> Result<Vec<Item>, Fault>
+) -> Result<Option<Vec<Item>>, Fault>
     ensures found { K.is_honest service.new
-        → ReadsBy items_shown result (held_at (K.state service.old).world name.now Held.Tags)
+        → ReadsBy items_if result (Some (held_at (K.state service.old).world name.now Held.Tags))
         (K.state service.old) (K.state service.new) }
     ensures spends { Spends result (K.state service.old) (K.state service.new) }
     ensures honest { K.is_honest service.new → K.is_honest service.old }
@@ -83,18 +88,23 @@ fn tags<K: Keeper>(
     let tags = service.tags(alloc, name)?;
     let mut items = Vec::new(alloc);
     for tag in tags {
-        let digest = service.tag(alloc, name, &tag)?;
-        push_tag(&mut items, tag, digest)?;
+        let found = service.tag(alloc, name, &tag);
+        push_tag(&mut items, tag, found)?;
     }
-    Ok(items)
+    Ok(Some(items))
 }
 
-fn push_naming(namings: &mut Vec<Naming>, naming: Naming) -> Result<(), Fault>
-    ensures added { OnOk result (namings_shown namings.new
-        ≡ namings_shown namings.old ++ naming_shown naming ∷ []) }
-    ensures memory { IfErr result (λ fault. fault ≡ Fault.Memory) }
+/// Adds what a manifest names, as a read found it; the read's fault is passed on.
+fn push_naming(
+    namings: &mut Vec<Naming>,
+    manifest: Digest,
+    found: Result<Vec<Digest>, Fault>,
+) -> Result<(), Fault>
+    ensures { IsAdded found result (λ names. (manifest, names.items) ∷ [])
+        (namings_shown namings.old) (namings_shown namings.new) }
 {
-    match namings.push(naming) {
+    let names = found?;
+    match namings.push(Naming { manifest, names }) {
         Ok(()) => Ok(()),
         Err(_) => Err(Fault::Memory),
     }
@@ -115,8 +125,8 @@ fn namings<K: Keeper>(
     let manifests = service.manifest_digests(alloc, name)?;
     let mut namings = Vec::new(alloc);
     for manifest in manifests {
-        let names = service.names(alloc, name, &manifest)?;
-        push_naming(&mut namings, Naming { manifest, names })?;
+        let found = service.names(alloc, name, &manifest);
+        push_naming(&mut namings, manifest, found)?;
     }
     Ok(namings)
 }
@@ -142,19 +152,19 @@ fn namers(alloc: Global, namings: &[Naming], digest: &Digest) -> Result<Vec<Dige
     Ok(found)
 }
 
-/// Adds a blob that has a length.
+/// Adds a blob, if a read found its length; the read's fault is passed on.
 fn push_blob(
     alloc: Global,
     items: &mut Vec<Item>,
     digest: Digest,
-    size: Option<u64>,
+    found: Result<Option<u64>, Fault>,
     namings: &[Naming],
 ) -> Result<(), Fault>
-    ensures added { let found = namers_among (map naming_shown namings.now) digest in
-        OnOk result (items_shown items.new ≡ items_shown items.old
-        ++ cons_option (option_map (λ size. blob_item digest size found) size) []) }
-    ensures memory { IfErr result (λ fault. fault ≡ Fault.Memory) }
+    ensures { let namers = namers_among (map naming_shown namings.now) digest in
+        IsAdded found result (λ size. cons_option (option_map (λ size. blob_item digest size namers) size) [])
+        (items_shown items.old) (items_shown items.new) }
 {
+    let size = found?;
     let Some(size) = size else {
         return Ok(());
     };
@@ -177,9 +187,9 @@ fn blobs<K: Keeper>(
     alloc: Global,
     service: &mut Service<K>,
     name: &RepoName,
-) -> Result<Vec<Item>, Fault>
+) -> Result<Option<Vec<Item>>, Fault>
     ensures found { K.is_honest service.new
-        → ReadsBy items_shown result (held_at (K.state service.old).world name.now Held.Blobs)
+        → ReadsBy items_if result (Some (held_at (K.state service.old).world name.now Held.Blobs))
         (K.state service.old) (K.state service.new) }
     ensures spends { Spends result (K.state service.old) (K.state service.new) }
     ensures honest { K.is_honest service.new → K.is_honest service.old }
@@ -188,10 +198,10 @@ fn blobs<K: Keeper>(
     let digests = service.blob_digests(alloc, name)?;
     let mut items = Vec::new(alloc);
     for digest in digests {
-        let size = service.blob_size(name, &digest)?;
-        push_blob(alloc, &mut items, digest, size, &namings)?;
+        let found = service.blob_size(name, &digest);
+        push_blob(alloc, &mut items, digest, found, &namings)?;
     }
-    Ok(items)
+    Ok(Some(items))
 }
 
 /// The blobs of a repository that none of its manifests names, in byte order; none where it is not there.
@@ -199,9 +209,9 @@ fn unnamed<K: Keeper>(
     alloc: Global,
     service: &mut Service<K>,
     name: &RepoName,
-) -> Result<Vec<Item>, Fault>
+) -> Result<Option<Vec<Item>>, Fault>
     ensures found { K.is_honest service.new
-        → ReadsBy items_shown result (held_at (K.state service.old).world name.now Held.Unnamed)
+        → ReadsBy items_if result (Some (held_at (K.state service.old).world name.now Held.Unnamed))
         (K.state service.old) (K.state service.new) }
     ensures spends { Spends result (K.state service.old) (K.state service.new) }
     ensures honest { K.is_honest service.new → K.is_honest service.old }
@@ -211,7 +221,7 @@ fn unnamed<K: Keeper>(
     for digest in digests {
         push(&mut items, Item::Unnamed { digest })?;
     }
-    Ok(items)
+    Ok(Some(items))
 }
 
 /// What a repository holds; nothing where it is not there.
@@ -220,9 +230,9 @@ pub fn held<K: Keeper>(
     service: &mut Service<K>,
     name: &RepoName,
     what: Held,
-) -> Result<Vec<Item>, Fault>
+) -> Result<Option<Vec<Item>>, Fault>
     ensures found { K.is_honest service.new
-        → ReadsBy items_shown result (held_at (K.state service.old).world name.now what)
+        → ReadsBy items_if result (Some (held_at (K.state service.old).world name.now what))
         (K.state service.old) (K.state service.new) }
     ensures spends { Spends result (K.state service.old) (K.state service.new) }
     ensures honest { K.is_honest service.new → K.is_honest service.old }

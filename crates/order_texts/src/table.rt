@@ -10,66 +10,7 @@ use std::{fmt, io};
 const HEADING: &str =
     "                used               quota     blobs manifests      tags  sessions name";
 
-/// A number of bytes, right in 20 places.
-#[derive(Drop)]
-struct Bytes(u64);
-
-impl fmt::Display for Bytes {
-    ghost use Rattle.std.specs.Prelude.{Some};
-    ghost use Rattle.order_texts.specs.Table.{right};
-
-    ghost output = { λ n. Some (right 20 n.0) };
-
-    #[tactic(auto, using(crate::proofs::TableLemmas::in_20_places))]
-    fn fmt<W: fmt::Write>(&self, f: &mut fmt::Formatter<W>) -> fmt::Result {
-        let number = self.0;
-        write!(f, "{number:>20}")
-    }
-}
-
-/// A number of things, right in 10 places.
-#[derive(Drop)]
-struct Count(u64);
-
-impl fmt::Display for Count {
-    ghost use Rattle.std.specs.Prelude.{Some};
-    ghost use Rattle.order_texts.specs.Table.{right};
-
-    ghost output = { λ n. Some (right 10 n.0) };
-
-    #[tactic(auto, using(crate::proofs::TableLemmas::in_10_places))]
-    fn fmt<W: fmt::Write>(&self, f: &mut fmt::Formatter<W>) -> fmt::Result {
-        let number = self.0;
-        write!(f, "{number:>10}")
-    }
-}
-
-/// The numbers of one repository.
-#[derive(Drop)]
-struct Numbers(Usage);
-
-impl fmt::Display for Numbers {
-    ghost use Rattle.std.specs.Prelude.{Some};
-    ghost use Rattle.order_texts.specs.Table.{numbers_of};
-
-    ghost output = { λ n. Some (numbers_of n.0) };
-
-    fn fmt<W: fmt::Write>(&self, f: &mut fmt::Formatter<W>) -> fmt::Result {
-        let usage = self.0;
-        write!(
-            f,
-            "{}{}{}{}{}{}",
-            Bytes(usage.used),
-            Bytes(usage.quota),
-            Count(usage.blobs),
-            Count(usage.manifests),
-            Count(usage.tags),
-            Count(usage.sessions)
-        )
-    }
-}
-
-/// The line of one repository.
+/// The line of one repository: bytes right in 20 places, other numbers in 10.
 #[derive(Drop)]
 struct Row<'a> {
     name: &'a str,
@@ -83,7 +24,18 @@ impl<'a> fmt::Display for Row<'a> {
     ghost output = { λ r. Some (row_of r.name.now r.usage) };
 
     fn fmt<W: fmt::Write>(&self, f: &mut fmt::Formatter<W>) -> fmt::Result {
-        write!(f, "{} {}", Numbers(self.usage), self.name)
+        let usage = self.usage;
+        write!(
+            f,
+            "{:>20}{:>20}{:>10}{:>10}{:>10}{:>10} {}",
+            usage.used,
+            usage.quota,
+            usage.blobs,
+            usage.manifests,
+            usage.tags,
+            usage.sessions,
+            self.name
+        )
     }
 }
 

@@ -1,6 +1,6 @@
 -- What is wrong, item by item, in a world that stays.
 use Rattle.std.proofs.Common.{◌≡◌, ◌∙◌, ℕ, ◌+◌, ◌<◌, false, List, [], ◌∷◌, ◌++◌, length, take, get_or, Option, None, Some, sym, ap, subst, append_assoc}
-use Rattle.std.specs.Prelude.{Result, Ok, Err}
+use Rattle.std.specs.Prelude.{Result, Ok, Err, MatchResult}
 use Rattle.std.specs.Result.{IsErr, IsErrAnd}
 use Rattle.std.specs.List.{filter_map, flat_map, cons_option}
 use Rattle.std.specs.Io.KnownBytes.{Appends}
@@ -33,6 +33,37 @@ unread {A} v (Err f) e found old s s' before after is h = by_fault f (subst (λ 
     by_fault : (f : Fault) → Reading {A = A} (Err f) v s s' before after → Noting (Err f) found old old s s' before after
     by_fault Memory h = record { found = h.found; spends = h.spends; honest = h.honest }
     by_fault Storage h = record { found = λ honest. tt; spends = h.spends; honest = h.honest }
+
+-- so is that of the first of several reads, and that of a later one
+pub read_failed : {A B : Type 0} (v : A) (value : B) (r : Result B Fault) (e : Fault) (s s' : State) (before after : Type 0)
+    → IsErr r × IsErrAnd r (λ f. f ≡ e) → Reading (Err e) v s s' before after → Reading r value s s' before after
+read_failed v value (Ok x) e s s' before after is h = absurd is.1
+read_failed {A} {B} v value (Err f) e s s' before after is h = by_fault f (subst (λ x. Reading {A = A} (Err x) v s s' before after) (sym is.1) h)
+  where
+    by_fault : (f : Fault) → Reading {A = A} (Err f) v s s' before after → Reading {A = B} (Err f) value s s' before after
+    by_fault Memory h = record { found = h.found; spends = h.spends; honest = h.honest }
+    by_fault Storage h = record { found = λ honest. tt; spends = h.spends; honest = h.honest }
+
+pub later_failed : {A B : Type 0} (v : A) (value : B) (r : Result B Fault) (e : Fault) (s mid s' : State) (before between after : Type 0)
+    → IsErr r × IsErrAnd r (λ f. f ≡ e) → Reading (Err e) v mid s' between after → (between → mid ≡ s) → s.spent ≡ false → (between → before)
+    → Reading r value s s' before after
+later_failed v value (Ok x) e s mid s' before between after is h same unspent early = absurd is.1
+later_failed {A} {B} v value (Err f) e s mid s' before between after is h same unspent early =
+    by_fault f (subst (λ x. Reading {A = A} (Err x) v mid s' between after) (sym is.1) h)
+  where
+    by_fault : (f : Fault) → Reading {A = A} (Err f) v mid s' between after → Reading {A = B} (Err f) value s s' before after
+    by_fault Memory h = record { found = λ honest. h.found honest ∙ same (h.honest honest); spends = (unspent, h.spends.1); honest = λ honest. early (h.honest honest) }
+    by_fault Storage h = record { found = λ honest. tt; spends = h.spends; honest = λ honest. early (h.honest honest) }
+
+-- what is made of what reads told
+pub judged : {A : Type 0} (r : Result A Fault) (made value : A) (s s' : State) (before after : Type 0)
+    → MatchResult r (λ found. found ≡ made) (λ fault. fault ≡ Memory) → (after → (made ≡ value) × (s' ≡ s)) → s.spent ≡ false → s'.spent ≡ false → (after → before)
+    → Reading r value s s' before after
+judged (Ok x) made value s s' before after told read unspent late early =
+    record { found = λ honest. (told ∙ (read honest).0, (read honest).1); spends = (unspent, late); honest = early }
+judged (Err Memory) made value s s' before after told read unspent late early =
+    record { found = λ honest. (read honest).1; spends = (unspent, late); honest = early }
+judged (Err Storage) made value s s' before after told read unspent late early = absurd (let bad : Storage ≡ Memory = told in cc)
 
 -- and so is the fault of a part
 pub passed_on : (r : Result (Unit {0}) Fault) (e : Fault) (found others old new : List Wrong) (s s' : State) (before after : Type 0)

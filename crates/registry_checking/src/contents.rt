@@ -2,12 +2,12 @@
 ghost use Rattle.std.specs.Prelude.{◌≡◌, MatchResult};
 ghost use Rattle.oci_types.specs.Manifest.{manifest_in};
 ghost use Rattle.registry_model.specs.Keeping.{bytes_in, manifest_shown};
-ghost use Rattle.registry_checking.specs.Wrongs.{is_of, wrong_bytes, wrong_blob, wrong_reading, wrong_manifest};
+ghost use Rattle.registry_checking.specs.Wrongs.{is_of, wrong_bytes, wrong_blob, wrong_reading, wrong_manifest, untied};
 
 use crate::notes::content;
 use crate::wrong::{Flaw, Wrong};
 use oci_documents::read_manifest;
-use oci_types::{Digest, Fault, Kind, ManifestFault, RepoName, Verdict};
+use oci_types::{Digest, Fault, Kind, ManifestFault, RepoName, Tag, Verdict};
 use std::alloc::Global;
 
 /// Whether the digest is that of the bytes.
@@ -94,5 +94,23 @@ pub fn wrong_manifest(
     match wrong_bytes(repo, digest, &bytes, size)? {
         Some(wrong) => Ok(Some(wrong)),
         None => wrong_reading(alloc, repo, digest, &bytes),
+    }
+}
+
+/// What is wrong with a tag, by the size of the manifest that it names, if there is one.
+pub fn wrong_tag(
+    repo: &RepoName,
+    tag: Tag,
+    sized: Option<(Kind, u64)>,
+) -> Result<Option<Wrong>, Fault>
+    ensures { MatchResult result (λ found. found ≡ untied repo.now tag sized)
+        (λ fault. fault ≡ Fault.Memory) }
+{
+    match sized {
+        Some(_) => Ok(None),
+        None => match repo.clone() {
+            Ok(repo) => Ok(Some(Wrong::Tag { repo, tag })),
+            Err(_) => Err(Fault::Memory),
+        },
     }
 }

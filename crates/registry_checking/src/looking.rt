@@ -4,7 +4,7 @@ ghost use Rattle.std.specs.List.{filter_map, flat_map};
 ghost use Rattle.registry_model.specs.Keeping.{Reads, Spends};
 ghost use Rattle.registry_checking.specs.Wrongs.{Notes, wrong_blob_at, wrong_manifest_at, wrong_at, wrong_tag_at, wrong_blobs_at, wrong_manifests_at, wrong_tags_at, wrongs_at, wrongs_of};
 
-use crate::contents::{wrong_blob, wrong_manifest};
+use crate::contents::{wrong_blob, wrong_manifest, wrong_tag};
 use crate::notes::{note, push_read};
 use crate::progress::{Progress, Watch};
 use crate::wrong::Wrong;
@@ -61,17 +61,12 @@ fn look_at_tag<K: Keeper>(
     ensures spends { Spends result (K.state keeper.old) (K.state keeper.new) }
     ensures honest { K.is_honest keeper.new → K.is_honest keeper.old }
 {
-    let Some(digest) = keeper.tag(alloc, repo, &tag)? else {
+    let named = keeper.tag(alloc, repo, &tag)?;
+    let Some(digest) = named else {
         return Ok(None);
     };
     let sized = keeper.manifest_size(repo, &digest)?;
-    if sized.is_some() {
-        return Ok(None);
-    }
-    let Ok(repo) = repo.clone() else {
-        return Err(Fault::Memory);
-    };
-    Ok(Some(Wrong::Tag { repo, tag }))
+    wrong_tag(repo, tag, sized)
 }
 
 /// What is kept under a digest.

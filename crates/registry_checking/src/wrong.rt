@@ -5,7 +5,7 @@ ghost use Rattle.registry_checking.specs.Lines.{words_of};
 use oci_types::{Digest, RepoName, Tag};
 
 /// What is wrong with a blob or a manifest.
-#[derive(Clone, Copy, Debug, PartialEq, Eq)]
+#[derive(Clone, Copy)]
 pub enum Flaw {
     /// Its bytes are not those of its digest.
     OtherBytes,

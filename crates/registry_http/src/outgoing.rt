@@ -6,7 +6,7 @@ use arrayvec::ArrayVec;
 use std::io::Write;
 
 /// A failed write: how many bytes of the text were written before it.
-#[derive(Clone, Copy, Debug, PartialEq, Eq)]
+#[derive(Clone, Copy)]
 pub struct WriteFault {
     pub written: usize,
 }

@@ -1,4 +1,4 @@
-ghost use Rattle.std.specs.Prelude.{◌≡◌, ◌==◌, IfOk, position};
+ghost use Rattle.std.specs.Prelude.{◌≡◌, ◌==◌, IfOk, position, bytes_eq};
 ghost use Rattle.registry_model.specs.Form.{form_of};
 ghost use Rattle.registry_model.specs.Ask.{text_in};
 ghost use Rattle.registry_model.specs.Heads.{is_head};
@@ -17,21 +17,28 @@ pub struct Target<'a> {
     pub query: &'a [u8],
 }
 
+/// Whether a method is the one of this name.
+fn is(method: &[u8], name: &[u8]) -> bool
+    ensures { result ≡ bytes_eq method.now name.now }
+{
+    method == name
+}
+
 /// The method, byte for byte (RFC 9110, section 9.1).
 pub fn verb(method: &[u8]) -> Verb
     ensures { result ≡ verb_of method.now }
 {
-    if method == b"GET".as_slice() {
+    if is(method, b"GET") {
         Verb::Get
-    } else if method == b"HEAD".as_slice() {
+    } else if is(method, b"HEAD") {
         Verb::Head
-    } else if method == b"POST".as_slice() {
+    } else if is(method, b"POST") {
         Verb::Post
-    } else if method == b"PATCH".as_slice() {
+    } else if is(method, b"PATCH") {
         Verb::Patch
-    } else if method == b"PUT".as_slice() {
+    } else if is(method, b"PUT") {
         Verb::Put
-    } else if method == b"DELETE".as_slice() {
+    } else if is(method, b"DELETE") {
         Verb::Delete
     } else {
         Verb::Other

@@ -96,46 +96,56 @@ fn time_text<T: Clock>(alloc: Global, clock: &T) -> Result<String, AllocError> {
     }
 }
 
-fn number_text(alloc: Global, number: Option<u64>) -> Result<String, AllocError> {
+/// Goes on with a space and a number.
+fn push_number(line: &mut String, number: u64) -> Result<(), AllocError> {
+    write!(line, " {number}")
+}
+
+/// Goes on with the number of the connection, or a hyphen.
+fn push_connection(line: &mut String, number: Option<u64>) -> Result<(), AllocError> {
     match number {
-        Some(number) => format!(in alloc; "{number}"),
-        None => format!(in alloc; "-"),
+        Some(number) => push_number(line, number),
+        None => line.push_str(" -"),
     }
 }
 
-/// What stands at the end of a line: what failed, or which limit was met.
-fn why_text(alloc: Global, said: &Said) -> Result<String, AllocError> {
-    match said.limit {
-        Some(Limit { most, of, repo }) => format!(in alloc; " limit of {most} {of}: {repo}"),
-        None => String::from_str(alloc, failed(said.status).unwrap_or("")),
-    }
-}
-
-/// The line of a request, with the texts of what may not be known of it.
-fn line_with(
-    alloc: Global,
-    said: &Said,
-    time: &str,
-    number: &str,
-    why: &str,
-) -> Result<String, AllocError> {
+/// Goes on with what is known of a request, from its line to how long it took.
+fn push_request(line: &mut String, said: &Said) -> Result<(), AllocError> {
     let request = if said.request.is_empty() {
         "- -"
     } else {
         said.request
     };
-    let status = said.status;
-    let came = said.came;
-    let went = said.went;
-    let micros = said.micros;
-    format!(in alloc; "{time} {number} {request} {status} {came} {went} {micros}{why}\n")
+    line.push_str(" ")?;
+    line.push_str(request)?;
+    push_number(line, u64::from(said.status))?;
+    push_number(line, said.came as u64)?;
+    push_number(line, said.went as u64)?;
+    push_number(line, said.micros)
+}
+
+/// Goes on with the end of a line: what failed, or which limit was met.
+fn push_why(line: &mut String, said: &Said) -> Result<(), AllocError> {
+    match said.limit {
+        Some(Limit { most, of, repo }) => write!(line, " limit of {most} {of}: {repo}\n"),
+        None => {
+            line.push_str(failed(said.status).unwrap_or(""))?;
+            line.push_str("\n")
+        }
+    }
+}
+
+/// Goes on with all that is said behind the time.
+fn push_said(line: &mut String, said: &Said) -> Result<(), AllocError> {
+    push_connection(line, said.number)?;
+    push_request(line, said)?;
+    push_why(line, said)
 }
 
 fn line_of<T: Clock>(alloc: Global, clock: &T, said: &Said) -> Result<String, AllocError> {
-    let time = time_text(alloc, clock)?;
-    let number = number_text(alloc, said.number)?;
-    let why = why_text(alloc, said)?;
-    line_with(alloc, said, time.as_str(), number.as_str(), why.as_str())
+    let mut line = time_text(alloc, clock)?;
+    push_said(&mut line, said)?;
+    Ok(line)
 }
 
 impl<'a, E: Write> Log<'a, E> {

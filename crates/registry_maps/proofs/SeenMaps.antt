@@ -1,6 +1,6 @@
 -- Ordered maps, seen as finite maps.
-use Rattle.std.proofs.Common.{◌≡◌, ◌∙◌, suc, List, [], ◌∷◌, ◌++◌, append_assoc, map, length, Bool, true, false, cond, None, Some, refl, sym, ap, subst}
-use Rattle.std.specs.Prelude.{Option, option_map, is_some, bytes_eq, filter, T, ◌&&◌, Result, Ok, Err, IfOk, Vec}
+use Rattle.std.proofs.Common.{◌≡◌, ◌∙◌, ℕ, suc, List, [], ◌∷◌, ◌++◌, append_assoc, map, length, Bool, true, false, cond, None, Some, refl, sym, ap, subst}
+use Rattle.std.specs.Prelude.{Option, option_map, is_some, bytes_eq, filter, T, ◌&&◌, Result, Ok, Err, IfOk, IsOkAnd, Vec}
 use Rattle.std.specs.declared.alloc.Global.{Global}
 use Rattle.std.specs.declared.alloc.AllocError.{AllocError}
 use Rattle.std.specs.declared.cmp.Ordering.{Ordering}
@@ -18,6 +18,7 @@ use Rattle.std.specs.FinMap as fin
 use Rattle.std.specs.FinMap.Entries.{below_all}
 use Rattle.std.specs.FinMap.{FinMap, get, insert, remove, retain_keys, empty, entries, len, find, is_sorted, from_entries, from_sorted, get-from_entries, get-from_sorted, entries-from_sorted, get-insert, get-remove, get-retain_keys, get-empty, get_tied, len-entries, same_map, IsAntisymmetric, nat_cmp-IsAntisymmetric}
 use Rattle.std.proofs.lemmas.Cmp.{nat_cmp_total}
+use Rattle.std.proofs.lemmas.List.{map_push}
 use Rattle.std.proofs.lemmas.Map.Text.{is_eq-slice_cmp}
 use Rattle.oci_types.specs.Text.{Text}
 use Rattle.registry_model.specs.World.{text_cmp}
@@ -241,6 +242,27 @@ pub one_behind : {X : Type 0} (all more : List X) (x y : X) (left rest whole : L
 one_behind all more x y left rest whole new same steps so =
     let apart : (all ++ (y ∷ [])) ++ rest ≡ all ++ (y ∷ rest) = rw append_assoc refl in
     ap (λ l. l ++ rest) new ∙ apart ∙ ap (λ z. all ++ (z ∷ rest)) same ∙ ap (λ l. all ++ l) (sym steps) ∙ so
+
+-- what was put behind them
+pub pushed : {X : Type 0} (copy : Result X AllocError) (x : X) (all more : List X) → IfOk copy (λ v. v ≡ x) → IsOkAnd copy (λ v. more ≡ all ++ (v ∷ [])) → more ≡ all ++ (x ∷ [])
+pushed (Ok v) x all more same new = new ∙ ap (λ z. all ++ (z ∷ [])) same
+pushed (Err e) x all more same new = absurd new
+
+pub pushed_pair : {X Y : Type 0} (first : Result X AllocError) (second : Result Y AllocError) (x : X) (y : Y) (all more : List (X × Y)) → IfOk first (λ v. v ≡ x) → IfOk second (λ v. v ≡ y)
+    → IsOkAnd first (λ a. IsOkAnd second (λ b. more ≡ all ++ ((a, b) ∷ []))) → more ≡ all ++ ((x, y) ∷ [])
+pushed_pair (Ok v) (Ok z) x y all more same also new = new ∙ (λ i. all ++ ((same i, also i) ∷ []))
+pushed_pair (Ok v) (Err e) x y all more same also new = absurd new
+pushed_pair (Err e) second x y all more same also new = absurd new
+
+-- of a name and bytes, as they are shown
+pub pushed_entry : (first : Result Text AllocError) (second : Result (Vec ℕ Global) AllocError) (name bytes : Text) (all more : List (Text × Vec ℕ Global))
+    → IfOk first (λ v. v ≡ name) → IfOk second (λ v. v.items ≡ bytes) → IsOkAnd first (λ a. IsOkAnd second (λ b. more ≡ all ++ ((a, b) ∷ [])))
+    → map {B = Text × Text} (λ p. (p.0, p.1.items)) more ≡ map {B = Text × Text} (λ p. (p.0, p.1.items)) all ++ ((name, bytes) ∷ [])
+pushed_entry (Ok v) (Ok z) name bytes all more same also new =
+    ap (λ (ps : List (Text × Vec ℕ Global)). map {B = Text × Text} (λ p. (p.0, p.1.items)) ps) new ∙ map_push (λ (p : Text × Vec ℕ Global). (p.0, p.1.items)) all (v, z)
+    ∙ (λ i. map {B = Text × Text} (λ p. (p.0, p.1.items)) all ++ ((same i, also i) ∷ []))
+pushed_entry (Ok v) (Err e) name bytes all more same also new = absurd new
+pushed_entry (Err e) second name bytes all more same also new = absurd new
 
 -- none of what is left is behind them
 pub none_behind : {X : Type 0} (all more left rest whole : List X) → more ≡ all → left ≡ rest → all ++ left ≡ whole → more ++ rest ≡ whole

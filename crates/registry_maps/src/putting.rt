@@ -1,5 +1,5 @@
 //! A value put into a map, or behind the others of a list.
-ghost use Rattle.std.specs.Prelude.{◌≡◌, ◌++◌, ◌∷◌, [], OnOk};
+ghost use Rattle.std.specs.Prelude.{◌≡◌, ◌++◌, ◌∷◌, [], OnOk, IsOkAnd};
 ghost use Rattle.registry_maps.specs.Maps.{Puts};
 
 use std::alloc::AllocError;
@@ -19,10 +19,24 @@ pub fn put<K: Ord + Drop, V: Drop>(
     Ok(())
 }
 
-/// Puts a value behind the others. It is dropped here, for all lists, where there is no memory.
-pub fn push<T: Drop>(list: &mut Vec<T>, value: T) -> Result<(), AllocError>
-    ensures { OnOk result (list.new.items ≡ list.old.items ++ (value ∷ [])) }
+/// Puts a copy behind the others, if there was memory for it. It is dropped here, for all lists, where there
+/// is none for the list.
+pub fn push<T: Drop>(list: &mut Vec<T>, copy: Result<T, AllocError>) -> Result<(), AllocError>
+    ensures { OnOk result (IsOkAnd copy (λ v. list.new.items ≡ list.old.items ++ (v ∷ []))) }
 {
-    list.push(value)?;
+    list.push(copy?)?;
+    Ok(())
+}
+
+/// The same of two copies, as a pair.
+pub fn push_pair<A: Drop, B: Drop>(
+    list: &mut Vec<(A, B)>,
+    first: Result<A, AllocError>,
+    second: Result<B, AllocError>,
+) -> Result<(), AllocError>
+    ensures { OnOk result (IsOkAnd first (λ a. IsOkAnd second (λ b.
+        list.new.items ≡ list.old.items ++ ((a, b) ∷ [])))) }
+{
+    list.push((first?, second?))?;
     Ok(())
 }

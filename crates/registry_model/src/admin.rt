@@ -47,7 +47,7 @@ pub enum AdminCommand<'a> {
 }
 
 /// Why a command was not carried out; all but `Storage` change nothing.
-#[derive(Clone, Copy, Debug, PartialEq, Eq)]
+#[derive(Clone, Copy, Debug)]
 pub enum AdminFault {
     NoRepo,
     NoGrant,

@@ -1,5 +1,5 @@
 /// What a grant allows on a repository (profile); each level allows what those before it do.
-#[derive(Clone, Copy, Debug, PartialEq, Eq, PartialOrd, Ord)]
+#[derive(Clone, Copy, Debug)]
 pub enum Level {
     /// GET and HEAD of blobs, manifests, tags and referrers.
     Pull,

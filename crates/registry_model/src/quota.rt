@@ -4,7 +4,7 @@ ghost use Rattle.registry_model.specs.Usage.{is_over};
 use crate::limits::LARGEST_QUOTA;
 
 /// The most bytes that a repository may use: 0 to 9,223,372,036,854,775,807 (profile).
-#[derive(Clone, Copy, Debug, PartialEq, Eq)]
+#[derive(Clone, Copy)]
 pub struct Quota {
     pub bytes: u64,
     ghost in_range: { bytes < 9223372036854775808 },
@@ -25,7 +25,7 @@ impl Quota {
 }
 
 /// What a repository holds and may hold, in bytes and in numbers of things.
-#[derive(Clone, Copy, Debug, PartialEq, Eq)]
+#[derive(Clone, Copy)]
 pub struct Usage {
     pub used: u64,
     pub quota: u64,

@@ -10,7 +10,7 @@ ghost use Rattle.registry_model.specs.Range.{without_unit, is_whole_length, posi
 use crate::numbers::number;
 
 /// What a chunk's `Content-Range` says beside the session's length and the body's.
-#[derive(Clone, Copy, Debug, PartialEq, Eq)]
+#[derive(Clone, Copy, Debug)]
 pub enum RangeVerdict {
     Fits,
     /// It is no range, or its last position is before its first.

@@ -5,7 +5,7 @@ use crate::Status;
 
 /// Why a request is refused; the reply carries a JSON error body (OCI Distribution Specification 1.1,
 /// Error Codes; the messages are the profile's).
-#[derive(Clone, Copy, Debug, PartialEq, Eq)]
+#[derive(Clone, Copy)]
 pub enum Refusal {
     TokenRequired,
     NoEndpoint,

@@ -5,7 +5,7 @@ use crate::Refusal;
 use oci_types::Digest;
 
 /// A reply's status (RFC 9110, section 15; 429: RFC 6585).
-#[derive(Clone, Copy, Debug, PartialEq, Eq)]
+#[derive(Clone, Copy)]
 pub enum Status {
     OK,
     Created,

@@ -1,7 +1,7 @@
 use crate::Route;
 
 /// A request's method (RFC 9110, section 9; PATCH: RFC 5789), compared byte for byte.
-#[derive(Clone, Copy, Debug, PartialEq, Eq)]
+#[derive(Clone, Copy)]
 pub enum Verb {
     Get,
     Head,

@@ -7,8 +7,8 @@ ghost use Rattle.registry_orders.specs.Failures.{status_of};
 ghost use Rattle.registry_orders.specs.Causes.{words_of, line_of, line_if, lines_of, IsAtMostOneLine};
 
 use crate::failure::Failure;
+use std::io;
 use std::io::Write;
-use std::{fmt, io};
 
 /// What is wrong with a place: the path of a database or a socket, an address, or a subcommand.
 #[derive(Clone, Copy)]
@@ -99,26 +99,6 @@ impl Cause {
     }
 }
 
-/// The line of a cause, without its end.
-#[derive(Drop)]
-struct Reason<'a> {
-    place: &'a str,
-    cause: Cause,
-}
-
-impl<'a> fmt::Display for Reason<'a> {
-    ghost use Rattle.std.specs.Prelude.{Some};
-    ghost use Rattle.registry_orders.specs.Causes.{reason_of};
-
-    ghost output = { λ r. Some (reason_of r.place.now r.cause) };
-
-    fn fmt<W: fmt::Write>(&self, f: &mut fmt::Formatter<W>) -> fmt::Result {
-        let place = self.place;
-        let words = self.cause.words();
-        write!(f, "registry: {place}: {words}")
-    }
-}
-
 /// Says `registry: PLACE: CAUSE`. Nothing is said of a place that has a line's end in it.
 pub fn explain<E: Write>(err: &mut E, place: &str, cause: Cause) -> io::Result<()>
     ensures { OnOk result (Appends (E.contents err.old) (E.contents err.new) (line_of place.now cause)) }
@@ -126,8 +106,8 @@ pub fn explain<E: Write>(err: &mut E, place: &str, cause: Cause) -> io::Result<(
     if place.as_bytes().contains(&b'\n') {
         return Ok(());
     }
-    let reason = Reason { place, cause };
-    writeln!(err, "{reason}")
+    let words = cause.words();
+    writeln!(err, "registry: {place}: {words}")
 }
 
 /// The same, where a cause is known.

@@ -1,5 +1,5 @@
-ghost use Rattle.std.specs.Prelude.{◌≡◌};
-ghost use Rattle.registry_orders.specs.Failures.{status_of, failure_of, failure_of_text};
+ghost use Rattle.std.specs.Prelude.{◌≡◌, MatchResult};
+ghost use Rattle.registry_orders.specs.Failures.{status_of, text_of, failure_of, failure_of_text};
 
 use oci_types::NameFault;
 use registry_model::AdminFault;
@@ -47,6 +47,27 @@ impl Failure {
             Failure::ConnectionFailure => 4,
         }
     }
+
+    /// What is said of it; of a schema, its number.
+    fn words(self) -> Result<&'static str, i64>
+        ensures { MatchResult result (λ words. words.now ≡ text_of self)
+            (λ found. self ≡ Failure.Schema found) }
+    {
+        match self {
+            Failure::NoRepo => Ok("registry: no such repository"),
+            Failure::NoGrant => Ok("registry: no such grant"),
+            Failure::RepoThere => Ok("registry: repository already there"),
+            Failure::InvalidName => Ok("registry: invalid name"),
+            Failure::InvalidToken => Ok("registry: invalid token"),
+            Failure::InvalidOptions => Ok("registry: invalid options"),
+            Failure::OutOfMemory => Ok("registry: out of memory"),
+            Failure::StorageFailure => Ok("registry: storage failure"),
+            Failure::Schema(found) => Err(found),
+            Failure::NotARegistry => Ok("registry: not a registry"),
+            Failure::Damaged => Ok("registry: damaged"),
+            Failure::ConnectionFailure => Ok("registry: connection failure"),
+        }
+    }
 }
 
 /// What is said of it on standard error.
@@ -57,19 +78,9 @@ impl fmt::Display for Failure {
     ghost output = { λ failure. Some (text_of failure) };
 
     fn fmt<W: fmt::Write>(&self, f: &mut fmt::Formatter<W>) -> fmt::Result {
-        match self {
-            Failure::NoRepo => f.write_str("registry: no such repository"),
-            Failure::NoGrant => f.write_str("registry: no such grant"),
-            Failure::RepoThere => f.write_str("registry: repository already there"),
-            Failure::InvalidName => f.write_str("registry: invalid name"),
-            Failure::InvalidToken => f.write_str("registry: invalid token"),
-            Failure::InvalidOptions => f.write_str("registry: invalid options"),
-            Failure::OutOfMemory => f.write_str("registry: out of memory"),
-            Failure::StorageFailure => f.write_str("registry: storage failure"),
-            Failure::Schema(found) => write!(f, "registry: schema {found} is not supported"),
-            Failure::NotARegistry => f.write_str("registry: not a registry"),
-            Failure::Damaged => f.write_str("registry: damaged"),
-            Failure::ConnectionFailure => f.write_str("registry: connection failure"),
+        match self.words() {
+            Ok(words) => f.write_str(words),
+            Err(found) => write!(f, "registry: schema {found} is not supported"),
         }
     }
 }

@@ -1,5 +1,5 @@
 -- What a turn comes to, from its parts.
-use Rattle.std.proofs.Common.{◌≡◌, ℕ, ◌+◌, ◌<◌, ◌≤◌, ◌⊎◌, ◌==◌, inl, inr, Bool, true, false, [], ◌∷◌, ◌++◌, length, take, drop, Some, refl, sym, ap, ◌∙◌, subst, append-nil, append_assoc, length-append, length-take, length-drop, le_of_eq, arith}
+use Rattle.std.proofs.Common.{◌≡◌, ℕ, ◌+◌, ◌<◌, ◌≤◌, ◌⊎◌, ◌==◌, inl, inr, Bool, true, false, [], ◌∷◌, ◌++◌, length, take, drop, Some, Result, Ok, Err, refl, sym, ap, ◌∙◌, subst, append-nil, append_assoc, length-append, length-take, length-drop, le_of_eq, arith}
 use Rattle.std.proofs.lemmas.Bool.Decides.{nat_tests}
 use Rattle.std.proofs.lemmas.List.{drop-append-le}
 use Rattle.std.specs.Bool.{MatchBool}
@@ -9,6 +9,8 @@ use Rattle.registry_http.specs.Ending.{SendsRefusal}
 use Rattle.registry_model.specs.Answer.{Answer}
 use Rattle.registry_model.specs.Doing.{Does}
 use Rattle.registry_http.specs.Asking.{ask_in}
+use Rattle.registry_http.specs.Sending.{SendsReply}
+use Rattle.registry_http.specs.declared.outgoing.WriteFault.{WriteFault}
 use Rattle.registry_http.specs.Expecting.{IsBefore, continue_if, text_before}
 use Rattle.registry_http.specs.Framing.{framing}
 use Rattle.registry_http.specs.Serving.{reply_for}
@@ -18,7 +20,7 @@ use Rattle.registry_http.specs.declared.framing.Framing.{Framing}
 use Rattle.registry_http.specs.declared.framing.Framing.TheVariants as framed
 use Rattle.registry_http.proofs.RequestLemmas.{before_empty, before_cut, before_unreadable}
 use Rattle.registry_http.specs.declared.ending.FramingRefusal.{FramingRefusal}
-use Rattle.registry_http.specs.declared.ending.FramingRefusal.TheVariants.{UnreadableHead}
+use Rattle.registry_http.specs.declared.ending.FramingRefusal.TheVariants.{UnreadableHead, NoBufferMemory}
 use Rattle.registry_http.specs.declared.ending.End.{End}
 use Rattle.registry_http.specs.declared.ending.End.TheVariants.{Closed, Cut, Refused, ReadFailed, WriteFailed}
 use Rattle.registry_server.specs.declared.phase.Phase.{Phase}
@@ -38,8 +40,12 @@ use Rattle.registry_server.proofs.HoldingLemmas.{holds_on, before_there, refused
 pub going_on : (gone : ℕ) (out out' text : Text) → gone ≤ length out → out' ≡ out ++ text → drop gone out' ≡ drop gone out ++ text
 going_on gone out out' text within e = ap (drop gone) e ∙ drop-append-le gone out text within
 
-pub is_longer : (out out' text : Text) → out' ≡ out ++ text → length out ≤ length out'
+is_longer : (out out' text : Text) → out' ≡ out ++ text → length out ≤ length out'
 is_longer out out' text e = let same = ap length e in omega (arith, length-append out text)
+
+pub sends_longer : {A : Type 0} (r : Result A WriteFault) (out out' text : Text) → SendsReply r (Some out) (Some out') text → length out ≤ length out'
+sends_longer (Ok x) out out' text sent = is_longer out out' text sent
+sends_longer (Err e) out out' text sent = is_longer out out' (take e.written text) sent.1
 
 pub refusal_on : (e : End) (r : FramingRefusal) (gone : ℕ) (out out' : Text) → gone ≤ length out → SendsRefusal e r (Some out) (Some out')
     → SendsRefusal e r (Some (drop gone out)) (Some (drop gone out'))
@@ -160,11 +166,42 @@ all_received old p f g t t' u u' front left more left' bytes whole so_far kept g
     (grown p f g t t' u u' more kept grew ∙ ap (λ (c : Shown). with_more c more) so_far ∙ with_two old front more
     ∙ ap (with_more old) (ap (λ (y : Text). front ++ y) (sym (rest ∙ ap (λ (y : Text). more ++ y) none ∙ append-nil more)) ∙ sym whole))
 
+added : (t held u waiting all : ℕ) → t ≡ held → u ≤ waiting + all → t + u ≤ (held + waiting) + all
+added t held u waiting all same fits = omega (arith, same, fits)
+
+more_or_less : (kept front more left all rest : ℕ) → all ≡ front + (more + left) → rest ≡ (kept + front) + more → rest ≤ kept + all
+more_or_less kept front more left all rest whole grew = omega (arith, whole, grew)
+
+-- and no more is held than came
+pub no_more_held : (t t' u u' front left more left' bytes held waiting : Text) → bytes ≡ front ++ left → t ≡ held → u ≡ waiting ++ front → t' ≡ t → u' ≡ u ++ more
+    → left ≡ more ++ left' → length t' + length u' ≤ (length held + length waiting) + length bytes
+no_more_held t t' u u' front left more left' bytes held waiting whole taken so_far kept grew rest =
+    let all : length bytes ≡ length front + (length more + length left') =
+    ap length whole ∙ length-append front left ∙ ap (λ (n : ℕ). length front + n) (ap length rest ∙ length-append more left') in
+    let now : length u' ≡ (length waiting + length front) + length more =
+    ap length grew ∙ length-append u more ∙ ap (λ (n : ℕ). n + length more) (ap length so_far ∙ length-append waiting front) in
+    added (length t') (length held) (length u') (length waiting) (length bytes) (ap length (kept ∙ taken))
+    (more_or_less (length waiting) (length front) (length more) (length left') (length bytes) (length u') all now)
+
 pub none_received : (old : Shown) (bytes : Text) → bytes ≡ [] → Receives bytes old old
 none_received old bytes none =
     was_received old old bytes (ap (λ (u : Text). record old { unread = u }) (sym (ap (λ (y : Text). old.unread ++ y) none ∙ append-nil old.unread)))
 
 -- ---- memory was wanting
+
+-- one answer is not the other
+pub not_both : (a b : Bool) → a ≡ b → a ≡ true → b ≡ false → ⊥
+not_both a b same first second = cc
+
+-- for the bytes that came
+pub lacked : (found : Step) (bytes : Text) (old mid new : Shown) → mid.going ≡ old.going → mid.finished ≡ old.finished → Refuses found NoBufferMemory mid new
+    → Receives bytes old new
+lacked found bytes old mid new going finished r = inr (record {
+  end = r.end;
+  sends = subst (λ (x : Text). SendsRefusal r.end NoBufferMemory (Some x) (Some new.going)) going r.sends;
+  ended = r.ended;
+  finished = r.finished ∙ finished;
+})
 
 pub part_ends : (found : Step) (n : ℕ) (b before going : Text) (s s' : State) (old new : Shown) → found ≡ step.Ended (WriteFailed n)
     → new ≡ with_phase old (phase.Ended (WriteFailed n)) → PutsPart n b before going s s' old.going → ActsAs found b before going s s' new

@@ -1,8 +1,9 @@
-ghost use Rattle.std.specs.Prelude.{◌≡◌, true, false, IfOk, length};
+ghost use Rattle.std.specs.Prelude.{◌≡◌, true, false, if◌then◌else◌, IfOk, length};
 ghost use Rattle.httparse.specs.Spans.{span_bytes};
 ghost use Rattle.registry_model.specs.Heads.{is_head, is_sent};
 ghost use Rattle.httparse.specs.Grammar.{RequestHead};
-ghost use Rattle.registry_model.specs.Answer.{answer_of};
+ghost use Rattle.registry_model.specs.Answer.{answer_of, busy_answer, failed_answer};
+ghost use Rattle.registry_model.specs.Ask.{ask_of};
 ghost use Rattle.registry_model.specs.Doing.{Does};
 ghost use Rattle.registry_http.specs.Asking.{ask_in, verb_of, path_text, query_in, keys_in};
 ghost use Rattle.registry_http.specs.Decoding.{cow_text, keys_shown};
@@ -35,6 +36,43 @@ fn decode_target(alloc: Global, target: &[u8]) -> Result<Texts<'_>, AllocError>
     Ok(Texts { path, values })
 }
 
+/// The request of a head, where its spans lie, with the texts of its target and its body.
+fn request_of<'a>(
+    head: &'a [u8],
+    fields: &[HeaderSpan],
+    spans: &RequestSpans,
+    texts: &'a Texts<'_>,
+    body: &'a [u8],
+) -> Request<'a>
+    requires { HeadFits (length head.now) fields.now spans.now }
+    ensures asks { (h : RequestHead) → IsHeadAt head.now fields.now spans.now h
+        → cow_text texts.now.path ≡ path_text h.target
+        → keys_shown texts.now.values ≡ keys_in (query_in h.target)
+        → ask_of result ≡ ask_in h body.now }
+    ensures verb { result.method ≡ verb_of (span_bytes head.now spans.now.method) }
+{
+    Request {
+        token: token(head, fields),
+        method: verb(spans.method.of(head)),
+        route: route_if(text_if(&texts.path)),
+        query: texts.values.query(),
+        content_type: values_of(head, fields, b"content-type").first,
+        content_range: values_of(head, fields, b"content-range").first,
+        body,
+    }
+}
+
+/// The answer where memory is wanting for the texts of a target: 503, or 500 of a service that is spent.
+fn unread(spent: bool) -> Reply
+    ensures { answer_of result ≡ (if spent then failed_answer else busy_answer) }
+{
+    if spent {
+        Reply::failed()
+    } else {
+        Reply::busy()
+    }
+}
+
 /// Answers a request by its head, where its spans lie, and its body. Where memory is wanting for
 /// the texts of its target the answer is 503, or 500 where the service is spent.
 pub fn answer<K: Keeper>(
@@ -54,23 +92,9 @@ pub fn answer<K: Keeper>(
 {
     match decode_target(alloc, spans.path.of(head)) {
         Ok(texts) => {
-            let request = Request {
-                token: token(head, fields),
-                method: verb(spans.method.of(head)),
-                route: route_if(text_if(&texts.path)),
-                query: texts.values.query(),
-                content_type: values_of(head, fields, b"content-type").first,
-                content_range: values_of(head, fields, b"content-range").first,
-                body,
-            };
+            let request = request_of(head, fields, spans, &texts, body);
             service.handle(alloc, &request)
         }
-        Err(_) => {
-            if service.spent() {
-                Reply::failed()
-            } else {
-                Reply::busy()
-            }
-        }
+        Err(_) => unread(service.spent()),
     }
 }

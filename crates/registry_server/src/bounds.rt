@@ -9,7 +9,7 @@ pub const SHARE: usize = 65_536;
 pub const LARGEST: usize = 67_190_784;
 
 /// How much connections may take together.
-#[derive(Clone, Copy, Debug, PartialEq, Eq)]
+#[derive(Clone, Copy)]
 pub struct Bounds {
     /// How many may be open at once.
     pub at_once: usize,

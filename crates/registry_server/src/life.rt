@@ -7,7 +7,7 @@ pub const SIGN_OF_LIFE: usize = 65_536;
 
 /// When there was a sign of life on a connection last, in milliseconds of the time that `Connections` is
 /// told, and how many bytes moved on it since.
-#[derive(Clone, Copy, Debug, PartialEq, Eq)]
+#[derive(Clone, Copy)]
 pub struct Life {
     pub since: u64,
     pub moved: usize,

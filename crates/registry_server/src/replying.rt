@@ -1,12 +1,11 @@
-ghost use Rattle.std.specs.Prelude.{◌≡◌, ◌≤◌, true, false, length, take, Some, IfOk, vec_len};
-ghost use Rattle.registry_model.specs.Answer.{Answer, answer_of};
-ghost use Rattle.registry_model.specs.Heads.{is_sent};
+ghost use Rattle.std.specs.Prelude.{◌≡◌, ◌≤◌, length, take, Option, Some, IfOk, vec_len};
+ghost use Rattle.oci_types.specs.Text.{Text};
+ghost use Rattle.registry_model.specs.Answer.{Answer};
 ghost use Rattle.registry_model.specs.Doing.{Does};
 ghost use Rattle.registry_http.specs.Asking.{ask_in};
 ghost use Rattle.registry_http.specs.Spelling.{Item, closes};
 ghost use Rattle.registry_http.specs.Serving.{reply_for};
 ghost use Rattle.registry_http.specs.Sending.{SendsReply};
-ghost use Rattle.registry_http.specs.ReplyText.{reply_text};
 ghost use Rattle.registry_http.specs.Reading.{HeadFits};
 ghost use Rattle.registry_server.specs.Headings.{IsTaken};
 
@@ -15,19 +14,17 @@ use httparse::spans::{HeaderSpan, RequestSpans};
 use registry_http::persistence::closes;
 use registry_http::target::is_head;
 use registry_http::{WriteFault, write_reply};
-use registry_model::{Keeper, Reply};
+use registry_model::Keeper;
 use registry_service::Service;
 use std::alloc::Global;
 
-/// Puts the reply behind what is to go out, and lets it go. Says again whether the connection is closed.
-fn put_reply(reply: Reply, head: bool, closing: bool, out: &mut Vec<u8>) -> Result<bool, WriteFault>
-    requires whole { head ≡ false → is_sent (answer_of reply).body ≡ true }
-    ensures grows { vec_len out.old ≤ vec_len out.new }
+/// What came of a reply that was written: whether the connection is closed after it, as was said.
+fn told(written: Result<(), WriteFault>, closing: bool) -> Result<bool, WriteFault>
     ensures told { IfOk result (λ told. told ≡ closing) }
-    ensures sends { SendsReply result (Some out.old.items) (Some out.new.items)
-        (reply_text head closing (answer_of reply)) }
+    ensures sends { (held held' : Option Text) (text : Text) → SendsReply written held held' text
+        → SendsReply result held held' text }
 {
-    match write_reply(&reply, head, closing, out) {
+    match written {
         Ok(()) => Ok(closing),
         Err(fault) => Err(fault),
     }
@@ -62,5 +59,6 @@ pub fn reply_to<K: Keeper>(
     let body = &taken[spans.len..];
     let closing = closes(head, found, spans.version);
     let reply = answer(alloc, service, head, found, spans, body);
-    put_reply(reply, is_head(spans.method.of(head)), closing, out)
+    let written = write_reply(&reply, is_head(spans.method.of(head)), closing, out);
+    told(written, closing)
 }

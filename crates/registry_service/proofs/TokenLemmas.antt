@@ -1,6 +1,6 @@
 -- A request by the token that it names.
-use Rattle.std.proofs.Common.{◌≡◌, Bool, true, false, cond, Option, Some, None, refl, sym, ap, subst}
-use Rattle.std.proofs.lemmas.Option.{same_Some}
+use Rattle.std.proofs.Common.{◌≡◌, ◌∙◌, Bool, true, false, cond, Option, Some, None, Ok, Err, refl, sym, ap, subst}
+use Rattle.std.proofs.lemmas.Option.{none-some, same_Some}
 use Rattle.std.specs.Prelude.{Result}
 use Rattle.oci_types.specs.Text.{Text}
 use Rattle.oci_types.specs.Token.{is_token}
@@ -46,3 +46,14 @@ pub known_served : (r : Result Reply Fault) (token : Text) (q : Ask) (s t s' : S
 known_served r token q s t s' same is h =
     subst (λ d. ComesOn r (addressed q.form) d s s') (sym (known (s.world.grants token) (repo_at s.world) q is))
     (subst (λ (x : State). ComesOn r (addressed q.form) (served (x.world.grants token) (repo_at x.world) q) x s') same h)
+
+-- where no token is named none is found
+pub no_fault : (e : Fault) (o : Option Text) → Err e ≡ Ok o → ⊥
+no_fault e o h = absurd (cc)
+
+abbrev found_by : Result (Option Text) Fault → Option Text
+found_by (Ok o) = o
+found_by (Err e) = None
+
+pub not_both : (r : Result (Option Text) Fault) (o : Option Text) (token : Text) → r ≡ Ok o → r ≡ Ok None → o ≡ Some token → ⊥
+not_both r o token is none some = none-some token (sym (ap found_by (sym is ∙ none)) ∙ some)

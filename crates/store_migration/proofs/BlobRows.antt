@@ -1,14 +1,17 @@
 -- What the statements on the old rows of blobs make of the tables, and show.
-use Rattle.std.proofs.Common.{◌≡◌, ◌∙◌, ℕ, List, [], ◌∷◌, map, true, Ok, Err, Result, OnOk, IfOk, refl, sym, ap, subst}
-use Rattle.std.specs.Prelude.{find}
+use Rattle.std.proofs.Common.{◌≡◌, ◌∙◌, ℕ, List, [], ◌∷◌, map, true, Ok, Err, Result, OnOk, IfOk, IsOkAnd, slice_get, refl, sym, ap, subst}
+use Rattle.std.specs.Prelude.{Option, Vec, find, option_map, string_bytes}
 use Rattle.std.specs.Option.{option_to_list}
+use Rattle.std.specs.declared.alloc.Global.{Global}
 use Rattle.std.specs.List.Sorted.{IsPermutation}
 use Rattle.sqlite_trees.proofs.ListLemmas.{filter_all, all_of}
 use Rattle.sqlite.specs.declared.types.Value.TheVariants.{Text}
 use Rattle.sqlite.specs.declared.error.Error.{Error}
 use Rattle.sqlite.specs.Order.{Row, column}
+use Rattle.oci_types.specs.declared.fault.Fault.{Fault}
 use Rattle.sqlite.specs.State.{State, Executes, ExecutesInside, Shown}
 use Rattle.store_schema.specs.OldSchema.{old_blobs_table, old_manifests_table, old_sessions_table}
+use Rattle.store_schema.specs.Rows.{bytes_at}
 use Rattle.store_schema.specs.Layout.{rows_of, equals}
 use Rattle.store_schema.proofs.Selects.{Answer, is_text, both_tests}
 use Rattle.store_schema.proofs.Writes.{passes, rows_in}
@@ -17,10 +20,15 @@ use Rattle.store_statements.specs.Tables.{Beside, AreRows}
 use Rattle.store_statements.specs.Changes.{without}
 use Rattle.store_statements.specs.Held.{held, HoldsTables, Becomes}
 use Rattle.store_statements.proofs.Keys.{key_parts}
-use Rattle.store_statements.proofs.Selected.{lists, finds}
+use Rattle.store_statements.proofs.Selected.{lists, finds, permutation_read}
 use Rattle.store_migration.specs.OldTables.{IsOldBlobRow}
 use Rattle.store_migration.specs.OldTexts.{blob_keys, blob_bytes, blob_take}
+use Rattle.store_migration.specs.Listed.{key_of}
+use Rattle.store_migration.specs.declared.old_keys.Key.{Key}
+use Rattle.store_migration.specs.Shown.{AllShown, key_shown, two_texts, shown}
 use Rattle.store_migration.specs.Olds.{HasOlds, old_of, with_olds}
+use Rattle.store_migration.proofs.Read.{read_of, first_shown}
+use Rattle.store_migration.proofs.KeyRows.{keys_told}
 use Rattle.store_migration.proofs.OldRows.{blobs_are, manifests_are, sessions_are, further, besides, takes, Takes}
 
 key_test : (repo digest : List ℕ) (r : Row) → IsOldBlobRow r → passes (Text repo ∷ Text digest ∷ []) (equals 1 0 ∷ equals 2 1 ∷ []) r ≡ has_key repo digest r
@@ -47,11 +55,27 @@ took_by repo digest old new (Ok n) h o ran = let it = took repo digest old new n
 
 -- ---- what is read
 
-pub key_rows : (old new : State) (r : Answer) → HasOlds (held old) → IfOk r (λ rows. Shown blob_keys [] old new rows.items) → IfOk r (λ rows. IsPermutation (map (λ r. column r 1 ∷ column r 2 ∷ []) (old_of (held old)).blobs) rows.items)
+key_rows : (old new : State) (r : Answer) → HasOlds (held old) → IfOk r (λ rows. Shown blob_keys [] old new rows.items) → IfOk r (λ rows. IsPermutation (map (λ r. column r 1 ∷ column r 2 ∷ []) (old_of (held old)).blobs) rows.items)
 key_rows old new r o ran = subst (λ xs. IfOk r (λ rows. IsPermutation (map (λ r. column r 1 ∷ column r 2 ∷ []) xs) rows.items)) (filter_all (λ _. true) _ (all_of _ (λ r. refl) _) ∙ sym (blobs_are old.now o.known))
     (lists old_blobs_table IsOldBlobRow same_key blob_keys _ [] _ [] (λ _. true) old new r o.known.blob_texts.keys_mean o.known.blobs.stored (are_rows old o) (λ r it. refl) ran)
 
-pub byte_rows : (repo digest : List ℕ) (old new : State) (r : Answer) → HasOlds (held old) → IfOk r (λ rows. Shown blob_bytes (Text repo ∷ Text digest ∷ []) old new rows.items)
+byte_rows : (repo digest : List ℕ) (old new : State) (r : Answer) → HasOlds (held old) → IfOk r (λ rows. Shown blob_bytes (Text repo ∷ Text digest ∷ []) old new rows.items)
     → IfOk r (λ rows. rows.items ≡ map (λ r. column r 4 ∷ []) (option_to_list (find (has_key repo digest) (old_of (held old)).blobs)))
 byte_rows repo digest old new r o ran = subst (λ xs. IfOk r (λ rows. rows.items ≡ map (λ r. column r 4 ∷ []) (option_to_list (find (has_key repo digest) xs)))) (sym (blobs_are old.now o.known))
     (finds old_blobs_table IsOldBlobRow same_key blob_bytes _ (equals 1 0 ∷ equals 2 1 ∷ []) _ (Text repo ∷ Text digest ∷ []) (has_key repo digest) old new r o.known.blob_texts.bytes_mean o.known.blobs.stored (are_rows old o) (key_test repo digest) (key_parts repo digest) ran)
+
+-- ---- what is read of it
+
+pub keys_read : (old new : State) (r : Answer) (k : Result (Vec Key Global) Fault) → HasOlds (held old) → IfOk k (λ keys. IsOkAnd r (λ found. AllShown (λ row key. (string_bytes key.repo ≡ bytes_at row 0) × (string_bytes key.digest ≡ bytes_at row 1)) found.items keys.items)) → IfOk r (λ rows. Shown blob_keys [] old new rows.items)
+    → IfOk k (λ keys. IsPermutation (map key_of (old_of (held old)).blobs) (map key_shown keys.items))
+keys_read old new r k o read ran =
+    read_of r k (λ keys found. AllShown (λ row key. (string_bytes key.repo ≡ bytes_at row 0) × (string_bytes key.digest ≡ bytes_at row 1)) found.items keys.items) (λ rows. IsPermutation (map (λ r. column r 1 ∷ column r 2 ∷ []) (old_of (held old)).blobs) rows.items) (λ keys. IsPermutation (map key_of (old_of (held old)).blobs) (map key_shown keys.items))
+    (λ keys rows reads shown. permutation_read (λ r. column r 1 ∷ column r 2 ∷ []) key_of two_texts (old_of (held old)).blobs rows.items (map key_shown keys.items) (λ r i. key_of r) shown (keys_told rows.items keys.items reads))
+    read (key_rows old new r o ran)
+
+pub bytes_read : (repo digest : List ℕ) (old new : State) (r : Answer) (b : Result (Option (Vec ℕ Global)) Fault) → HasOlds (held old) → IfOk b (λ o. IsOkAnd r (λ found. shown o ≡ option_map (λ r. bytes_at r 0) (slice_get found.items 0)))
+    → IfOk r (λ rows. Shown blob_bytes (Text repo ∷ Text digest ∷ []) old new rows.items) → IfOk b (λ o. shown o ≡ option_map (λ r. bytes_at r 4) (find (has_key repo digest) (old_of (held old)).blobs))
+bytes_read repo digest old new r b o read ran =
+    read_of r b (λ o found. shown o ≡ option_map (λ r. bytes_at r 0) (slice_get found.items 0)) (λ rows. rows.items ≡ map (λ r. column r 4 ∷ []) (option_to_list (find (has_key repo digest) (old_of (held old)).blobs))) (λ o. shown o ≡ option_map (λ r. bytes_at r 4) (find (has_key repo digest) (old_of (held old)).blobs))
+    (λ o rows reads row. reads ∙ first_shown (λ r. column r 4 ∷ []) (λ r. bytes_at r 4) (λ r. bytes_at r 0) (find (has_key repo digest) (old_of (held old)).blobs) rows.items (λ r i. bytes_at r 4) row)
+    read (byte_rows repo digest old new r o ran)

@@ -24,7 +24,7 @@ use Rattle.store_migration.proofs.Underway.{olds_kept, ready_read, some_of, none
 
 -- ---- the blob comes
 
-pub blob_fresh : (old mid : Tables) (name digest bytes : Text) (id : Rattle.std.proofs.Common.ℤ) → ContentKept old mid id bytes → find (has_key name digest) old.blobs ≡ None → find (has_key name digest) mid.blobs ≡ None
+blob_fresh : (old mid : Tables) (name digest bytes : Text) (id : Rattle.std.proofs.Common.ℤ) → ContentKept old mid id bytes → find (has_key name digest) old.blobs ≡ None → find (has_key name digest) mid.blobs ≡ None
 blob_fresh old mid name digest bytes id kept fresh = ap (λ (t : Tables). find (has_key name digest) t.blobs) kept.others ∙ fresh
 
 stored : (old mid new : Tables) (id : Rattle.std.proofs.Common.ℤ) (name digest bytes : Text) → ContentKept old mid id bytes → Comes mid.blobs new.blobs (blob_columns name digest (length bytes) id) → new ≡ record mid { blobs = new.blobs } → BlobStored old new name digest bytes
@@ -38,21 +38,20 @@ stored old mid new id name digest bytes kept comes others =
       others = others ∙ ap (λ (t : Tables). record t { blobs = new.blobs }) kept.others ∙ ap (λ contents. record old { contents = contents; blobs = new.blobs }) (sym same);
     }
 
-pub stored_if : {A E : Type 0} (old mid new : State) (id : Rattle.std.proofs.Common.ℤ) (name digest bytes : Text) (r : Result A E) → ContentKept (held old) (held mid) id bytes → OnOk r (BlobComes mid new (blob_columns name digest (length bytes) id))
-    → OnOk r (IsReady new × BlobStored (held old) (held new) name digest bytes)
-stored_if old mid new id name digest bytes (Ok x) kept h = (h.ready, stored (held old) (held mid) (held new) id name digest bytes kept h.comes h.others)
-stored_if old mid new id name digest bytes (Err e) kept h = tt
-
 -- ---- under the key of an old row
 
 -- the row is there, with these bytes
 abbrev pub Found : Tables → Text → Text → Text → Type 0
 Found t name digest bytes = option_map (λ r. bytes_at r 4) (find (has_key name digest) (old_of t).blobs) ≡ Some bytes
 
-pub free : (t : Tables) (name digest bytes : Text) → IsUnderway t → Found t name digest bytes → find (has_key name digest) t.blobs ≡ None
+free : (t : Tables) (name digest bytes : Text) → IsUnderway t → Found t name digest bytes → find (has_key name digest) t.blobs ≡ None
 free t name digest bytes under found = (blob_free (old_of t) t name digest under.both (some_of (λ r. bytes_at r 4) (find (has_key name digest) (old_of t).blobs) bytes found)).1
 
-pub olds_after : (t w : Tables) (name digest bytes : Text) → IsUnderway t → BlobStored t w name digest bytes → HasOlds w
+-- so a row of its key can come, once its content is kept
+pub free_after : (t m : Tables) (name digest bytes : Text) (id : Rattle.std.proofs.Common.ℤ) → IsUnderway t → Found t name digest bytes → ContentKept t m id bytes → find (has_key name digest) m.blobs ≡ None
+free_after t m name digest bytes id under found kept = blob_fresh t m name digest bytes id kept (free t name digest bytes under found)
+
+olds_after : (t w : Tables) (name digest bytes : Text) → IsUnderway t → BlobStored t w name digest bytes → HasOlds w
 olds_after t w name digest bytes under s = olds_kept t w under.olds (ap (λ (x : Tables). x.beside) s.others) (ap (λ (x : Tables). x.version) s.others)
 
 moves : (t w u : Tables) (name digest bytes : Text) → IsUnderway t → Found t name digest bytes → BlobStored t w name digest bytes → u ≡ with_olds w (without_blob name digest (old_of w)) → Moves (without_blob name digest) t u
@@ -88,10 +87,17 @@ moves t w u name digest bytes under found s is = subst (Moves (without_blob name
       };
     }
 
-pub moved_if : {A E : Type 0} (old mid new : State) (name digest bytes : Text) (r : Result A E) → IsUnderway (held old) → Found (held old) name digest bytes → BlobStored (held old) (held mid) name digest bytes
+moved_if : {A E : Type 0} (old mid new : State) (name digest bytes : Text) (r : Result A E) → IsUnderway (held old) → Found (held old) name digest bytes → BlobStored (held old) (held mid) name digest bytes
     → OnOk r (Becomes new (with_olds (held mid) (without_blob name digest (old_of (held mid))))) → OnOk r (IsReady new × Moves (without_blob name digest) (held old) (held new))
 moved_if old mid new name digest bytes (Ok x) under found s h = (h.0, moves (held old) (held mid) (held new) name digest bytes under found s h.1)
 moved_if old mid new name digest bytes (Err e) under found s h = tt
+
+-- its content is kept, it comes, and the row goes
+pub moved_then : {A E : Type 0} (old mid late new : State) (id : Rattle.std.proofs.Common.ℤ) (name digest bytes : Text) (r : Result A E) → IsUnderway (held old) → Found (held old) name digest bytes → ContentKept (held old) (held mid) id bytes → BlobComes mid late (blob_columns name digest (length bytes) id)
+    → (IsReady late → HasOlds (held late) → OnOk r (Becomes new (with_olds (held late) (without_blob name digest (old_of (held late)))))) → OnOk r (IsReady new × Moves (without_blob name digest) (held old) (held new))
+moved_then old mid late new id name digest bytes r under found kept comes take =
+    let s : BlobStored (held old) (held late) name digest bytes = stored (held old) (held mid) (held late) id name digest bytes kept comes.comes comes.others in
+    moved_if old late new name digest bytes r under found s (take comes.ready (olds_after (held old) (held late) name digest bytes under s))
 
 -- ---- as its bytes were read
 

@@ -28,7 +28,7 @@ use Rattle.store_migration.proofs.Underway.{olds_kept, ready_read, some_of, none
 
 -- ---- the manifest comes
 
-pub manifest_fresh : (old mid : Tables) (name digest bytes : Text) (id : ℤ) → ContentKept old mid id bytes → find (has_key name digest) old.manifests ≡ None → find (has_key name digest) mid.manifests ≡ None
+manifest_fresh : (old mid : Tables) (name digest bytes : Text) (id : ℤ) → ContentKept old mid id bytes → find (has_key name digest) old.manifests ≡ None → find (has_key name digest) mid.manifests ≡ None
 manifest_fresh old mid name digest bytes id kept fresh = ap (λ (t : Tables). find (has_key name digest) t.manifests) kept.others ∙ fresh
 
 -- the columns by what the bytes read as
@@ -46,12 +46,11 @@ stored old mid new id name digest bytes kept comes others =
       others = others ∙ ap (λ (t : Tables). record t { manifests = new.manifests }) kept.others ∙ ap (λ contents. record old { contents = contents; manifests = new.manifests }) (sym same);
     }
 
-pub stored_if : {A E : Type 0} (old mid new : State) (id : ℤ) (name digest bytes : Text) (kind : Kind) (subject : Option Text) (r : Result A E) → kind ≡ kind_in bytes → subject ≡ subject_or_none (manifest_in bytes) → ContentKept (held old) (held mid) id bytes
-    → OnOk r (ManifestComes mid new (manifest_columns name digest (length bytes) kind subject id)) → OnOk r (IsReady new × ManifestStored (held old) (held new) name digest bytes)
-stored_if old mid new id name digest bytes kind subject (Ok x) k s kept h =
+came : (old mid new : State) (id : ℤ) (name digest bytes : Text) (kind : Kind) (subject : Option Text) → kind ≡ kind_in bytes → subject ≡ subject_or_none (manifest_in bytes) → ContentKept (held old) (held mid) id bytes
+    → ManifestComes mid new (manifest_columns name digest (length bytes) kind subject id) → ManifestStored (held old) (held new) name digest bytes
+came old mid new id name digest bytes kind subject k s kept h =
     let columns : manifest_columns name digest (length bytes) kind subject id ≡ read_columns name digest bytes id = λ i. manifest_columns name digest (length bytes) (k i) (s i) id in
-    (h.ready, stored (held old) (held mid) (held new) id name digest bytes kept (subst (Comes (held mid).manifests (held new).manifests) columns h.comes) h.others)
-stored_if old mid new id name digest bytes kind subject (Err e) k s kept h = tt
+    stored (held old) (held mid) (held new) id name digest bytes kept (subst (Comes (held mid).manifests (held new).manifests) columns h.comes) h.others
 
 -- ---- under the key of an old row
 
@@ -59,10 +58,14 @@ stored_if old mid new id name digest bytes kind subject (Err e) k s kept h = tt
 abbrev pub Found : Tables → Text → Text → Text → Type 0
 Found t name digest bytes = option_map (λ r. bytes_at r 6) (find (has_key name digest) (old_of t).manifests) ≡ Some bytes
 
-pub free : (t : Tables) (name digest bytes : Text) → IsUnderway t → Found t name digest bytes → find (has_key name digest) t.manifests ≡ None
+free : (t : Tables) (name digest bytes : Text) → IsUnderway t → Found t name digest bytes → find (has_key name digest) t.manifests ≡ None
 free t name digest bytes under found = (manifest_free (old_of t) t name digest under.both (some_of (λ r. bytes_at r 6) (find (has_key name digest) (old_of t).manifests) bytes found)).1
 
-pub olds_after : (t w : Tables) (name digest bytes : Text) → IsUnderway t → ManifestStored t w name digest bytes → HasOlds w
+-- so a row of its key can come, once its content is kept
+pub free_after : (t m : Tables) (name digest bytes : Text) (id : ℤ) → IsUnderway t → Found t name digest bytes → ContentKept t m id bytes → find (has_key name digest) m.manifests ≡ None
+free_after t m name digest bytes id under found kept = manifest_fresh t m name digest bytes id kept (free t name digest bytes under found)
+
+olds_after : (t w : Tables) (name digest bytes : Text) → IsUnderway t → ManifestStored t w name digest bytes → HasOlds w
 olds_after t w name digest bytes under s = olds_kept t w under.olds (ap (λ (x : Tables). x.beside) s.others) (ap (λ (x : Tables). x.version) s.others)
 
 moves : (t w u : Tables) (name digest bytes : Text) → IsUnderway t → Found t name digest bytes → ManifestStored t w name digest bytes → u ≡ with_olds w (without_manifest name digest (old_of w)) → Moves (without_manifest name digest) t u
@@ -98,10 +101,18 @@ moves t w u name digest bytes under found s is = subst (Moves (without_manifest 
       };
     }
 
-pub moved_if : {A E : Type 0} (old mid new : State) (name digest bytes : Text) (r : Result A E) → IsUnderway (held old) → Found (held old) name digest bytes → ManifestStored (held old) (held mid) name digest bytes
+moved_if : {A E : Type 0} (old mid new : State) (name digest bytes : Text) (r : Result A E) → IsUnderway (held old) → Found (held old) name digest bytes → ManifestStored (held old) (held mid) name digest bytes
     → OnOk r (Becomes new (with_olds (held mid) (without_manifest name digest (old_of (held mid))))) → OnOk r (IsReady new × Moves (without_manifest name digest) (held old) (held new))
 moved_if old mid new name digest bytes (Ok x) under found s h = (h.0, moves (held old) (held mid) (held new) name digest bytes under found s h.1)
 moved_if old mid new name digest bytes (Err e) under found s h = tt
+
+-- its content is kept, it comes, and the row goes
+pub moved_then : {A E : Type 0} (old mid late new : State) (id : ℤ) (name digest bytes : Text) (kind : Kind) (subject : Option Text) (r : Result A E) → kind ≡ kind_in bytes → subject ≡ subject_or_none (manifest_in bytes) → IsUnderway (held old) → Found (held old) name digest bytes
+    → ContentKept (held old) (held mid) id bytes → ManifestComes mid late (manifest_columns name digest (length bytes) kind subject id)
+    → (IsReady late → HasOlds (held late) → OnOk r (Becomes new (with_olds (held late) (without_manifest name digest (old_of (held late)))))) → OnOk r (IsReady new × Moves (without_manifest name digest) (held old) (held new))
+moved_then old mid late new id name digest bytes kind subject r k sub under found kept comes take =
+    let s : ManifestStored (held old) (held late) name digest bytes = came old mid late id name digest bytes kind subject k sub kept comes in
+    moved_if old late new name digest bytes r under found s (take comes.ready (olds_after (held old) (held late) name digest bytes under s))
 
 -- ---- as its bytes were read
 

@@ -1,12 +1,11 @@
 //! Blobs are moved.
-ghost use Rattle.std.specs.Prelude.{◌≡◌, ◌<◌, ◌^◌, length, find, option_map, None, Some, OnOk, IfOk};
+ghost use Rattle.std.specs.Prelude.{◌≡◌, ◌<◌, ◌^◌, length, find, option_map, Some, OnOk, IfOk};
 ghost use Rattle.sqlite.specs.State.{HasCleanDisk, KeepsCommit};
 ghost use Rattle.sqlite.specs.Held.{state};
 ghost use Rattle.store_schema.specs.Rows.{bytes_at};
 ghost use Rattle.store_statements.specs.Keys.{has_key};
-ghost use Rattle.store_statements.specs.Clauses.{KeepsInside, LastsUncommitted};
+ghost use Rattle.store_statements.specs.Clauses.{LastsUncommitted};
 ghost use Rattle.store_statements.specs.Held.{IsReady, held};
-ghost use Rattle.store_statements.specs.Steps.{BlobStored};
 ghost use Rattle.store_migration.specs.Olds.{old_of};
 ghost use Rattle.store_migration.specs.Moving.{IsUnderway, Moves, MovesOn, KeepsUnderway, CountsOld, without_blob, without_listed_blobs, without_blobs};
 
@@ -20,31 +19,7 @@ use store_statements::blobs::add_blob_link;
 use store_statements::contents::keep;
 use store_statements::numbers::LARGEST;
 
-/// Puts a blob in that the repository has not, under a digest that is not looked at.
-fn add_blob<S: Alter>(
-    alloc: Global,
-    tx: &mut Transaction<'_, S>,
-    repo: &str,
-    digest: &str,
-    bytes: &[u8],
-) -> Result<(), Fault>
-    requires fits { length bytes.now < 2 ^ 63 }
-    ensures stored { HasCleanDisk (state S.Store tx.new.conn.now) → IsReady (state S.Store tx.old.conn.now)
-        → find (has_key repo.now digest.now) (held (state S.Store tx.old.conn.now)).blobs ≡ None
-        → OnOk result
-        (IsReady (state S.Store tx.new.conn.now) × BlobStored (held (state S.Store tx.old.conn.now))
-        (held (state S.Store tx.new.conn.now)) repo.now digest.now bytes.now) }
-    ensures kept { KeepsInside S.Store tx.old.conn.now tx.new.conn.now }
-    ensures same_reference { tx.new.conn.ghost_name ≡ tx.old.conn.ghost_name }
-    ensures survives { LastsUncommitted S.Store tx.old.conn.now tx.new.conn.now }
-{
-    match keep(alloc, tx, bytes) {
-        Ok(content) => add_blob_link(tx, repo, digest, bytes.len() as u64, content),
-        Err(fault) => Err(fault),
-    }
-}
-
-/// Moves a blob whose row has these bytes.
+/// Moves a blob whose row has these bytes; its digest is not looked at.
 fn move_found<S: Alter>(
     alloc: Global,
     tx: &mut Transaction<'_, S>,
@@ -70,8 +45,11 @@ fn move_found<S: Alter>(
     ensures same_reference { tx.new.conn.ghost_name ≡ tx.old.conn.ghost_name }
     ensures survives { LastsUncommitted S.Store tx.old.conn.now tx.new.conn.now }
 {
-    match add_blob(alloc, tx, repo, digest, bytes) {
-        Ok(()) => take_blob(tx, repo, digest),
+    match keep(alloc, tx, bytes) {
+        Ok(content) => match add_blob_link(tx, repo, digest, bytes.len() as u64, content) {
+            Ok(()) => take_blob(tx, repo, digest),
+            Err(fault) => Err(fault),
+        },
         Err(fault) => Err(fault),
     }
 }

@@ -3,6 +3,7 @@ ghost use Rattle.std.specs.Prelude.{◌≡◌, option_map, slice_get, IfOk, IsOk
 ghost use Rattle.store_schema.specs.Rows.{bytes_at};
 ghost use Rattle.store_migration.specs.Shown.{shown};
 
+use crate::telling::told;
 use oci_types::Fault;
 use sqlite::{Error, Row};
 use store_contents::fault_of;
@@ -25,12 +26,8 @@ pub(crate) fn first_bytes(rows: Result<Vec<Row>, Error>) -> Result<Option<Vec<u8
     ensures { IfOk result (λ o. IsOkAnd rows
         (λ found. shown o ≡ option_map (λ r. bytes_at r 0) (slice_get found.items 0))) }
 {
-    let bytes = match rows {
-        Ok(rows) => bytes_in(&rows),
-        Err(error) => Err(error),
-    };
-    match bytes {
-        Ok(bytes) => Ok(bytes),
+    match rows {
+        Ok(rows) => told(bytes_in(&rows)),
         Err(error) => Err(fault_of(error)),
     }
 }

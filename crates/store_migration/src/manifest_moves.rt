@@ -1,5 +1,5 @@
 //! Manifests are moved.
-ghost use Rattle.std.specs.Prelude.{◌≡◌, ◌<◌, ◌^◌, length, find, option_map, None, Some, OnOk, IfOk};
+ghost use Rattle.std.specs.Prelude.{◌≡◌, ◌<◌, ◌^◌, length, find, option_map, Some, OnOk, IfOk};
 ghost use Rattle.sqlite.specs.State.{HasCleanDisk, KeepsCommit};
 ghost use Rattle.sqlite.specs.Held.{state};
 ghost use Rattle.oci_types.specs.Manifest.{manifest_in};
@@ -7,24 +7,34 @@ ghost use Rattle.registry_model.specs.Manifests.{kind_in};
 ghost use Rattle.registry_model.specs.Referrers.{subject_or_none};
 ghost use Rattle.store_schema.specs.Rows.{bytes_at};
 ghost use Rattle.store_statements.specs.Keys.{has_key};
-ghost use Rattle.store_statements.specs.Clauses.{KeepsInside, LastsUncommitted};
+ghost use Rattle.store_statements.specs.Clauses.{LastsUncommitted};
 ghost use Rattle.store_statements.specs.Held.{IsReady, held};
 ghost use Rattle.store_migration.specs.Olds.{old_of};
-ghost use Rattle.store_migration.specs.Moving.{IsUnderway, ManifestStored, Moves, MovesOn, KeepsUnderway, CountsOld, without_manifest, without_listed_manifests, without_manifests};
+ghost use Rattle.store_migration.specs.Moving.{IsUnderway, Moves, MovesOn, KeepsUnderway, CountsOld, without_manifest, without_listed_manifests, without_manifests};
 
 use crate::old_keys::Key;
 use crate::old_manifests::{manifest_bytes, manifest_keys, take_manifest};
 use crate::watch::{OldTable, Watch};
 use oci_documents::read_manifest;
-use oci_types::{Fault, Kind, ManifestFault};
+use oci_types::{Fault, Kind, Manifest, ManifestFault};
 use sqlite::{Alter, Transaction};
 use std::alloc::Global;
 use store_statements::contents::keep;
 use store_statements::manifests::add_manifest_link;
 use store_statements::numbers::LARGEST;
 
-/// Puts a manifest in that the repository has not, of the kind and the subject as which its bytes read.
-fn add_manifest<S: Alter>(
+/// The digest of the manifest that this one refers to.
+fn subject_of(manifest: &Manifest) -> Option<&str>
+    ensures { option_map (λ text. text.now) result ≡ manifest.now.subject }
+{
+    match &manifest.subject {
+        Some(subject) => Some(subject.as_str()),
+        None => None,
+    }
+}
+
+/// Moves a manifest whose row has these bytes, of the kind and the subject as which they read.
+fn move_as<S: Alter>(
     alloc: Global,
     tx: &mut Transaction<'_, S>,
     repo: &str,
@@ -36,18 +46,30 @@ fn add_manifest<S: Alter>(
     requires fits { length bytes.now < 2 ^ 63 }
     requires of_kind { kind ≡ kind_in bytes.now }
     requires of_subject { option_map (λ text. text.now) subject ≡ subject_or_none (manifest_in bytes.now) }
-    ensures stored { HasCleanDisk (state S.Store tx.new.conn.now) → IsReady (state S.Store tx.old.conn.now)
-        → find (has_key repo.now digest.now) (held (state S.Store tx.old.conn.now)).manifests ≡ None
+    ensures moved { HasCleanDisk (state S.Store tx.new.conn.now) → IsReady (state S.Store tx.old.conn.now)
+        → IsUnderway (held (state S.Store tx.old.conn.now))
+        → option_map (λ r. bytes_at r 6)
+        (find (has_key repo.now digest.now) (old_of (held (state S.Store tx.old.conn.now))).manifests)
+        ≡ Some bytes.now
         → OnOk result
-        (IsReady (state S.Store tx.new.conn.now) × ManifestStored (held (state S.Store tx.old.conn.now))
-        (held (state S.Store tx.new.conn.now)) repo.now digest.now bytes.now) }
-    ensures kept { KeepsInside S.Store tx.old.conn.now tx.new.conn.now }
+        (IsReady (state S.Store tx.new.conn.now) × Moves (without_manifest repo.now digest.now)
+        (held (state S.Store tx.old.conn.now)) (held (state S.Store tx.new.conn.now))) }
+    ensures kept { HasCleanDisk (state S.Store tx.new.conn.now) → IsReady (state S.Store tx.old.conn.now)
+        → IsUnderway (held (state S.Store tx.old.conn.now))
+        → option_map (λ r. bytes_at r 6)
+        (find (has_key repo.now digest.now) (old_of (held (state S.Store tx.old.conn.now))).manifests)
+        ≡ Some bytes.now
+        → KeepsCommit (state S.Store tx.old.conn.now) (state S.Store tx.new.conn.now) }
     ensures same_reference { tx.new.conn.ghost_name ≡ tx.old.conn.ghost_name }
     ensures survives { LastsUncommitted S.Store tx.old.conn.now tx.new.conn.now }
 {
     match keep(alloc, tx, bytes) {
         Ok(content) => {
-            add_manifest_link(tx, repo, digest, bytes.len() as u64, kind, subject, content)
+            let size = bytes.len() as u64;
+            match add_manifest_link(tx, repo, digest, size, kind, subject, content) {
+                Ok(()) => take_manifest(tx, repo, digest),
+                Err(fault) => Err(fault),
+            }
         }
         Err(fault) => Err(fault),
     }
@@ -55,37 +77,6 @@ fn add_manifest<S: Alter>(
 
 /// The same, where the bytes are read first: what is no manifest counts as an image manifest without a
 /// subject.
-fn add_read<S: Alter>(
-    alloc: Global,
-    tx: &mut Transaction<'_, S>,
-    repo: &str,
-    digest: &str,
-    bytes: &[u8],
-) -> Result<(), Fault>
-    requires fits { length bytes.now < 2 ^ 63 }
-    ensures stored { HasCleanDisk (state S.Store tx.new.conn.now) → IsReady (state S.Store tx.old.conn.now)
-        → find (has_key repo.now digest.now) (held (state S.Store tx.old.conn.now)).manifests ≡ None
-        → OnOk result
-        (IsReady (state S.Store tx.new.conn.now) × ManifestStored (held (state S.Store tx.old.conn.now))
-        (held (state S.Store tx.new.conn.now)) repo.now digest.now bytes.now) }
-    ensures kept { KeepsInside S.Store tx.old.conn.now tx.new.conn.now }
-    ensures same_reference { tx.new.conn.ghost_name ≡ tx.old.conn.ghost_name }
-    ensures survives { LastsUncommitted S.Store tx.old.conn.now tx.new.conn.now }
-{
-    match read_manifest(alloc, bytes) {
-        Ok(manifest) => match &manifest.subject {
-            Some(subject) => {
-                let subject = Some(subject.as_str());
-                add_manifest(alloc, tx, repo, digest, bytes, manifest.kind, subject)
-            }
-            None => add_manifest(alloc, tx, repo, digest, bytes, manifest.kind, None),
-        },
-        Err(ManifestFault::Memory) => Err(Fault::Memory),
-        Err(_) => add_manifest(alloc, tx, repo, digest, bytes, Kind::Image, None),
-    }
-}
-
-/// Moves a manifest whose row has these bytes.
 fn move_found<S: Alter>(
     alloc: Global,
     tx: &mut Transaction<'_, S>,
@@ -111,9 +102,13 @@ fn move_found<S: Alter>(
     ensures same_reference { tx.new.conn.ghost_name ≡ tx.old.conn.ghost_name }
     ensures survives { LastsUncommitted S.Store tx.old.conn.now tx.new.conn.now }
 {
-    match add_read(alloc, tx, repo, digest, bytes) {
-        Ok(()) => take_manifest(tx, repo, digest),
-        Err(fault) => Err(fault),
+    match read_manifest(alloc, bytes) {
+        Ok(manifest) => {
+            let subject = subject_of(&manifest);
+            move_as(alloc, tx, repo, digest, bytes, manifest.kind, subject)
+        }
+        Err(ManifestFault::Memory) => Err(Fault::Memory),
+        Err(_) => move_as(alloc, tx, repo, digest, bytes, Kind::Image, None),
     }
 }
 

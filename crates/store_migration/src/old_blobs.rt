@@ -1,8 +1,6 @@
 //! The rows of blobs in schema 1: each has its whole bytes.
-ghost use Rattle.std.specs.Prelude.{◌≡◌, ◌∷◌, [], map, find, option_map};
-ghost use Rattle.std.specs.Option.{option_to_list};
+ghost use Rattle.std.specs.Prelude.{◌≡◌, map, find, option_map};
 ghost use Rattle.std.specs.List.Sorted.{IsPermutation};
-ghost use Rattle.sqlite.specs.Order.{column};
 ghost use Rattle.store_schema.specs.Rows.{bytes_at};
 ghost use Rattle.store_statements.specs.Keys.{has_key};
 ghost use Rattle.store_statements.specs.Changes.{without};
@@ -13,22 +11,10 @@ ghost use Rattle.store_migration.specs.Shown.{key_shown, shown};
 
 use crate::first_bytes::first_bytes;
 use crate::old_keys::{Key, keys_of};
+use crate::telling::done;
 use oci_types::Fault;
-use sqlite::{Alter, Error, Row, Transaction, params};
+use sqlite::{Alter, Transaction, params};
 use std::alloc::Global;
-use store_contents::fault_of;
-
-/// The key of each row.
-fn key_rows<S: Alter>(tx: &mut Transaction<'_, S>) -> Result<Vec<Row>, Error>
-    ensures shown { FindsOld S.Store tx.old.conn.now tx.new.conn.now result
-        (λ old rows. IsPermutation (map (λ r. column r 1 ∷ column r 2 ∷ []) old.blobs) rows.items) }
-    ensures same { ChangesNothingOld S.Store tx.old.conn.now tx.new.conn.now result }
-    ensures kept { KeepsOld S.Store tx.old.conn.now tx.new.conn.now }
-    ensures same_reference { tx.new.conn.ghost_name ≡ tx.old.conn.ghost_name }
-    ensures survives { LastsUncommitted S.Store tx.old.conn.now tx.new.conn.now }
-{
-    tx.query_all("SELECT repo, digest FROM registry_blobs", &[])
-}
 
 /// The key of each row, in any order. Nothing changes.
 pub fn blob_keys<S: Alter>(alloc: Global, tx: &mut Transaction<'_, S>) -> Result<Vec<Key>, Fault>
@@ -39,26 +25,9 @@ pub fn blob_keys<S: Alter>(alloc: Global, tx: &mut Transaction<'_, S>) -> Result
     ensures same_reference { tx.new.conn.ghost_name ≡ tx.old.conn.ghost_name }
     ensures survives { LastsUncommitted S.Store tx.old.conn.now tx.new.conn.now }
 {
-    keys_of(alloc, key_rows(tx))
-}
-
-/// The bytes under the key: one row, or none.
-fn byte_rows<S: Alter>(
-    tx: &mut Transaction<'_, S>,
-    repo: &str,
-    digest: &str,
-) -> Result<Vec<Row>, Error>
-    ensures shown { FindsOld S.Store tx.old.conn.now tx.new.conn.now result
-        (λ old rows. rows.items ≡ map (λ r. column r 4 ∷ [])
-        (option_to_list (find (has_key repo.now digest.now) old.blobs))) }
-    ensures same { ChangesNothingOld S.Store tx.old.conn.now tx.new.conn.now result }
-    ensures kept { KeepsOld S.Store tx.old.conn.now tx.new.conn.now }
-    ensures same_reference { tx.new.conn.ghost_name ≡ tx.old.conn.ghost_name }
-    ensures survives { LastsUncommitted S.Store tx.old.conn.now tx.new.conn.now }
-{
-    tx.query_all(
-        "SELECT bytes FROM registry_blobs WHERE repo = ?1 AND digest = ?2",
-        params![repo, digest],
+    keys_of(
+        alloc,
+        tx.query_all("SELECT repo, digest FROM registry_blobs", &[]),
     )
 }
 
@@ -75,7 +44,10 @@ pub fn blob_bytes<S: Alter>(
     ensures same_reference { tx.new.conn.ghost_name ≡ tx.old.conn.ghost_name }
     ensures survives { LastsUncommitted S.Store tx.old.conn.now tx.new.conn.now }
 {
-    first_bytes(byte_rows(tx, repo, digest))
+    first_bytes(tx.query_all(
+        "SELECT bytes FROM registry_blobs WHERE repo = ?1 AND digest = ?2",
+        params![repo, digest],
+    ))
 }
 
 /// Takes the row of a blob out, where it is there.
@@ -90,11 +62,8 @@ pub fn take_blob<S: Alter>(
     ensures same_reference { tx.new.conn.ghost_name ≡ tx.old.conn.ghost_name }
     ensures survives { LastsUncommitted S.Store tx.old.conn.now tx.new.conn.now }
 {
-    match tx.execute(
+    done(tx.execute(
         "DELETE FROM registry_blobs WHERE repo = ?1 AND digest = ?2",
         params![repo, digest],
-    ) {
-        Ok(_) => Ok(()),
-        Err(error) => Err(fault_of(error)),
-    }
+    ))
 }

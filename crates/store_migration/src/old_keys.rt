@@ -1,8 +1,10 @@
 //! By what the rows of the old tables are known.
-ghost use Rattle.std.specs.Prelude.{◌≡◌, map, string_bytes, IfOk, IsOkAnd};
+ghost use Rattle.std.specs.Prelude.{◌≡◌, string_bytes, IfOk, IsOkAnd};
+ghost use Rattle.sqlite.specs.Order.{Row};
 ghost use Rattle.store_schema.specs.Rows.{bytes_at, natural_at};
-ghost use Rattle.store_migration.specs.Shown.{key_shown, session_shown, two_texts, text_and_number};
+ghost use Rattle.store_migration.specs.Shown.{AllShown};
 
+use crate::telling::told;
 use oci_types::Fault;
 use sqlite::{Error, Row};
 use std::alloc::Global;
@@ -22,79 +24,58 @@ pub struct SessionKey {
     pub number: u64,
 }
 
-/// The key that the row shows first.
-fn key_in(row: &Row) -> Result<Key, Error>
-    ensures repo { IfOk result (λ key. string_bytes key.repo ≡ bytes_at row.now 0) }
-    ensures digest { IfOk result (λ key. string_bytes key.digest ≡ bytes_at row.now 1) }
-{
-    let repo: String = row.get(0)?;
-    let digest: String = row.get(1)?;
-    Ok(Key { repo, digest })
+/// A key that a row shows first.
+pub(crate) trait FromRow: Drop {
+    /// The row shows this key.
+    ghost shows: { Row → Self → Type 0 };
+
+    fn read(row: &Row) -> Result<Self, Error>
+        ensures { IfOk result (shows row.now) };
+}
+
+impl FromRow for Key {
+    ghost shows = { λ row key. (string_bytes key.repo ≡ bytes_at row 0)
+        × (string_bytes key.digest ≡ bytes_at row 1) };
+
+    fn read(row: &Row) -> Result<Key, Error> {
+        let repo: String = row.get(0)?;
+        let digest: String = row.get(1)?;
+        Ok(Key { repo, digest })
+    }
+}
+
+impl FromRow for SessionKey {
+    ghost shows = { λ row key. (string_bytes key.repo ≡ bytes_at row 0)
+        × (key.number ≡ natural_at row 1) };
+
+    fn read(row: &Row) -> Result<SessionKey, Error> {
+        let repo: String = row.get(0)?;
+        let number: u64 = row.get(1)?;
+        Ok(SessionKey { repo, number })
+    }
 }
 
 /// The keys that the rows show first, in their order.
-fn keys_in(alloc: Global, rows: &[Row]) -> Result<Vec<Key>, Error>
-    ensures { IfOk result (λ keys. map key_shown keys.items ≡ map two_texts rows.now) }
+fn keys_in<K: FromRow>(alloc: Global, rows: &[Row]) -> Result<Vec<K>, Error>
+    ensures { IfOk result (λ keys. AllShown K.shows rows.now keys.items) }
 {
     let mut keys = Vec::new(alloc);
     for row in rows {
-        let key = key_in(row)?;
+        let key = K::read(row)?;
         keys.push(key)?;
     }
     Ok(keys)
 }
 
 /// The same of rows that were asked for.
-pub(crate) fn keys_of(alloc: Global, rows: Result<Vec<Row>, Error>) -> Result<Vec<Key>, Fault>
-    ensures { IfOk result (λ keys. IsOkAnd rows
-        (λ found. map key_shown keys.items ≡ map two_texts found.items)) }
-{
-    let keys = match rows {
-        Ok(rows) => keys_in(alloc, &rows),
-        Err(error) => Err(error),
-    };
-    match keys {
-        Ok(keys) => Ok(keys),
-        Err(error) => Err(fault_of(error)),
-    }
-}
-
-/// The key of an upload session that the row shows first.
-fn session_key_in(row: &Row) -> Result<SessionKey, Error>
-    ensures repo { IfOk result (λ key. string_bytes key.repo ≡ bytes_at row.now 0) }
-    ensures number { IfOk result (λ key. key.number ≡ natural_at row.now 1) }
-{
-    let repo: String = row.get(0)?;
-    let number: u64 = row.get(1)?;
-    Ok(SessionKey { repo, number })
-}
-
-/// The keys of upload sessions that the rows show first, in their order.
-fn session_keys_in(alloc: Global, rows: &[Row]) -> Result<Vec<SessionKey>, Error>
-    ensures { IfOk result (λ keys. map session_shown keys.items ≡ map text_and_number rows.now) }
-{
-    let mut keys = Vec::new(alloc);
-    for row in rows {
-        let key = session_key_in(row)?;
-        keys.push(key)?;
-    }
-    Ok(keys)
-}
-
-/// The same of rows that were asked for.
-pub(crate) fn session_keys_of(
+pub(crate) fn keys_of<K: FromRow>(
     alloc: Global,
     rows: Result<Vec<Row>, Error>,
-) -> Result<Vec<SessionKey>, Fault>
-    ensures { IfOk result (λ keys. IsOkAnd rows
-        (λ found. map session_shown keys.items ≡ map text_and_number found.items)) }
+) -> Result<Vec<K>, Fault>
+    ensures { IfOk result (λ keys. IsOkAnd rows (λ found. AllShown K.shows found.items keys.items)) }
 {
-    let keys = match rows {
-        Ok(rows) => session_keys_in(alloc, &rows),
-        Err(error) => Err(error),
-    };
-    match keys {
-        Ok(keys) => Ok(keys),
+    match rows {
+        Ok(rows) => told(keys_in(alloc, &rows)),
         Err(error) => Err(fault_of(error)),
     }
 }

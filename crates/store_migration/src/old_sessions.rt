@@ -1,8 +1,6 @@
 //! The rows of upload sessions in schema 1: each has its whole bytes.
-ghost use Rattle.std.specs.Prelude.{◌≡◌, ◌∷◌, [], map, find, option_map, ◌<◌, ◌^◌};
-ghost use Rattle.std.specs.Option.{option_to_list};
+ghost use Rattle.std.specs.Prelude.{◌≡◌, map, find, option_map, ◌<◌, ◌^◌};
 ghost use Rattle.std.specs.List.Sorted.{IsPermutation};
-ghost use Rattle.sqlite.specs.Order.{column};
 ghost use Rattle.store_schema.specs.Rows.{bytes_at};
 ghost use Rattle.store_statements.specs.Keys.{of_session};
 ghost use Rattle.store_statements.specs.Changes.{without};
@@ -12,23 +10,11 @@ ghost use Rattle.store_migration.specs.Listed.{session_of};
 ghost use Rattle.store_migration.specs.Shown.{session_shown, shown};
 
 use crate::first_bytes::first_bytes;
-use crate::old_keys::{SessionKey, session_keys_of};
+use crate::old_keys::{SessionKey, keys_of};
+use crate::telling::done;
 use oci_types::Fault;
-use sqlite::{Alter, Error, Row, Transaction, params};
+use sqlite::{Alter, Transaction, params};
 use std::alloc::Global;
-use store_contents::fault_of;
-
-/// The key of each row.
-fn key_rows<S: Alter>(tx: &mut Transaction<'_, S>) -> Result<Vec<Row>, Error>
-    ensures shown { FindsOld S.Store tx.old.conn.now tx.new.conn.now result
-        (λ old rows. IsPermutation (map (λ r. column r 1 ∷ column r 2 ∷ []) old.sessions) rows.items) }
-    ensures same { ChangesNothingOld S.Store tx.old.conn.now tx.new.conn.now result }
-    ensures kept { KeepsOld S.Store tx.old.conn.now tx.new.conn.now }
-    ensures same_reference { tx.new.conn.ghost_name ≡ tx.old.conn.ghost_name }
-    ensures survives { LastsUncommitted S.Store tx.old.conn.now tx.new.conn.now }
-{
-    tx.query_all("SELECT repo, number FROM registry_sessions", &[])
-}
 
 /// The key of each row, in any order. Nothing changes.
 pub fn session_keys<S: Alter>(
@@ -42,27 +28,9 @@ pub fn session_keys<S: Alter>(
     ensures same_reference { tx.new.conn.ghost_name ≡ tx.old.conn.ghost_name }
     ensures survives { LastsUncommitted S.Store tx.old.conn.now tx.new.conn.now }
 {
-    session_keys_of(alloc, key_rows(tx))
-}
-
-/// The bytes under the key: one row, or none.
-fn byte_rows<S: Alter>(
-    tx: &mut Transaction<'_, S>,
-    repo: &str,
-    number: u64,
-) -> Result<Vec<Row>, Error>
-    requires fits { number < 2 ^ 63 }
-    ensures shown { FindsOld S.Store tx.old.conn.now tx.new.conn.now result
-        (λ old rows. rows.items ≡ map (λ r. column r 4 ∷ [])
-        (option_to_list (find (of_session repo.now number) old.sessions))) }
-    ensures same { ChangesNothingOld S.Store tx.old.conn.now tx.new.conn.now result }
-    ensures kept { KeepsOld S.Store tx.old.conn.now tx.new.conn.now }
-    ensures same_reference { tx.new.conn.ghost_name ≡ tx.old.conn.ghost_name }
-    ensures survives { LastsUncommitted S.Store tx.old.conn.now tx.new.conn.now }
-{
-    tx.query_all(
-        "SELECT bytes FROM registry_sessions WHERE repo = ?1 AND number = ?2",
-        params![repo, number as i64],
+    keys_of(
+        alloc,
+        tx.query_all("SELECT repo, number FROM registry_sessions", &[]),
     )
 }
 
@@ -80,7 +48,10 @@ pub fn session_bytes<S: Alter>(
     ensures same_reference { tx.new.conn.ghost_name ≡ tx.old.conn.ghost_name }
     ensures survives { LastsUncommitted S.Store tx.old.conn.now tx.new.conn.now }
 {
-    first_bytes(byte_rows(tx, repo, number))
+    first_bytes(tx.query_all(
+        "SELECT bytes FROM registry_sessions WHERE repo = ?1 AND number = ?2",
+        params![repo, number as i64],
+    ))
 }
 
 /// Takes the row of an upload session out, where it is there.
@@ -96,11 +67,8 @@ pub fn take_session<S: Alter>(
     ensures same_reference { tx.new.conn.ghost_name ≡ tx.old.conn.ghost_name }
     ensures survives { LastsUncommitted S.Store tx.old.conn.now tx.new.conn.now }
 {
-    match tx.execute(
+    done(tx.execute(
         "DELETE FROM registry_sessions WHERE repo = ?1 AND number = ?2",
         params![repo, number as i64],
-    ) {
-        Ok(_) => Ok(()),
-        Err(error) => Err(fault_of(error)),
-    }
+    ))
 }

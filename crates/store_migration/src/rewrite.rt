@@ -19,7 +19,7 @@ use store_opening::{OpenFault, fault_in_making};
 use store_schema::make_tables_of_two;
 
 /// How many rows were moved.
-#[derive(Clone, Copy, Debug, PartialEq, Eq)]
+#[derive(Clone, Copy)]
 pub struct MovedRows {
     pub blobs: usize,
     pub manifests: usize,

@@ -22,31 +22,6 @@ use store_statements::numbers::LARGEST;
 use store_statements::pieces::add_piece;
 use store_statements::uploads::{add_upload, set_size};
 
-/// Puts a piece in at the beginning of a session that has none there.
-fn add_first<S: Alter>(
-    alloc: Global,
-    tx: &mut Transaction<'_, S>,
-    repo: &str,
-    number: u64,
-    bytes: &[u8],
-) -> Result<(), Fault>
-    requires number_fits { number < 2 ^ 63 }
-    requires fits { length bytes.now < 2 ^ 63 }
-    ensures stored { HasCleanDisk (state S.Store tx.new.conn.now) → IsReady (state S.Store tx.old.conn.now)
-        → find (has_start repo.now number 0) (held (state S.Store tx.old.conn.now)).pieces ≡ None
-        → OnOk result
-        (IsReady (state S.Store tx.new.conn.now) × PieceStored (held (state S.Store tx.old.conn.now))
-        (held (state S.Store tx.new.conn.now)) repo.now number 0 bytes.now) }
-    ensures kept { KeepsInside S.Store tx.old.conn.now tx.new.conn.now }
-    ensures same_reference { tx.new.conn.ghost_name ≡ tx.old.conn.ghost_name }
-    ensures survives { LastsUncommitted S.Store tx.old.conn.now tx.new.conn.now }
-{
-    match keep(alloc, tx, bytes) {
-        Ok(content) => add_piece(tx, repo, number, 0, bytes.len() as u64, content),
-        Err(fault) => Err(fault),
-    }
-}
-
 /// Gives an empty session its bytes: its size is theirs, and they are its one piece.
 fn fill<S: Alter>(
     alloc: Global,
@@ -69,7 +44,10 @@ fn fill<S: Alter>(
     ensures survives { LastsUncommitted S.Store tx.old.conn.now tx.new.conn.now }
 {
     match set_size(tx, repo, number, bytes.len() as u64) {
-        Ok(_) => add_first(alloc, tx, repo, number, bytes),
+        Ok(_) => match keep(alloc, tx, bytes) {
+            Ok(content) => add_piece(tx, repo, number, 0, bytes.len() as u64, content),
+            Err(fault) => Err(fault),
+        },
         Err(fault) => Err(fault),
     }
 }

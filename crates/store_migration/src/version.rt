@@ -9,9 +9,9 @@ ghost use Rattle.store_migration.specs.OldTables.{IsOfSchemaOne};
 ghost use Rattle.store_migration.specs.Moves.{with_version_two};
 ghost use Rattle.store_migration.specs.Clauses.{OverBoth};
 
+use crate::telling::done;
 use oci_types::Fault;
 use sqlite::{Alter, Transaction};
-use store_contents::fault_of;
 
 /// Makes the one row of `registry_schema` say 2.
 pub fn raise_version<S: Alter>(tx: &mut Transaction<'_, S>) -> Result<(), Fault>
@@ -25,8 +25,5 @@ pub fn raise_version<S: Alter>(tx: &mut Transaction<'_, S>) -> Result<(), Fault>
     ensures same_reference { tx.new.conn.ghost_name ≡ tx.old.conn.ghost_name }
     ensures survives { LastsUncommitted S.Store tx.old.conn.now tx.new.conn.now }
 {
-    match tx.execute("UPDATE registry_schema SET version = 2", &[]) {
-        Ok(_) => Ok(()),
-        Err(error) => Err(fault_of(error)),
-    }
+    done(tx.execute("UPDATE registry_schema SET version = 2", &[]))
 }

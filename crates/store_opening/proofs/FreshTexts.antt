@@ -1,105 +1,113 @@
 -- The schema that a registry makes in an empty database is known.
 use Rattle.std.proofs.Common.{refl}
 use Rattle.sqlite_tied.specs.Compute.{everything}
-use Rattle.sqlite.specs.Listing.{understood}
 use Rattle.sqlite_schema.specs.Names.{same_name}
-use Rattle.store_schema.specs.Schema.{fresh_schema}
+use Rattle.store_schema.specs.Schema.{fresh_schema, repos_table, grants_table, tags_table, blob_links_table, manifest_links_table, uploads_table, pieces_table, version_table}
 use Rattle.store_schema.proofs.Fresh.{repos_stand, grants_stand, tags_stand, blob_links_stand, manifest_links_stand, uploads_stand, pieces_stand, version_stands}
-use Rattle.store_statements.specs.RepoTexts.{KnowsRepoTexts}
-use Rattle.store_statements.specs.GrantTexts.{KnowsGrantTexts}
-use Rattle.store_statements.specs.TagTexts.{KnowsTagTexts}
-use Rattle.store_statements.specs.BlobTexts.{KnowsBlobTexts}
-use Rattle.store_statements.specs.ManifestTexts.{KnowsManifestTexts}
-use Rattle.store_statements.specs.UploadTexts.{KnowsUploadTexts}
-use Rattle.store_statements.specs.PieceTexts.{KnowsPieceTexts}
-use Rattle.store_statements.specs.VersionTexts.{KnowsVersionTexts}
+use Rattle.store_opening.proofs.Meanings.{means_by}
+use Rattle.sqlite.specs.Command.TheVariants.{Insert}
+use Rattle.sqlite.specs.Source.TheVariants.{Values}
+use Rattle.sqlite.specs.Term.{lit, col}
+use Rattle.sqlite.specs.declared.types.Value.TheVariants.{Null, Int}
+use Rattle.std.specs.Prelude.{◌∷◌, [], codes, pos}
+use Rattle.store_schema.specs.Commands.{deletes, selects, selects_ordered, updates, selects_page}
+use Rattle.store_schema.specs.Layout.{equals}
+use Rattle.store_schema.specs.Ordered.{above}
+use Rattle.store_statements.specs.BlobTexts.{blob_find, blob_sizes, blob_digests, blob_contents, blob_add, blob_take, blob_take_all, KnowsBlobTexts}
+use Rattle.store_statements.specs.GrantTexts.{grant_find, grant_known, grant_list, grant_add, grant_set_level, grant_take, grant_take_all, grant_take_token, KnowsGrantTexts}
+use Rattle.store_statements.specs.ManifestTexts.{manifest_find, manifest_subject, manifest_sizes, manifest_digests, manifest_contents, manifest_add, manifest_take, manifest_take_all, KnowsManifestTexts}
+use Rattle.store_statements.specs.PieceTexts.{piece_list, piece_contents, piece_add, piece_take_of, piece_take_all, KnowsPieceTexts}
+use Rattle.store_statements.specs.RepoTexts.{repo_find, repo_list, repo_add, repo_set_quota, repo_set_last, repo_take, KnowsRepoTexts}
+use Rattle.store_statements.specs.TagTexts.{tag_find, tag_page, tag_list, tag_add, tag_set_digest, tag_take, tag_take_named, tag_take_all, KnowsTagTexts}
+use Rattle.store_statements.specs.UploadTexts.{upload_find, upload_sizes, upload_add, upload_set_size, upload_take, upload_take_all, KnowsUploadTexts}
+use Rattle.store_statements.specs.VersionTexts.{version_find, version_add, KnowsVersionTexts}
 
 pub repo_texts : KnowsRepoTexts fresh_schema repos_stand
-unfolding understood everything same_name repos_stand
+unfolding everything same_name repos_stand
 repo_texts = record {
-  find = record { is = refl; plain = (refl, refl); unlisted = refl };
-  list = record { is = refl; plain = (refl, refl); unlisted = refl };
-  add = record { is = refl; plain = (refl, refl); unlisted = refl };
-  set_quota = record { is = refl; plain = (refl, refl); unlisted = refl };
-  set_last = record { is = refl; plain = (refl, refl); unlisted = refl };
-  take = record { is = refl; plain = (refl, refl); unlisted = refl };
+  find = means_by fresh_schema repo_find (selects fresh_schema repos_table (equals 1 0 ∷ []) (col 1 2 ∷ col 1 3 ∷ []) (codes "quota" ∷ codes "last_session" ∷ [])) refl;
+  list = means_by fresh_schema repo_list (selects_ordered fresh_schema repos_table [] (col 1 1 ∷ []) 1 (codes "name" ∷ [])) refl;
+  add = means_by fresh_schema repo_add (Insert repos_stand.at (Values (lit Null ∷ col 0 0 ∷ col 0 1 ∷ lit (Int (pos 0)) ∷ []) 4)) refl;
+  set_quota = means_by fresh_schema repo_set_quota (updates repos_stand.at fresh_schema repos_table (equals 1 0 ∷ []) (col 1 0 ∷ col 1 0 ∷ col 1 1 ∷ col 0 1 ∷ col 1 3 ∷ [])) refl;
+  set_last = means_by fresh_schema repo_set_last (updates repos_stand.at fresh_schema repos_table (equals 1 0 ∷ []) (col 1 0 ∷ col 1 0 ∷ col 1 1 ∷ col 1 2 ∷ col 0 1 ∷ [])) refl;
+  take = means_by fresh_schema repo_take (deletes repos_stand.at fresh_schema repos_table (equals 1 0 ∷ [])) refl;
 }
 
 pub grant_texts : KnowsGrantTexts fresh_schema grants_stand
-unfolding understood everything same_name grants_stand
+unfolding everything same_name grants_stand
 grant_texts = record {
-  find = record { is = refl; plain = (refl, refl); unlisted = refl };
-  known = record { is = refl; plain = (refl, refl); unlisted = refl };
-  list = record { is = refl; plain = (refl, refl); unlisted = refl };
-  add = record { is = refl; plain = (refl, refl); unlisted = refl };
-  set_level = record { is = refl; plain = (refl, refl); unlisted = refl };
-  take = record { is = refl; plain = (refl, refl); unlisted = refl };
-  take_all = record { is = refl; plain = (refl, refl); unlisted = refl };
-  take_token = record { is = refl; plain = (refl, refl); unlisted = refl };
+  find = means_by fresh_schema grant_find (selects fresh_schema grants_table (equals 1 0 ∷ equals 2 1 ∷ []) (col 1 3 ∷ []) (codes "level" ∷ [])) refl;
+  known = means_by fresh_schema grant_known (selects fresh_schema grants_table (equals 1 0 ∷ []) (col 1 3 ∷ []) (codes "level" ∷ [])) refl;
+  list = means_by fresh_schema grant_list (selects_ordered fresh_schema grants_table (equals 2 0 ∷ []) (col 1 1 ∷ col 1 3 ∷ []) 1 (codes "token" ∷ codes "level" ∷ [])) refl;
+  add = means_by fresh_schema grant_add (Insert grants_stand.at (Values (lit Null ∷ col 0 0 ∷ col 0 1 ∷ col 0 2 ∷ []) 4)) refl;
+  set_level = means_by fresh_schema grant_set_level (updates grants_stand.at fresh_schema grants_table (equals 1 0 ∷ equals 2 1 ∷ []) (col 1 0 ∷ col 1 0 ∷ col 1 1 ∷ col 1 2 ∷ col 0 2 ∷ [])) refl;
+  take = means_by fresh_schema grant_take (deletes grants_stand.at fresh_schema grants_table (equals 1 0 ∷ equals 2 1 ∷ [])) refl;
+  take_all = means_by fresh_schema grant_take_all (deletes grants_stand.at fresh_schema grants_table (equals 2 0 ∷ [])) refl;
+  take_token = means_by fresh_schema grant_take_token (deletes grants_stand.at fresh_schema grants_table (equals 1 0 ∷ [])) refl;
 }
 
 pub tag_texts : KnowsTagTexts fresh_schema tags_stand
-unfolding understood everything same_name tags_stand
+unfolding everything same_name tags_stand
 tag_texts = record {
-  find = record { is = refl; plain = (refl, refl); unlisted = refl };
-  page = record { is = refl; plain = (refl, refl); unlisted = refl };
-  list = record { is = refl; plain = (refl, refl); unlisted = refl };
-  add = record { is = refl; plain = (refl, refl); unlisted = refl };
-  set_digest = record { is = refl; plain = (refl, refl); unlisted = refl };
-  take = record { is = refl; plain = (refl, refl); unlisted = refl };
-  take_named = record { is = refl; plain = (refl, refl); unlisted = refl };
-  take_all = record { is = refl; plain = (refl, refl); unlisted = refl };
+  find = means_by fresh_schema tag_find (selects fresh_schema tags_table (equals 1 0 ∷ equals 2 1 ∷ []) (col 1 3 ∷ []) (codes "digest" ∷ [])) refl;
+  page = means_by fresh_schema tag_page (selects_page fresh_schema tags_table (equals 1 0 ∷ above 2 1 ∷ []) (col 1 2 ∷ []) 2 2 (codes "tag" ∷ [])) refl;
+  list = means_by fresh_schema tag_list (selects fresh_schema tags_table (equals 1 0 ∷ []) (col 1 2 ∷ []) (codes "tag" ∷ [])) refl;
+  add = means_by fresh_schema tag_add (Insert tags_stand.at (Values (lit Null ∷ col 0 0 ∷ col 0 1 ∷ col 0 2 ∷ []) 4)) refl;
+  set_digest = means_by fresh_schema tag_set_digest (updates tags_stand.at fresh_schema tags_table (equals 1 0 ∷ equals 2 1 ∷ []) (col 1 0 ∷ col 1 0 ∷ col 1 1 ∷ col 1 2 ∷ col 0 2 ∷ [])) refl;
+  take = means_by fresh_schema tag_take (deletes tags_stand.at fresh_schema tags_table (equals 1 0 ∷ equals 2 1 ∷ [])) refl;
+  take_named = means_by fresh_schema tag_take_named (deletes tags_stand.at fresh_schema tags_table (equals 1 0 ∷ equals 3 1 ∷ [])) refl;
+  take_all = means_by fresh_schema tag_take_all (deletes tags_stand.at fresh_schema tags_table (equals 1 0 ∷ [])) refl;
 }
 
 pub blob_texts : KnowsBlobTexts fresh_schema blob_links_stand
-unfolding understood everything same_name blob_links_stand
+unfolding everything same_name blob_links_stand
 blob_texts = record {
-  find = record { is = refl; plain = (refl, refl); unlisted = refl };
-  sizes = record { is = refl; plain = (refl, refl); unlisted = refl };
-  digests = record { is = refl; plain = (refl, refl); unlisted = refl };
-  contents = record { is = refl; plain = (refl, refl); unlisted = refl };
-  add = record { is = refl; plain = (refl, refl); unlisted = refl };
-  take = record { is = refl; plain = (refl, refl); unlisted = refl };
-  take_all = record { is = refl; plain = (refl, refl); unlisted = refl };
+  find = means_by fresh_schema blob_find (selects fresh_schema blob_links_table (equals 1 0 ∷ equals 2 1 ∷ []) (col 1 3 ∷ col 1 4 ∷ []) (codes "size" ∷ codes "content" ∷ [])) refl;
+  sizes = means_by fresh_schema blob_sizes (selects fresh_schema blob_links_table (equals 1 0 ∷ []) (col 1 3 ∷ []) (codes "size" ∷ [])) refl;
+  digests = means_by fresh_schema blob_digests (selects_ordered fresh_schema blob_links_table (equals 1 0 ∷ []) (col 1 2 ∷ []) 2 (codes "digest" ∷ [])) refl;
+  contents = means_by fresh_schema blob_contents (selects fresh_schema blob_links_table [] (col 1 4 ∷ []) (codes "content" ∷ [])) refl;
+  add = means_by fresh_schema blob_add (Insert blob_links_stand.at (Values (lit Null ∷ col 0 0 ∷ col 0 1 ∷ col 0 2 ∷ col 0 3 ∷ []) 5)) refl;
+  take = means_by fresh_schema blob_take (deletes blob_links_stand.at fresh_schema blob_links_table (equals 1 0 ∷ equals 2 1 ∷ [])) refl;
+  take_all = means_by fresh_schema blob_take_all (deletes blob_links_stand.at fresh_schema blob_links_table (equals 1 0 ∷ [])) refl;
 }
 
 pub manifest_texts : KnowsManifestTexts fresh_schema manifest_links_stand
-unfolding understood everything same_name manifest_links_stand
+unfolding everything same_name manifest_links_stand
 manifest_texts = record {
-  find = record { is = refl; plain = (refl, refl); unlisted = refl };
-  subject = record { is = refl; plain = (refl, refl); unlisted = refl };
-  sizes = record { is = refl; plain = (refl, refl); unlisted = refl };
-  digests = record { is = refl; plain = (refl, refl); unlisted = refl };
-  contents = record { is = refl; plain = (refl, refl); unlisted = refl };
-  add = record { is = refl; plain = (refl, refl); unlisted = refl };
-  take = record { is = refl; plain = (refl, refl); unlisted = refl };
-  take_all = record { is = refl; plain = (refl, refl); unlisted = refl };
+  find = means_by fresh_schema manifest_find (selects fresh_schema manifest_links_table (equals 1 0 ∷ equals 2 1 ∷ []) (col 1 3 ∷ col 1 4 ∷ col 1 6 ∷ []) (codes "size" ∷ codes "kind" ∷ codes "content" ∷ [])) refl;
+  subject = means_by fresh_schema manifest_subject (selects_ordered fresh_schema manifest_links_table (equals 1 0 ∷ equals 5 1 ∷ []) (col 1 2 ∷ col 1 6 ∷ []) 2 (codes "digest" ∷ codes "content" ∷ [])) refl;
+  sizes = means_by fresh_schema manifest_sizes (selects fresh_schema manifest_links_table (equals 1 0 ∷ []) (col 1 3 ∷ []) (codes "size" ∷ [])) refl;
+  digests = means_by fresh_schema manifest_digests (selects_ordered fresh_schema manifest_links_table (equals 1 0 ∷ []) (col 1 2 ∷ []) 2 (codes "digest" ∷ [])) refl;
+  contents = means_by fresh_schema manifest_contents (selects fresh_schema manifest_links_table [] (col 1 6 ∷ []) (codes "content" ∷ [])) refl;
+  add = means_by fresh_schema manifest_add (Insert manifest_links_stand.at (Values (lit Null ∷ col 0 0 ∷ col 0 1 ∷ col 0 2 ∷ col 0 3 ∷ col 0 4 ∷ col 0 5 ∷ []) 7)) refl;
+  take = means_by fresh_schema manifest_take (deletes manifest_links_stand.at fresh_schema manifest_links_table (equals 1 0 ∷ equals 2 1 ∷ [])) refl;
+  take_all = means_by fresh_schema manifest_take_all (deletes manifest_links_stand.at fresh_schema manifest_links_table (equals 1 0 ∷ [])) refl;
 }
 
 pub upload_texts : KnowsUploadTexts fresh_schema uploads_stand
-unfolding understood everything same_name uploads_stand
+unfolding everything same_name uploads_stand
 upload_texts = record {
-  find = record { is = refl; plain = (refl, refl); unlisted = refl };
-  sizes = record { is = refl; plain = (refl, refl); unlisted = refl };
-  add = record { is = refl; plain = (refl, refl); unlisted = refl };
-  set_size = record { is = refl; plain = (refl, refl); unlisted = refl };
-  take = record { is = refl; plain = (refl, refl); unlisted = refl };
-  take_all = record { is = refl; plain = (refl, refl); unlisted = refl };
+  find = means_by fresh_schema upload_find (selects fresh_schema uploads_table (equals 1 0 ∷ equals 2 1 ∷ []) (col 1 3 ∷ []) (codes "size" ∷ [])) refl;
+  sizes = means_by fresh_schema upload_sizes (selects fresh_schema uploads_table (equals 1 0 ∷ []) (col 1 3 ∷ []) (codes "size" ∷ [])) refl;
+  add = means_by fresh_schema upload_add (Insert uploads_stand.at (Values (lit Null ∷ col 0 0 ∷ col 0 1 ∷ lit (Int (pos 0)) ∷ []) 4)) refl;
+  set_size = means_by fresh_schema upload_set_size (updates uploads_stand.at fresh_schema uploads_table (equals 1 0 ∷ equals 2 1 ∷ []) (col 1 0 ∷ col 1 0 ∷ col 1 1 ∷ col 1 2 ∷ col 0 2 ∷ [])) refl;
+  take = means_by fresh_schema upload_take (deletes uploads_stand.at fresh_schema uploads_table (equals 1 0 ∷ equals 2 1 ∷ [])) refl;
+  take_all = means_by fresh_schema upload_take_all (deletes uploads_stand.at fresh_schema uploads_table (equals 1 0 ∷ [])) refl;
 }
 
 pub piece_texts : KnowsPieceTexts fresh_schema pieces_stand
-unfolding understood everything same_name pieces_stand
+unfolding everything same_name pieces_stand
 piece_texts = record {
-  list = record { is = refl; plain = (refl, refl); unlisted = refl };
-  contents = record { is = refl; plain = (refl, refl); unlisted = refl };
-  add = record { is = refl; plain = (refl, refl); unlisted = refl };
-  take_of = record { is = refl; plain = (refl, refl); unlisted = refl };
-  take_all = record { is = refl; plain = (refl, refl); unlisted = refl };
+  list = means_by fresh_schema piece_list (selects_ordered fresh_schema pieces_table (equals 1 0 ∷ equals 2 1 ∷ []) (col 1 5 ∷ []) 3 (codes "content" ∷ [])) refl;
+  contents = means_by fresh_schema piece_contents (selects fresh_schema pieces_table [] (col 1 5 ∷ []) (codes "content" ∷ [])) refl;
+  add = means_by fresh_schema piece_add (Insert pieces_stand.at (Values (lit Null ∷ col 0 0 ∷ col 0 1 ∷ col 0 2 ∷ col 0 3 ∷ col 0 4 ∷ []) 6)) refl;
+  take_of = means_by fresh_schema piece_take_of (deletes pieces_stand.at fresh_schema pieces_table (equals 1 0 ∷ equals 2 1 ∷ [])) refl;
+  take_all = means_by fresh_schema piece_take_all (deletes pieces_stand.at fresh_schema pieces_table (equals 1 0 ∷ [])) refl;
 }
 
 pub version_texts : KnowsVersionTexts fresh_schema version_stands
-unfolding understood everything same_name version_stands
+unfolding everything same_name version_stands
 version_texts = record {
-  find = record { is = refl; plain = (refl, refl); unlisted = refl };
-  add = record { is = refl; plain = (refl, refl); unlisted = refl };
+  find = means_by fresh_schema version_find (selects fresh_schema version_table [] (col 1 1 ∷ []) (codes "version" ∷ [])) refl;
+  add = means_by fresh_schema version_add (Insert version_stands.at (Values (lit Null ∷ lit (Int (pos 2)) ∷ []) 2)) refl;
 }

@@ -6,3 +6,4 @@ pub mod VersionAsked
 pub mod OpeningLemmas
 mod VersionInserts
 mod BesideTables
+pub mod Meanings

@@ -16,7 +16,7 @@ use crate::version::read_version;
 use sqlite::{Alter, Connection, Error, ErrorCode};
 
 /// Why a database is not opened as a registry.
-#[derive(Clone, Copy, Debug, PartialEq, Eq)]
+#[derive(Clone, Copy)]
 pub enum OpenFault {
     /// Memory was refused.
     Memory,

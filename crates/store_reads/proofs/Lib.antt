@@ -1,5 +1,8 @@
 pub mod WorldReads
 pub mod ReadSequences
+pub mod ToldEach
+pub mod Passing
+pub mod CheckedReads
 pub mod TallyLemmas
 pub mod UsageReads
 pub mod NamedUsages

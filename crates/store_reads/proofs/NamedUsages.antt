@@ -1,8 +1,8 @@
 -- What all repositories hold and may hold, one after the other.
-use Rattle.std.proofs.Common.{◌≡◌, ◌∙◌, ◌∷◌, ◌++◌, [], List, map, find, cond, false, Some, Result, OnOk, sym, ap, subst}
+use Rattle.std.proofs.Common.{◌≡◌, ◌∙◌, ◌∷◌, [], List, map, find, cond, false, Some, sym, ap}
 use Rattle.std.specs.Option.{option_map_or}
 use Rattle.std.specs.List.{AllByRecursion}
-use Rattle.std.proofs.lemmas.List.{map-append}
+use Rattle.std.proofs.lemmas.List.{map-id}
 use Rattle.std.proofs.lemmas.List.Sorted.{IsPermutation-sym}
 use Rattle.sqlite.specs.Order.{Row}
 use Rattle.sqlite.specs.State.{State}
@@ -12,7 +12,6 @@ use Rattle.sqlite_keyed.specs.Lists.{sort_by}
 use Rattle.sqlite_keyed.proofs.SortLemmas.{IsPermutation-sort_by}
 use Rattle.std.proofs.lemmas.Cmp.{nat_list_cmp_total, on_total}
 use Rattle.oci_types.specs.Text.{Text}
-use Rattle.oci_types.specs.declared.fault.Fault.{Fault}
 use Rattle.registry_model.specs.declared.quota.Usage.{Usage}
 use Rattle.registry_model.specs.World.{World}
 use Rattle.registry_model.specs.Lookups.{usage_at, usages_of, no_usage}
@@ -27,17 +26,8 @@ use Rattle.store_statements.proofs.Usages.{usage_in, usage_found, usages_found}
 use Rattle.store_statements.specs.Held.{held, tables_in, world_in}
 use Rattle.store_statements.specs.Shown.{by_name}
 use Rattle.store_reads.specs.Tallies.{named_usage}
-
-pub pushed : (w : World) (name : Text) (u : Usage) (before after : List (Text × Usage)) (r : Result (Unit {0}) Fault) → u ≡ usage_at w name → OnOk r (after ≡ before ++ (name, u) ∷ []) → OnOk r (after ≡ before ++ named_usage w name ∷ [])
-pushed w name u before after r is h = subst (λ (x : Usage). OnOk r (after ≡ before ++ (name, x) ∷ [])) is h
-
--- one more, of a database that stays
-pub one_more_named : (old mid : State) (name : Text) (names : List Text) (before after : List (Text × Usage)) → mid.now ≡ old.now
-    → before ≡ map (named_usage (world_in old)) names → after ≡ before ++ named_usage (world_in mid) name ∷ [] → after ≡ map (named_usage (world_in old)) (names ++ name ∷ [])
-one_more_named old mid name names before after same so_far is =
-    is ∙ ap (λ l. l ++ named_usage (world_in mid) name ∷ []) so_far
-    ∙ ap (λ db. map (named_usage (world_in old)) names ++ named_usage (world_of (tables_in db)) name ∷ []) same
-    ∙ sym (map-append (named_usage (world_in old)) names (name ∷ []))
+use Rattle.store_reads.specs.Each.{AreTold}
+use Rattle.store_reads.proofs.ToldEach.{mapped}
 
 -- each row of a repository is found by its name
 found_each : (rows : List Row) → IsAscending (λ a b. same_first a b ≡ false) rows → AllByRecursion (λ r. find (of_first (bytes_at r 1)) rows ≡ Some r) rows
@@ -62,6 +52,6 @@ all_named t is =
 
 -- the names, then the usages, of a database that stays
 pub all_shown : (old mid : State) (names : List Text) (all : List (Text × Usage)) → IsRegistry (held old) → mid.now ≡ old.now → names ≡ map (λ r. bytes_at r 1) (sort_by by_name (held old).repos)
-    → all ≡ map (named_usage (world_in mid)) names → all ≡ usages_of (world_in old)
+    → AreTold (λ name named. named ≡ named_usage (world_in mid) name) names all → all ≡ usages_of (world_in old)
 all_shown old mid names all is same named shown =
-    shown ∙ ap (λ db. map (named_usage (world_of (tables_in db))) names) same ∙ ap (map (named_usage (world_in old))) named ∙ all_named (held old) is
+    sym (map-id all) ∙ mapped (λ name named. named ≡ named_usage (world_in mid) name) (named_usage (world_in mid)) (λ named. named) (λ name named e. e) names all shown ∙ ap (λ db. map (named_usage (world_of (tables_in db))) names) same ∙ ap (map (named_usage (world_in old))) named ∙ all_named (held old) is

@@ -1,6 +1,7 @@
 -- How sizes add up in 64 bits.
-use Rattle.std.proofs.Common.{◌≡◌, ◌<◌, ◌+◌, ◌-◌, ◌^◌, ℕ, List, ◌∷◌, [], ◌++◌, length, take, get_or, map, filter, min, refl, sym, ap, ◌∙◌, arith}
-use Rattle.std.specs.Prelude.{sum_by}
+use Rattle.std.proofs.Common.{◌≡◌, ◌<◌, ◌+◌, ◌-◌, ◌^◌, ℕ, List, ◌∷◌, [], ◌++◌, length, take, get_or, map, filter, min, Ok, Err, Result, IfOk, IsOkAnd, refl, sym, ap, ◌∙◌, arith}
+use Rattle.std.specs.Prelude.{Vec, sum_by}
+use Rattle.std.specs.declared.alloc.Global.{Global}
 use Rattle.std.specs.List.Sorted.{IsPermutation}
 use Rattle.std.proofs.lemmas.Bool.Decides.{nat_tests}
 use Rattle.std.proofs.lemmas.List.{take_more, length-map}
@@ -9,6 +10,7 @@ use Rattle.std.proofs.lemmas.List.Sorted.{sum_by-IsPermutation, length_permutati
 use Rattle.sqlite.specs.Order.{Row}
 use Rattle.sqlite.specs.State.{State}
 use Rattle.oci_types.specs.Text.{Text}
+use Rattle.oci_types.specs.declared.fault.Fault.{Fault}
 use Rattle.registry_model.specs.Usage.{in_64_bits}
 use Rattle.store_schema.specs.Rows.{natural_at}
 use Rattle.store_statements.specs.Keys.{of_first}
@@ -39,13 +41,17 @@ summed f [] = refl
 summed f (x ∷ xs) = sum_by-cons (λ n. n) (f x) (map f xs) ∙ ap (λ n. f x + n) (summed f xs) ∙ sym (sum_by-cons f x xs)
 
 -- the sizes of a repository's rows come to the same in any order
-pub tally_shown : (rows : List Row) (name : Text) (sizes : List ℕ) (t : Tally) → IsPermutation (map (λ r. natural_at r 3) (filter (of_first name) rows)) sizes → t ≡ tally_of sizes → t ≡ tally_in rows name
+tally_shown : (rows : List Row) (name : Text) (sizes : List ℕ) (t : Tally) → IsPermutation (map (λ r. natural_at r 3) (filter (of_first name) rows)) sizes → t ≡ tally_of sizes → t ≡ tally_in rows name
 tally_shown rows name sizes t same is =
     let of = filter (of_first name) rows in
     let f = λ (r : Row). natural_at r 3 in
     let long : length sizes ≡ length of = length_permutation (map f of) sizes same ∙ length-map of f in
     let sums : sum_by (λ n. n) sizes ≡ sum_by f of = sum_by-IsPermutation (λ n. n) (map f of) sizes same ∙ summed f of in
     is ∙ (λ i. record { number = long i; bytes = in_64_bits (sums i) })
+
+pub tallied : (rows : List Row) (name : Text) (found : Result (Vec ℕ Global) Fault) (t : Tally) → IfOk found (λ sizes. IsPermutation (map (λ r. natural_at r 3) (filter (of_first name) rows)) sizes.items) → IsOkAnd found (λ sizes. t ≡ tally_of sizes.items) → t ≡ tally_in rows name
+tallied rows name (Ok sizes) t same is = tally_shown rows name sizes.items t same is
+tallied rows name (Err f) t same is = absurd is
 
 -- one after the other, of a database that stays
 pub held_together : (old mid late : State) (name : Text) (blobs manifests sessions : Tally) → mid.now ≡ old.now → late.now ≡ old.now

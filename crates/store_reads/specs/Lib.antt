@@ -1,3 +1,4 @@
 pub mod Tallies
 pub mod LevelLists
 pub mod Usages
+pub mod Each

@@ -61,8 +61,5 @@ pub fn blob_digests<S: Alter>(
     ensures settled { Stays S.Store conn.old conn.new result }
     ensures survives { Lasts S.Store conn.old conn.new }
 {
-    match list_blob_digests(alloc, conn, repo.as_str()) {
-        Ok(digests) => Ok(digests),
-        Err(fault) => Err(fault),
-    }
+    list_blob_digests(alloc, conn, repo.as_str())
 }

@@ -1,15 +1,28 @@
 //! The bytes of contents that rows name.
-ghost use Rattle.std.specs.Prelude.{◌≡◌, ◌++◌, [], map, IfOk, Some};
+ghost use Rattle.std.specs.Prelude.{◌≡◌, ◌++◌, [], map, false, Ok, Some, OnOk, IfOk, IsOkAnd};
 ghost use Rattle.std.specs.List.{concat};
 ghost use Rattle.store_statements.specs.World.{content_at};
-ghost use Rattle.store_statements.specs.Between.{Finds, Relates, Stays};
+ghost use Rattle.store_statements.specs.Held.{is_storage};
+ghost use Rattle.store_statements.specs.Between.{Finds, Stays};
 ghost use Rattle.store_statements.specs.Clauses.{Lasts};
 
 use oci_types::Fault;
 use sqlite::{Alter, Connection};
 use std::alloc::Global;
 use store_contents::{ContentId, read_bytes};
-use store_statements::open_check::checked_fault;
+use store_statements::telling::checked;
+
+/// The bytes that were found. `Fault::Storage` where there are none.
+fn present(found: Result<Option<Vec<u8>>, Fault>) -> Result<Vec<u8>, Fault>
+    ensures value { IfOk result (λ bytes. found ≡ Ok (Some bytes)) }
+    ensures storage { is_storage result ≡ false → is_storage found ≡ false }
+{
+    match found {
+        Ok(Some(bytes)) => Ok(bytes),
+        Ok(None) => Err(Fault::Storage),
+        Err(fault) => Err(fault),
+    }
+}
 
 /// The bytes of the content. `Fault::Storage` where there is no such content.
 pub(crate) fn content<S: Alter>(
@@ -21,11 +34,8 @@ pub(crate) fn content<S: Alter>(
     ensures settled { Stays S.Store conn.old conn.new result }
     ensures survives { Lasts S.Store conn.old conn.new }
 {
-    match read_bytes(alloc, conn, id) {
-        Ok(Some(bytes)) => Ok(bytes),
-        Ok(None) => Err(Fault::Storage),
-        Err(fault) => Err(checked_fault(conn, fault)),
-    }
+    let found = read_bytes(alloc, conn, id);
+    present(checked(conn, found))
 }
 
 /// An empty buffer that holds `size` bytes without growing.
@@ -38,21 +48,18 @@ fn with_room(alloc: Global, size: u64) -> Result<Vec<u8>, Fault>
     }
 }
 
-fn append<S: Alter>(
-    alloc: Global,
-    conn: &mut Connection<S>,
-    id: ContentId,
-    bytes: &mut Vec<u8>,
-) -> Result<(), Fault>
-    ensures added { Relates S.Store conn.old conn.new result
-        (λ t _. bytes.new.items ≡ bytes.old.items ++ content_at t.contents id.id) }
-    ensures settled { Stays S.Store conn.old conn.new result }
-    ensures survives { Lasts S.Store conn.old conn.new }
+/// Puts the bytes that were found behind the others.
+fn extend(bytes: &mut Vec<u8>, found: Result<Vec<u8>, Fault>) -> Result<(), Fault>
+    ensures extended { OnOk result
+        (IsOkAnd found (λ more. bytes.new.items ≡ bytes.old.items ++ more.items)) }
+    ensures storage { is_storage result ≡ false → is_storage found ≡ false }
 {
-    let more = content(alloc, conn, id)?;
-    match bytes.extend_from_slice(&more) {
-        Ok(()) => Ok(()),
-        Err(_) => Err(Fault::Memory),
+    match found {
+        Ok(more) => match bytes.extend_from_slice(&more) {
+            Ok(()) => Ok(()),
+            Err(_) => Err(Fault::Memory),
+        },
+        Err(fault) => Err(fault),
     }
 }
 
@@ -70,7 +77,7 @@ pub(crate) fn joined<S: Alter>(
 {
     let mut bytes = with_room(alloc, size)?;
     for id in ids {
-        append(alloc, conn, *id, &mut bytes)?;
+        extend(&mut bytes, content(alloc, conn, *id))?;
     }
     Ok(bytes)
 }

@@ -1,20 +1,18 @@
 //! Who has what level on a repository.
-ghost use Rattle.std.specs.Prelude.{◌≡◌, map, filter, IfOk};
-ghost use Rattle.sqlite_keyed.specs.Lists.{sort_by};
+ghost use Rattle.std.specs.Prelude.{◌≡◌, map, IfOk};
 ghost use Rattle.registry_model.specs.Lookups.{AreLevelsOn};
-ghost use Rattle.store_statements.specs.Keys.{of_second};
-ghost use Rattle.store_statements.specs.Between.{ChangesNothing, FailsAsWas, Finds, Stays, Tells};
+ghost use Rattle.store_statements.specs.Between.{Stays, Tells};
 ghost use Rattle.store_statements.specs.Clauses.{Lasts};
-ghost use Rattle.store_statements.specs.Shown.{by_token};
-ghost use Rattle.store_reads.specs.LevelLists.{token_level, token_level_shown};
+ghost use Rattle.store_statements.specs.Told.{IsRead};
+ghost use Rattle.store_reads.specs.LevelLists.{token_level_shown};
 
 use oci_types::{Fault, NameFault, RepoName, Token};
 use registry_model::Level;
-use sqlite::{Alter, Connection, Row};
+use sqlite::{Alter, Connection, Error, Row};
 use std::alloc::Global;
 use store_contents::fault_of;
 use store_statements::grants::{level_in, token_rows};
-use store_statements::open_check::checked_fault;
+use store_statements::telling::checked;
 
 /// The token and the level that the row shows. `Fault::Storage` where what is there is none.
 fn token_level_in(alloc: Global, row: &Row) -> Result<(Token, Level), Fault>
@@ -49,19 +47,11 @@ fn levels_in(alloc: Global, rows: &[Row]) -> Result<Vec<(Token, Level)>, Fault>
     Ok(levels)
 }
 
-fn select_levels<S: Alter>(
-    alloc: Global,
-    conn: &mut Connection<S>,
-    repo: &str,
-) -> Result<Vec<(Token, Level)>, Fault>
-    ensures found { Finds S.Store conn.old conn.new result
-        (λ t levels. levels.items ≡ map token_level
-        (sort_by by_token (filter (of_second repo.now) t.grants))) }
-    ensures same { ChangesNothing S.Store conn.old conn.new result }
-    ensures err { FailsAsWas S.Store conn.old conn.new result }
-    ensures survives { Lasts S.Store conn.old conn.new }
+/// The same of rows that were asked for.
+fn levels_of(alloc: Global, shown: Result<Vec<Row>, Error>) -> Result<Vec<(Token, Level)>, Fault>
+    ensures { IsRead shown result (λ rows levels. levels.items ≡ map token_level_shown rows) }
 {
-    match token_rows(conn, repo) {
+    match shown {
         Ok(rows) => levels_in(alloc, &rows),
         Err(error) => Err(fault_of(error)),
     }
@@ -78,8 +68,6 @@ pub fn levels<S: Alter>(
     ensures settled { Stays S.Store conn.old conn.new result }
     ensures survives { Lasts S.Store conn.old conn.new }
 {
-    match select_levels(alloc, conn, repo.as_str()) {
-        Ok(levels) => Ok(levels),
-        Err(fault) => Err(checked_fault(conn, fault)),
-    }
+    let found = levels_of(alloc, token_rows(conn, repo.as_str()));
+    checked(conn, found)
 }

@@ -4,6 +4,7 @@
 mod blobs;
 mod change_lookups;
 mod contents;
+mod each;
 mod grants;
 mod level_lists;
 mod manifests;

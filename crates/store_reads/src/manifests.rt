@@ -62,8 +62,5 @@ pub fn manifest_digests<S: Alter>(
     ensures settled { Stays S.Store conn.old conn.new result }
     ensures survives { Lasts S.Store conn.old conn.new }
 {
-    match list_manifest_digests(alloc, conn, repo.as_str()) {
-        Ok(digests) => Ok(digests),
-        Err(fault) => Err(fault),
-    }
+    list_manifest_digests(alloc, conn, repo.as_str())
 }

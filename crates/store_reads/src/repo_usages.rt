@@ -1,15 +1,14 @@
 //! What repositories hold and may hold.
-ghost use Rattle.std.specs.Prelude.{◌≡◌, ◌∷◌, ◌++◌, [], OnOk, filter, length, map};
-ghost use Rattle.sqlite.specs.State.{HasCleanDisk};
-ghost use Rattle.sqlite.specs.Held.{state};
+ghost use Rattle.std.specs.Prelude.{◌≡◌, filter, length};
 ghost use Rattle.registry_model.specs.Keeping.{usages_shown};
 ghost use Rattle.registry_model.specs.Lookups.{usage_at, usages_of};
 ghost use Rattle.store_statements.specs.Keys.{of_first};
 ghost use Rattle.store_statements.specs.Between.{Finds, Stays, Tells};
 ghost use Rattle.store_statements.specs.Clauses.{Lasts};
-ghost use Rattle.store_statements.specs.Held.{IsSettled, world_in};
+ghost use Rattle.store_statements.specs.World.{world_of};
 ghost use Rattle.store_reads.specs.Tallies.{holdings_in, usage_from, named_usage};
 
+use crate::each::{Leads, each};
 use crate::tallies::{Holdings, read_holdings};
 use oci_types::{Fault, RepoName};
 use registry_model::Usage;
@@ -82,47 +81,22 @@ pub fn usage<S: Alter>(
     }
 }
 
-fn push(all: &mut Vec<(RepoName, Usage)>, named: (RepoName, Usage)) -> Result<(), Fault>
-    ensures { OnOk result (all.new.items ≡ all.old.items ++ named ∷ []) }
-{
-    match all.push(named) {
-        Ok(()) => Ok(()),
-        Err(_) => Err(Fault::Memory),
-    }
-}
+/// With each name goes what the repository holds and may hold.
+impl Leads for RepoName {
+    type Value = (RepoName, Usage);
 
-/// Puts the repository, with what it holds and may hold, behind the others.
-fn push_usage<S: Alter>(
-    alloc: Global,
-    conn: &mut Connection<S>,
-    repo: RepoName,
-    all: &mut Vec<(RepoName, Usage)>,
-) -> Result<(), Fault>
-    ensures added { HasCleanDisk (state S.Store conn.new) → IsSettled (state S.Store conn.old)
-        → OnOk result
-        (all.new.items ≡ all.old.items ++ named_usage (world_in (state S.Store conn.old)) repo ∷ []) }
-    ensures settled { Stays S.Store conn.old conn.new result }
-    ensures survives { Lasts S.Store conn.old conn.new }
-{
-    let held = usage(alloc, conn, &repo)?;
-    push(all, (repo, held))
-}
+    ghost told = { λ t repo named. named ≡ named_usage (world_of t) repo };
 
-fn usages_named<S: Alter>(
-    alloc: Global,
-    conn: &mut Connection<S>,
-    names: Vec<RepoName>,
-) -> Result<Vec<(RepoName, Usage)>, Fault>
-    ensures found { Tells S.Store conn.old conn.new result
-        (λ w all. all.items ≡ map (named_usage w) names.items) }
-    ensures settled { Stays S.Store conn.old conn.new result }
-    ensures survives { Lasts S.Store conn.old conn.new }
-{
-    let mut all = Vec::new(alloc);
-    for repo in names {
-        push_usage(alloc, conn, repo, &mut all)?;
+    fn read<S: Alter>(
+        self,
+        alloc: Global,
+        conn: &mut Connection<S>,
+    ) -> Result<(RepoName, Usage), Fault> {
+        match usage(alloc, conn, &self) {
+            Ok(held) => Ok((self, held)),
+            Err(fault) => Err(fault),
+        }
     }
-    Ok(all)
 }
 
 /// What each repository holds and may hold, in byte order of names. Reads no blob and no manifest.
@@ -135,5 +109,5 @@ pub fn usages<S: Alter>(
     ensures survives { Lasts S.Store conn.old conn.new }
 {
     let names = list_repos(alloc, conn)?;
-    usages_named(alloc, conn, names)
+    each(alloc, conn, names)
 }

@@ -1,8 +1,9 @@
 //! How many blobs, manifests and upload sessions a repository has, and how many bytes.
-ghost use Rattle.std.specs.Prelude.{◌≡◌};
+ghost use Rattle.std.specs.Prelude.{◌≡◌, false, IfOk, IsOkAnd};
 ghost use Rattle.store_statements.specs.Between.{Finds, Stays};
 ghost use Rattle.store_statements.specs.Clauses.{Lasts};
-ghost use Rattle.store_reads.specs.Tallies.{tally_of, tally_in, holdings_in};
+ghost use Rattle.store_statements.specs.Held.{is_storage};
+ghost use Rattle.store_reads.specs.Tallies.{tally_of, holdings_in};
 
 use oci_types::{Fault, RepoName};
 use sqlite::{Alter, Connection};
@@ -40,50 +41,12 @@ fn added_up(sizes: &[u64]) -> Tally
     }
 }
 
-/// What the repository has of blobs. Reads no blob.
-fn tally_blobs<S: Alter>(
-    alloc: Global,
-    conn: &mut Connection<S>,
-    repo: &RepoName,
-) -> Result<Tally, Fault>
-    ensures found { Finds S.Store conn.old conn.new result (λ t tally. tally ≡ tally_in t.blobs repo.now) }
-    ensures settled { Stays S.Store conn.old conn.new result }
-    ensures survives { Lasts S.Store conn.old conn.new }
+/// The same of sizes that were found.
+fn tallied(found: Result<Vec<u64>, Fault>) -> Result<Tally, Fault>
+    ensures value { IfOk result (λ tally. IsOkAnd found (λ sizes. tally ≡ tally_of sizes.items)) }
+    ensures storage { is_storage result ≡ false → is_storage found ≡ false }
 {
-    match blob_sizes(alloc, conn, repo.as_str()) {
-        Ok(sizes) => Ok(added_up(&sizes)),
-        Err(fault) => Err(fault),
-    }
-}
-
-/// What the repository has of manifests. Reads no manifest.
-fn tally_manifests<S: Alter>(
-    alloc: Global,
-    conn: &mut Connection<S>,
-    repo: &RepoName,
-) -> Result<Tally, Fault>
-    ensures found { Finds S.Store conn.old conn.new result
-        (λ t tally. tally ≡ tally_in t.manifests repo.now) }
-    ensures settled { Stays S.Store conn.old conn.new result }
-    ensures survives { Lasts S.Store conn.old conn.new }
-{
-    match manifest_sizes(alloc, conn, repo.as_str()) {
-        Ok(sizes) => Ok(added_up(&sizes)),
-        Err(fault) => Err(fault),
-    }
-}
-
-/// What the repository has of open upload sessions. Reads none of their bytes.
-fn tally_sessions<S: Alter>(
-    alloc: Global,
-    conn: &mut Connection<S>,
-    repo: &RepoName,
-) -> Result<Tally, Fault>
-    ensures found { Finds S.Store conn.old conn.new result (λ t tally. tally ≡ tally_in t.uploads repo.now) }
-    ensures settled { Stays S.Store conn.old conn.new result }
-    ensures survives { Lasts S.Store conn.old conn.new }
-{
-    match upload_sizes(alloc, conn, repo.as_str()) {
+    match found {
         Ok(sizes) => Ok(added_up(&sizes)),
         Err(fault) => Err(fault),
     }
@@ -99,9 +62,10 @@ pub(crate) fn read_holdings<S: Alter>(
     ensures settled { Stays S.Store conn.old conn.new result }
     ensures survives { Lasts S.Store conn.old conn.new }
 {
-    let blobs = tally_blobs(alloc, conn, repo)?;
-    let manifests = tally_manifests(alloc, conn, repo)?;
-    let sessions = tally_sessions(alloc, conn, repo)?;
+    let repo = repo.as_str();
+    let blobs = tallied(blob_sizes(alloc, conn, repo))?;
+    let manifests = tallied(manifest_sizes(alloc, conn, repo))?;
+    let sessions = tallied(upload_sizes(alloc, conn, repo))?;
     Ok(Holdings {
         blobs,
         manifests,

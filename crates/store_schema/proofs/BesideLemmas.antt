@@ -1,5 +1,5 @@
 -- What is there before the tables are made stays.
-use Rattle.std.proofs.Common.{◌≡◌, ℕ, zero, suc, Bool, true, false, List, [], ◌∷◌, ◌++◌, None, Some, Ok, Err, Result, OnOk, inl, inr, refl, sym, ap, subst, ◌∙◌, append_assoc, append-nil, arith}
+use Rattle.std.proofs.Common.{◌≡◌, ℕ, zero, suc, Bool, true, false, List, [], ◌∷◌, ◌++◌, None, Some, Ok, inl, inr, refl, sym, ap, subst, ◌∙◌, append_assoc, append-nil, arith}
 use Rattle.std.specs.Prelude.{◌≢◌, ◌<◌, ◌+◌, ◌||◌, Option, is_some, slice_get, cond}
 use Rattle.std.specs.List.{AllByRecursion, position_from}
 use Rattle.std.proofs.lemmas.Bool.{cases_Bool}
@@ -208,7 +208,7 @@ at_some P None a h = absurd (let e = h in cc)
 at_some P (Some x) a h = (x, h)
 
 -- a table that is known to be made
-abbrev Made : List ℕ → Database → Database → Type 0
+abbrev pub Made : List ℕ → Database → Database → Type 0
 Made text old new = (table : Table) → MakesOne text table → IsNewBeside old.schema.tables new table
 
 module _ (text name : List ℕ) (old new : State) (count : ℕ) (named : MakesNamed text name) where
@@ -258,25 +258,3 @@ module _ (text name : List ℕ) (old new : State) (count : ℕ) (named : MakesNa
         | inr place ↦ index_comes place.0 (subst (λ t. Writes old new None (CreateIndex place.0) t [] count) words
             (runs_as text [] old new old.now.schema refl (CreateIndex place.0) (ap command_of h.1.is ∙ place.1) plain count h))
       ]
-
--- ---- the same of a call's result
-
--- the text makes this table, or an index
-pub one_comes : (text : List ℕ) (table : Table) (old new : Database) → MakesOne text table
-    → ((name : List ℕ) → MakesNamed text name → Comes (name ∷ []) [] old new × ((t : Table) → MakesOne text t → IsNewBeside old.schema.tables new t)) → Comes (table.name ∷ []) (table ∷ []) old new
-one_comes text table old new one h =
-    let it = h table.name one.named in record { free = it.0.free; kept = it.0.kept; made = (it.1 table one, tt) }
-
-pub then_one : {A E : Type 0} (text : List ℕ) (table : Table) (old new : Database) (r : Result A E) → MakesOne text table
-    → OnOk r ((name : List ℕ) → MakesNamed text name → Comes (name ∷ []) [] old new × ((t : Table) → MakesOne text t → IsNewBeside old.schema.tables new t)) → OnOk r (Comes (table.name ∷ []) (table ∷ []) old new)
-then_one text table old new (Ok x) one h = one_comes text table old new one h
-then_one text table old new (Err e) one h = tt
-
-pub then_index : {A E : Type 0} (text name : List ℕ) (old new : Database) (r : Result A E) → MakesNamed text name
-    → OnOk r ((name : List ℕ) → MakesNamed text name → Comes (name ∷ []) [] old new × ((t : Table) → MakesOne text t → IsNewBeside old.schema.tables new t)) → OnOk r (Comes (name ∷ []) [] old new)
-then_index text name old new (Ok x) named h = (h name named).0
-then_index text name old new (Err e) named h = tt
-
-pub more_comes : {A E : Type 0} (a b c : Database) (xs ys : List (List ℕ)) (ts us : List Table) (r : Result A E) → Comes xs ts a b → OnOk r (Comes ys us b c) → OnOk r (Comes (xs ++ ys) (ts ++ us) a c)
-more_comes a b c xs ys ts us (Ok x) h k = comes_then a b c xs ys ts us h k
-more_comes a b c xs ys ts us (Err e) h k = tt

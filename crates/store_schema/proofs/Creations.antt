@@ -106,7 +106,7 @@ pub record IsCreation (text : List ℕ) (c : Compiled) : Type 0 where
   pub whole : text_of text c ≡ text
   pub makes : IsMaking c.command
 
-compiled_creation : (schema : Schema) (text name : List ℕ) (c : Compiled) → MakesNamed text name → compiled schema text ≡ Ok c → IsCreation text c
+pub compiled_creation : (schema : Schema) (text name : List ℕ) (c : Compiled) → MakesNamed text name → compiled schema text ≡ Ok c → IsCreation text c
 unfolding compiled compile.planned compile.meaning
 compiled_creation schema text name c named e =
     let it = then_ok (first text) _ c e in

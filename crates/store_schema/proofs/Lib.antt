@@ -14,3 +14,6 @@ pub mod Refusals
 pub mod Creations
 pub mod BesideLemmas
 pub mod BesideTexts
+pub mod InTurn
+pub mod MadeTables
+pub mod Meanings

@@ -1,5 +1,5 @@
 -- What a CREATE TABLE makes.
-use Rattle.std.proofs.Common.{slice_get, ◌≡◌, ℕ, List, [], ◌∷◌, ◌++◌, false, None, Some, Ok, Err, Result, OnOk, sym, ap, subst, ◌∙◌}
+use Rattle.std.proofs.Common.{slice_get, ◌≡◌, ℕ, List, [], ◌∷◌, ◌++◌, false, None, Some, Ok, Err, Result, sym, ap, subst, ◌∙◌}
 use Rattle.std.specs.List.{AllByRecursion}
 use Rattle.sqlite.specs.Schema.{Schema}
 use Rattle.sqlite.specs.Table.{Table}
@@ -8,7 +8,6 @@ use Rattle.sqlite.specs.Change.{created, indexed, next_tree, KeepsRows}
 use Rattle.sqlite_schema.specs.declared.schema.Index.{Index}
 use Rattle.sqlite.specs.Command.TheVariants.{CreateTable, CreateIndex}
 use Rattle.sqlite.specs.Does.{Tally, Does, lacks_sequence}
-use Rattle.sqlite.specs.declared.error.Error.{Error}
 use Rattle.sqlite.specs.Effect.{Database}
 use Rattle.sqlite.specs.State.{State, Writes, Executes, mode_of}
 use Rattle.sqlite.proofs.Callers.{statement_of, runs_as}
@@ -72,25 +71,3 @@ pub makes_index : (schema : Schema) (at : ℕ) (table : Table) (index : Index) (
 makes_index schema at table index text old new count it none h =
     let g = grows_index schema at table index text old new count it none.schema_is h in
     record { schema_is = g.schema_is; empty = all_kept old.now.trees new.now.trees schema.tables g.kept none.empty }
-
--- ---- the same of a call's result
-
-pub then_made : {A : Type 0} (schema : Schema) (table : Table) (text : List ℕ) (old new : Database) (r : Result A Error) → MakesTable schema text table
-    → OnOk r ((schema : Schema) (table : Table) → MakesTable schema text table → IsEmptyWith schema old → IsEmptyWith (created schema table) new) → IsEmptyWith schema old → OnOk r (IsEmptyWith (created schema table) new)
-then_made schema table text old new (Ok x) makes h none = h schema table makes none
-then_made schema table text old new (Err e) makes h none = tt
-
-pub then_indexed : {A : Type 0} (schema : Schema) (at : ℕ) (table : Table) (index : Index) (text : List ℕ) (old new : Database) (r : Result A Error) → MakesIndex schema text at table index
-    → OnOk r ((schema : Schema) (at : ℕ) (table : Table) (index : Index) → MakesIndex schema text at table index → IsEmptyWith schema old → IsEmptyWith (indexed schema table index) new) → IsEmptyWith schema old → OnOk r (IsEmptyWith (indexed schema table index) new)
-then_indexed schema at table index text old new (Ok x) makes h none = h schema at table index makes none
-then_indexed schema at table index text old new (Err e) makes h none = tt
-
-pub then_grows : {A : Type 0} (schema : Schema) (table : Table) (text : List ℕ) (old new : Database) (r : Result A Error) → MakesTable schema text table
-    → OnOk r ((schema : Schema) (table : Table) → MakesTable schema text table → old.schema ≡ schema → Grows schema table old new) → old.schema ≡ schema → OnOk r (new.schema ≡ created schema table)
-then_grows schema table text old new (Ok x) makes h is = (h schema table makes is).schema_is
-then_grows schema table text old new (Err e) makes h is = tt
-
-pub then_grows_index : {A : Type 0} (schema : Schema) (at : ℕ) (table : Table) (index : Index) (text : List ℕ) (old new : Database) (r : Result A Error) → MakesIndex schema text at table index
-    → OnOk r ((schema : Schema) (at : ℕ) (table : Table) (index : Index) → MakesIndex schema text at table index → old.schema ≡ schema → GrowsIndex schema table index old new) → old.schema ≡ schema → OnOk r (new.schema ≡ indexed schema table index)
-then_grows_index schema at table index text old new (Ok x) makes h is = (h schema at table index makes is).schema_is
-then_grows_index schema at table index text old new (Err e) makes h is = tt

@@ -157,13 +157,3 @@ fails_index schema at table index text old new e it is h =
 pub if_passed : {A E : Type 0} (P : E → Type 0) (r : Result A E) (e : E) → IsErrAnd r (λ y. y ≡ e) → P e → IfErr r P
 if_passed P (Ok x) e is h = tt
 if_passed P (Err y) e is h = subst P (sym is) h
-
-pub then_unmade : {A : Type 0} (schema : Schema) (table : Table) (text : List ℕ) (old : Database) (r : Result A Error) → MakesTable schema text table
-    → IfErr r (λ e. (schema : Schema) (table : Table) → MakesTable schema text table → old.schema ≡ schema → IsOther e) → old.schema ≡ schema → IfErr r IsOther
-then_unmade schema table text old (Ok x) makes h is = tt
-then_unmade schema table text old (Err e) makes h is = h schema table makes is
-
-pub then_unindexed : {A : Type 0} (schema : Schema) (at : ℕ) (table : Table) (index : Index) (text : List ℕ) (old : Database) (r : Result A Error) → MakesIndex schema text at table index
-    → IfErr r (λ e. (schema : Schema) (at : ℕ) (table : Table) (index : Index) → MakesIndex schema text at table index → old.schema ≡ schema → IsOther e) → old.schema ≡ schema → IfErr r IsOther
-then_unindexed schema at table index text old (Ok x) makes h is = tt
-then_unindexed schema at table index text old (Err e) makes h is = h schema at table index makes is

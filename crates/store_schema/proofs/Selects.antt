@@ -7,12 +7,12 @@ use Rattle.std.specs.List.Sorted.{IsPermutation}
 use Rattle.std.specs.Ordering.{is_eq, int_cmp}
 use Rattle.std.proofs.lemmas.List.Sorted.{IsPermutation-map}
 use Rattle.std.proofs.lemmas.Map.Text.{is_eq-slice_cmp}
-use Rattle.sqlite_value.proofs.OrderLemmas.{value_cmp-Text, value_cmp-Blob}
+use Rattle.sqlite_value.proofs.OrderLemmas.{value_cmp-Text}
 use Rattle.sqlite_sql.specs.declared.ops.BinaryOp.TheVariants.{Compare}
 use Rattle.sqlite_sql.specs.declared.ops.CompareOp.TheVariants.{Eq}
 use Rattle.sqlite.specs.Collation.TheVariants.{Binary}
 use Rattle.sqlite.specs.declared.types.Value.{Value}
-use Rattle.sqlite.specs.declared.types.Value.TheVariants.{Null, Int, Text, Blob}
+use Rattle.sqlite.specs.declared.types.Value.TheVariants.{Null, Int, Text}
 use Rattle.sqlite.specs.declared.error.Error.{Error}
 use Rattle.sqlite.specs.Order.{Row, value_cmp}
 use Rattle.sqlite.specs.Ops.{binary, is_true, from_truth}
@@ -97,19 +97,12 @@ same_text : (t s : List ℕ) → same (Text t) (Text s) ≡ bytes_eq t s
 unfolding binary
 same_text t s = truth (is_eq (value_cmp (Text t) (Text s))) ∙ ap is_eq (value_cmp-Text t s) ∙ is_eq-slice_cmp t s
 
-same_blob : (t s : List ℕ) → same (Blob t) (Blob s) ≡ bytes_eq t s
-unfolding binary
-same_blob t s = truth (is_eq (value_cmp (Blob t) (Blob s))) ∙ ap is_eq (value_cmp-Blob t s) ∙ is_eq-slice_cmp t s
-
 same_int : (m n : ℤ) → same (Int m) (Int n) ≡ is_eq (value_cmp (Int m) (Int n))
 unfolding binary
 same_int m n = truth (is_eq (value_cmp (Int m) (Int n)))
 
 pub is_text : (v : Value) (t s : List ℕ) → v ≡ Text t → is_true (binary (Compare Eq Binary) v (Text s)) ≡ bytes_eq t s
 is_text v t s e = rw e (same_text t s)
-
-pub is_blob : (v : Value) (t s : List ℕ) → v ≡ Blob t → is_true (binary (Compare Eq Binary) v (Blob s)) ≡ bytes_eq t s
-is_blob v t s e = rw e (same_blob t s)
 
 pub is_int : (v : Value) (m n : ℤ) → v ≡ Int m → is_true (binary (Compare Eq Binary) v (Int n)) ≡ is_eq (value_cmp v (Int n))
 is_int v m n e = rw e (same_int m n)
@@ -122,10 +115,6 @@ pub both_tests : (x y p q : Bool) → x ≡ p → y ≡ q → x && (y && true) �
 both_tests true true p q e f = cc
 both_tests true false p q e f = cc
 both_tests false y p q e f = ap (λ b. b && q) e
-
-pub three_tests : (x y z p q r : Bool) → x ≡ p → y ≡ q → z ≡ r → x && (y && (z && true)) ≡ p && (q && r)
-three_tests true y z p q r e f g = both_tests y z q r f g ∙ ap (λ b. b && (q && r)) e
-three_tests false y z p q r e f g = ap (λ b. b && (q && r)) e
 
 -- ---- a query leaves all as it was, also where it fails
 
@@ -195,12 +184,12 @@ refused_leaves g sql params old new (Err x) e plain is h = (
   query_survives sql params (state g old) (state g new) plain h.survives,
 )
 
+-- a disk that has returned what was written had done so before
+pub was_clean : {old new : State} {P : Trees → Type 0} → Survives old new P → HasCleanDisk new → HasCleanDisk old
+was_clean it clean = omega (arith, it.clean)
+
 pub survives_both : (a b c : State) → Survives a b (λ _. ⊥) → Survives b c (λ _. ⊥) → Survives a c (λ _. ⊥)
 survives_both a b c p q = survives_then a b c _ _ _ (λ clean db x. x) (λ clean db x. x) p q
-
--- the commit stays over two calls, where the disk was clean behind the second
-pub kept_then : (a b c : State) → (HasCleanDisk b → KeepsCommit a b) → Survives b c (λ _. ⊥) → (HasCleanDisk c → KeepsCommit b c) → HasCleanDisk c → KeepsCommit a c
-kept_then a b c p s q clean = let early : HasCleanDisk b = omega (arith, s.clean) in commit_then a b c (p early) (q clean)
 
 pub if_err : {X E P : Type 0} (r : Result X E) → P → IfErr r (λ _. P)
 if_err (Ok x) p = tt

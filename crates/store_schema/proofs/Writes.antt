@@ -6,7 +6,6 @@ use Rattle.std.specs.Ordering.{is_lt, int_cmp}
 use Rattle.std.specs.declared.cmp.Ordering.{Ordering}
 use Rattle.std.specs.declared.cmp.Ordering.TheVariants.{Less, Equal, Greater}
 use Rattle.std.specs.List.Sorted.{IsPermutation}
-use Rattle.std.proofs.lemmas.Bool.{cases_Bool}
 use Rattle.sqlite.specs.declared.types.Value.{Value}
 use Rattle.sqlite.specs.declared.types.Value.TheVariants.{Null, Int}
 use Rattle.sqlite.specs.Order.{Row, column, value_cmp}
@@ -37,8 +36,7 @@ use Rattle.sqlite_rules.specs.Action.{Writes as Puts, Work, works, work_by, work
 use Rattle.sqlite_schema.specs.declared.schema.Keys.TheVariants.{Enforced}
 use Rattle.sqlite.specs.Listing.{understood}
 use Rattle.sqlite.specs.Effect.{Database, IsDatabase}
-use Rattle.sqlite.specs.State.{State, mode_of, Executes, ExecutesIn, ExecutesInside, IsNotRun, RunsCommand, Shows, IsUnchanged, IsRolledBack, KeepsCommit, shows_rows}
-use Rattle.sqlite.specs.Clock.{timed}
+use Rattle.sqlite.specs.State.{State, mode_of, Executes, ExecutesInside, Shows, KeepsCommit}
 use Rattle.sqlite.specs.declared.error.Error.{Error}
 use Rattle.sqlite.proofs.Callers.{statement_of, runs_as, one_step}
 use Rattle.store_schema.specs.Rows.{HaveIds, PutsRow}
@@ -264,20 +262,6 @@ adds_row schema table columns old new cast h =
     }
 
 -- ---- a statement that fails
-
--- whatever it is, it leaves the tables as they were, or rolls back
-pub left_by_execute : (sql : List ℕ) (params : Row) (old new : State) (e : Error) → Executes sql params old new (Err e) → IsUnchanged old new ⊎ IsRolledBack old new
-unfolding ExecutesIn IsNotRun
-left_by_execute sql params old new e (inl (inl h)) = inl h.1
-left_by_execute sql params old new e (inl (inr h)) = inr h.3
-left_by_execute sql params old new e (inr h) = elim (cases_Bool (shows_rows false h.0)) [
-  | inl shows ↦ inl (rw shows at h.2).1
-  | inr runs ↦ left (rw runs at h.2)
-]
-  where
-    left : RunsCommand old new sql h.0 (timed params h.0.formats h.1.now) (Err e) → IsUnchanged old new ⊎ IsRolledBack old new
-    left (inl x) = inl x.1
-    left (inr x) = inr x.3
 
 -- inside a transaction no statement touches what is committed
 pub keeps_by_execute : (held : ℕ) (sql : List ℕ) (params : Row) (old new : State) (r : Result ℕ Error) → ExecutesInside held sql params old new r → KeepsCommit old new

@@ -6,3 +6,4 @@ pub mod OldSchema
 pub mod Ordered
 pub mod Beside
 pub mod Commands
+pub mod InTurn

@@ -1,61 +1,92 @@
 //! The making of the tables.
-ghost use Rattle.std.specs.Prelude.{◌≡◌, ◌∷◌, [], ℕ, List, IsTrue, OnOk, IfErr};
+ghost use Rattle.std.specs.Prelude.{◌≡◌, IsTrue, OnOk, IfErr, map};
 ghost use Rattle.sqlite.specs.State.{HasCleanDisk, KeepsCommit, Survives};
 ghost use Rattle.sqlite.specs.Held.{state};
-ghost use Rattle.sqlite.specs.Change.{created, indexed};
-ghost use Rattle.sqlite_schema.specs.declared.schema.Index.{Index};
-ghost use Rattle.sqlite.specs.Table.{Table};
-ghost use Rattle.sqlite.specs.Schema.{Schema};
 ghost use Rattle.store_schema.specs.Schema.{no_schema, fresh_schema};
-ghost use Rattle.store_schema.specs.Making.{MakesTable, MakesIndex, Grows, GrowsIndex, IsEmptyWith, IsOther, shared_tables, linked_tables};
-ghost use Rattle.store_schema.specs.OldSchema.{old_schema, old_linked, both_schema};
-ghost use Rattle.store_schema.specs.Beside.{Comes, IsNewBeside, MakesNamed, MakesOne, shared_names, shared_ones, link_names, link_ones, upload_names, upload_ones, registry_names, registry_tables, names_of_two, tables_of_two};
+ghost use Rattle.store_schema.specs.Making.{IsEmptyWith, IsOther};
+ghost use Rattle.store_schema.specs.OldSchema.{old_schema, both_schema};
+ghost use Rattle.store_schema.specs.Beside.{Comes, registry_names, registry_tables};
+ghost use Rattle.store_schema.specs.Beside.{names_of_two, tables_of_two};
+ghost use Rattle.store_schema.specs.InTurn.{RanEach, FailedAmong};
 
 use sqlite::{Alter, Error, Transaction};
 
-/// Makes the table or the index that the text says.
-fn create<S: Alter>(tx: &mut Transaction<'_, S>, text: &str) -> Result<(), Error>
+const VERSION: &str = "CREATE TABLE registry_schema (version INTEGER NOT NULL) STRICT";
+
+const REPOS: &str =
+    "CREATE TABLE registry_repos (name TEXT NOT NULL PRIMARY KEY, quota INTEGER NOT NULL, \
+     last_session INTEGER NOT NULL) STRICT";
+
+const GRANTS: &str = "CREATE TABLE registry_grants (token TEXT NOT NULL, repo TEXT NOT NULL \
+     REFERENCES registry_repos (name) ON DELETE CASCADE, level INTEGER NOT NULL, \
+     PRIMARY KEY (token, repo)) STRICT";
+
+const TAGS: &str = "CREATE TABLE registry_tags (repo TEXT NOT NULL \
+     REFERENCES registry_repos (name) ON DELETE CASCADE, tag TEXT NOT NULL, digest TEXT NOT NULL, \
+     PRIMARY KEY (repo, tag)) STRICT";
+
+const CONTENTS: &str =
+    "CREATE TABLE registry_contents (id INTEGER PRIMARY KEY, sha256 TEXT NOT NULL, \
+     size INTEGER NOT NULL, bytes BLOB NOT NULL) STRICT";
+
+const BLOB_LINKS: &str = "CREATE TABLE registry_blob_links (repo TEXT NOT NULL \
+     REFERENCES registry_repos (name) ON DELETE CASCADE, digest TEXT NOT NULL, size INTEGER NOT NULL, \
+     content INTEGER NOT NULL, PRIMARY KEY (repo, digest)) STRICT";
+
+const MANIFEST_LINKS: &str = "CREATE TABLE registry_manifest_links (repo TEXT NOT NULL \
+     REFERENCES registry_repos (name) ON DELETE CASCADE, digest TEXT NOT NULL, size INTEGER NOT NULL, \
+     kind INTEGER NOT NULL, subject TEXT, content INTEGER NOT NULL, PRIMARY KEY (repo, digest)) STRICT";
+
+const UPLOADS: &str = "CREATE TABLE registry_uploads (repo TEXT NOT NULL \
+     REFERENCES registry_repos (name) ON DELETE CASCADE, number INTEGER NOT NULL, \
+     size INTEGER NOT NULL, PRIMARY KEY (repo, number)) STRICT";
+
+const PIECES: &str = "CREATE TABLE registry_pieces (repo TEXT NOT NULL \
+     REFERENCES registry_repos (name) ON DELETE CASCADE, number INTEGER NOT NULL, \
+     start INTEGER NOT NULL, size INTEGER NOT NULL, content INTEGER NOT NULL, \
+     PRIMARY KEY (repo, number, start)) STRICT";
+
+const SHA256_INDEX: &str = "CREATE INDEX registry_contents_sha256 ON registry_contents (sha256)";
+
+const SUBJECT_INDEX: &str =
+    "CREATE INDEX registry_manifest_links_subject ON registry_manifest_links (repo, subject)";
+
+/// What makes a registry's tables and indexes, in this order.
+static ALL: [&str; 11] = [
+    VERSION,
+    REPOS,
+    GRANTS,
+    TAGS,
+    CONTENTS,
+    BLOB_LINKS,
+    MANIFEST_LINKS,
+    UPLOADS,
+    PIECES,
+    SHA256_INDEX,
+    SUBJECT_INDEX,
+];
+
+/// Those of them that only schema 2 has.
+static OF_TWO: [&str; 7] = [
+    CONTENTS,
+    BLOB_LINKS,
+    MANIFEST_LINKS,
+    UPLOADS,
+    PIECES,
+    SHA256_INDEX,
+    SUBJECT_INDEX,
+];
+
+/// Executes the texts one after the other, up to the first that fails.
+fn execute_each<S: Alter>(tx: &mut Transaction<'_, S>, texts: &[&str]) -> Result<(), Error>
     requires { HasCleanDisk (state S.Store tx.old.conn.now)
         → IsTrue (state S.Store tx.old.conn.now).in_transaction }
-    ensures made { HasCleanDisk (state S.Store tx.new.conn.now)
+    ensures ran { HasCleanDisk (state S.Store tx.new.conn.now)
         → OnOk result
-        ((schema : Schema) (table : Table) → MakesTable schema text.now table
-        → IsEmptyWith schema (state S.Store tx.old.conn.now).now
-        → IsEmptyWith (created schema table) (state S.Store tx.new.conn.now).now) }
-    ensures indexed { HasCleanDisk (state S.Store tx.new.conn.now)
-        → OnOk result
-        ((schema : Schema) (at : ℕ) (table : Table) (index : Index)
-        → MakesIndex schema text.now at table index
-        → IsEmptyWith schema (state S.Store tx.old.conn.now).now
-        → IsEmptyWith (indexed schema table index) (state S.Store tx.new.conn.now).now) }
-    ensures grows { HasCleanDisk (state S.Store tx.new.conn.now)
-        → OnOk result
-        ((schema : Schema) (table : Table) → MakesTable schema text.now table
-        → (state S.Store tx.old.conn.now).now.schema ≡ schema
-        → Grows schema table (state S.Store tx.old.conn.now).now (state S.Store tx.new.conn.now).now) }
-    ensures grows_index { HasCleanDisk (state S.Store tx.new.conn.now)
-        → OnOk result
-        ((schema : Schema) (at : ℕ) (table : Table) (index : Index)
-        → MakesIndex schema text.now at table index
-        → (state S.Store tx.old.conn.now).now.schema ≡ schema
-        → GrowsIndex schema table index (state S.Store tx.old.conn.now).now
-        (state S.Store tx.new.conn.now).now) }
-    ensures unmade { HasCleanDisk (state S.Store tx.new.conn.now)
+        (RanEach S.Store (map (λ text. text.now) texts.now) tx.old.conn.now tx.new.conn.now) }
+    ensures failed { HasCleanDisk (state S.Store tx.new.conn.now)
         → IfErr result
-        (λ e. (schema : Schema) (table : Table) → MakesTable schema text.now table
-        → (state S.Store tx.old.conn.now).now.schema ≡ schema → IsOther e) }
-    ensures unindexed { HasCleanDisk (state S.Store tx.new.conn.now)
-        → IfErr result
-        (λ e. (schema : Schema) (at : ℕ) (table : Table) (index : Index)
-        → MakesIndex schema text.now at table index
-        → (state S.Store tx.old.conn.now).now.schema ≡ schema → IsOther e) }
-    ensures comes { HasCleanDisk (state S.Store tx.new.conn.now)
-        → OnOk result
-        ((name : List ℕ) → MakesNamed text.now name
-        → Comes (name ∷ []) [] (state S.Store tx.old.conn.now).now (state S.Store tx.new.conn.now).now
-        × ((table : Table) → MakesOne text.now table
-        → IsNewBeside (state S.Store tx.old.conn.now).now.schema.tables (state S.Store tx.new.conn.now).now
-        table)) }
+        (FailedAmong S.Store (map (λ text. text.now) texts.now) tx.old.conn.now tx.new.conn.now) }
     ensures inside { HasCleanDisk (state S.Store tx.new.conn.now)
         → OnOk result (IsTrue (state S.Store tx.new.conn.now).in_transaction) }
     ensures kept { HasCleanDisk (state S.Store tx.new.conn.now)
@@ -63,143 +94,10 @@ fn create<S: Alter>(tx: &mut Transaction<'_, S>, text: &str) -> Result<(), Error
     ensures same_reference { tx.new.conn.ghost_name ≡ tx.old.conn.ghost_name }
     ensures survives { Survives (state S.Store tx.old.conn.now) (state S.Store tx.new.conn.now) (λ _. ⊥) }
 {
-    tx.execute(text, &[])?;
+    for text in texts {
+        tx.execute(text, &[])?;
+    }
     Ok(())
-}
-
-/// Makes the tables that any schema of a registry has.
-fn make_shared<S: Alter>(tx: &mut Transaction<'_, S>) -> Result<(), Error>
-    requires { HasCleanDisk (state S.Store tx.old.conn.now)
-        → IsTrue (state S.Store tx.old.conn.now).in_transaction }
-    ensures made { HasCleanDisk (state S.Store tx.new.conn.now)
-        → IsEmptyWith no_schema (state S.Store tx.old.conn.now).now
-        → OnOk result (IsEmptyWith shared_tables (state S.Store tx.new.conn.now).now) }
-    ensures unmade { HasCleanDisk (state S.Store tx.new.conn.now)
-        → IsEmptyWith no_schema (state S.Store tx.old.conn.now).now → IfErr result IsOther }
-    ensures comes { HasCleanDisk (state S.Store tx.new.conn.now)
-        → OnOk result
-        (Comes shared_names shared_ones (state S.Store tx.old.conn.now).now
-        (state S.Store tx.new.conn.now).now) }
-    ensures inside { HasCleanDisk (state S.Store tx.new.conn.now)
-        → OnOk result (IsTrue (state S.Store tx.new.conn.now).in_transaction) }
-    ensures kept { HasCleanDisk (state S.Store tx.new.conn.now)
-        → KeepsCommit (state S.Store tx.old.conn.now) (state S.Store tx.new.conn.now) }
-    ensures same_reference { tx.new.conn.ghost_name ≡ tx.old.conn.ghost_name }
-    ensures survives { Survives (state S.Store tx.old.conn.now) (state S.Store tx.new.conn.now) (λ _. ⊥) }
-{
-    create(
-        tx,
-        "CREATE TABLE registry_schema (version INTEGER NOT NULL) STRICT",
-    )?;
-    create(
-        tx,
-        "CREATE TABLE registry_repos (name TEXT NOT NULL PRIMARY KEY, quota INTEGER NOT NULL, \
-         last_session INTEGER NOT NULL) STRICT",
-    )?;
-    create(
-        tx,
-        "CREATE TABLE registry_grants (token TEXT NOT NULL, repo TEXT NOT NULL \
-         REFERENCES registry_repos (name) ON DELETE CASCADE, level INTEGER NOT NULL, \
-         PRIMARY KEY (token, repo)) STRICT",
-    )?;
-    create(
-        tx,
-        "CREATE TABLE registry_tags (repo TEXT NOT NULL \
-         REFERENCES registry_repos (name) ON DELETE CASCADE, tag TEXT NOT NULL, digest TEXT NOT NULL, \
-         PRIMARY KEY (repo, tag)) STRICT",
-    )
-}
-
-/// Makes the contents, and the links to them.
-fn make_links<S: Alter>(tx: &mut Transaction<'_, S>) -> Result<(), Error>
-    requires { HasCleanDisk (state S.Store tx.old.conn.now)
-        → IsTrue (state S.Store tx.old.conn.now).in_transaction }
-    ensures made { HasCleanDisk (state S.Store tx.new.conn.now)
-        → IsEmptyWith shared_tables (state S.Store tx.old.conn.now).now
-        → OnOk result (IsEmptyWith linked_tables (state S.Store tx.new.conn.now).now) }
-    ensures unmade { HasCleanDisk (state S.Store tx.new.conn.now)
-        → IsEmptyWith shared_tables (state S.Store tx.old.conn.now).now → IfErr result IsOther }
-    ensures linked { HasCleanDisk (state S.Store tx.new.conn.now)
-        → (state S.Store tx.old.conn.now).now.schema ≡ old_schema
-        → OnOk result ((state S.Store tx.new.conn.now).now.schema ≡ old_linked) }
-    ensures unlinked { HasCleanDisk (state S.Store tx.new.conn.now)
-        → (state S.Store tx.old.conn.now).now.schema ≡ old_schema → IfErr result IsOther }
-    ensures comes { HasCleanDisk (state S.Store tx.new.conn.now)
-        → OnOk result
-        (Comes link_names link_ones (state S.Store tx.old.conn.now).now
-        (state S.Store tx.new.conn.now).now) }
-    ensures inside { HasCleanDisk (state S.Store tx.new.conn.now)
-        → OnOk result (IsTrue (state S.Store tx.new.conn.now).in_transaction) }
-    ensures kept { HasCleanDisk (state S.Store tx.new.conn.now)
-        → KeepsCommit (state S.Store tx.old.conn.now) (state S.Store tx.new.conn.now) }
-    ensures same_reference { tx.new.conn.ghost_name ≡ tx.old.conn.ghost_name }
-    ensures survives { Survives (state S.Store tx.old.conn.now) (state S.Store tx.new.conn.now) (λ _. ⊥) }
-{
-    create(
-        tx,
-        "CREATE TABLE registry_contents (id INTEGER PRIMARY KEY, sha256 TEXT NOT NULL, \
-         size INTEGER NOT NULL, bytes BLOB NOT NULL) STRICT",
-    )?;
-    create(
-        tx,
-        "CREATE TABLE registry_blob_links (repo TEXT NOT NULL \
-         REFERENCES registry_repos (name) ON DELETE CASCADE, digest TEXT NOT NULL, size INTEGER NOT NULL, \
-         content INTEGER NOT NULL, PRIMARY KEY (repo, digest)) STRICT",
-    )?;
-    create(
-        tx,
-        "CREATE TABLE registry_manifest_links (repo TEXT NOT NULL \
-         REFERENCES registry_repos (name) ON DELETE CASCADE, digest TEXT NOT NULL, size INTEGER NOT NULL, \
-         kind INTEGER NOT NULL, subject TEXT, content INTEGER NOT NULL, PRIMARY KEY (repo, digest)) STRICT",
-    )
-}
-
-/// Makes the uploads, their pieces, and the indexes.
-fn make_uploads<S: Alter>(tx: &mut Transaction<'_, S>) -> Result<(), Error>
-    requires { HasCleanDisk (state S.Store tx.old.conn.now)
-        → IsTrue (state S.Store tx.old.conn.now).in_transaction }
-    ensures made { HasCleanDisk (state S.Store tx.new.conn.now)
-        → IsEmptyWith linked_tables (state S.Store tx.old.conn.now).now
-        → OnOk result (IsEmptyWith fresh_schema (state S.Store tx.new.conn.now).now) }
-    ensures unmade { HasCleanDisk (state S.Store tx.new.conn.now)
-        → IsEmptyWith linked_tables (state S.Store tx.old.conn.now).now → IfErr result IsOther }
-    ensures both { HasCleanDisk (state S.Store tx.new.conn.now)
-        → (state S.Store tx.old.conn.now).now.schema ≡ old_linked
-        → OnOk result ((state S.Store tx.new.conn.now).now.schema ≡ both_schema) }
-    ensures apart { HasCleanDisk (state S.Store tx.new.conn.now)
-        → (state S.Store tx.old.conn.now).now.schema ≡ old_linked → IfErr result IsOther }
-    ensures comes { HasCleanDisk (state S.Store tx.new.conn.now)
-        → OnOk result
-        (Comes upload_names upload_ones (state S.Store tx.old.conn.now).now
-        (state S.Store tx.new.conn.now).now) }
-    ensures inside { HasCleanDisk (state S.Store tx.new.conn.now)
-        → OnOk result (IsTrue (state S.Store tx.new.conn.now).in_transaction) }
-    ensures kept { HasCleanDisk (state S.Store tx.new.conn.now)
-        → KeepsCommit (state S.Store tx.old.conn.now) (state S.Store tx.new.conn.now) }
-    ensures same_reference { tx.new.conn.ghost_name ≡ tx.old.conn.ghost_name }
-    ensures survives { Survives (state S.Store tx.old.conn.now) (state S.Store tx.new.conn.now) (λ _. ⊥) }
-{
-    create(
-        tx,
-        "CREATE TABLE registry_uploads (repo TEXT NOT NULL \
-         REFERENCES registry_repos (name) ON DELETE CASCADE, number INTEGER NOT NULL, \
-         size INTEGER NOT NULL, PRIMARY KEY (repo, number)) STRICT",
-    )?;
-    create(
-        tx,
-        "CREATE TABLE registry_pieces (repo TEXT NOT NULL \
-         REFERENCES registry_repos (name) ON DELETE CASCADE, number INTEGER NOT NULL, \
-         start INTEGER NOT NULL, size INTEGER NOT NULL, content INTEGER NOT NULL, \
-         PRIMARY KEY (repo, number, start)) STRICT",
-    )?;
-    create(
-        tx,
-        "CREATE INDEX registry_contents_sha256 ON registry_contents (sha256)",
-    )?;
-    create(
-        tx,
-        "CREATE INDEX registry_manifest_links_subject ON registry_manifest_links (repo, subject)",
-    )
 }
 
 /// Makes the tables and indexes of a registry. In an empty database they are the schema, with no row.
@@ -224,9 +122,7 @@ pub fn make_tables<S: Alter>(tx: &mut Transaction<'_, S>) -> Result<(), Error>
     ensures same_reference { tx.new.conn.ghost_name ≡ tx.old.conn.ghost_name }
     ensures survives { Survives (state S.Store tx.old.conn.now) (state S.Store tx.new.conn.now) (λ _. ⊥) }
 {
-    make_shared(tx)?;
-    make_links(tx)?;
-    make_uploads(tx)
+    execute_each(tx, &ALL)
 }
 
 /// Makes the tables and indexes that only schema 2 has, without rows, beside what there is, which stays: over
@@ -251,6 +147,5 @@ pub fn make_tables_of_two<S: Alter>(tx: &mut Transaction<'_, S>) -> Result<(), E
     ensures same_reference { tx.new.conn.ghost_name ≡ tx.old.conn.ghost_name }
     ensures survives { Survives (state S.Store tx.old.conn.now) (state S.Store tx.new.conn.now) (λ _. ⊥) }
 {
-    make_links(tx)?;
-    make_uploads(tx)
+    execute_each(tx, &OF_TWO)
 }

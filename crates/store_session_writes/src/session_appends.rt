@@ -5,7 +5,7 @@ ghost use Rattle.store_statements.specs.Keys.{has_start};
 ghost use Rattle.store_statements.specs.StepsFrom.{StepsFrom};
 ghost use Rattle.store_statements.specs.Between.{MakesWorld, StaysOnMemory};
 ghost use Rattle.store_statements.specs.Clauses.{KeepsInside, Lasts, LastsUncommitted, WorldHas};
-ghost use Rattle.store_statements.specs.Steps.{PieceStored, Appended};
+ghost use Rattle.store_statements.specs.Steps.{Appended};
 
 use crate::change::Change;
 use crate::changing::make;
@@ -16,30 +16,6 @@ use store_statements::contents::keep;
 use store_statements::numbers::{LARGEST, has_room};
 use store_statements::pieces::add_piece;
 use store_statements::uploads::{find_upload, set_size};
-
-/// Puts a piece in where none of the session begins. `start` is in bytes.
-fn store_piece<S: Alter>(
-    alloc: Global,
-    tx: &mut Transaction<'_, S>,
-    repo: &str,
-    number: u64,
-    start: u64,
-    bytes: &[u8],
-) -> Result<(), Fault>
-    requires number_fits { number < 2 ^ 63 }
-    requires fits { start + length bytes.now < 2 ^ 63 }
-    ensures stored { StepsFrom S.Store tx.old.conn.now tx.new.conn.now result
-        (λ t. find (has_start repo.now number start) t.pieces ≡ None)
-        (λ t u. PieceStored t u repo.now number start bytes.now) }
-    ensures kept { KeepsInside S.Store tx.old.conn.now tx.new.conn.now }
-    ensures same_reference { tx.new.conn.ghost_name ≡ tx.old.conn.ghost_name }
-    ensures survives { LastsUncommitted S.Store tx.old.conn.now tx.new.conn.now }
-{
-    match keep(alloc, tx, bytes) {
-        Ok(content) => add_piece(tx, repo, number, start, bytes.len() as u64, content),
-        Err(fault) => Err(fault),
-    }
-}
 
 /// Puts bytes behind those of a session that has `size` bytes.
 pub(crate) fn add_bytes<S: Alter>(
@@ -60,7 +36,10 @@ pub(crate) fn add_bytes<S: Alter>(
     ensures survives { LastsUncommitted S.Store tx.old.conn.now tx.new.conn.now }
 {
     match set_size(tx, repo, number, size + bytes.len() as u64) {
-        Ok(_) => store_piece(alloc, tx, repo, number, size, bytes),
+        Ok(_) => match keep(alloc, tx, bytes) {
+            Ok(content) => add_piece(tx, repo, number, size, bytes.len() as u64, content),
+            Err(fault) => Err(fault),
+        },
         Err(fault) => Err(fault),
     }
 }

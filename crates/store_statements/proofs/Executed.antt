@@ -1,6 +1,7 @@
 -- What a statement inside a transaction leaves, by the kind of the statement, and what its caller is told.
-use Rattle.std.proofs.Common.{◌≡◌, ◌∙◌, ℕ, List, ◌∷◌, Ok, Err, Result, OnOk, IfOk, ap, ap₂, subst}
-use Rattle.std.specs.Prelude.{IsOk, IsTrue, is_ok}
+use Rattle.std.proofs.Common.{◌≡◌, ◌∙◌, ◌<◌, ℕ, pos, to_z, w64, List, ◌∷◌, Ok, Err, Result, OnOk, IfOk, ap, ap₂, subst, arith}
+use Rattle.std.specs.Prelude.{◌^◌, IsOk, IsTrue, is_ok}
+use Rattle.std.proofs.lemmas.Int.{ints}
 use Rattle.sqlite_trees.specs.declared.store.Store.{Ghosts}
 use Rattle.sqlite.specs.Order.{Row}
 use Rattle.sqlite.specs.declared.types.Value.{Value}
@@ -21,6 +22,10 @@ given e f = ap₂ (λ v r. bound_value v ∷ r) e f
 -- one that is bound as another value
 pub given_as : {a b d : Value} → a ≡ b → bound_value b ≡ d → {r s : Row} → r ≡ s → bound_value a ∷ r ≡ d ∷ s
 given_as e is f = ap₂ (λ v r. v ∷ r) (ap bound_value e ∙ is) f
+
+-- a number that a column can have
+pub is_whole : (n : ℕ) → n < 2 ^ 63 → to_z w64 n ≡ pos n
+is_whole n low = omega (arith, ints)
 
 -- ---- results
 

@@ -14,9 +14,7 @@ pub mod Dropped
 pub mod Updates
 pub mod TagWorlds
 pub mod ManifestWorlds
-pub mod Tagged
 pub mod Stored
-pub mod There
 pub mod Apart
 pub mod Reach
 pub mod Order

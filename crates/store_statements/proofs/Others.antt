@@ -6,7 +6,7 @@ use Rattle.sqlite.specs.Order.{Row}
 use Rattle.oci_types.specs.Text.{Text}
 use Rattle.store_schema.specs.Rows.{bytes_at}
 use Rattle.store_schema.proofs.Lists.{bytes_eq_true, bytes_eq_itself}
-use Rattle.store_statements.specs.Keys.{of_first, of_second, has_key, of_session}
+use Rattle.store_statements.specs.Keys.{of_first, has_key, of_session}
 use Rattle.store_statements.specs.Changes.{without, changed, Comes}
 use Rattle.store_statements.proofs.Found.{both_true}
 
@@ -45,9 +45,6 @@ module _ {X : Type 0} where
 
 pub other_first : (name other : Text) → bytes_eq other name ≡ false → Parts (of_first name) (of_first other)
 other_first name other apart r e = ap (λ n. bytes_eq n name) (bytes_eq_true _ _ e) ∙ apart
-
-pub other_second : (name other : Text) → bytes_eq other name ≡ false → Parts (of_second name) (of_second other)
-other_second name other apart r e = ap (λ n. bytes_eq n name) (bytes_eq_true _ _ e) ∙ apart
 
 -- a test that asks for the name and for more
 abbrev pub Within : Text → (Row → Bool) → Type 0

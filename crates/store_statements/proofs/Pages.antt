@@ -1,6 +1,5 @@
 -- Pages of tags, from the sorted rows.
-use Rattle.std.proofs.Common.{◌≡◌, ◌+◌, ℕ, List, [], ◌∷◌, map, length, take, Bool, true, false, cond, Option, None, Some, refl, sym, ap, ◌∙◌, arith, zero-le, le-ltb, lt-ltb, ltb-true, ltb-false}
-use Rattle.std.proofs.lemmas.List.{take-take, take_all, length-take-le}
+use Rattle.std.proofs.Common.{◌≡◌, ℕ, List, [], ◌∷◌, map, Bool, true, false, cond, Option, None, Some, refl, sym, ap, ◌∙◌, zero-le, le-ltb}
 use Rattle.std.proofs.Math.Seq.{take-nil}
 use Rattle.std.specs.Prelude.{◌&&◌, filter, find, option_map, nat_lt}
 use Rattle.std.specs.Option.{option_map_or}
@@ -70,11 +69,3 @@ page_found t name last n is = ap (λ o. option_map_or (λ r. page_behind r last 
     go : (o : Option Row) → find (of_first name) t.repos ≡ o → option_map_or (λ r. page_behind r last n) (option_map (repo_in t) o) no_page ≡ page_of n (tags_after t name last)
     go None e = nothing n ∙ ap (λ rows. page_of n (map (λ r. bytes_at r 2) (sort_by by_second rows))) (sym (sym (twice_filtered (of_first name) (λ x. is_lt (text_cmp last (bytes_at x 2))) t.tags) ∙ ap (filter (λ x. is_lt (text_cmp last (bytes_at x 2)))) (no_children t.repos t.tags name is.agree.tagged e)))
     go (Some r) e = ap (page_of n) (tags_behind_found t name last r is (found_named t.repos name r e))
-
--- one row more than the page tells whether more follow
-pub page_cut : (n : ℕ) (tags : List Text) → (take n (take (n + 1) tags) ≡ take n tags) × (nat_lt n (length (take (n + 1) tags)) ≡ nat_lt n (length tags))
-page_cut n tags = (take-take n (n + 1) tags (omega arith), go (nat_lt n (length tags)) refl)
-  where
-    go : (b : Bool) → nat_lt n (length tags) ≡ b → nat_lt n (length (take (n + 1) tags)) ≡ nat_lt n (length tags)
-    go true e = ap (nat_lt n) (length-take-le (n + 1) tags (omega (arith, ltb-true n (length tags) e))) ∙ lt-ltb n (n + 1) (omega arith) ∙ sym e
-    go false e = ap (λ l. nat_lt n (length l)) (take_all (n + 1) tags (omega (arith, ltb-false n (length tags) e)))

@@ -3,26 +3,25 @@ use Rattle.std.proofs.Common.{◌≡◌, ◌==◌, ◌&&◌, ℕ, List, length, 
 use Rattle.std.specs.Prelude.{find, filter, option_map, is_some}
 use Rattle.std.specs.Option.{option_map_or}
 use Rattle.std.specs.List.{AllByRecursion}
-use Rattle.std.specs.Ordering.{is_eq, eq_by_cmp, nat_cmp}
+use Rattle.std.specs.Ordering.{eq_by_cmp, nat_cmp}
 use Rattle.std.specs.FinMap.{get, len}
 use Rattle.std.proofs.lemmas.Cmp.{nat_cmp_total}
 use Rattle.std.proofs.lemmas.List.{length-map}
 use Rattle.sqlite.specs.Order.{Row}
 use Rattle.sqlite.specs.Tree.{IsAscending}
 use Rattle.sqlite_trees.proofs.ListLemmas.{ascending-map}
-use Rattle.sqlite_keyed.proofs.SortLemmas.{HasNoTies}
 use Rattle.oci_types.specs.Text.{Text}
 use Rattle.registry_model.specs.Lookups.{session_at, session_size_at, sessions_open_at}
 use Rattle.store_schema.specs.Rows.{bytes_at, natural_at}
 use Rattle.store_statements.specs.Keys.{of_first, of_session, same_session}
 use Rattle.store_statements.specs.Tables.{Tables}
-use Rattle.store_statements.specs.World.{by_start, pieces_of, joined, session_entry, sessions_of, repo_in, world_of}
+use Rattle.store_statements.specs.World.{pieces_of, joined, session_entry, sessions_of, repo_in, world_of}
 use Rattle.store_statements.specs.Registry.{is_repo, PieceAgrees, UploadAgrees, Reach, IsRegistry}
 use Rattle.store_statements.proofs.Found.{found_all, found_passes, has_first, is_session, number_tie}
 use Rattle.store_statements.proofs.Base.{repo_found, found_named, session_found}
 use Rattle.store_statements.proofs.Others.{within_session}
 use Rattle.store_statements.proofs.Children.{repo_of_found, child_found, no_children}
-use Rattle.store_statements.proofs.ContentWorlds.{starts_total, all-pieces_of}
+use Rattle.store_statements.proofs.ContentWorlds.{all-pieces_of}
 use Rattle.store_statements.proofs.Apart.{apart_within, len_apart}
 use Rattle.store_statements.proofs.PieceWorlds.{joined_length}
 
@@ -54,13 +53,6 @@ session_repo t name number r is e = repo_of_found t.repos t.uploads name (of_ses
 -- each of its pieces names a content
 pub session_pieces : (t : Tables) (name : Text) (number : ℕ) → IsRegistry t → AllByRecursion (PieceAgrees t.contents) (pieces_of t.pieces name number)
 session_pieces t name number is = all-pieces_of (PieceAgrees t.contents) t.pieces name number is.agree.pieces
-
--- no two of them begin at one place
-pub starts_apart : (t : Tables) (name : Text) (number : ℕ) → IsRegistry t → HasNoTies by_start starts_total (filter (of_session name number) t.pieces)
-starts_apart t name number is = apart_within (of_session name number) _ (λ a b. is_eq (by_start a b) ≡ false) (λ a b on off apart.
-    let key = is_session name number a on in
-    let session : of_session (bytes_at a 1) (natural_at a 2) b ≡ true = (λ i. of_session (key.0 i) (key.1 i) b) ∙ off in
-    number_tie (natural_at a 3) (natural_at b 3) ∙ ap (λ s. s && natural_at b 3 == natural_at a 3) (sym session) ∙ apart) t.pieces is.tables.pieces.apart
 
 -- how many bytes they are
 pub session_size_found : (t : Tables) (name : Text) (number : ℕ) → IsRegistry t → session_size_at (world_of t) name number ≡ option_map (λ r. natural_at r 3) (find (of_session name number) t.uploads)

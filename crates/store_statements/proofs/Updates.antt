@@ -7,8 +7,7 @@ use Rattle.std.proofs.lemmas.Cmp.{nat_list_cmp_total, eq_by_cmp_equiv}
 use Rattle.std.proofs.lemmas.Map.Lookups.{exact_bytes}
 use Rattle.oci_types.specs.Text.{Text}
 use Rattle.registry_model.specs.World.{text_cmp, Repo, World, repo_at, with_repo, update_repo}
-use Rattle.registry_model.specs.Manifests.{with_tag, with_bytes}
-use Rattle.registry_model.specs.Lookups.{put_manifest}
+use Rattle.registry_model.specs.Manifests.{with_tag}
 
 pub repo_put : (w : World) (name : Text) (r : Repo) → repo_at (with_repo w name r) name ≡ Some r
 repo_put w name r = get-insert nat_list_cmp_total w.repos name r name ∙ ap (λ b. cond b (Some r) (repo_at w name)) ((eq_by_cmp_equiv nat_list_cmp_total).refl name)
@@ -36,7 +35,3 @@ update_twice w name f g = go (repo_at w name) refl
 
 abbrev pub set_tag : World → Text → Text → Text → World
 set_tag w name tag digest = update_repo w name (λ r. with_tag r (Some tag) digest) (repo_at w name)
-
--- a manifest is put with a tag once it is put and the tag is set
-pub then_tagged : (w : World) (name digest bytes tag : Text) (between after : World) → between ≡ put_manifest w name digest bytes None → after ≡ set_tag between name tag digest → after ≡ put_manifest w name digest bytes (Some tag)
-then_tagged w name digest bytes tag between after first second = second ∙ ap (λ v. set_tag v name tag digest) first ∙ update_twice w name (λ r. with_bytes r digest bytes) (λ r. with_tag r (Some tag) digest)

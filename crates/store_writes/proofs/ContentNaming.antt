@@ -1,6 +1,6 @@
 -- Sets of contents, and which of them the tables name.
 use Rattle.std.proofs.Common.{◌≡◌, ◌∙◌, ◌<◌, ◌+◌, inl, inr, ℕ, ℤ, List, [], ◌∷◌, map, length, take, get_or, Bool, true, false, Ordering, Less, Equal, Greater, Ok, Err, Result, OnOk, refl, sym, ap}
-use Rattle.std.specs.Prelude.{◌||◌, IfOk, IsOk, Vec}
+use Rattle.std.specs.Prelude.{◌||◌, IfOk, IsOkAnd, Vec}
 use Rattle.std.specs.declared.alloc.Global.{Global}
 use Rattle.std.specs.List.Sorted.{IsPermutation}
 use Rattle.std.specs.Ordering.{int_eq, match_ordering}
@@ -67,10 +67,10 @@ has_in_column at (x ∷ xs) r (inl e) = ap (λ b. b || is_in_column at xs (integ
 has_in_column at (x ∷ xs) r (inr h) = ap (λ b. int_eq (integer_at r at) (integer_at x at) || b) (has_in_column at xs r h) ∙ or_turned (int_eq (integer_at r at) (integer_at x at)) true
 
 -- all the ids that were found in a column were put into a set
-pub column_inserted : {E : Type 0} (found : Result (Vec ContentId Global) E) (olds news : List ContentId) (at : ℕ) (rows : List Row) → IsOk found → IfOk found (λ ids. IsPermutation (map (content_named at) rows) ids.items)
-    → IfOk found (λ ids. (i : ℤ) → is_among news i ≡ (is_among olds i || is_among ids.items i)) → (i : ℤ) → is_among news i ≡ (is_among olds i || is_in_column at rows i)
-column_inserted (Ok ids) olds news at rows was same h i = h i ∙ ap (λ b. is_among olds i || b) (sym (list_any-IsPermutation (λ (other : ContentId). int_eq i other.id) _ ids.items same) ∙ among_column at rows i)
-column_inserted (Err e) olds news at rows was same h i = absurd cc
+pub column_inserted : {E : Type 0} (found : Result (Vec ContentId Global) E) (olds news : List ContentId) (at : ℕ) (rows : List Row) → IfOk found (λ ids. IsPermutation (map (content_named at) rows) ids.items)
+    → IsOkAnd found (λ ids. (i : ℤ) → is_among news i ≡ (is_among olds i || is_among ids.items i)) → (i : ℤ) → is_among news i ≡ (is_among olds i || is_in_column at rows i)
+column_inserted (Ok ids) olds news at rows same h i = h i ∙ ap (λ b. is_among olds i || b) (sym (list_any-IsPermutation (λ (other : ContentId). int_eq i other.id) _ ids.items same) ∙ among_column at rows i)
+column_inserted (Err e) olds news at rows same h i = absurd h
 
 -- those of all three columns, into an empty one
 pub all_inserted : (t : Tables) (none some more all : List ContentId) → none ≡ [] → ((i : ℤ) → is_among some i ≡ (is_among none i || is_in_column 4 t.blobs i))
@@ -79,14 +79,7 @@ all_inserted t none some more all empty blobs manifests pieces i =
     pieces i ∙ ap (λ b. b || is_in_column 5 t.pieces i) (manifests i ∙ ap (λ b. b || is_in_column 6 t.manifests i) (blobs i ∙ ap (λ (ks : List ContentId). is_among ks i || is_in_column 4 t.blobs i) empty))
     ∙ or_grouped (is_in_column 4 t.blobs i) (is_in_column 6 t.manifests i) (is_in_column 5 t.pieces i)
 
--- ---- of a call's result
-
--- what is so in any case is so where it did well
-pub always_ok : {A E P : Type 0} (r : Result A E) → P → OnOk r P
-always_ok (Ok x) p = p
-always_ok (Err e) p = tt
-
--- it did well
-pub was_ok : {A E P : Type 0} (r : Result A E) → IsOk r → OnOk r P → P
-was_ok (Ok x) was p = p
-was_ok (Err e) was p = absurd cc
+-- they were found
+pub was_read : {E P : Type 0} (found : Result (Vec ContentId Global) E) (olds news : List ContentId) → IsOkAnd found (λ ids. (i : ℤ) → is_among news i ≡ (is_among olds i || is_among ids.items i)) → OnOk found P → P
+was_read (Ok ids) olds news h p = p
+was_read (Err e) olds news h p = absurd h

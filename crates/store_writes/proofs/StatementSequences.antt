@@ -1,7 +1,7 @@
 -- Statements, one after the other.
-use Rattle.std.proofs.Common.{Result, OnOk, subst}
+use Rattle.std.proofs.Common.{Result, OnOk, subst, refl, inl, arith}
 use Rattle.sqlite_trees.specs.declared.store.Store.{Ghosts}
-use Rattle.sqlite.specs.State.{HasCleanDisk}
+use Rattle.sqlite.specs.State.{State, HasCleanDisk, KeepsCommit, Survives}
 use Rattle.sqlite.specs.Held.{Held, state}
 use Rattle.oci_types.specs.declared.fault.Fault.{Fault}
 use Rattle.store_schema.proofs.Selects.{commit_then, survives_both}
@@ -35,3 +35,30 @@ module _ {S : Type 0} (g : Ghosts S) where
       let early : HasCleanDisk (state g mid) = was_clean then_lasts clean in
       let it = first early is in
       subst (λ t. Becomes (state g new) (h t)) it.1 (second clean it.0)
+
+-- ---- so far
+
+pub record SoFar {S : Type 0} (g : Ghosts S) (old mid : Held S) (f : Tables → Tables) : Type 0 where
+  pub became : Became g old mid f
+  pub kept : KeepsInside g old mid
+  pub survives : LastsUncommitted g old mid
+
+module _ {S : Type 0} (g : Ghosts S) (old mid new : Held S) (f : Tables → Tables) (so : SoFar g old mid f) (kept : KeepsInside g mid new) (lasts : LastsUncommitted g mid new) where
+  pub one_more : (h : Tables → Tables) → Became g mid new h → SoFar g old new (λ t. h (f t))
+  one_more h became = record {
+    became = both_became g old mid new f h so.became became lasts;
+    kept = both_kept g old mid new f so.became so.kept kept lasts;
+    survives = both_last g old mid new so.survives lasts;
+  }
+
+  -- the next failed
+  pub stopped : KeepsInside g old new × LastsUncommitted g old new
+  stopped = (both_kept g old mid new f so.became so.kept kept lasts, both_last g old mid new so.survives lasts)
+
+-- ---- nothing was done
+
+pub keeps_still : (s : State) → KeepsCommit s s
+keeps_still s = record { was_open = λ open_now. open_now; committed = λ open_now. refl }
+
+pub survives_still : (s : State) → Survives s s (λ _. ⊥)
+survives_still s = record { clean = omega arith; shield = λ x. x; counts = omega arith; limit = refl; closes = λ clean open_now. inl open_now; crash = λ clean db may. inl may }

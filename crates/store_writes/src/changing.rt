@@ -2,7 +2,7 @@
 ghost use Rattle.std.specs.Prelude.{◌≡◌};
 ghost use Rattle.sqlite.specs.State.{HasCleanDisk, KeepsCommit};
 ghost use Rattle.sqlite.specs.Held.{state};
-ghost use Rattle.store_statements.specs.Between.{CommitsStep, GoesBack, StaysOnMemory};
+ghost use Rattle.store_statements.specs.Between.{CommitsStep, StaysOnMemory};
 ghost use Rattle.store_statements.specs.Clauses.{Lasts, LastsUncommitted, TablesHave};
 ghost use Rattle.store_statements.specs.Held.{IsReady, held};
 ghost use Rattle.store_statements.specs.StepsFrom.{StepsFrom};
@@ -71,19 +71,7 @@ fn work<S: Alter>(tx: &mut Transaction<'_, S>, change: Change<'_>) -> Result<(),
     }
 }
 
-/// Makes a change in a transaction of its own.
-fn make_alone<S: Alter>(conn: &mut Connection<S>, change: Change<'_>) -> Result<(), Fault>
-    requires fits { Fits change }
-    ensures made { TablesHave S.Store conn.old (Asks change.entry)
-        → CommitsStep S.Store conn.old conn.new result (Makes change.entry) }
-    ensures back { TablesHave S.Store conn.old (Asks change.entry)
-        → GoesBack S.Store conn.old conn.new result }
-    ensures survives { Lasts S.Store conn.old conn.new }
-{
-    alone!(conn, tx, work(&mut tx, change))
-}
-
-/// The same, and a failure is told as the store's caller sees it.
+/// Makes a change in a transaction of its own. A failure is told as the store's caller sees it.
 pub(crate) fn make<S: Alter>(conn: &mut Connection<S>, change: Change<'_>) -> Result<(), Fault>
     requires fits { Fits change }
     ensures made { TablesHave S.Store conn.old (Asks change.entry)
@@ -92,6 +80,6 @@ pub(crate) fn make<S: Alter>(conn: &mut Connection<S>, change: Change<'_>) -> Re
         → StaysOnMemory S.Store conn.old conn.new result }
     ensures survives { Lasts S.Store conn.old conn.new }
 {
-    let done = make_alone(conn, change);
+    let done = alone!(conn, tx, work(&mut tx, change));
     checked(conn, done)
 }

@@ -1,9 +1,12 @@
 //! What nothing names is freed.
-ghost use Rattle.std.specs.Prelude.{◌≡◌, ◌||◌, ◌∷◌, [], ℤ, None, OnOk, IfOk, IsOk, if◌then◌else◌};
+ghost use Rattle.std.specs.Prelude.{◌≡◌, ◌||◌, ◌∷◌, [], ℤ, None, OnOk, IsOkAnd, if◌then◌else◌};
 ghost use Rattle.std.specs.BTreeSet.{keys};
 ghost use Rattle.std.specs.Ordering.{int_eq};
+ghost use Rattle.sqlite.specs.State.{HasCleanDisk};
+ghost use Rattle.sqlite.specs.Held.{state};
 ghost use Rattle.store_statements.specs.Between.{MakesWorld, Relates, StaysOnMemory};
-ghost use Rattle.store_statements.specs.Clauses.{ChangesNothingInside, FindsInside, KeepsInside, Lasts, LastsUncommitted, StepsInside};
+ghost use Rattle.store_statements.specs.Clauses.{ChangesNothingInside, KeepsInside, Lasts, LastsUncommitted, StepsInside};
+ghost use Rattle.store_statements.specs.Held.{IsReady, held};
 ghost use Rattle.store_writes.specs.Naming.{is_among, is_named, ContentsGone, Cleared};
 
 use crate::change::Change;
@@ -42,9 +45,8 @@ fn insert_found(
     set: &mut BTreeSet<ContentId>,
     found: Result<Vec<ContentId>, Fault>,
 ) -> Result<(), Fault>
-    ensures inserted { OnOk result (IfOk found (λ ids. (i : ℤ)
+    ensures { OnOk result (IsOkAnd found (λ ids. (i : ℤ)
         → is_among (keys set.new) i ≡ (is_among (keys set.old) i || is_among ids.items i))) }
-    ensures was_found { OnOk result (IsOk found) }
 {
     match found {
         Ok(ids) => insert_all(set, &ids),
@@ -52,20 +54,23 @@ fn insert_found(
     }
 }
 
-/// The contents that something names. Nothing of the tables changes.
-fn named<S: Alter>(alloc: Global, tx: &mut Transaction<'_, S>) -> Result<BTreeSet<ContentId>, Fault>
-    ensures named { FindsInside S.Store tx.old.conn.now tx.new.conn.now result
-        (λ t set. (i : ℤ) → is_among (keys set) i ≡ is_named t i) }
+/// Puts the contents that something names into an empty set. Nothing of the tables changes.
+fn add_named<S: Alter>(
+    alloc: Global,
+    tx: &mut Transaction<'_, S>,
+    set: &mut BTreeSet<ContentId>,
+) -> Result<(), Fault>
+    ensures named { HasCleanDisk (state S.Store tx.new.conn.now) → IsReady (state S.Store tx.old.conn.now)
+        → OnOk result (keys set.old ≡ [] → (i : ℤ)
+        → is_among (keys set.new) i ≡ is_named (held (state S.Store tx.old.conn.now)) i) }
     ensures same { ChangesNothingInside S.Store tx.old.conn.now tx.new.conn.now result }
     ensures kept { KeepsInside S.Store tx.old.conn.now tx.new.conn.now }
     ensures same_reference { tx.new.conn.ghost_name ≡ tx.old.conn.ghost_name }
     ensures survives { LastsUncommitted S.Store tx.old.conn.now tx.new.conn.now }
 {
-    let mut set = BTreeSet::new(alloc);
-    insert_found(&mut set, blob_contents(alloc, tx))?;
-    insert_found(&mut set, manifest_contents(alloc, tx))?;
-    insert_found(&mut set, piece_contents(alloc, tx))?;
-    Ok(set)
+    insert_found(set, blob_contents(alloc, tx))?;
+    insert_found(set, manifest_contents(alloc, tx))?;
+    insert_found(set, piece_contents(alloc, tx))
 }
 
 /// Takes the content out, where it is there.
@@ -103,7 +108,8 @@ pub(crate) fn clear_contents<S: Alter>(
     ensures same_reference { tx.new.conn.ghost_name ≡ tx.old.conn.ghost_name }
     ensures survives { LastsUncommitted S.Store tx.old.conn.now tx.new.conn.now }
 {
-    let set = named(alloc, tx)?;
+    let mut set = BTreeSet::new(alloc);
+    add_named(alloc, tx, &mut set)?;
     let ids = unlinked(alloc, tx, &set)?;
     take_contents(tx, &ids)
 }

@@ -1,5 +1,5 @@
 //! A manifest is put, and a tag set to it.
-ghost use Rattle.std.specs.Prelude.{◌≡◌, ◌≤◌, true, length, find, None, Some, Ok};
+ghost use Rattle.std.specs.Prelude.{◌≡◌, ◌≤◌, true, length, find, None, Ok};
 ghost use Rattle.sqlite.specs.State.{HasCleanDisk, KeepsCommit};
 ghost use Rattle.sqlite.specs.Held.{state};
 ghost use Rattle.oci_types.specs.Manifest.{shown, manifest_in};
@@ -24,28 +24,7 @@ use store_statements::contents::keep_matching;
 use store_statements::manifests::{add_manifest_link, find_manifest_link};
 use store_statements::tags::{add_tag, set_tag};
 
-/// Sets the tag to the digest, where it is there, and else adds it.
-fn put_tag<S: Alter>(
-    tx: &mut Transaction<'_, S>,
-    repo: &str,
-    tag: &str,
-    digest: &str,
-) -> Result<(), Fault>
-    ensures made { TurnsThere S.Store tx.old.conn.now tx.new.conn.now result repo.now
-        (λ w. tagged w repo.now (Some tag.now) digest.now) }
-    ensures kept { KeepsWhole S.Store tx.old.conn.now tx.new.conn.now }
-    ensures same_reference { tx.new.conn.ghost_name ≡ tx.old.conn.ghost_name }
-    ensures survives { LastsUncommitted S.Store tx.old.conn.now tx.new.conn.now }
-{
-    let count = set_tag(tx, repo, tag, digest)?;
-    if count == 0 {
-        add_tag(tx, repo, tag, digest)
-    } else {
-        Ok(())
-    }
-}
-
-/// The same, where there is a tag.
+/// Where there is a tag, sets it to the digest, if it is there, and else adds it.
 pub(crate) fn put_tag_if<S: Alter>(
     tx: &mut Transaction<'_, S>,
     repo: &str,
@@ -59,7 +38,15 @@ pub(crate) fn put_tag_if<S: Alter>(
     ensures survives { LastsUncommitted S.Store tx.old.conn.now tx.new.conn.now }
 {
     match tag {
-        Some(tag) => put_tag(tx, repo, tag.as_str(), digest),
+        Some(tag) => {
+            let tag = tag.as_str();
+            let count = set_tag(tx, repo, tag, digest)?;
+            if count == 0 {
+                add_tag(tx, repo, tag, digest)
+            } else {
+                Ok(())
+            }
+        }
         None => Ok(()),
     }
 }

@@ -4,10 +4,10 @@ ghost use Rattle.sqlite.specs.State.{HasCleanDisk};
 ghost use Rattle.sqlite.specs.Held.{state};
 ghost use Rattle.registry_model.specs.Command.{drop_repo};
 ghost use Rattle.store_statements.specs.Between.{MakesWorld, StaysOnMemory};
-ghost use Rattle.store_statements.specs.Clauses.{Changes, KeepsInside, Lasts, LastsUncommitted};
+ghost use Rattle.store_statements.specs.Clauses.{KeepsInside, Lasts, LastsUncommitted};
 ghost use Rattle.store_statements.specs.Tables.{IsEmptyBeside};
 ghost use Rattle.store_statements.specs.Held.{IsReady, Becomes, held};
-ghost use Rattle.store_statements.specs.Drops.{dropped, without_links, without_sessions, without_children};
+ghost use Rattle.store_statements.specs.Drops.{dropped};
 
 use crate::change::Change;
 use crate::changing::make;
@@ -21,41 +21,6 @@ use store_statements::repos::take_repo;
 use store_statements::tags::take_tags;
 use store_statements::uploads::take_uploads;
 
-/// Takes the tags of the repository out, and its links to manifests and blobs.
-fn drop_links<S: Alter>(tx: &mut Transaction<'_, S>, name: &str) -> Result<(), Fault>
-    ensures dropped { Changes S.Store tx.old.conn.now tx.new.conn.now result (without_links name.now) }
-    ensures kept { KeepsInside S.Store tx.old.conn.now tx.new.conn.now }
-    ensures same_reference { tx.new.conn.ghost_name ≡ tx.old.conn.ghost_name }
-    ensures survives { LastsUncommitted S.Store tx.old.conn.now tx.new.conn.now }
-{
-    take_tags(tx, name)?;
-    take_manifest_links(tx, name)?;
-    take_blob_links(tx, name)
-}
-
-/// Takes the upload sessions of the repository out, with their pieces.
-fn drop_sessions<S: Alter>(tx: &mut Transaction<'_, S>, name: &str) -> Result<(), Fault>
-    ensures dropped { Changes S.Store tx.old.conn.now tx.new.conn.now result (without_sessions name.now) }
-    ensures kept { KeepsInside S.Store tx.old.conn.now tx.new.conn.now }
-    ensures same_reference { tx.new.conn.ghost_name ≡ tx.old.conn.ghost_name }
-    ensures survives { LastsUncommitted S.Store tx.old.conn.now tx.new.conn.now }
-{
-    take_pieces(tx, name)?;
-    take_uploads(tx, name)
-}
-
-/// Takes out each row of another table that names the repository.
-fn drop_children<S: Alter>(tx: &mut Transaction<'_, S>, name: &str) -> Result<(), Fault>
-    ensures dropped { Changes S.Store tx.old.conn.now tx.new.conn.now result (without_children name.now) }
-    ensures kept { KeepsInside S.Store tx.old.conn.now tx.new.conn.now }
-    ensures same_reference { tx.new.conn.ghost_name ≡ tx.old.conn.ghost_name }
-    ensures survives { LastsUncommitted S.Store tx.old.conn.now tx.new.conn.now }
-{
-    drop_links(tx, name)?;
-    drop_sessions(tx, name)?;
-    take_grants(tx, name)
-}
-
 /// Takes the repository out, where it is there, with its tags, links, upload sessions and grants.
 /// Contents stay, also those that nothing names any more. No further table has a row that may go with it.
 pub(crate) fn drop_rows<S: Alter>(tx: &mut Transaction<'_, S>, name: &str) -> Result<(), Fault>
@@ -67,7 +32,12 @@ pub(crate) fn drop_rows<S: Alter>(tx: &mut Transaction<'_, S>, name: &str) -> Re
     ensures same_reference { tx.new.conn.ghost_name ≡ tx.old.conn.ghost_name }
     ensures survives { LastsUncommitted S.Store tx.old.conn.now tx.new.conn.now }
 {
-    drop_children(tx, name)?;
+    take_tags(tx, name)?;
+    take_manifest_links(tx, name)?;
+    take_blob_links(tx, name)?;
+    take_pieces(tx, name)?;
+    take_uploads(tx, name)?;
+    take_grants(tx, name)?;
     take_repo(tx, name)
 }
 

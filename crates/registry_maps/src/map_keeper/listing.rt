@@ -5,7 +5,7 @@ ghost use Rattle.registry_model.specs.Keeping.{usages_shown};
 ghost use Rattle.registry_maps.specs.Maps.{world_of};
 
 use super::MapKeeper;
-use crate::putting::push;
+use crate::putting::push_pair;
 use oci_types::{RepoName, Token};
 use registry_model::{Level, Usage};
 use std::alloc::{AllocError, Global};
@@ -18,7 +18,7 @@ impl MapKeeper {
     {
         let mut all = Vec::new(alloc);
         for (name, repository) in self.repos.iter() {
-            push(&mut all, (name.clone()?, repository.usage()))?;
+            push_pair(&mut all, name.clone(), Ok(repository.usage()))?;
         }
         Ok(all)
     }
@@ -35,7 +35,7 @@ impl MapKeeper {
         let mut all = Vec::new(alloc);
         for (token, levels) in self.grants.iter() {
             if let Some(level) = levels.get(name) {
-                push(&mut all, (token.clone()?, *level))?;
+                push_pair(&mut all, token.clone(), Ok(*level))?;
             }
         }
         Ok(all)

@@ -18,7 +18,7 @@ pub(super) fn digests_of<V>(
 {
     let mut found = Vec::new(alloc);
     for digest in held.keys() {
-        push(&mut found, digest.clone()?)?;
+        push(&mut found, digest.clone())?;
     }
     Ok(found)
 }

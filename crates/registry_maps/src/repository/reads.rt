@@ -12,7 +12,7 @@ ghost use Rattle.registry_model.specs.Keeping.{bytes_in, manifest_shown, page_sh
 ghost use Rattle.registry_maps.specs.Maps.{repo_of};
 
 use crate::kept_manifest::KeptManifest;
-use crate::putting::push;
+use crate::putting::{push, push_pair};
 use crate::repository::Repository;
 use crate::repository::digests::digests_of;
 use oci_types::{Digest, Kind, Tag};
@@ -132,7 +132,7 @@ impl Repository {
         let mut behind = Vec::new(alloc);
         for tag in self.tags.keys() {
             if is_behind(tag, last) {
-                push(&mut behind, tag.clone()?)?;
+                push(&mut behind, tag.clone())?;
             }
         }
         Ok(behind)
@@ -163,7 +163,7 @@ impl Repository {
         let mut found = Vec::new(alloc);
         for (name, kept) in self.manifests.iter() {
             if kept.has_subject(digest) {
-                push(&mut found, (name.clone()?, kept.to_vec(alloc)?))?;
+                push_pair(&mut found, name.clone(), kept.to_vec(alloc))?;
             }
         }
         Ok(found)

@@ -1,45 +1,53 @@
-use Rattle.std.proofs.Common.{◌≡◌, ◌∙◌, sym, subst, false, ap}
-use Rattle.registry_model.specs.Lookups as lookups
-use Rattle.registry_model.specs.Keeping.{State}
-use Rattle.registry_model.specs.Answer.{Answer}
+use Rattle.std.proofs.Common.{◌≡◌, ◌∙◌, Bool, true, false, length, refl, sym, ap}
+use Rattle.registry_model.specs.declared.refusal.Refusal.TheVariants.{QuotaExceeded}
 use Rattle.registry_model.specs.Doing.{course_of_answer}
-use Rattle.registry_model.specs.Heads.{is_sent}
-use Rattle.operation_parts.proofs.FailedCalls.{read_failed, write_failed}
+use Rattle.registry_model.specs.Keeping.{State}
+use Rattle.registry_model.specs.Lookups as lookups
+use Rattle.operation_parts.specs.Quota.{blob_grows_over}
 use Rattle.blob_operations.proofs.BlobLemmas.{adds, adds_over}
+use Rattle.blob_operations.proofs.EarlyLemmas.{told_this, kept_on, still_there, refused_early, wrote, after_it}
 use Rattle.blob_operations.proofs.blobs.add_blob.Goals as goal
 
-pub returns-then-branch : goal.returns-then-branch
-returns-then-branch g c = record {
-  comes = λ honest. (
-      let found = c.in_ok-blob_goes_over.ensures.found honest in
-      let there = c.requires.there (c.in_ok-blob_goes_over.ensures.honest honest) in
-      adds_over _ _ c.args.name.now c.requires.unspent there c.args.digest c.args.body.now _ found.1 (sym c.if-branch.true ∙ found.0) c.refusal.ensures);
-  answers = ap course_of_answer c.refusal.ensures;
-  carries = ap (λ (a : Answer). is_sent a.body) c.refusal.ensures;
-  spends = c.in_ok-blob_goes_over.ensures.spends;
-  honest = c.in_ok-blob_goes_over.ensures.honest;
-}
-
-pub returns : goal.returns
-returns g c = record {
-  comes = λ honest. (
-      let before = c.in_ok-put_blob.ensures.honest honest in
-      let found = c.in_ok-blob_goes_over.ensures.found before in
-      let there = c.requires.there (c.in_ok-blob_goes_over.ensures.honest before) in
-      adds _ _ c.args.name.now c.requires.unspent there c.args.digest c.args.body.now _ (sym c.if-branch.false ∙ found.0)
-      (subst (λ (x : State). g.K.Keeper.state c.put_blob.new.self ≡ record { world = lookups.put_blob x.world c.args.name.now c.args.digest c.args.body.now; spent = false }) found.1 (c.in_ok-put_blob.ensures.made honest))
-      (c.created_blob.ensures.shown c.args.name.now c.in-Ok.ensures));
-  answers = ap course_of_answer (c.created_blob.ensures.shown c.args.name.now c.in-Ok.ensures);
-  carries = c.created_blob.ensures.carries;
-  spends = (c.requires.unspent, c.in_ok-put_blob.ensures.spends.1);
-  honest = λ honest. c.in_ok-blob_goes_over.ensures.honest (c.in_ok-put_blob.ensures.honest honest);
-}
-
-pub returns-in_err-blob_goes_over : goal.returns-in_err-blob_goes_over
-returns-in_err-blob_goes_over g c = read_failed _ c.from_residual.result c.in_err-blob_goes_over.field-0.0 _ _ _ _ _ _ c.from_residual.ensures c.in_err-blob_goes_over.ensures
+pub returns-in-Err : goal.returns-in-Err
+returns-in-Err g c =
+    refused_early (λ (b : Bool). b) (λ b. b ≡ true) QuotaExceeded c.blob_goes_over-over.result _ c.in-Err.reply c.args.name.now _ _ _ _ _ c.in-Err.ensures refl refl c.blob_goes_over-over.ensures
+    (λ honest b over e stays a is. adds_over _ _ c.args.name.now c.requires.unspent (c.requires.there (c.blob_goes_over-over.ensures.honest honest)) c.args.digest c.args.body.now a stays (sym over ∙ e) is)
 
 pub returns-in_default : goal.returns-in_default
-returns-in_default g c = record { comes = λ honest. (c.in_ok-blob_goes_over.ensures.found honest).1; answers = tt; carries = tt; spends = c.in_ok-blob_goes_over.ensures.spends; honest = c.in_ok-blob_goes_over.ensures.honest }
+returns-in_default g c =
+    let s = g.K.Keeper.state c.args.keeper.now in
+    let mid = g.K.Keeper.state c.blob_goes_over-over.new.keeper in
+    record {
+      comes = λ honest. (told_this (λ (b : Bool). b) c.blob_goes_over-over.result false (blob_grows_over s.world c.args.name.now c.args.digest (length c.args.body.now) 0) s mid c.in-Ok.ensures (c.blob_goes_over-over.ensures.found honest)).1;
+      answers = tt;
+      carries = tt;
+      spends = kept_on c.blob_goes_over-over.result false s mid c.in-Ok.ensures c.blob_goes_over-over.ensures.spends;
+      honest = c.blob_goes_over-over.ensures.honest;
+    }
 
-pub returns-in_err-put_blob : goal.returns-in_err-put_blob
-returns-in_err-put_blob g c = write_failed _ c.from_residual-in_err-put_blob.result c.in_err-put_blob.field-0.0 _ _ _ _ _ _ _ _ c.from_residual-in_err-put_blob.ensures (λ between. (c.in_ok-blob_goes_over.ensures.found between).1) c.in_ok-blob_goes_over.ensures.honest c.requires.unspent c.in_err-put_blob.ensures
+pub put_blob-added-requires : goal.put_blob-added-requires
+put_blob-added-requires g c =
+    let s = g.K.Keeper.state c.args.keeper.now in
+    let mid = g.K.Keeper.state c.blob_goes_over-over.new.keeper in
+    record {
+      there = λ honest unspent. still_there s mid c.args.name.now
+          (told_this (λ (b : Bool). b) c.blob_goes_over-over.result false (blob_grows_over s.world c.args.name.now c.args.digest (length c.args.body.now) 0) s mid c.in-Ok.ensures (c.blob_goes_over-over.ensures.found honest)).1
+          (c.requires.there (c.blob_goes_over-over.ensures.honest honest));
+      matching = c.requires.matching;
+      fits = c.requires.fits;
+    }
+
+pub returns : goal.returns
+returns g c =
+    let s = g.K.Keeper.state c.args.keeper.now in
+    let mid = g.K.Keeper.state c.blob_goes_over-over.new.keeper in
+    let name = c.args.name.now in
+    let shown = c.created_blob.ensures.shown name c.in-Ok-blob_location.ensures in
+    after_it c.put_blob-added.result c.created_blob.result c.after.result name _ s _ _ _ c.after.ensures
+    (wrote (lookups.put_blob mid.world name c.args.digest c.args.body.now) c.put_blob-added.result c.created_blob.result name _ s mid _ _ _ _
+    (λ between. (told_this (λ (b : Bool). b) c.blob_goes_over-over.result false (blob_grows_over s.world name c.args.digest (length c.args.body.now) 0) s mid c.in-Ok.ensures (c.blob_goes_over-over.ensures.found between)).1)
+    c.blob_goes_over-over.ensures.honest c.requires.unspent c.put_blob-added.ensures (ap course_of_answer shown) c.created_blob.ensures.carries
+    (λ between made.
+    let found = told_this (λ (b : Bool). b) c.blob_goes_over-over.result false (blob_grows_over s.world name c.args.digest (length c.args.body.now) 0) s mid c.in-Ok.ensures (c.blob_goes_over-over.ensures.found between) in
+    adds s _ name c.requires.unspent (c.requires.there (c.blob_goes_over-over.ensures.honest between)) c.args.digest c.args.body.now _ found.0
+    (made ∙ ap {A = State} {B = State} (λ x. record { world = lookups.put_blob x.world name c.args.digest c.args.body.now; spent = false }) found.1) shown))

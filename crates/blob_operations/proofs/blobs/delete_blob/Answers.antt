@@ -1,64 +1,54 @@
-use Rattle.std.proofs.Common.{◌≡◌, ◌∙◌, refl, ap, subst, not, false}
-use Rattle.registry_model.specs.Lookups as lookups
-use Rattle.registry_model.specs.Keeping.{State}
+use Rattle.std.proofs.Common.{◌≡◌, ◌∙◌, ℕ, false, refl, sym, ap, None, Some}
+use Rattle.std.specs.Prelude.{Option, is_some}
+use Rattle.oci_types.specs.Text.{Text}
+use Rattle.registry_model.specs.declared.refusal.Refusal.TheVariants.{BlobUnknown}
 use Rattle.registry_model.specs.Answer.{Answer}
 use Rattle.registry_model.specs.Doing.{course_of_answer}
 use Rattle.registry_model.specs.Heads.{is_sent}
-use Rattle.operation_parts.proofs.FailedCalls.{memory_ran_out, read_failed, write_failed}
-use Rattle.operation_parts.proofs.DigestLemmas.{digest_absent, digest_found}
-use Rattle.blob_operations.proofs.BlobLemmas.{deletes_invalid, deletes_absent, deletes, absent_size, there_size}
+use Rattle.registry_model.specs.Keeping.{State}
+use Rattle.registry_model.specs.Lookups.{blob_size_at}
+use Rattle.registry_model.specs.Lookups as lookups
+use Rattle.operation_parts.specs.Digests.{digest_in}
+use Rattle.blob_operations.proofs.BlobLemmas.{deletes_invalid, deletes_absent, deletes, sized_there}
+use Rattle.blob_operations.proofs.EarlyLemmas.{text_told, told_this, kept_on, digest_read, no_digest, refused_early, wrote, after_it}
 use Rattle.blob_operations.proofs.blobs.delete_blob.Goals as goal
 
-pub returns-in_default : goal.returns-in_default
-returns-in_default g c = record {
-  comes = λ honest. (
-      deletes_invalid _ _ c.args.name.now c.requires.unspent (c.requires.there honest) c.args.text.now _ refl
-      (digest_absent c.in_ok-digest.field-0 c.args.text.now c.in_default.not-Some c.in_ok-digest.ensures) c.refusal.ensures);
-  answers = ap course_of_answer c.refusal.ensures;
-  carries = ap (λ (a : Answer). is_sent a.body) c.refusal.ensures;
-  spends = (c.requires.unspent, c.requires.unspent);
-  honest = λ honest. honest;
-}
-
-pub returns-then-is_none : goal.returns-then-is_none
-returns-then-is_none g c = record {
-  comes = λ honest. (
-      let s = g.K.Keeper.state c.args.keeper.now in
-      let found = c.in_ok-blob_size.ensures.found honest in
-      let there = c.requires.there (c.in_ok-blob_size.ensures.honest honest) in
-      let read = digest_found c.in_ok-digest.field-0 c.in-Some.digest c.args.text.now c.in-Some.is c.in_ok-digest.ensures in
-      deletes_absent s _ c.args.name.now c.requires.unspent there c.args.text.now _ found.1 read.1
-      (absent_size s.world c.args.name.now c.in-Some.digest c.args.text.now read.0 _ found.0 (c.is_none.ensures ∙ ap not c.if-is_none.true)) c.refusal-then-is_none.ensures);
-  answers = ap course_of_answer c.refusal-then-is_none.ensures;
-  carries = ap (λ (a : Answer). is_sent a.body) c.refusal-then-is_none.ensures;
-  spends = c.in_ok-blob_size.ensures.spends;
-  honest = c.in_ok-blob_size.ensures.honest;
-}
+pub returns-in-Err : goal.returns-in-Err
+returns-in-Err g c =
+    refused_early (λ (o : Option Text). o) (λ o. o ≡ None) BlobUnknown c.read_digest.result (digest_in c.args.text.now) c.in-Err.reply c.args.name.now _ _ _ _ _
+    c.in-Err.ensures refl refl (text_told c.read_digest.result (digest_in c.args.text.now) (g.K.Keeper.state c.args.keeper.now) (g.K.Keeper.is_honest c.args.keeper.now) c.read_digest.ensures c.requires.unspent)
+    (λ honest o none e stays a is. deletes_invalid _ _ c.args.name.now c.requires.unspent (c.requires.there honest) c.args.text.now a stays (no_digest c.args.text.now o none e) is)
 
 pub returns : goal.returns
-returns g c = record {
-  comes = λ honest. (
+returns g c =
+    let s = g.K.Keeper.state c.args.keeper.now in
+    let read = digest_read c.read_digest.result c.in-Ok.digest c.args.text.now c.in-Ok.ensures c.read_digest.ensures in
+    refused_early (λ (o : Option ℕ). o) (λ o. o ≡ None) BlobUnknown c.blob_size-size.result _ c.in-Err-found_or.reply c.args.name.now _ _ _ _ _ c.in-Err-found_or.ensures refl refl c.blob_size-size.ensures
+    (λ honest o none e stays a is. deletes_absent s _ c.args.name.now c.requires.unspent (c.requires.there (c.blob_size-size.ensures.honest honest)) c.args.text.now a stays read.1
+    (sym none ∙ e ∙ ap (blob_size_at s.world c.args.name.now) read.0) is)
+
+pub delete_blob-requires : goal.delete_blob-requires
+delete_blob-requires g c = record {
+  there = λ honest unspent.
       let s = g.K.Keeper.state c.args.keeper.now in
-      let before = c.in_ok-delete_blob.ensures.honest honest in
-      let found = c.in_ok-blob_size.ensures.found before in
-      let there = c.requires.there (c.in_ok-blob_size.ensures.honest before) in
-      let read = digest_found c.in_ok-digest.field-0 c.in-Some.digest c.args.text.now c.in-Some.is c.in_ok-digest.ensures in
-      deletes s _ c.args.name.now c.requires.unspent there c.args.text.now _ read.1
-      (there_size s.world c.args.name.now c.in-Some.digest c.args.text.now read.0 _ found.0 (c.is_none.ensures ∙ ap not c.if-is_none.false))
-      (subst (λ d. g.K.Keeper.state c.delete_blob.new.self ≡ record { world = lookups.delete_blob s.world c.args.name.now d; spent = false }) read.0
-      (subst (λ (x : State). g.K.Keeper.state c.delete_blob.new.self ≡ record { world = lookups.delete_blob x.world c.args.name.now c.in-Some.digest; spent = false }) found.1 (c.in_ok-delete_blob.ensures.made honest)))
-      c.bare.ensures);
-  answers = ap course_of_answer c.bare.ensures;
-  carries = ap (λ (a : Answer). is_sent a.body) c.bare.ensures;
-  spends = (c.requires.unspent, c.in_ok-delete_blob.ensures.spends.1);
-  honest = λ honest. c.in_ok-blob_size.ensures.honest (c.in_ok-delete_blob.ensures.honest honest);
+      let found = told_this (λ (o : Option ℕ). o) c.blob_size-size.result (Some c.in-Ok-found_or.field-0) (blob_size_at s.world c.args.name.now c.in-Ok.digest) s (g.K.Keeper.state c.blob_size-size.new.self) c.in-Ok-found_or.ensures (c.blob_size-size.ensures.found honest) in
+      sized_there s _ c.args.name.now c.in-Ok.digest c.in-Ok-found_or.field-0 found.1 found.0;
 }
 
-pub returns-in_err-digest : goal.returns-in_err-digest
-returns-in_err-digest g c = memory_ran_out c.from_residual.result c.in_err-digest.field-0.0 _ _ _ _ _ _ c.from_residual.ensures c.in_err-digest.ensures (λ _. refl) c.requires.unspent c.requires.unspent (λ honest. honest)
-
-pub returns-in_err-blob_size : goal.returns-in_err-blob_size
-returns-in_err-blob_size g c = read_failed _ c.from_residual-in_err-blob_size.result c.in_err-blob_size.field-0.0 _ _ _ _ _ _ c.from_residual-in_err-blob_size.ensures c.in_err-blob_size.ensures
-
-pub returns-in_err-delete_blob : goal.returns-in_err-delete_blob
-returns-in_err-delete_blob g c = write_failed _ c.from_residual-in_err-delete_blob.result c.in_err-delete_blob.field-0.0 _ _ _ _ _ _ _ _ c.from_residual-in_err-delete_blob.ensures (λ between. (c.in_ok-blob_size.ensures.found between).1) c.in_ok-blob_size.ensures.honest c.requires.unspent c.in_err-delete_blob.ensures
+pub returns-in-Ok-found_or : goal.returns-in-Ok-found_or
+returns-in-Ok-found_or g c =
+    let s = g.K.Keeper.state c.args.keeper.now in
+    let mid = g.K.Keeper.state c.blob_size-size.new.self in
+    let name = c.args.name.now in
+    let d = c.in-Ok.digest in
+    let read = digest_read c.read_digest.result c.in-Ok.digest c.args.text.now c.in-Ok.ensures c.read_digest.ensures in
+    after_it c.delete_blob.result c.bare.result c.after.result name _ s _ _ _ c.after.ensures
+    (wrote (lookups.delete_blob mid.world name d) c.delete_blob.result c.bare.result name _ s mid _ _ _ _
+    (λ between. (told_this (λ (o : Option ℕ). o) c.blob_size-size.result (Some c.in-Ok-found_or.field-0) (blob_size_at s.world name d) s mid c.in-Ok-found_or.ensures (c.blob_size-size.ensures.found between)).1)
+    c.blob_size-size.ensures.honest c.requires.unspent c.delete_blob.ensures (ap course_of_answer c.bare.ensures) (ap (λ (a : Answer). is_sent a.body) c.bare.ensures)
+    (λ between made.
+    let found = told_this (λ (o : Option ℕ). o) c.blob_size-size.result (Some c.in-Ok-found_or.field-0) (blob_size_at s.world name d) s mid c.in-Ok-found_or.ensures (c.blob_size-size.ensures.found between) in
+    deletes s _ name c.requires.unspent (c.requires.there (c.blob_size-size.ensures.honest between)) c.args.text.now _ read.1
+    (ap is_some (sym (found.0 ∙ ap (blob_size_at s.world name) read.0)))
+    (made ∙ ap {A = State} {B = State} (λ x. record { world = lookups.delete_blob x.world name d; spent = false }) found.1 ∙ ap {B = State} (λ (t : Text). record { world = lookups.delete_blob s.world name t; spent = false }) read.0)
+    c.bare.ensures))

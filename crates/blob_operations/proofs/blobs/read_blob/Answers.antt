@@ -1,57 +1,43 @@
-use Rattle.std.proofs.Common.{◌∙◌, refl, sym, ap, None, Some, rules}
-use Rattle.std.specs.Prelude.{codes}
+use Rattle.std.proofs.Common.{◌≡◌, ◌∙◌, refl, sym, ap, None, Some}
+use Rattle.std.specs.Prelude.{Option, codes}
+use Rattle.oci_types.specs.Text.{Text}
+use Rattle.registry_model.specs.declared.refusal.Refusal.TheVariants.{BlobUnknown}
 use Rattle.registry_model.specs.declared.reply.Status.TheVariants.{OK}
 use Rattle.registry_model.specs.Answer.{Answer, bare_answer, sent}
-use Rattle.registry_model.specs.Keeping.{bytes_in}
 use Rattle.registry_model.specs.Doing.{course_of_answer}
 use Rattle.registry_model.specs.Heads.{is_sent}
-use Rattle.operation_parts.proofs.FailedCalls.{memory_ran_out, read_failed}
-use Rattle.operation_parts.proofs.DigestLemmas.{digest_absent, digest_found}
+use Rattle.registry_model.specs.Keeping.{bytes_in}
+use Rattle.registry_model.specs.Lookups.{blob_at}
+use Rattle.operation_parts.specs.Digests.{digest_in}
 use Rattle.blob_operations.proofs.BlobLemmas.{reads, reads_nothing}
+use Rattle.blob_operations.proofs.EarlyLemmas.{text_told, told_this, kept_on, digest_read, no_digest, refused_early}
 use Rattle.blob_operations.proofs.blobs.read_blob.Goals as goal
 
-pub returns-in_default : goal.returns-in_default
-returns-in_default g c = record {
-  comes = λ honest. (
-      reads_nothing _ _ c.args.name.now c.requires.unspent (c.requires.there honest) c.args.text.now _ refl
-      (digest_absent c.in_ok-digest.field-0 c.args.text.now c.in_default.not-Some c.in_ok-digest.ensures) c.refusal.ensures);
-  answers = ap course_of_answer c.refusal.ensures;
-  carries = ap (λ (a : Answer). is_sent a.body) c.refusal.ensures;
-  spends = (c.requires.unspent, c.requires.unspent);
-  honest = λ honest. honest;
-}
+pub returns-in-Err : goal.returns-in-Err
+returns-in-Err g c =
+    refused_early (λ (o : Option Text). o) (λ o. o ≡ None) BlobUnknown c.read_digest.result (digest_in c.args.text.now) c.in-Err.reply c.args.name.now _ _ _ _ _
+    c.in-Err.ensures refl refl (text_told c.read_digest.result (digest_in c.args.text.now) (g.K.Keeper.state c.args.keeper.now) (g.K.Keeper.is_honest c.args.keeper.now) c.read_digest.ensures c.requires.unspent)
+    (λ honest o none e stays a is. reads_nothing _ _ c.args.name.now c.requires.unspent (c.requires.there honest) c.args.text.now a stays (no_digest c.args.text.now o none e) is)
 
-pub returns-in-None : goal.returns-in-None
-returns-in-None g c = record {
-  comes = λ honest. (
-      let found = c.in_ok-blob.ensures.found honest in
-      let there = c.requires.there (c.in_ok-blob.ensures.honest honest) in
-      let read = digest_found c.in_ok-digest.field-0 c.in-Some.digest c.args.text.now c.in-Some.is c.in_ok-digest.ensures in
-      reads _ _ c.args.name.now c.requires.unspent there c.args.text.now _ found.1 (search rules) None
-      (sym (ap bytes_in c.in-None.is) ∙ found.0 ∙ search rules) c.refusal-in-None.ensures);
-  answers = ap course_of_answer c.refusal-in-None.ensures;
-  carries = ap (λ (a : Answer). is_sent a.body) c.refusal-in-None.ensures;
-  spends = c.in_ok-blob.ensures.spends;
-  honest = c.in_ok-blob.ensures.honest;
-}
+pub returns-in-Err-found_or : goal.returns-in-Err-found_or
+returns-in-Err-found_or g c =
+    let s = g.K.Keeper.state c.args.keeper.now in
+    let read = digest_read c.read_digest.result c.in-Ok.digest c.args.text.now c.in-Ok.ensures c.read_digest.ensures in
+    refused_early bytes_in (λ o. o ≡ None) BlobUnknown c.blob.result _ c.in-Err-found_or.reply c.args.name.now _ _ _ _ _ c.in-Err-found_or.ensures refl refl c.blob.ensures
+    (λ honest o none e stays a is. reads s _ c.args.name.now c.requires.unspent (c.requires.there (c.blob.ensures.honest honest)) c.args.text.now a stays read.1 None
+    (sym (ap bytes_in none) ∙ e ∙ ap (blob_at s.world c.args.name.now) read.0) is)
 
-pub returns-in-Some-2 : goal.returns-in-Some-2
-returns-in-Some-2 g c = record {
-  comes = λ honest. (
-      let found = c.in_ok-blob.ensures.found honest in
-      let there = c.requires.there (c.in_ok-blob.ensures.honest honest) in
-      let read = digest_found c.in_ok-digest.field-0 c.in-Some.digest c.args.text.now c.in-Some.is c.in_ok-digest.ensures in
-      reads _ _ c.args.name.now c.requires.unspent there c.args.text.now _ found.1 (search rules) (Some c.in-Some-2.bytes.items)
-      (sym (ap bytes_in c.in-Some-2.is) ∙ found.0 ∙ search rules)
-      (c.found.ensures ∙ ap {B = Answer} (λ d. record (bare_answer OK) { digest = Some d; content_type = Some (codes "application/octet-stream"); body = sent c.in-Some-2.bytes.items }) (search rules)));
+pub returns-in-Ok-found_or : goal.returns-in-Ok-found_or
+returns-in-Ok-found_or g c = record {
+  comes = λ honest.
+      let s = g.K.Keeper.state c.args.keeper.now in
+      let read = digest_read c.read_digest.result c.in-Ok.digest c.args.text.now c.in-Ok.ensures c.read_digest.ensures in
+      let found = told_this bytes_in c.blob.result (Some c.in-Ok-found_or.bytes) (blob_at s.world c.args.name.now c.in-Ok.digest) s (g.K.Keeper.state c.blob.new.self) c.in-Ok-found_or.ensures (c.blob.ensures.found honest) in
+      reads s _ c.args.name.now c.requires.unspent (c.requires.there (c.blob.ensures.honest honest)) c.args.text.now _ found.1 read.1 (Some c.in-Ok-found_or.bytes.items)
+      (found.0 ∙ ap (blob_at s.world c.args.name.now) read.0)
+      (c.found.ensures ∙ ap {B = Answer} (λ d. record (bare_answer OK) { digest = Some d; content_type = Some (codes "application/octet-stream"); body = sent c.in-Ok-found_or.bytes.items }) read.0);
   answers = ap course_of_answer c.found.ensures;
   carries = ap (λ (a : Answer). is_sent a.body) c.found.ensures;
-  spends = c.in_ok-blob.ensures.spends;
-  honest = c.in_ok-blob.ensures.honest;
+  spends = kept_on c.blob.result (Some c.in-Ok-found_or.bytes) _ _ c.in-Ok-found_or.ensures c.blob.ensures.spends;
+  honest = c.blob.ensures.honest;
 }
-
-pub returns-in_err-digest : goal.returns-in_err-digest
-returns-in_err-digest g c = memory_ran_out c.from_residual.result c.in_err-digest.field-0.0 _ _ _ _ _ _ c.from_residual.ensures c.in_err-digest.ensures (λ _. refl) c.requires.unspent c.requires.unspent (λ honest. honest)
-
-pub returns-in_err-blob : goal.returns-in_err-blob
-returns-in_err-blob g c = read_failed _ c.from_residual-in_err-blob.result c.in_err-blob.field-0.0 _ _ _ _ _ _ c.from_residual-in_err-blob.ensures c.in_err-blob.ensures

@@ -1,36 +1,42 @@
-use Rattle.std.proofs.Common.{◌∙◌, sym, ap}
+use Rattle.std.proofs.Common.{◌≡◌, ◌∙◌, refl, sym, ap, None, Some}
+use Rattle.std.specs.Prelude.{Option}
+use Rattle.registry_model.specs.declared.refusal.Refusal.TheVariants.{UploadUnknown}
 use Rattle.registry_model.specs.Answer.{Answer}
 use Rattle.registry_model.specs.Doing.{course_of_answer}
 use Rattle.registry_model.specs.Heads.{is_sent}
-use Rattle.operation_parts.proofs.FailedCalls.{read_failed}
-use Rattle.blob_operations.proofs.UploadLemmas.{none_in, status_unknown, status_of}
+use Rattle.blob_operations.specs.Uploads.{upload_at}
+use Rattle.blob_operations.specs.declared.uploads.Upload.{Upload}
+use Rattle.blob_operations.proofs.UploadLemmas.{status_unknown, status_of}
+use Rattle.blob_operations.proofs.EarlyLemmas.{told_this, kept_on, refused_early}
 use Rattle.blob_operations.proofs.uploads.read_session.Goals as goal
 
-pub returns-in_err-upload : goal.returns-in_err-upload
-returns-in_err-upload g c = read_failed _ c.from_residual.result c.in_err-upload.field-0.0 _ _ _ _ _ _ c.from_residual.ensures c.in_err-upload.ensures
-
-pub returns-in_default : goal.returns-in_default
-returns-in_default g c = record {
-  comes = λ honest. (
-      let asked = c.in_ok-upload.ensures.found honest in
-      status_unknown _ _ c.args.name.now c.args.reference.now c.requires.unspent asked.1 _ (c.requires.there (c.in_ok-upload.ensures.honest honest))
-      (sym (none_in c.in_ok-upload.field-0 c.in_default.not-Some) ∙ asked.0) c.refusal.ensures);
-  answers = ap course_of_answer c.refusal.ensures;
-  carries = ap (λ (a : Answer). is_sent a.body) c.refusal.ensures;
-  spends = c.in_ok-upload.ensures.spends;
-  honest = c.in_ok-upload.ensures.honest;
-}
-
 pub returns-in-Err : goal.returns-in-Err
-returns-in-Err g c = record { comes = λ honest. (c.in_ok-upload.ensures.found honest).1; answers = tt; carries = tt; spends = c.in_ok-upload.ensures.spends; honest = c.in_ok-upload.ensures.honest }
+returns-in-Err g c =
+    refused_early (λ (o : Option Upload). o) (λ o. o ≡ None) UploadUnknown c.find_upload.result _ c.in-Err.reply c.args.name.now _ _ _ _ _ c.in-Err.ensures refl refl c.find_upload.ensures
+    (λ honest o none e stays a is. status_unknown _ _ c.args.name.now c.args.reference.now c.requires.unspent stays a (c.requires.there (c.find_upload.ensures.honest honest)) (sym none ∙ e) is)
 
-pub returns-in-Ok : goal.returns-in-Ok
-returns-in-Ok g c = record {
-  comes = λ honest. (
-      let asked = c.in_ok-upload.ensures.found honest in
-      status_of _ _ c.args.name.now c.args.reference.now c.requires.unspent asked.1 _ c.in-Some.upload (sym c.in-Some.is ∙ asked.0) c.in-Ok.ensures);
-  answers = ap course_of_answer c.in-Ok.ensures;
-  carries = ap (λ (a : Answer). is_sent a.body) c.in-Ok.ensures;
-  spends = c.in_ok-upload.ensures.spends;
-  honest = c.in_ok-upload.ensures.honest;
-}
+pub returns-in-Err-session_reply : goal.returns-in-Err-session_reply
+returns-in-Err-session_reply g c =
+    let s = g.K.Keeper.state c.args.keeper.now in
+    let mid = g.K.Keeper.state c.find_upload.new.keeper in
+    record {
+      comes = λ honest. (told_this (λ (o : Option Upload). o) c.find_upload.result (Some c.in-Ok.upload) (upload_at s.world c.args.name.now c.args.reference.now) s mid c.in-Ok.ensures (c.find_upload.ensures.found honest)).1;
+      answers = tt;
+      carries = tt;
+      spends = kept_on c.find_upload.result (Some c.in-Ok.upload) s mid c.in-Ok.ensures c.find_upload.ensures.spends;
+      honest = c.find_upload.ensures.honest;
+    }
+
+pub returns-in-Ok-session_reply : goal.returns-in-Ok-session_reply
+returns-in-Ok-session_reply g c =
+    let s = g.K.Keeper.state c.args.keeper.now in
+    let mid = g.K.Keeper.state c.find_upload.new.keeper in
+    record {
+      comes = λ honest.
+          let found = told_this (λ (o : Option Upload). o) c.find_upload.result (Some c.in-Ok.upload) (upload_at s.world c.args.name.now c.args.reference.now) s mid c.in-Ok.ensures (c.find_upload.ensures.found honest) in
+          status_of s mid c.args.name.now c.args.reference.now c.requires.unspent found.1 _ c.in-Ok.upload found.0 c.in-Ok-session_reply.ensures;
+      answers = ap course_of_answer c.in-Ok-session_reply.ensures;
+      carries = ap (λ (a : Answer). is_sent a.body) c.in-Ok-session_reply.ensures;
+      spends = kept_on c.find_upload.result (Some c.in-Ok.upload) s mid c.in-Ok.ensures c.find_upload.ensures.spends;
+      honest = c.find_upload.ensures.honest;
+    }

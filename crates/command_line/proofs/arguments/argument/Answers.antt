@@ -11,14 +11,14 @@ returns-in-One c = rw c.in-One.is c.option.ensures
 
 pub returns-in-Required : goal.returns-in-Required
 returns-in-Required c =
-    rw c.in-Required.is (required_rule (spec.option c.args.given.word.now) c.option-in-Required.result c.required.result c.option-in-Required.ensures c.required.ensures)
+    rw c.in-Required.is (required_rule (spec.option c.args.given.now.word.now) c.option-in-Required.result c.required.result c.option-in-Required.ensures c.required.ensures)
 
 pub returns-in-Number : goal.returns-in-Number
 returns-in-Number c =
-    rw c.in-Number.is (c.within.ensures (spec.required (spec.option c.args.given.word.now))
-    (required_rule (spec.option c.args.given.word.now) c.option-in-Number.result c.required-wanted.result c.option-in-Number.ensures c.required-wanted.ensures))
+    rw c.in-Number.is (c.within.ensures (spec.required (spec.option c.args.given.now.word.now))
+    (required_rule (spec.option c.args.given.now.word.now) c.option-in-Number.result c.required-wanted.result c.option-in-Number.ensures c.required-wanted.ensures))
 
 pub returns-in-NumberOr : goal.returns-in-NumberOr
 returns-in-NumberOr c =
-    let less = c.within-in-NumberOr.ensures (spec.option c.args.given.word.now) c.option-in-NumberOr.ensures in
+    let less = c.within-in-NumberOr.ensures (spec.option c.args.given.now.word.now) c.option-in-NumberOr.ensures in
     rw (c.in-NumberOr.is, c.default_value.ensures) (ap (spec.with_default c.in-NumberOr.default.now) less.0, less.1)

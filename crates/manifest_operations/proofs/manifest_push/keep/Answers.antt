@@ -1,9 +1,10 @@
-use Rattle.std.proofs.Common.{◌∙◌, ap, refl, Some}
+use Rattle.std.proofs.Common.{◌∙◌, Bool, ap, refl, Some}
 use Rattle.oci_types.specs.Manifest.{shown}
 use Rattle.registry_model.specs.declared.reply.Status.TheVariants.{Created}
 use Rattle.registry_model.specs.Answer.{Answer, bare_answer}
 use Rattle.registry_model.specs.Ask.{text_in}
-use Rattle.manifest_operations.specs.Push.{has_needs_at}
+use Rattle.manifest_operations.specs.Push.{has_needs_at, kept_answer}
+use Rattle.manifest_operations.proofs.EarlyLemmas.{read_lost, write_lost, still_there}
 use Rattle.manifest_operations.proofs.PushLemmas.{of_its_kind, other_type, needs_more, goes_past, keeps_it}
 use Rattle.manifest_operations.proofs.manifest_push.keep.Goals as goal
 
@@ -69,11 +70,34 @@ returns-in_default g c =
       honest = λ honest. c.in_ok-has_needs.ensures.honest (between honest);
     }
 
-pub put_manifest-requires-clause-matching : goal.put_manifest-requires-clause-matching
-put_manifest-requires-clause-matching g c = c.requires.matching
+pub returns-in_err-has_needs : goal.returns-in_err-has_needs
+returns-in_err-has_needs g c =
+    read_lost (kept_answer c.args.digest.now (shown c.args.manifest.now).subject) _ _ (λ (b : Bool). b) _ c.from_residual.result c.in_err-has_needs.field-0.0 _ _ _ _ _ _ c.from_residual.ensures
+    (λ honest. refl) (λ (honest : g.K.Keeper.is_honest c.args.keeper.now). honest) c.requires.unspent c.in_err-has_needs.ensures
 
-pub put_manifest-requires-clause-reads : goal.put_manifest-requires-clause-reads
-put_manifest-requires-clause-reads g c = c.requires.reads
+pub returns-in_err-manifest_goes_over : goal.returns-in_err-manifest_goes_over
+returns-in_err-manifest_goes_over g c =
+    let asked = c.in_ok-has_needs.ensures in
+    read_lost (kept_answer c.args.digest.now (shown c.args.manifest.now).subject) _ _ (λ (b : Bool). b) _ c.from_residual-in_err-manifest_goes_over.result c.in_err-manifest_goes_over.field-0.0 _ _ _ _ _ _
+    c.from_residual-in_err-manifest_goes_over.ensures (λ between. (asked.found between).1) asked.honest c.requires.unspent c.in_err-manifest_goes_over.ensures
 
-pub put_manifest-requires-clause-fits : goal.put_manifest-requires-clause-fits
-put_manifest-requires-clause-fits g c = c.requires.fits
+pub returns-in_err-put_manifest : goal.returns-in_err-put_manifest
+returns-in_err-put_manifest g c =
+    let asked = c.in_ok-has_needs.ensures in
+    let over = c.in_ok-manifest_goes_over.ensures in
+    write_lost (Unit {0}) (kept_answer c.args.digest.now (shown c.args.manifest.now).subject) _ _ _ c.from_residual-in_err-put_manifest.result c.in_err-put_manifest.field-0.0 _ _ _ _ _ _
+    c.from_residual-in_err-put_manifest.ensures (λ between. (over.found between).1 ∙ (asked.found (over.honest between)).1) (λ between. asked.honest (over.honest between)) c.requires.unspent c.in_err-put_manifest.ensures
+
+pub manifest_goes_over-requires : goal.manifest_goes_over-requires
+manifest_goes_over-requires g c = record { unspent = c.in_ok-has_needs.ensures.spends.1 }
+
+pub put_manifest-requires : goal.put_manifest-requires
+put_manifest-requires g c =
+    let asked = c.in_ok-has_needs.ensures in
+    let over = c.in_ok-manifest_goes_over.ensures in
+    record {
+      there = λ honest unspent. still_there _ _ c.args.name.now ((over.found honest).1 ∙ (asked.found (over.honest honest)).1) (c.requires.there (asked.honest (over.honest honest)));
+      matching = c.requires.matching;
+      reads = c.requires.reads;
+      fits = c.requires.fits;
+    }

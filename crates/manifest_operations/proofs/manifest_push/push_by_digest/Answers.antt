@@ -4,7 +4,7 @@ use Rattle.registry_model.specs.Doing.{course_of_answer}
 use Rattle.registry_model.specs.Heads.{is_sent}
 use Rattle.operation_parts.specs.Operating.{Operates}
 use Rattle.manifest_operations.specs.Push.{push_checked}
-use Rattle.manifest_operations.proofs.PushLemmas.{unverified, differs}
+use Rattle.manifest_operations.proofs.PushLemmas.{unverified, differs, matches_it}
 use Rattle.registry_model.specs.Ask.{text_in}
 use Rattle.manifest_operations.proofs.manifest_push.push_by_digest.Goals as goal
 
@@ -35,4 +35,12 @@ returns-in-Matches g c = record {
   carries = c.push_under.ensures.carries;
   spends = c.push_under.ensures.spends;
   honest = c.push_under.ensures.honest;
+}
+
+pub push_under-requires : goal.push_under-requires
+push_under-requires g c = record {
+  unspent = c.requires.unspent;
+  there = c.requires.there;
+  matching = matches_it c.args.digest c.args.body.now (sym c.verifies.ensures ∙ c.in-Matches.is);
+  fits = c.requires.fits;
 }

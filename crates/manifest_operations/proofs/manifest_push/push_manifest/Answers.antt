@@ -1,4 +1,4 @@
-use Rattle.std.proofs.Common.{◌≡◌, length, nat_lt, true, false, arith, subst, ap}
+use Rattle.std.proofs.Common.{◌≡◌, length, nat_lt, true, false, arith, refl, subst, ap}
 use Rattle.std.proofs.lemmas.Bool.Decides.{nat_tests}
 use Rattle.oci_types.specs.Reference.{IsSaidBy}
 use Rattle.registry_model.specs.Ask.{text_in}
@@ -6,7 +6,8 @@ use Rattle.registry_model.specs.Limits.{largest_manifest}
 use Rattle.registry_model.specs.Answer.{Answer}
 use Rattle.registry_model.specs.Doing.{course_of_answer}
 use Rattle.registry_model.specs.Heads.{is_sent}
-use Rattle.manifest_operations.proofs.PushLemmas.{refuses_large, pushes_tag, pushes_digest}
+use Rattle.manifest_operations.proofs.PushLemmas.{refuses_unnamed, refuses_large, pushes_tag, pushes_digest}
+use Rattle.manifest_operations.proofs.ManifestLemmas.{no_reference}
 use Rattle.manifest_operations.proofs.manifest_push.push_manifest.Goals as goal
 
 pub returns-then-body-gt-LARGEST_MANIFEST : goal.returns-then-body-gt-LARGEST_MANIFEST
@@ -44,3 +45,22 @@ returns-in-Digest g c = record {
   spends = c.push_by_digest.ensures.spends;
   honest = c.push_by_digest.ensures.honest;
 }
+
+pub returns-in-Memory : goal.returns-in-Memory
+returns-in-Memory g c = record { comes = λ honest. refl; answers = tt; carries = tt; spends = (c.requires.unspent, c.requires.unspent); honest = λ honest. honest }
+
+pub returns-in_default : goal.returns-in_default
+returns-in_default g c = record {
+  comes = λ honest. refuses_unnamed c.args.name.now c.args.reference.now (text_in c.args.content_type) c.args.body.now _ (c.requires.there honest) c.requires.unspent _
+      (no_reference _ c.args.reference.now c.in_default.not-Memory c.in-Err.ensures.read) c.refusal.ensures;
+  answers = ap course_of_answer c.refusal.ensures;
+  carries = ap (λ (a : Answer). is_sent a.body) c.refusal.ensures;
+  spends = (c.requires.unspent, c.requires.unspent);
+  honest = λ honest. honest;
+}
+
+pub push_by_tag-requires : goal.push_by_tag-requires
+push_by_tag-requires g c = record { unspent = c.requires.unspent; there = c.requires.there; fits = c.if-body-gt-LARGEST_MANIFEST.false }
+
+pub push_by_digest-requires : goal.push_by_digest-requires
+push_by_digest-requires g c = record { unspent = c.requires.unspent; there = c.requires.there; fits = c.if-body-gt-LARGEST_MANIFEST.false }

@@ -1,34 +1,41 @@
-use Rattle.std.proofs.Common.{arith, ap}
-use Rattle.std.proofs.lemmas.Grind.{common_steps}
+use Rattle.std.proofs.Common.{◌≡◌, ◌∙◌, false, refl, sym, ap, None, Some}
+use Rattle.std.specs.Prelude.{Option}
+use Rattle.oci_types.specs.Text.{Text}
+use Rattle.registry_model.specs.declared.refusal.Refusal.TheVariants.{ManifestUnknown}
 use Rattle.registry_model.specs.Answer.{Answer}
 use Rattle.registry_model.specs.Doing.{course_of_answer}
 use Rattle.registry_model.specs.Heads.{is_sent}
-use Rattle.operation_parts.proofs.FailedCalls.{read_failed, write_failed}
+use Rattle.registry_model.specs.Keeping.{State}
+use Rattle.registry_model.specs.Lookups.{tag_at}
+use Rattle.registry_model.specs.Lookups as lookups
+use Rattle.manifest_operations.proofs.EarlyLemmas.{told_this, refused_early, wrote, after_it}
+use Rattle.manifest_operations.proofs.ManifestLemmas.{tag_unknown, tag_there, tag_taken}
 use Rattle.manifest_operations.proofs.manifests.delete_tag.Goals as goal
 
-pub returns-in_err-tag : goal.returns-in_err-tag
-returns-in_err-tag g c = read_failed _ c.from_residual.result c.in_err-tag.field-0.0 _ _ _ _ _ _ c.from_residual.ensures c.in_err-tag.ensures
+pub returns : goal.returns
+returns g c =
+    refused_early (λ (o : Option Text). o) (λ o. o ≡ None) ManifestUnknown c.tag.result _ c.in-Err.reply c.args.name.now _ _ _ _ _ c.in-Err.ensures refl refl c.tag.ensures
+    (λ honest o none e stays a is. tag_unknown _ _ c.args.name.now (c.requires.there (c.tag.ensures.honest honest)) c.requires.unspent a c.args.tag.now stays (sym none ∙ e) is)
 
-pub returns-then-is_none : goal.returns-then-is_none
-returns-then-is_none g c = record {
-  comes = grind (arith, common_steps);
-  answers = ap course_of_answer c.refusal.ensures;
-  carries = ap (λ (a : Answer). is_sent a.body) c.refusal.ensures;
-  spends = c.in_ok-tag.ensures.spends;
-  honest = c.in_ok-tag.ensures.honest;
+pub delete_tag-requires : goal.delete_tag-requires
+delete_tag-requires g c = record {
+  there = λ honest unspent.
+      let s = g.K.Keeper.state c.args.keeper.now in
+      let found = told_this (λ (o : Option Text). o) c.tag.result (Some c.in-Ok.field-0) (tag_at s.world c.args.name.now c.args.tag.now) s (g.K.Keeper.state c.tag.new.self) c.in-Ok.ensures (c.tag.ensures.found honest) in
+      tag_there s _ c.args.name.now c.args.tag.now c.in-Ok.field-0 found.1 found.0;
 }
 
-pub returns-in_err-delete_tag : goal.returns-in_err-delete_tag
-returns-in_err-delete_tag g c = write_failed _ c.from_residual-in_err-delete_tag.result c.in_err-delete_tag.field-0.0 _ _ _ _ _ _ _ _ c.from_residual-in_err-delete_tag.ensures (λ between. (c.in_ok-tag.ensures.found between).1) c.in_ok-tag.ensures.honest c.in_ok-tag.ensures.spends.0 c.in_err-delete_tag.ensures
-
-pub returns-clause-answers : goal.returns-clause-answers
-returns-clause-answers g c = ap course_of_answer c.bare.ensures
-
-pub returns-clause-carries : goal.returns-clause-carries
-returns-clause-carries g c = ap (λ (a : Answer). is_sent a.body) c.bare.ensures
-
-pub returns-clause-spends : goal.returns-clause-spends
-returns-clause-spends g c = (c.in_ok-tag.ensures.spends.0, c.in_ok-delete_tag.ensures.spends.1)
-
-pub returns-clause-honest : goal.returns-clause-honest
-returns-clause-honest g c honest = c.in_ok-tag.ensures.honest (c.in_ok-delete_tag.ensures.honest honest)
+pub returns-in-Ok : goal.returns-in-Ok
+returns-in-Ok g c =
+    let s = g.K.Keeper.state c.args.keeper.now in
+    let mid = g.K.Keeper.state c.tag.new.self in
+    let name = c.args.name.now in
+    let it = c.args.tag.now in
+    after_it c.delete_tag.result c.bare.result c.after.result name _ s _ _ _ c.after.ensures
+    (wrote (lookups.delete_tag mid.world name it) c.delete_tag.result c.bare.result name _ s mid _ _ _ _
+    (λ between. (told_this (λ (o : Option Text). o) c.tag.result (Some c.in-Ok.field-0) (tag_at s.world name it) s mid c.in-Ok.ensures (c.tag.ensures.found between)).1)
+    c.tag.ensures.honest c.requires.unspent c.delete_tag.ensures (ap course_of_answer c.bare.ensures) (ap (λ (a : Answer). is_sent a.body) c.bare.ensures)
+    (λ between made.
+    let found = told_this (λ (o : Option Text). o) c.tag.result (Some c.in-Ok.field-0) (tag_at s.world name it) s mid c.in-Ok.ensures (c.tag.ensures.found between) in
+    tag_taken s _ name (c.requires.there (c.tag.ensures.honest between)) c.requires.unspent _ it c.in-Ok.field-0 found.0
+    (made ∙ ap {A = State} {B = State} (λ x. record { world = lookups.delete_tag x.world name it; spent = false }) found.1) c.bare.ensures))

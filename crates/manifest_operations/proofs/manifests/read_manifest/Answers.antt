@@ -1,57 +1,54 @@
-use Rattle.std.proofs.Common.{◌∙◌, sym, ap, None, Some}
+use Rattle.std.proofs.Common.{◌≡◌, ◌∙◌, refl, sym, ap, None, Some}
+use Rattle.std.specs.Prelude.{Option}
+use Rattle.std.specs.Option.{option_and_then}
+use Rattle.oci_types.specs.Text.{Text}
+use Rattle.registry_model.specs.declared.refusal.Refusal.TheVariants.{ManifestUnknown}
+use Rattle.registry_model.specs.World.{repo_at}
+use Rattle.registry_model.specs.Manifests.{reference_digest}
+use Rattle.registry_model.specs.Lookups.{manifest_at}
 use Rattle.registry_model.specs.Keeping.{manifest_shown}
 use Rattle.registry_model.specs.Answer.{sent, Answer}
 use Rattle.registry_model.specs.Doing.{course_of_answer}
 use Rattle.registry_model.specs.Heads.{is_sent}
-use Rattle.operation_parts.proofs.FailedCalls.{read_failed, later_read_failed}
-use Rattle.operation_parts.proofs.DigestLemmas.{not_found}
+use Rattle.manifest_operations.proofs.EarlyLemmas.{told_this, told_later, kept_on, refused_early}
 use Rattle.manifest_operations.proofs.ManifestLemmas.{reads, reads_unnamed, shows_manifest}
 use Rattle.manifest_operations.proofs.manifests.read_manifest.Goals as goal
 
-pub returns-in-None : goal.returns-in-None
-returns-in-None g c = record {
-  comes = λ honest. (
-      let first = c.in_ok-manifest.ensures.honest honest in
-      let named = c.in_ok-digest.ensures.found first in
-      let found = c.in_ok-manifest.ensures.found honest in
-      let there = c.requires.there (c.in_ok-digest.ensures.honest first) in
-      reads _ c.args.name.now c.args.reference.now there c.requires.unspent _ _ c.in-Some.digest (sym c.in-Some.is ∙ named.0) named.1 found.1
-      None (sym (ap manifest_shown c.in-None.is) ∙ found.0) _ c.refusal-in-None.ensures);
-  answers = ap course_of_answer c.refusal-in-None.ensures;
-  carries = ap (λ (a : Answer). is_sent a.body) c.refusal-in-None.ensures;
-  spends = (c.requires.unspent, c.in_ok-manifest.ensures.spends.1);
-  honest = λ honest. c.in_ok-digest.ensures.honest (c.in_ok-manifest.ensures.honest honest);
-}
+pub returns-in-Err : goal.returns-in-Err
+returns-in-Err g c =
+    refused_early (λ (o : Option Text). o) (λ o. o ≡ None) ManifestUnknown c.find_digest-named.result _ c.in-Err.reply c.args.name.now _ _ _ _ _ c.in-Err.ensures refl refl c.find_digest-named.ensures
+    (λ honest o none e stays a is. reads_unnamed _ c.args.name.now c.args.reference.now (c.requires.there (c.find_digest-named.ensures.honest honest)) c.requires.unspent _ (sym none ∙ e) stays a is)
 
-pub returns-in_err-digest : goal.returns-in_err-digest
-returns-in_err-digest g c = read_failed _ c.from_residual.result c.in_err-digest.field-0.0 _ _ _ _ _ _ c.from_residual.ensures c.in_err-digest.ensures
+pub returns-in-Err-found_or : goal.returns-in-Err-found_or
+returns-in-Err-found_or g c =
+    let s = g.K.Keeper.state c.args.keeper.now in
+    let mid = g.K.Keeper.state c.find_digest-named.new.keeper in
+    let name = c.args.name.now in
+    let named = option_and_then (λ r. reference_digest r c.args.reference.now) (repo_at s.world name) in
+    let found = λ (between : g.K.Keeper.is_honest c.find_digest-named.new.keeper). told_this (λ (o : Option Text). o) c.find_digest-named.result (Some c.in-Ok.digest) named s mid c.in-Ok.ensures (c.find_digest-named.ensures.found between) in
+    refused_early manifest_shown (λ o. o ≡ None) ManifestUnknown c.manifest.result (manifest_at mid.world name c.in-Ok.digest) c.in-Err-found_or.reply name _ s _ _ _ c.in-Err-found_or.ensures refl refl
+    (told_later manifest_shown c.manifest.result (manifest_at mid.world name c.in-Ok.digest) s mid _ _ _ _ (λ between. (found between).1) c.find_digest-named.ensures.honest c.requires.unspent c.manifest.ensures)
+    (λ honest o none e stays a is.
+    let between = c.manifest.ensures.honest honest in
+    let first = (found between).1 in
+    reads s name c.args.reference.now (c.requires.there (c.find_digest-named.ensures.honest between)) c.requires.unspent mid _ c.in-Ok.digest (found between).0 first (stays ∙ sym first)
+    None (sym (ap manifest_shown none) ∙ e) a is)
 
-pub returns-in_default : goal.returns-in_default
-returns-in_default g c = record {
-  comes = λ honest. (
-      let named = c.in_ok-digest.ensures.found honest in
-      reads_unnamed _ c.args.name.now c.args.reference.now (c.requires.there (c.in_ok-digest.ensures.honest honest)) c.requires.unspent _ (not_found c.in_ok-digest.field-0 c.in_default.not-Some ∙ named.0) named.1 _ c.refusal.ensures);
-  answers = ap course_of_answer c.refusal.ensures;
-  carries = ap (λ (a : Answer). is_sent a.body) c.refusal.ensures;
-  spends = c.in_ok-digest.ensures.spends;
-  honest = c.in_ok-digest.ensures.honest;
-}
-
-pub returns-in_err-manifest : goal.returns-in_err-manifest
-returns-in_err-manifest g c = later_read_failed _ c.from_residual-in_err-manifest.result c.in_err-manifest.field-0.0 _ _ _ _ _ _ _ _ c.from_residual-in_err-manifest.ensures (λ between. (c.in_ok-digest.ensures.found between).1) c.in_ok-digest.ensures.honest c.requires.unspent c.in_err-manifest.ensures
-
-pub returns-in-Some-2 : goal.returns-in-Some-2
-returns-in-Some-2 g c = record {
-  comes = λ honest. (
-      let first = c.in_ok-manifest.ensures.honest honest in
-      let named = c.in_ok-digest.ensures.found first in
-      let found = c.in_ok-manifest.ensures.found honest in
-      let there = c.requires.there (c.in_ok-digest.ensures.honest first) in
-      reads _ c.args.name.now c.args.reference.now there c.requires.unspent _ _ c.in-Some.digest (sym c.in-Some.is ∙ named.0) named.1 found.1
-      (Some (c.in-Some-2.kind, c.in-Some-2.bytes.items)) (sym (ap manifest_shown c.in-Some-2.is) ∙ found.0) _
-      (shows_manifest _ c.in-Some.digest _ c.in-Some-2.kind (sent c.in-Some-2.bytes.items) c.found.ensures c.media_type.ensures));
-  answers = ap course_of_answer c.found.ensures;
-  carries = ap (λ (a : Answer). is_sent a.body) c.found.ensures;
-  spends = (c.requires.unspent, c.in_ok-manifest.ensures.spends.1);
-  honest = λ honest. c.in_ok-digest.ensures.honest (c.in_ok-manifest.ensures.honest honest);
-}
+pub returns-in-Ok-found_or : goal.returns-in-Ok-found_or
+returns-in-Ok-found_or g c =
+    let s = g.K.Keeper.state c.args.keeper.now in
+    let mid = g.K.Keeper.state c.find_digest-named.new.keeper in
+    let name = c.args.name.now in
+    record {
+      comes = λ honest.
+          let between = c.manifest.ensures.honest honest in
+          let named = told_this (λ (o : Option Text). o) c.find_digest-named.result (Some c.in-Ok.digest) (option_and_then (λ r. reference_digest r c.args.reference.now) (repo_at s.world name)) s mid c.in-Ok.ensures (c.find_digest-named.ensures.found between) in
+          let found = told_this manifest_shown c.manifest.result (Some (c.in-Ok-found_or.kind, c.in-Ok-found_or.bytes)) (manifest_at mid.world name c.in-Ok.digest) mid (g.K.Keeper.state c.manifest.new.self) c.in-Ok-found_or.ensures (c.manifest.ensures.found honest) in
+          reads s name c.args.reference.now (c.requires.there (c.find_digest-named.ensures.honest between)) c.requires.unspent mid _ c.in-Ok.digest named.0 named.1 found.1
+          (Some (c.in-Ok-found_or.kind, c.in-Ok-found_or.bytes.items)) found.0 _
+          (shows_manifest _ c.in-Ok.digest _ c.in-Ok-found_or.kind (sent c.in-Ok-found_or.bytes.items) c.found.ensures c.media_type.ensures);
+      answers = ap course_of_answer c.found.ensures;
+      carries = ap (λ (a : Answer). is_sent a.body) c.found.ensures;
+      spends = (c.requires.unspent, (kept_on c.manifest.result (Some (c.in-Ok-found_or.kind, c.in-Ok-found_or.bytes)) mid _ c.in-Ok-found_or.ensures c.manifest.ensures.spends).1);
+      honest = λ honest. c.find_digest-named.ensures.honest (c.manifest.ensures.honest honest);
+    }

@@ -1,6 +1,6 @@
 use Rattle.std.proofs.Common.{◌∙◌}
 use Rattle.order_carrying.proofs.FailedReads.{by_failed, so_failed, later, returns_so}
-use Rattle.order_carrying.proofs.GrantLemmas.{no_grants, grants_there, grants_over}
+use Rattle.order_carrying.proofs.GrantLemmas.{no_grants, grants_there}
 use Rattle.order_carrying.proofs.grants.grants.Goals as goal
 
 pub returns-in_err-has_repo-in-Some : goal.returns-in_err-has_repo-in-Some
@@ -21,10 +21,6 @@ returns-in_err-on_one-in-Some g c =
     returns_so _ c.from_residual-in_err-on_one-in-Some.result _ _ _ _ _ c.from_residual-in_err-on_one-in-Some.ensures
     (later _ _ _ _ _ _ _ (λ between. (looked.found between).1) looked.honest looked.spends.0 (so_failed _ _ _ _ _ c.in_err-on_one-in-Some.ensures))
 
-pub returns-in_err-on_all-in-None : goal.returns-in_err-on_all-in-None
-returns-in_err-on_all-in-None g c =
-    returns_so _ c.from_residual-in_err-on_all-in-None.result _ _ _ _ _ c.from_residual-in_err-on_all-in-None.ensures (so_failed _ _ _ _ _ c.in_err-on_all-in-None.ensures)
-
 pub returns-in_ok-on_one-in-Some : goal.returns-in_ok-on_one-in-Some
 returns-in_ok-on_one-in-Some g c =
     let looked = c.in_ok-has_repo-in-Some.ensures in
@@ -38,11 +34,5 @@ returns-in_ok-on_one-in-Some g c =
       honest = λ honest. looked.honest (one.honest honest);
     }
 
-pub returns-in_ok-on_all-in-None : goal.returns-in_ok-on_all-in-None
-returns-in_ok-on_all-in-None g c =
-    let all = c.in_ok-on_all-in-None.ensures in
-    record {
-      found = λ honest. let told = all.found honest in (grants_over _ _ c.args.asked.now c.args.shown _ c.in-None.is told.0, told.1);
-      spends = all.spends;
-      honest = all.honest;
-    }
+pub returns-in-None : goal.returns-in-None
+returns-in-None g c = record { found = rw c.in-None.is c.on_all.ensures.found; spends = c.on_all.ensures.spends; honest = c.on_all.ensures.honest }

@@ -1,5 +1,5 @@
 use Rattle.std.specs.Prelude.{IfOk}
-use Rattle.std.proofs.Common.{Bool, ◌≡◌, Some, ap, subst, ◌∙◌}
+use Rattle.std.proofs.Common.{Bool, ◌≡◌, Some, ap, subst, ◌∙◌, arith}
 use Rattle.oci_types.specs.Text.{Text}
 use Rattle.registry_model.specs.Answer.{answer_of}
 use Rattle.registry_model.specs.Doing.{Does}
@@ -10,12 +10,19 @@ use Rattle.registry_http.specs.Sending.{SendsReply}
 use Rattle.registry_http.specs.Serving.{reply_for}
 use Rattle.registry_http.proofs.TextPlaces.{behind}
 use Rattle.registry_server.proofs.HoldingLemmas.{closes_is}
+use Rattle.registry_server.proofs.SteppingLemmas.{sends_longer}
 use Rattle.registry_server.proofs.replying.reply_to.Goals as goal
 
 pub returns-clause-closing : goal.returns-clause-closing
 returns-clause-closing g c = λ i there.
-    subst (λ (f : Bool). IfOk c.put_reply.result (λ (told : Bool). told ≡ f)) (c.closes-closing.ensures ∙ closes_is _ _ c.args.spans.now i there)
-    c.put_reply.ensures.told
+    subst (λ (f : Bool). IfOk c.told.result (λ (told : Bool). told ≡ f)) (c.closes-closing.ensures ∙ closes_is _ _ c.args.spans.now i there)
+    c.told.ensures.told
+
+pub returns-clause-grows : goal.returns-clause-grows
+returns-clause-grows g c =
+    let longer = sends_longer c.write_reply-written.result c.args.out.now.items c.write_reply-written.new.writer.items
+    (reply_text c.is_head.result c.closes-closing.result (answer_of c.answer-reply.result)) c.write_reply-written.ensures in
+    omega (arith, longer, c.args.out.now.ok.0, c.write_reply-written.new.writer.ok.0)
 
 pub returns-clause-replies : goal.returns-clause-replies
 returns-clause-replies g c = λ honest i there.
@@ -29,5 +36,7 @@ returns-clause-replies g c = λ honest i there.
       answer,
       subst (λ (b : Text). Does (g.K.Keeper.state c.args.service.now) (ask_in i.head b) answer (g.K.Keeper.state c.answer-reply.new.service)) body
           (c.answer-reply.ensures.does honest i.head there.at),
-      subst (λ (t : Text). SendsReply c.put_reply.result (Some c.args.out.now.items) (Some c.put_reply.new.out.items) t) text c.put_reply.ensures.sends,
+      subst (λ (t : Text). SendsReply c.told.result (Some c.args.out.now.items) (Some c.write_reply-written.new.writer.items) t) text
+          (c.told.ensures.sends (Some c.args.out.now.items) (Some c.write_reply-written.new.writer.items) (reply_text c.is_head.result c.closes-closing.result answer)
+          c.write_reply-written.ensures),
     )

@@ -7,7 +7,7 @@ use Rattle.registry_model.specs.Operation.{addressed}
 use Rattle.registry_model.specs.Judging.{judged}
 use Rattle.operation_parts.specs.Operating.{ComesOn}
 use Rattle.registry_service.proofs.JudgingLemmas.{ran_out, told, with_token}
-use Rattle.registry_service.proofs.TokenLemmas.{by_token, by_none}
+use Rattle.registry_service.proofs.TokenLemmas.{by_token, by_none, no_fault, not_both}
 use Rattle.registry_service.proofs.judging.judge.Goals as goal
 
 pub returns-then-spent : goal.returns-then-spent
@@ -24,7 +24,7 @@ pub returns-in_err-token : goal.returns-in_err-token
 returns-in_err-token g c =
     with_token c.from_residual.result _ _ _ _ _ _ _ _
     (ran_out c.from_residual.result c.in_err-token.field-0.0 _ _ _ (g.K.Keeper.state c.args.keeper.now) _ c.from_residual.ensures c.in_err-token.ensures.found (sym c.spent.ensures ∙ c.if-spent.false))
-    (λ none unspent. let h = c.in_err-token.ensures.none none in absurd (cc))
+    (λ none unspent. absurd (no_fault _ _ (c.in_err-token.ensures.none none)))
 
 pub serve_token-requires : goal.serve_token-requires
 serve_token-requires g c = sym c.spent.ensures ∙ c.if-spent.false
@@ -39,7 +39,7 @@ returns-in-Some g c = record {
   answers = c.serve_token.ensures.answers;
   carries = c.serve_token.ensures.carries;
   spends = c.serve_token.ensures.spends;
-  no_token = λ none unspent. let h = c.in_ok-token.ensures.none none in absurd (cc);
+  no_token = λ none unspent. absurd (not_both _ _ _ refl (c.in_ok-token.ensures.none none) c.in-Some.is);
   honest = c.serve_token.ensures.honest;
 }
 

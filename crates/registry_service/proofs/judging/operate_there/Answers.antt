@@ -4,11 +4,8 @@ use Rattle.registry_model.specs.Heads.{is_sizing}
 use Rattle.registry_service.specs.Operations.{shown_operation}
 use Rattle.registry_service.proofs.judging.operate_there.Goals as goal
 
-pub read_blob-requires-clause-unspent : goal.read_blob-requires-clause-unspent
-read_blob-requires-clause-unspent g c = c.requires.unspent
-
-pub read_blob-requires-clause-there : goal.read_blob-requires-clause-there
-read_blob-requires-clause-there g c = c.requires.there
+pub read_blob-requires : goal.read_blob-requires
+read_blob-requires g c = record { unspent = c.requires.unspent; there = c.requires.there }
 
 pub returns-in-ReadBlob : goal.returns-in-ReadBlob
 returns-in-ReadBlob g c = record {
@@ -19,11 +16,8 @@ returns-in-ReadBlob g c = record {
   honest = c.read_blob.ensures.honest;
 }
 
-pub size_blob-requires-clause-unspent : goal.size_blob-requires-clause-unspent
-size_blob-requires-clause-unspent g c = c.requires.unspent
-
-pub size_blob-requires-clause-there : goal.size_blob-requires-clause-there
-size_blob-requires-clause-there g c = c.requires.there
+pub size_blob-requires : goal.size_blob-requires
+size_blob-requires g c = record { unspent = c.requires.unspent; there = c.requires.there }
 
 pub returns-in-SizeBlob : goal.returns-in-SizeBlob
 returns-in-SizeBlob g c = record {
@@ -34,11 +28,8 @@ returns-in-SizeBlob g c = record {
   honest = c.size_blob.ensures.honest;
 }
 
-pub delete_blob-requires-clause-unspent : goal.delete_blob-requires-clause-unspent
-delete_blob-requires-clause-unspent g c = c.requires.unspent
-
-pub delete_blob-requires-clause-there : goal.delete_blob-requires-clause-there
-delete_blob-requires-clause-there g c = c.requires.there
+pub delete_blob-requires : goal.delete_blob-requires
+delete_blob-requires g c = record { unspent = c.requires.unspent; there = c.requires.there }
 
 pub returns-in-DeleteBlob : goal.returns-in-DeleteBlob
 returns-in-DeleteBlob g c = record {
@@ -49,11 +40,8 @@ returns-in-DeleteBlob g c = record {
   honest = c.delete_blob.ensures.honest;
 }
 
-pub push_blob-requires-clause-unspent : goal.push_blob-requires-clause-unspent
-push_blob-requires-clause-unspent g c = c.requires.unspent
-
-pub push_blob-requires-clause-there : goal.push_blob-requires-clause-there
-push_blob-requires-clause-there g c = c.requires.there
+pub push_blob-requires : goal.push_blob-requires
+push_blob-requires g c = record { unspent = c.requires.unspent; there = c.requires.there }
 
 pub returns-in-PushBlob : goal.returns-in-PushBlob
 returns-in-PushBlob g c = record {
@@ -64,11 +52,8 @@ returns-in-PushBlob g c = record {
   honest = c.push_blob.ensures.honest;
 }
 
-pub open_session-requires-clause-unspent : goal.open_session-requires-clause-unspent
-open_session-requires-clause-unspent g c = c.requires.unspent
-
-pub open_session-requires-clause-there : goal.open_session-requires-clause-there
-open_session-requires-clause-there g c = c.requires.there
+pub open_session-requires : goal.open_session-requires
+open_session-requires g c = record { unspent = c.requires.unspent; there = c.requires.there }
 
 pub returns-in-OpenSession : goal.returns-in-OpenSession
 returns-in-OpenSession g c = record {
@@ -79,11 +64,8 @@ returns-in-OpenSession g c = record {
   honest = c.open_session.ensures.honest;
 }
 
-pub mount_blob-requires-clause-unspent : goal.mount_blob-requires-clause-unspent
-mount_blob-requires-clause-unspent g c = c.requires.unspent
-
-pub mount_blob-requires-clause-there : goal.mount_blob-requires-clause-there
-mount_blob-requires-clause-there g c = c.requires.there
+pub mount_blob-requires : goal.mount_blob-requires
+mount_blob-requires g c = record { unspent = c.requires.unspent; there = c.requires.there }
 
 pub returns-in-MountBlob : goal.returns-in-MountBlob
 returns-in-MountBlob g c = record {
@@ -94,11 +76,8 @@ returns-in-MountBlob g c = record {
   honest = c.mount_blob.ensures.honest;
 }
 
-pub read_session-requires-clause-unspent : goal.read_session-requires-clause-unspent
-read_session-requires-clause-unspent g c = c.requires.unspent
-
-pub read_session-requires-clause-there : goal.read_session-requires-clause-there
-read_session-requires-clause-there g c = c.requires.there
+pub read_session-requires : goal.read_session-requires
+read_session-requires g c = record { unspent = c.requires.unspent; there = c.requires.there }
 
 pub returns-in-ReadSession : goal.returns-in-ReadSession
 returns-in-ReadSession g c = record {
@@ -109,11 +88,8 @@ returns-in-ReadSession g c = record {
   honest = c.read_session.ensures.honest;
 }
 
-pub append_chunk-requires-clause-unspent : goal.append_chunk-requires-clause-unspent
-append_chunk-requires-clause-unspent g c = c.requires.unspent
-
-pub append_chunk-requires-clause-there : goal.append_chunk-requires-clause-there
-append_chunk-requires-clause-there g c = c.requires.there
+pub append_chunk-requires : goal.append_chunk-requires
+append_chunk-requires g c = record { unspent = c.requires.unspent; there = c.requires.there }
 
 pub returns-in-AppendChunk : goal.returns-in-AppendChunk
 returns-in-AppendChunk g c = record {
@@ -124,11 +100,8 @@ returns-in-AppendChunk g c = record {
   honest = c.append_chunk.ensures.honest;
 }
 
-pub close_session-requires-clause-unspent : goal.close_session-requires-clause-unspent
-close_session-requires-clause-unspent g c = c.requires.unspent
-
-pub close_session-requires-clause-there : goal.close_session-requires-clause-there
-close_session-requires-clause-there g c = c.requires.there
+pub close_session-requires : goal.close_session-requires
+close_session-requires g c = record { unspent = c.requires.unspent; there = c.requires.there }
 
 pub returns-in-CloseSession : goal.returns-in-CloseSession
 returns-in-CloseSession g c = record {
@@ -139,11 +112,8 @@ returns-in-CloseSession g c = record {
   honest = c.close_session.ensures.honest;
 }
 
-pub read_manifest-requires-clause-unspent : goal.read_manifest-requires-clause-unspent
-read_manifest-requires-clause-unspent g c = c.requires.unspent
-
-pub read_manifest-requires-clause-there : goal.read_manifest-requires-clause-there
-read_manifest-requires-clause-there g c = c.requires.there
+pub read_manifest-requires : goal.read_manifest-requires
+read_manifest-requires g c = record { unspent = c.requires.unspent; there = c.requires.there }
 
 pub returns-in-ReadManifest : goal.returns-in-ReadManifest
 returns-in-ReadManifest g c = record {
@@ -154,11 +124,8 @@ returns-in-ReadManifest g c = record {
   honest = c.read_manifest.ensures.honest;
 }
 
-pub size_manifest-requires-clause-unspent : goal.size_manifest-requires-clause-unspent
-size_manifest-requires-clause-unspent g c = c.requires.unspent
-
-pub size_manifest-requires-clause-there : goal.size_manifest-requires-clause-there
-size_manifest-requires-clause-there g c = c.requires.there
+pub size_manifest-requires : goal.size_manifest-requires
+size_manifest-requires g c = record { unspent = c.requires.unspent; there = c.requires.there }
 
 pub returns-in-SizeManifest : goal.returns-in-SizeManifest
 returns-in-SizeManifest g c = record {
@@ -169,11 +136,8 @@ returns-in-SizeManifest g c = record {
   honest = c.size_manifest.ensures.honest;
 }
 
-pub delete_manifest-requires-clause-unspent : goal.delete_manifest-requires-clause-unspent
-delete_manifest-requires-clause-unspent g c = c.requires.unspent
-
-pub delete_manifest-requires-clause-there : goal.delete_manifest-requires-clause-there
-delete_manifest-requires-clause-there g c = c.requires.there
+pub delete_manifest-requires : goal.delete_manifest-requires
+delete_manifest-requires g c = record { unspent = c.requires.unspent; there = c.requires.there }
 
 pub returns-in-DeleteManifest : goal.returns-in-DeleteManifest
 returns-in-DeleteManifest g c = record {
@@ -184,11 +148,8 @@ returns-in-DeleteManifest g c = record {
   honest = c.delete_manifest.ensures.honest;
 }
 
-pub push_manifest-requires-clause-unspent : goal.push_manifest-requires-clause-unspent
-push_manifest-requires-clause-unspent g c = c.requires.unspent
-
-pub push_manifest-requires-clause-there : goal.push_manifest-requires-clause-there
-push_manifest-requires-clause-there g c = c.requires.there
+pub push_manifest-requires : goal.push_manifest-requires
+push_manifest-requires g c = record { unspent = c.requires.unspent; there = c.requires.there }
 
 pub returns-in-PushManifest : goal.returns-in-PushManifest
 returns-in-PushManifest g c = record {
@@ -199,11 +160,8 @@ returns-in-PushManifest g c = record {
   honest = c.push_manifest.ensures.honest;
 }
 
-pub list_tags-requires-clause-unspent : goal.list_tags-requires-clause-unspent
-list_tags-requires-clause-unspent g c = c.requires.unspent
-
-pub list_tags-requires-clause-there : goal.list_tags-requires-clause-there
-list_tags-requires-clause-there g c = c.requires.there
+pub list_tags-requires : goal.list_tags-requires
+list_tags-requires g c = record { unspent = c.requires.unspent; there = c.requires.there }
 
 pub returns-in-ListTags : goal.returns-in-ListTags
 returns-in-ListTags g c = record {
@@ -214,11 +172,8 @@ returns-in-ListTags g c = record {
   honest = c.list_tags.ensures.honest;
 }
 
-pub list_referrers-requires-clause-unspent : goal.list_referrers-requires-clause-unspent
-list_referrers-requires-clause-unspent g c = c.requires.unspent
-
-pub list_referrers-requires-clause-there : goal.list_referrers-requires-clause-there
-list_referrers-requires-clause-there g c = c.requires.there
+pub list_referrers-requires : goal.list_referrers-requires
+list_referrers-requires g c = record { unspent = c.requires.unspent; there = c.requires.there }
 
 pub returns-in-ListReferrers : goal.returns-in-ListReferrers
 returns-in-ListReferrers g c = record {

@@ -1,34 +1,37 @@
-use Rattle.std.proofs.Common.{◌∙◌, arith}
-use Rattle.sqlite.specs.State.{HasCleanDisk}
+use Rattle.std.proofs.Common.{◌∙◌, refl, sym, ap}
 use Rattle.sqlite.specs.Held.{state}
-use Rattle.store_schema.proofs.Selects.{commit_then, survives_both}
-use Rattle.store_statements.specs.Held.{held}
-use Rattle.store_migration.proofs.ManifestSteps.{free, olds_after, moved_if}
+use Rattle.registry_model.specs.Manifests.{kind_or_image}
+use Rattle.registry_model.specs.Referrers.{subject_or_none}
+use Rattle.store_migration.proofs.Underway.{keeps_still, survives_still}
 use Rattle.store_migration.proofs.manifest_moves.move_found.Goals as goal
+
+pub move_as-requires : goal.move_as-requires
+move_as-requires g c = record {
+  fits = c.requires.fits;
+  of_kind = sym (ap kind_or_image c.in-Ok.ensures.exact);
+  of_subject = c.subject_of-subject.ensures ∙ sym (ap subject_or_none c.in-Ok.ensures.exact);
+}
 
 pub returns-in-Ok : goal.returns-in-Ok
 returns-in-Ok g c = record {
-  moved = λ clean is under found.
-      let old = state g.S.Store c.args.tx.now.conn.now in
-      let mid = state g.S.Store c.add_read.new.tx.conn.now in
-      let early : HasCleanDisk mid = omega (arith, c.take_manifest.ensures.survives.clean) in
-      let here = c.in-Ok.ensures.stored early is (free (held old) c.args.repo.now c.args.digest.now c.args.bytes.now under found) in
-      moved_if old mid (state g.S.Store c.take_manifest.new.tx.conn.now) c.args.repo.now c.args.digest.now c.args.bytes.now c.take_manifest.result under found here.1
-      (c.take_manifest.ensures.taken clean here.0 (olds_after (held old) (held mid) c.args.repo.now c.args.digest.now c.args.bytes.now under here.1));
-  kept = λ clean is under found.
-      let old = state g.S.Store c.args.tx.now.conn.now in
-      let mid = state g.S.Store c.add_read.new.tx.conn.now in
-      let early : HasCleanDisk mid = omega (arith, c.take_manifest.ensures.survives.clean) in
-      let here = c.in-Ok.ensures.stored early is (free (held old) c.args.repo.now c.args.digest.now c.args.bytes.now under found) in
-      commit_then old mid (state g.S.Store c.take_manifest.new.tx.conn.now) (c.add_read.ensures.kept early is) (c.take_manifest.ensures.kept clean here.0);
-  same_reference = c.take_manifest.ensures.same_reference ∙ c.add_read.ensures.same_reference;
-  survives = survives_both (state g.S.Store c.args.tx.now.conn.now) (state g.S.Store c.add_read.new.tx.conn.now) (state g.S.Store c.take_manifest.new.tx.conn.now) c.add_read.ensures.survives c.take_manifest.ensures.survives;
+  moved = c.move_as.ensures.moved;
+  kept = c.move_as.ensures.kept;
+  same_reference = c.move_as.ensures.same_reference;
+  survives = c.move_as.ensures.survives;
 }
 
 pub returns-in-Err : goal.returns-in-Err
 returns-in-Err g c = record {
+  moved = c.move_as-in-Err.ensures.moved;
+  kept = c.move_as-in-Err.ensures.kept;
+  same_reference = c.move_as-in-Err.ensures.same_reference;
+  survives = c.move_as-in-Err.ensures.survives;
+}
+
+pub returns-in-Err-Memory : goal.returns-in-Err-Memory
+returns-in-Err-Memory g c = record {
   moved = λ clean is under found. tt;
-  kept = λ clean is under found. c.add_read.ensures.kept clean is;
-  same_reference = c.add_read.ensures.same_reference;
-  survives = c.add_read.ensures.survives;
+  kept = λ clean is under found. keeps_still (state g.S.Store c.args.tx.now.conn.now);
+  same_reference = refl;
+  survives = survives_still (state g.S.Store c.args.tx.now.conn.now);
 }

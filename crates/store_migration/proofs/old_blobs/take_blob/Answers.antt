@@ -1,33 +1,17 @@
-use Rattle.std.proofs.Common.{Ok}
+use Rattle.std.proofs.Common.{refl}
 use Rattle.sqlite.specs.Held.{state}
+use Rattle.store_statements.specs.Held.{held}
+use Rattle.store_statements.proofs.Executed.{given, keeps, makes_from}
+use Rattle.store_migration.specs.Olds.{HasOlds}
 use Rattle.store_migration.proofs.BlobRows.{took_by}
-use Rattle.store_statements.proofs.CommitsKept.{kept_by_execute}
 use Rattle.store_migration.proofs.old_blobs.take_blob.Goals as goal
 
-pub returns-in-Ok-clause-taken : goal.returns-in-Ok-clause-taken
-returns-in-Ok-clause-taken g c clean is olds =
-    took_by c.args.repo.now c.args.digest.now (state g.S.Store c.args.tx.now.conn.now) (state g.S.Store c.execute.new.self.conn.now) (Ok c.in-Ok.field-0) is.holds olds
-    (rw (c.params-to_sql.ensures, c.params-to_sql-2.ensures) at (c.in-Ok.ensures.runs clean is.inside))
-
-pub returns-in-Ok-clause-kept : goal.returns-in-Ok-clause-kept
-returns-in-Ok-clause-kept g c clean is =
-    kept_by_execute _ _ (state g.S.Store c.args.tx.now.conn.now) (state g.S.Store c.execute.new.self.conn.now) c.execute.result (c.execute.ensures.runs clean is.inside)
-
-pub returns-in-Ok-clause-same_reference : goal.returns-in-Ok-clause-same_reference
-returns-in-Ok-clause-same_reference g c = c.execute.ensures.same_reference
-
-pub returns-in-Ok-clause-survives : goal.returns-in-Ok-clause-survives
-returns-in-Ok-clause-survives g c = c.execute.ensures.survives
-
-pub returns-in-Err-clause-taken : goal.returns-in-Err-clause-taken
-returns-in-Err-clause-taken g c clean is olds = tt
-
-pub returns-in-Err-clause-kept : goal.returns-in-Err-clause-kept
-returns-in-Err-clause-kept g c clean is =
-    kept_by_execute _ _ (state g.S.Store c.args.tx.now.conn.now) (state g.S.Store c.execute.new.self.conn.now) c.execute.result (c.execute.ensures.runs clean is.inside)
-
-pub returns-in-Err-clause-same_reference : goal.returns-in-Err-clause-same_reference
-returns-in-Err-clause-same_reference g c = c.execute.ensures.same_reference
-
-pub returns-in-Err-clause-survives : goal.returns-in-Err-clause-survives
-returns-in-Err-clause-survives g c = c.execute.ensures.survives
+pub returns : goal.returns
+returns g c =
+    record {
+      taken = makes_from g.S.Store c.args.tx.now.conn.now c.execute.new.self.conn.now _ _ c.execute.result c.execute.ensures.runs _ (given c.params-to_sql.ensures (given c.params-to_sql-2.ensures refl)) c.done.result (HasOlds (held (state g.S.Store c.args.tx.now.conn.now))) _ c.done.ensures
+          (took_by c.args.repo.now c.args.digest.now (state g.S.Store c.args.tx.now.conn.now) (state g.S.Store c.execute.new.self.conn.now) c.execute.result);
+      kept = keeps g.S.Store c.args.tx.now.conn.now c.execute.new.self.conn.now _ _ c.execute.result c.execute.ensures.runs;
+      same_reference = c.execute.ensures.same_reference;
+      survives = c.execute.ensures.survives;
+    }

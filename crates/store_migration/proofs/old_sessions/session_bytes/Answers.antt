@@ -1,23 +1,23 @@
-use Rattle.std.proofs.Common.{◌∙◌, [], ◌∷◌}
-use Rattle.sqlite.specs.Order.{column}
-use Rattle.store_schema.specs.Rows.{bytes_at}
-use Rattle.store_migration.proofs.Read.{read_of, same_of, first_shown}
+use Rattle.std.proofs.Common.{◌≡◌, ◌∙◌, ap, arith, pos, to_z, w64, refl}
+use Rattle.std.proofs.lemmas.Int.{ints}
+use Rattle.sqlite.specs.Held.{state}
+use Rattle.sqlite.specs.declared.types.Value.TheVariants.{Int}
+use Rattle.store_schema.proofs.Selects.{leaves_all, keeps_by_query}
+use Rattle.store_statements.proofs.Executed.{given}
+use Rattle.store_migration.specs.OldTexts.{session_bytes as text}
+use Rattle.store_migration.proofs.Read.{same_of, shown_for}
+use Rattle.store_migration.proofs.SessionRows.{bytes_read}
 use Rattle.store_migration.proofs.old_sessions.session_bytes.Goals as goal
 
-pub returns-clause-found : goal.returns-clause-found
-returns-clause-found g c clean is olds =
-    read_of c.byte_rows.result c.first_bytes.result _ _ _
-    (λ o rows reads row. reads ∙ first_shown (λ r. column r 4 ∷ []) (λ r. bytes_at r 4) (λ r. bytes_at r 0) _ rows.items (λ r i. bytes_at r 4) row)
-    c.first_bytes.ensures (c.byte_rows.ensures.shown clean is olds)
-
-pub returns-clause-same : goal.returns-clause-same
-returns-clause-same g c clean is olds = same_of c.byte_rows.result c.first_bytes.result _ _ c.first_bytes.ensures (c.byte_rows.ensures.same clean is olds)
-
-pub returns-clause-kept : goal.returns-clause-kept
-returns-clause-kept g c = c.byte_rows.ensures.kept
-
-pub returns-clause-same_reference : goal.returns-clause-same_reference
-returns-clause-same_reference g c = c.byte_rows.ensures.same_reference
-
-pub returns-clause-survives : goal.returns-clause-survives
-returns-clause-survives g c = c.byte_rows.ensures.survives
+pub returns : goal.returns
+returns g c =
+    let old = state g.S.Store c.args.tx.now.conn.now in
+    let new = state g.S.Store c.query_all.new.self.conn.now in
+    let numbered : to_z w64 c.args.number ≡ pos c.args.number = omega (arith, ints) in
+    record {
+      found = λ clean is olds. bytes_read c.args.repo.now c.args.number old new c.query_all.result c.first_bytes.result olds c.first_bytes.ensures (shown_for text _ _ old new c.query_all.result (given c.params-to_sql.ensures (given (c.params-to_sql-2.ensures ∙ ap Int numbered) refl)) (c.query_all.ensures.ok clean));
+      same = λ clean is olds. same_of c.query_all.result c.first_bytes.result _ _ c.first_bytes.ensures (leaves_all text _ old new c.query_all.result olds.known.session_texts.bytes_mean.plain (c.query_all.ensures.ok clean));
+      kept = λ clean is olds. keeps_by_query text _ old new c.query_all.result olds.known.session_texts.bytes_mean.plain (c.query_all.ensures.ok clean) (c.query_all.ensures.err clean);
+      same_reference = c.query_all.ensures.same_reference;
+      survives = c.query_all.ensures.survives;
+    }

@@ -1,32 +1,23 @@
-use Rattle.std.proofs.Common.{sym, true≢false}
-use Rattle.std.specs.Prelude.{Vec, ℕ}
+use Rattle.std.proofs.Common.{◌≡◌, ◌∙◌, List, ℕ, Ok, Some, Result, IfOk, ap, sym, subst}
+use Rattle.std.specs.Prelude.{Option, Vec, option_map}
 use Rattle.std.specs.declared.alloc.Global.{Global}
 use Rattle.sqlite.specs.Held.{state}
-use Rattle.store_statements.proofs.CleanBefore.{was_clean}
-use Rattle.store_statements.proofs.Transactions.{survives_all}
-use Rattle.store_statements.proofs.SettledAfter.{stays_read, stays_failed, is_memory}
+use Rattle.store_contents.specs.Contents.{bytes_in}
+use Rattle.store_reads.proofs.CheckedReads.{tells, stays, lasts}
+use Rattle.store_reads.proofs.Passing.{present_told}
 use Rattle.store_reads.proofs.contents.content.Goals as goal
 
-pub returns-in-Ok-Some : goal.returns-in-Ok-Some
-returns-in-Ok-Some g c = record {
-  found = λ clean is. sym ((rw (c.in-Ok-Some.is, c.in-Ok-Some.field-0-is) at c.read_bytes.ensures.found) clean is.holds.contents);
-  settled = λ clean is unspent.
-      stays_read (state g.S.Store c.args.conn.now) (state g.S.Store c.read_bytes.new.conn) is ((rw c.in-Ok-Some.is at c.read_bytes.ensures.same) clean is.holds.contents);
-  survives = c.read_bytes.ensures.lasts;
-}
-
-pub returns-in-Ok-None : goal.returns-in-Ok-None
-returns-in-Ok-None g c = record {
-  found = λ clean is. tt;
-  settled = λ clean is unspent. absurd (true≢false unspent);
-  survives = c.read_bytes.ensures.lasts;
-}
-
-pub returns-in-Err : goal.returns-in-Err
-returns-in-Err g c = record {
-  found = λ clean is. tt;
-  settled = λ clean is unspent.
-      stays_failed (state g.S.Store c.args.conn.now) (state g.S.Store c.read_bytes.new.conn) (state g.S.Store c.checked_fault.new.conn) is
-      (c.in-Err.ensures.failed (was_clean c.checked_fault.ensures.survives clean) is.holds.contents) (c.checked_fault.ensures.memory clean (is_memory (Vec ℕ Global) _ unspent));
-  survives = survives_all (state g.S.Store c.args.conn.now) (state g.S.Store c.read_bytes.new.conn) (state g.S.Store c.checked_fault.new.conn) _ _ c.read_bytes.ensures.lasts c.checked_fault.ensures.survives;
-}
+pub returns : goal.returns
+returns g c =
+    let old = c.args.conn.now in
+    let mid = c.read_bytes-found.new.conn in
+    let new = c.checked.new.conn in
+    record {
+      found = λ clean is.
+          present_told (bytes_in (state g.S.Store old).now c.args.id.id) c.checked.result c.present.result c.present.ensures.value
+          (tells g.S.Store old mid new c.read_bytes-found.result c.checked.result c.checked.ensures.told (λ late is. c.read_bytes-found.ensures.same late is.holds.contents) (λ late is. c.read_bytes-found.ensures.failed late is.holds.contents)
+          (λ o. option_map (λ bytes. bytes.items) o ≡ bytes_in (state g.S.Store old).now c.args.id.id) (λ late is. c.read_bytes-found.ensures.found late is.holds.contents) clean is);
+      settled = λ clean is unspent.
+          stays g.S.Store old mid new c.read_bytes-found.result c.checked.result c.checked.ensures.told (λ late is. c.read_bytes-found.ensures.same late is.holds.contents) (λ late is. c.read_bytes-found.ensures.failed late is.holds.contents) clean is (c.present.ensures.storage unspent);
+      survives = lasts g.S.Store old mid new c.read_bytes-found.result c.checked.result c.checked.ensures.told (λ late is. c.read_bytes-found.ensures.same late is.holds.contents) (λ late is. c.read_bytes-found.ensures.failed late is.holds.contents) c.read_bytes-found.ensures.lasts;
+    }

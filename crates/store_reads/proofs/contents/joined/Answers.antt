@@ -8,6 +8,7 @@ use Rattle.store_statements.specs.Held.{held}
 use Rattle.store_statements.proofs.Checks.{survives_here}
 use Rattle.store_statements.proofs.Transactions.{survives_all}
 use Rattle.store_reads.proofs.ReadSequences.{stays_here, stays_behind, told_behind, passed_on, contents_more}
+use Rattle.store_reads.proofs.Passing.{extended_so}
 use Rattle.store_reads.proofs.contents.joined.Goals as goal
 
 pub loop-id-init : goal.loop-id-init
@@ -21,13 +22,14 @@ pub loop-id-preserved : goal.loop-id-preserved
 loop-id-preserved g c =
     let old = state g.S.Store c.args.conn.now in
     let mid = state g.S.Store c.loop-id.conn in
-    let new = state g.S.Store c.append.new.conn in
+    let new = state g.S.Store c.content.new.conn in
     record {
-      survives = survives_all old mid new _ _ c.loop-id.invariant.survives c.append.ensures.survives;
-      settled = stays_behind old mid new c.append.ensures.survives c.loop-id.invariant.settled (λ clean is. c.in_ok-append.ensures.settled clean is (refl {a = false}));
+      survives = survives_all old mid new _ _ c.loop-id.invariant.survives c.content.ensures.survives;
+      settled = stays_behind old mid new c.content.ensures.survives c.loop-id.invariant.settled (λ clean is. c.content.ensures.settled clean is (c.in_ok-extend.ensures.storage (refl {a = false})));
       bytes = λ clean is.
-          told_behind old mid new c.append.ensures.survives c.loop-id.invariant.settled (λ early stays.
-          contents_more old.now mid.now c.args.ids.now c.loop-id.id-index _ c.loop-id.bytes.items c.append.new.bytes.items stays.1 (omega arith) (c.loop-id.invariant.bytes early is) (c.in_ok-append.ensures.added clean stays.0)) clean is;
+          told_behind old mid new c.content.ensures.survives c.loop-id.invariant.settled (λ early stays.
+          contents_more old.now mid.now c.args.ids.now c.loop-id.id-index _ c.loop-id.bytes.items c.extend.new.bytes.items stays.1 (omega arith) (c.loop-id.invariant.bytes early is)
+          (extended_so (held mid).contents _ c.loop-id.bytes.items c.extend.new.bytes.items c.content.result (c.content.ensures.found clean stays.0) c.in_ok-extend.ensures.extended)) clean is;
     }
 
 pub returns : goal.returns
@@ -45,11 +47,11 @@ returns-in_err-bytes g c = record {
   survives = survives_here (state g.S.Store c.args.conn.now);
 }
 
-pub returns-in_err-append : goal.returns-in_err-append
-returns-in_err-append g c = record {
-  found = λ clean is. IfOk-from_err c.from_residual-in_err-append.result _ c.from_residual-in_err-append.ensures.0;
+pub returns-in_err-extend : goal.returns-in_err-extend
+returns-in_err-extend g c = record {
+  found = λ clean is. IfOk-from_err c.from_residual-in_err-extend.result _ c.from_residual-in_err-extend.ensures.0;
   settled = λ clean is unspent.
-      stays_behind (state g.S.Store c.args.conn.now) (state g.S.Store c.loop-id.conn) (state g.S.Store c.append.new.conn) c.append.ensures.survives c.loop-id.invariant.settled
-      (λ clean is. c.append.ensures.settled clean is (passed_on c.from_residual-in_err-append.result c.append.result _ c.in_err-append.was c.from_residual-in_err-append.ensures.1 unspent)) clean is;
-  survives = survives_all (state g.S.Store c.args.conn.now) (state g.S.Store c.loop-id.conn) (state g.S.Store c.append.new.conn) _ _ c.loop-id.invariant.survives c.append.ensures.survives;
+      stays_behind (state g.S.Store c.args.conn.now) (state g.S.Store c.loop-id.conn) (state g.S.Store c.content.new.conn) c.content.ensures.survives c.loop-id.invariant.settled
+      (λ clean is. c.content.ensures.settled clean is (c.extend.ensures.storage (passed_on c.from_residual-in_err-extend.result c.extend.result _ c.in_err-extend.was c.from_residual-in_err-extend.ensures.1 unspent))) clean is;
+  survives = survives_all (state g.S.Store c.args.conn.now) (state g.S.Store c.loop-id.conn) (state g.S.Store c.content.new.conn) _ _ c.loop-id.invariant.survives c.content.ensures.survives;
 }

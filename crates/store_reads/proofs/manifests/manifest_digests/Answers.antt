@@ -1,22 +1,16 @@
 use Rattle.std.proofs.Common.{◌∙◌, sym}
+use Rattle.std.proofs.lemmas.Result.{IfOk-weaker}
 use Rattle.sqlite.specs.Held.{state}
 use Rattle.store_statements.specs.Held.{held}
 use Rattle.store_statements.proofs.Transactions.{registry}
 use Rattle.store_reads.proofs.DigestsFound.{manifest_digests_found}
 use Rattle.store_reads.proofs.manifests.manifest_digests.Goals as goal
 
-pub returns-in-Ok : goal.returns-in-Ok
-returns-in-Ok g c = record {
-  found = λ clean is.
-      (rw c.as_str.ensures.text at (c.in-Ok.ensures.found clean is))
-      ∙ sym (manifest_digests_found (held (state g.S.Store c.args.conn.now)) c.args.repo.now (registry (state g.S.Store c.args.conn.now) is));
-  settled = c.in-Ok.ensures.settled;
-  survives = c.list_manifest_digests.ensures.survives;
-}
-
-pub returns-in-Err : goal.returns-in-Err
-returns-in-Err g c = record {
-  found = λ clean is. tt;
-  settled = λ clean is unspent. c.in-Err.ensures.settled clean is unspent;
-  survives = c.list_manifest_digests.ensures.survives;
-}
+pub returns : goal.returns
+returns g c =
+    let old = state g.S.Store c.args.conn.now in
+    record {
+      found = λ clean is. IfOk-weaker c.list_manifest_digests.result _ _ (λ digests h. h ∙ sym (manifest_digests_found (held old) c.args.repo.now (registry old is))) (rw c.as_str.ensures.text at (c.list_manifest_digests.ensures.found clean is));
+      settled = c.list_manifest_digests.ensures.settled;
+      survives = c.list_manifest_digests.ensures.survives;
+    }

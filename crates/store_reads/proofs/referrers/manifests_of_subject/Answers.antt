@@ -10,15 +10,15 @@ pub returns : goal.returns
 returns g c =
     let old = state g.S.Store c.args.conn.now in
     let mid = state g.S.Store c.manifests_on_subject.new.conn in
-    let new = state g.S.Store c.with_bytes.new.conn in
+    let new = state g.S.Store c.each.new.conn in
     record {
       found = λ clean is.
-          told_behind old mid new c.with_bytes.ensures.survives (λ early is. c.in_ok-referrers.ensures.settled early is (refl {a = false})) (λ early stays.
-          on_subject_found old.now mid.now c.args.repo.now c.as_str.result.now c.args.digest.now c.as_str-2.result.now c.in_ok-referrers.referrers.items c.with_bytes.result
-          (registry old is) c.as_str.ensures.text c.as_str-2.ensures.text c.as_str-2.ensures.valid stays.1 (c.in_ok-referrers.ensures.found early is) (c.with_bytes.ensures.found clean stays.0)) clean is;
+          told_behind old mid new c.each.ensures.survives (λ early is. c.in_ok-referrers.ensures.settled early is (refl {a = false})) (λ early stays.
+          on_subject_found old.now mid.now c.args.repo.now c.as_str.result.now c.args.digest.now c.as_str-2.result.now c.in_ok-referrers.referrers.items c.each.result
+          (registry old is) c.as_str.ensures.text c.as_str-2.ensures.text c.as_str-2.ensures.valid stays.1 (c.in_ok-referrers.ensures.found early is) (c.each.ensures.found clean stays.0)) clean is;
       settled = λ clean is unspent.
-          stays_behind old mid new c.with_bytes.ensures.survives (λ early is. c.in_ok-referrers.ensures.settled early is (refl {a = false})) (λ clean is. c.with_bytes.ensures.settled clean is unspent) clean is;
-      survives = survives_all old mid new _ _ c.manifests_on_subject.ensures.survives c.with_bytes.ensures.survives;
+          stays_behind old mid new c.each.ensures.survives (λ early is. c.in_ok-referrers.ensures.settled early is (refl {a = false})) (λ clean is. c.each.ensures.settled clean is unspent) clean is;
+      survives = survives_all old mid new _ _ c.manifests_on_subject.ensures.survives c.each.ensures.survives;
     }
 
 pub returns-in_err-referrers : goal.returns-in_err-referrers

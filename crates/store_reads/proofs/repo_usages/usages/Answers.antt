@@ -10,14 +10,14 @@ pub returns : goal.returns
 returns g c =
     let old = state g.S.Store c.args.conn.now in
     let mid = state g.S.Store c.list_repos.new.conn in
-    let new = state g.S.Store c.usages_named.new.conn in
+    let new = state g.S.Store c.each.new.conn in
     record {
       found = λ clean is.
-          told_behind old mid new c.usages_named.ensures.survives (λ early is. c.in_ok-names.ensures.settled early is (refl {a = false})) (λ early stays.
-          IfOk-weaker c.usages_named.result _ _ (λ all h. all_shown old mid c.in_ok-names.names.items all.items (registry old is) stays.1 (c.in_ok-names.ensures.found early is) h) (c.usages_named.ensures.found clean stays.0)) clean is;
+          told_behind old mid new c.each.ensures.survives (λ early is. c.in_ok-names.ensures.settled early is (refl {a = false})) (λ early stays.
+          IfOk-weaker c.each.result _ _ (λ all h. all_shown old mid c.in_ok-names.names.items all.items (registry old is) stays.1 (c.in_ok-names.ensures.found early is) h) (c.each.ensures.found clean stays.0)) clean is;
       settled = λ clean is unspent.
-          stays_behind old mid new c.usages_named.ensures.survives (λ early is. c.in_ok-names.ensures.settled early is (refl {a = false})) (λ clean is. c.usages_named.ensures.settled clean is unspent) clean is;
-      survives = survives_all old mid new _ _ c.list_repos.ensures.survives c.usages_named.ensures.survives;
+          stays_behind old mid new c.each.ensures.survives (λ early is. c.in_ok-names.ensures.settled early is (refl {a = false})) (λ clean is. c.each.ensures.settled clean is unspent) clean is;
+      survives = survives_all old mid new _ _ c.list_repos.ensures.survives c.each.ensures.survives;
     }
 
 pub returns-in_err-names : goal.returns-in_err-names

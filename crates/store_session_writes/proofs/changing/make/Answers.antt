@@ -1,19 +1,31 @@
+use Rattle.std.proofs.Common.{◌∙◌, sym}
 use Rattle.sqlite.specs.Held.{state}
 use Rattle.sqlite.specs.State.{State}
 use Rattle.store_statements.specs.Held.{Commits, held}
+use Rattle.store_statements.proofs.Alone.{alone_from}
 use Rattle.store_statements.proofs.ChangesTold.{told_so, told_memory, told_lasts}
-use Rattle.store_session_writes.specs.Changing.{Makes}
+use Rattle.store_statements.proofs.Checks.{never_storage, survives_here}
+use Rattle.store_session_writes.specs.Changing.{Asks, Makes}
 use Rattle.store_session_writes.proofs.changing.make.Goals as goal
 
-pub returns : goal.returns
-returns g c =
-    let told = c.checked.ensures.told in
-    let did = c.make_alone-done.ensures in
+pub returns-2 : goal.returns-2
+returns-2 g c =
+    let old = c.args.conn.now in
+    let same = c.conn-1.given.1 (sym (c.work.ensures.same_reference ∙ c.alone-transaction.ensures.same_reference)) in
+    let did = alone_from old c.alone-transaction.ensures.begun c.alone-done.ensures.ended (Asks c.args.change) (Makes c.args.change) c.work.ensures.made c.work.ensures.kept c.work.ensures.survives in
+    let told = rw same at c.checked.ensures.told in
     record {
-      made = λ free clean is. told_so c.args.conn.now {new = c.checked.new.conn} told (λ (s : State). Commits s (held s) × Makes c.args.change (held (state g.S.Store c.args.conn.now)) (held s)) clean (λ late. did.made free late is);
-      memory = λ free. told_memory c.args.conn.now {new = c.checked.new.conn} told (did.back free);
-      survives = told_lasts c.args.conn.now {new = c.checked.new.conn} told did.survives;
+      made = λ free clean is. told_so old {new = c.checked.new.conn} told (λ (s : State). Commits s (held s) × Makes c.args.change (held (state g.S.Store old)) (held s)) clean (λ late. did.0 free late is);
+      memory = λ free. told_memory old {new = c.checked.new.conn} told (did.1 free);
+      survives = told_lasts old {new = c.checked.new.conn} told did.2;
     }
 
-pub make_alone-done-requires : goal.make_alone-done-requires
-make_alone-done-requires g c = record { fits = c.requires.fits }
+pub returns : goal.returns
+returns g c = record {
+  made = λ free clean is. tt;
+  memory = λ free clean is e. absurd (never_storage e);
+  survives = survives_here (state g.S.Store c.args.conn.now);
+}
+
+pub work-requires : goal.work-requires
+work-requires g c = record { fits = c.requires.fits }

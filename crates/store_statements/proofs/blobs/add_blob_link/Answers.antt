@@ -1,14 +1,14 @@
-use Rattle.std.proofs.Common.{◌≡◌, ◌∙◌, ap, arith, rules, pos, to_z, w64, SFits, refl}
-use Rattle.std.proofs.lemmas.Int.{ints, to_z-of_z}
+use Rattle.std.proofs.Common.{◌≡◌, ◌∙◌, ap, rules, pos, to_z, w64, SFits, refl}
+use Rattle.std.proofs.lemmas.Int.{to_z-of_z}
 use Rattle.sqlite.specs.Held.{state}
 use Rattle.sqlite.specs.declared.types.Value.TheVariants.{Int}
 use Rattle.store_statements.proofs.BlobRows.{added_by}
-use Rattle.store_statements.proofs.Executed.{given, keeps, makes_from}
+use Rattle.store_statements.proofs.Executed.{given, keeps, makes_from, is_whole}
 use Rattle.store_statements.proofs.blobs.add_blob_link.Goals as goal
 
 pub returns : goal.returns
 returns g c =
-    let whole : to_z w64 c.args.size ≡ pos c.args.size = omega (arith, ints) in
+    let whole : to_z w64 c.args.size ≡ pos c.args.size = is_whole c.args.size c.requires.fits in
     let range : SFits w64 c.get.result = search rules in
     record {
       added = makes_from g.S.Store c.args.tx.now.conn.now c.execute.new.self.conn.now _ _ c.execute.result c.execute.ensures.runs _ (given c.params-to_sql.ensures (given c.params-to_sql-2.ensures (given (c.params-to_sql-3.ensures ∙ ap Int whole) (given (c.params-to_sql-4.ensures ∙ ap Int (to_z-of_z w64 c.get.result range ∙ c.get.ensures)) refl)))) c.done.result _ _ c.done.ensures

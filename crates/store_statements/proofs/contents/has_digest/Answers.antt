@@ -1,4 +1,4 @@
-use Rattle.std.proofs.Common.{◌∙◌, arith, refl}
+use Rattle.std.proofs.Common.{◌∙◌, refl}
 use Rattle.std.specs.Prelude.{Bool}
 use Rattle.sqlite.specs.State.{HasCleanDisk}
 use Rattle.sqlite.specs.Held.{state}
@@ -7,6 +7,7 @@ use Rattle.store_statements.proofs.Checks.{survives_here}
 use Rattle.store_statements.proofs.SettledAfter.{stays_read, stays_failed, is_memory}
 use Rattle.store_statements.proofs.Transactions.{survives_all}
 use Rattle.store_statements.proofs.ContentDigests.{told, other}
+use Rattle.store_statements.proofs.CleanBefore.{was_clean}
 use Rattle.store_statements.proofs.contents.has_digest.Goals as goal
 
 pub returns-in-Ok : goal.returns-in-Ok
@@ -26,7 +27,7 @@ returns-in-Err g c =
     record {
       found = λ clean is. tt;
       settled = λ clean is unspent.
-          let early : HasCleanDisk mid = omega (arith, c.checked_fault.ensures.survives.clean) in
+          let early : HasCleanDisk mid = was_clean c.checked_fault.ensures.survives clean in
           stays_failed old mid new is (c.in-Err.ensures.failed early is.holds.contents) (c.checked_fault.ensures.memory clean (is_memory Bool _ unspent));
       survives = survives_all old mid new _ _ c.is_hashed.ensures.lasts c.checked_fault.ensures.survives;
     }

@@ -1,16 +1,16 @@
-use Rattle.std.proofs.Common.{◌≡◌, ◌∙◌, ap, arith, rules, pos, to_z, w64, SFits, refl}
+use Rattle.std.proofs.Common.{◌≡◌, ◌∙◌, ap, rules, pos, to_z, w64, SFits, refl}
 use Rattle.std.specs.Prelude.{option_map, List, ℕ}
 use Rattle.std.specs.Borrow.{Bor}
-use Rattle.std.proofs.lemmas.Int.{ints, to_z-of_z}
+use Rattle.std.proofs.lemmas.Int.{to_z-of_z}
 use Rattle.sqlite.specs.Held.{state}
 use Rattle.sqlite.specs.declared.types.Value.TheVariants.{Int}
 use Rattle.store_statements.proofs.ManifestRows.{added_by, number_is, bound_text, subject_value}
-use Rattle.store_statements.proofs.Executed.{given, given_as, keeps, makes_from}
+use Rattle.store_statements.proofs.Executed.{given, given_as, keeps, makes_from, is_whole}
 use Rattle.store_statements.proofs.manifests.add_manifest_link.Goals as goal
 
 pub returns : goal.returns
 returns g c =
-    let whole : to_z w64 c.args.size ≡ pos c.args.size = omega (arith, ints) in
+    let whole : to_z w64 c.args.size ≡ pos c.args.size = is_whole c.args.size c.requires in
     let kind : SFits w64 c.from.result = search rules in
     let content : SFits w64 c.get.result = search rules in
     let subject = option_map (λ (t : Bor (List ℕ)). t.now) c.args.subject in

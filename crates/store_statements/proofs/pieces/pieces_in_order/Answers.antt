@@ -2,10 +2,9 @@ use Rattle.sqlite.specs.Held.{state}
 use Rattle.sqlite.specs.Order.{column}
 use Rattle.store_statements.specs.Held.{held}
 use Rattle.store_statements.proofs.ReadRows.{reads}
-use Rattle.store_statements.proofs.Executed.{given}
-use Rattle.std.proofs.Common.{◌≡◌, [], ◌∷◌, map, ◌∙◌, ap, arith, pos, to_z, w64, refl}
+use Rattle.store_statements.proofs.Executed.{given, is_whole}
+use Rattle.std.proofs.Common.{◌≡◌, [], ◌∷◌, map, ◌∙◌, ap, pos, to_z, w64, refl}
 use Rattle.store_statements.proofs.SelectedRows.{mapped}
-use Rattle.std.proofs.lemmas.Int.{ints}
 use Rattle.sqlite.specs.declared.types.Value.TheVariants.{Int}
 use Rattle.store_statements.specs.World.{pieces_of}
 use Rattle.store_statements.specs.Shown.{content_named}
@@ -16,7 +15,7 @@ pub returns : goal.returns
 returns g c =
     let old = state g.S.Store c.args.conn.now in
     let new = state g.S.Store c.query_all-shown.new.self in
-    let whole : to_z w64 c.args.number ≡ pos c.args.number = omega (arith, ints) in
+    let whole : to_z w64 c.args.number ≡ pos c.args.number = is_whole c.args.number c.requires.fits in
     let xs = pieces_of (held old).pieces c.args.repo.now c.args.number in
     let it = reads g.S.Store c.args.conn.now c.query_all-shown.new.self c.checked.new.conn _ _ c.query_all-shown.result c.query_all-shown.ensures.ok c.query_all-shown.ensures.err
     (λ rows ids. ids.items ≡ map (content_named 0) rows) c.all-found.result c.checked.result c.all-found.ensures c.checked.ensures.told

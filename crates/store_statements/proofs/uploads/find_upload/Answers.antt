@@ -2,12 +2,11 @@ use Rattle.sqlite.specs.Held.{state}
 use Rattle.sqlite.specs.Order.{column}
 use Rattle.store_statements.specs.Held.{held}
 use Rattle.store_statements.proofs.ReadRows.{reads}
-use Rattle.store_statements.proofs.Executed.{given}
-use Rattle.std.proofs.Common.{◌≡◌, ◌∙◌, [], ◌∷◌, find, map, slice_get, refl, ap, arith, pos, to_z, w64}
+use Rattle.store_statements.proofs.Executed.{given, is_whole}
+use Rattle.std.proofs.Common.{◌≡◌, ◌∙◌, [], ◌∷◌, find, map, slice_get, refl, ap, pos, to_z, w64}
 use Rattle.std.specs.Prelude.{option_map}
 use Rattle.std.specs.Option.{option_to_list}
 use Rattle.store_statements.proofs.SelectedRows.{first_shown}
-use Rattle.std.proofs.lemmas.Int.{ints}
 use Rattle.sqlite.specs.declared.types.Value.TheVariants.{Int}
 use Rattle.store_schema.specs.Rows.{natural_at}
 use Rattle.store_statements.specs.Keys.{of_session}
@@ -18,7 +17,7 @@ pub returns : goal.returns
 returns g c =
     let old = state g.S.Store c.args.conn.now in
     let new = state g.S.Store c.query_all-shown.new.self in
-    let whole : to_z w64 c.args.number ≡ pos c.args.number = omega (arith, ints) in
+    let whole : to_z w64 c.args.number ≡ pos c.args.number = is_whole c.args.number c.requires.fits in
     let o = find (of_session c.args.repo.now c.args.number) (held old).uploads in
     let it = reads g.S.Store c.args.conn.now c.query_all-shown.new.self c.checked.new.conn _ _ c.query_all-shown.result c.query_all-shown.ensures.ok c.query_all-shown.ensures.err
     (λ rows o. o ≡ option_map (λ r. natural_at r 0) (slice_get rows 0)) c.first-found.result c.checked.result c.first-found.ensures c.checked.ensures.told

@@ -1,12 +1,13 @@
-use Rattle.std.proofs.Common.{◌≤◌, refl, ap}
+use Rattle.std.proofs.Common.{◌≤◌, inl, refl, ap}
 use Rattle.registry_server.specs.Shown.{coming_len}
 use Rattle.registry_server.specs.Open.{Slot}
 use Rattle.registry_server.specs.Slots.{slots_of}
-use Rattle.registry_server.proofs.PlaceLemmas.{stirred_on, within_found, moved_in, turned, turned_numbers}
+use Rattle.registry_server.specs.Showing.{connected}
+use Rattle.registry_server.proofs.PlaceLemmas.{stirred_on, idle_on, within_found, moved_in, turned, turned_numbers}
 use Rattle.registry_server.proofs.RoomLemmas.{within_turned}
 use Rattle.registry_server.proofs.SlotLemmas.{opened}
 use Rattle.registry_server.proofs.LifeLemmas.{turned_lives}
-use Rattle.registry_server.proofs.CallLemmas.{of_turn}
+use Rattle.registry_server.proofs.CallLemmas.{leads_none, of_turn}
 use Rattle.registry_server.proofs.connections.Connections.turn.Goals as goal
 
 pub invariant_of-self : goal.invariant_of-self
@@ -50,3 +51,14 @@ returns g c =
       };
       leads = of_turn c.answer_next-turn.result.number c.answer_next-turn.result.step _ _ _ _ took refl room;
     }
+
+pub returns-in_err-at : goal.returns-in_err-at
+returns-in_err-at g c =
+    rw c.from_residual.ensures
+    (record {
+      honest = λ honest. honest;
+      takes = tt;
+      idle = (refl, refl, inl (idle_on c.deref.result.now c.args.self.now.connections.items c.deref.ensures.value c.in_err-at.ensures.none));
+      lives = record { time = refl; all = λ n. refl };
+      leads = λ honest. leads_none (connected c.args.self.now) (g.K.Keeper.state c.args.service.now);
+    })

@@ -1,12 +1,13 @@
-use Rattle.std.proofs.Common.{◌∙◌, arith, inl, inr, refl, sym}
+use Rattle.std.proofs.Common.{◌∙◌, inl, inr, refl, sym}
 use Rattle.sqlite.specs.State.{HasCleanDisk}
 use Rattle.sqlite.specs.Held.{state}
 use Rattle.registry_model.proofs.ChangedMaps.{not_Some}
+use Rattle.store_statements.proofs.CleanBefore.{was_clean}
 use Rattle.registry_store.proofs.store.Store.adopt.Goals as goal
 
 pub invariant_of-result : goal.invariant_of-result
 invariant_of-result g c unspent ours clean =
-    let early : HasCleanDisk (state g.S.Store c.args.conn) = omega (arith, c.take_up.ensures.survives.clean) in
+    let early : HasCleanDisk (state g.S.Store c.args.conn) = was_clean c.take_up.ensures.survives clean in
     let known = c.requires.ours ours early in (
       elim known.1 [
         | inl bare ↦ (c.in-Ok.ensures.made clean bare).0
