@@ -49,7 +49,7 @@ demo:
 
 # Proves the program and everything below it, and leaves the executable as build/registry.
 build:
-	@echo 'Proves some 1,400 functions, from nothing the first time: one to two hours of a processor, on all there are side by side, and up to 8 GB of memory.' >&2
+	@echo 'Proves some 1,500 functions, from nothing the first time: one to two hours of a processor, on all there are side by side, and up to 8 GB of memory.' >&2
 	python3 check/build.py
 
 # The program unproved: a command, or for SECONDS_OF_TRY a server. Name files by whole paths.
