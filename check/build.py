@@ -160,9 +160,11 @@ def prove_all(crates, kit):
                 # (those that are ready share the processors that rest, what most others wait for first)
                 resting = most - sum(jobs for _, jobs in running.values())
                 jobs = min(2, max(1, -(-resting // (len(ready) - at))))
-                if len(left) < 3 or all(crate in it.all_below for it in left if it not in ready):
-                    # (processors will rest soon: all that wait wait for it, or few are left)
+                if len(left) > 1 and all(crate in it.all_below for it in left if it not in ready):
+                    # (processors will rest soon: all that wait wait for it)
                     jobs = min(2, most)
+                # (the program is alone)
+                jobs = most if crate.is_program else jobs
                 running[pool.submit(prove, crate, jobs, kit)] = crate, jobs
             for it in concurrent.futures.wait(running, return_when=concurrent.futures.FIRST_COMPLETED).done:
                 crate, _ = running.pop(it)

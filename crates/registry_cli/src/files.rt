@@ -1,6 +1,6 @@
 //! The program over database files.
-use registry_databases::{Databases, Supposed};
-use registry_program::run_in_files;
+use crate::databases::{Databases, Supposed};
+use crate::stored::run_in_files;
 use sqlite::FileFrom;
 use std::convert::AsStr;
 use std::io::{Read, Write};

@@ -1,7 +1,19 @@
-//! The program `registry`: the ends of the process, over databases in files.
+//! The program `registry`.
+//!
+//! `program::run_words` is what the words of a command line come to, over any opener of registries and with
+//! any ends for standard input, output and error; `stored::run_in_files` is that over databases in files.
+//! `databases::Databases` opens these: `specs/Databases.antt` says in which states it finds them, as far as
+//! the files return what was written. `main` gives them the ends of the process.
 #![tactic(auto)]
 
+mod beginning;
+mod databases;
 mod files;
+mod gathering;
+mod looking;
+mod program;
+mod progress;
+mod stored;
 
 use registry_orders::Failure;
 use registry_orders::failure::say;

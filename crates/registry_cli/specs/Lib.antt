@@ -1,2 +1,3 @@
 pub mod Together
 pub mod Running
+pub mod Databases

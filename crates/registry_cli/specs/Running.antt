@@ -16,7 +16,7 @@ use Rattle.registry_tasks.specs.Program.{IsUntouched, GivesUp, ServesMemory, Tel
 use Rattle.registry_tasks.specs.Sockets.{ServesAddress}
 use Rattle.registry_tasks.specs.Sending.{IsSent}
 use Rattle.registry_tasks.specs.Opened.{Opened, output_of, RunsAt, RunsTokenOrder, LacksTokenOf, RunsCheck, RunsStored, EndsMigration}
-use Rattle.registry_program.specs.Together.{serves_within}
+use Rattle.registry_cli.specs.Together.{serves_within}
 
 -- connections over sockets, over a registry that is opened
 abbrev pub RunsServer : Limits → Opened → ℕ → Output → Type 0

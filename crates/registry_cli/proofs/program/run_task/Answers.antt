@@ -2,8 +2,8 @@ use Rattle.std.proofs.Common.{inl, refl, arith, rules}
 use Rattle.registry_tasks.specs.Program.{streams}
 use Rattle.registry_tasks.specs.Stored.{OverAt}
 use Rattle.registry_tasks.proofs.ExitStatuses.{memory_read, untouched_memory}
-use Rattle.registry_program.proofs.EndedTasks.{order_spares}
-use Rattle.registry_program.proofs.program.run_task.Goals as goal
+use Rattle.registry_cli.proofs.EndedTasks.{order_spares}
+use Rattle.registry_cli.proofs.program.run_task.Goals as goal
 
 pub returns-in-Memory : goal.returns-in-Memory
 returns-in-Memory g c = record {

@@ -3,8 +3,8 @@ ghost use Rattle.registry_tasks.specs.Stored.{Over, OverAt};
 ghost use Rattle.registry_tasks.specs.Sockets.{ServesAddress};
 ghost use Rattle.registry_tasks.specs.Program.{streams};
 ghost use Rattle.registry_loop.specs.Together.{ServesTogether};
-ghost use Rattle.registry_program.specs.Together.{serves_within};
-ghost use Rattle.registry_program.specs.Running.{RunsServer, RunsWords, IsSparedFor, EndsTask, IsSparedBy};
+ghost use Rattle.registry_cli.specs.Together.{serves_within};
+ghost use Rattle.registry_cli.specs.Running.{RunsServer, RunsWords, IsSparedFor, EndsTask, IsSparedBy};
 ghost use Rattle.registry_orders.specs.Outputs.{output};
 
 use crate::gathering::serve_together;

@@ -1,7 +1,7 @@
 use Rattle.std.proofs.Common.{Err, rules}
 use Rattle.registry_orders.specs.declared.failure.Failure.TheVariants.{ConnectionFailure}
 use Rattle.registry_tasks.proofs.ExitStatuses.{serving_of_opening, opening_status}
-use Rattle.registry_program.proofs.program.run_server.Goals as goal
+use Rattle.registry_cli.proofs.program.run_server.Goals as goal
 
 pub returns-in-Err : goal.returns-in-Err
 returns-in-Err g c = record {

@@ -9,7 +9,7 @@ use Rattle.registry_orders.specs.Outputs.{Output}
 use Rattle.registry_loop.specs.Together.{ServesTogether}
 use Rattle.registry_tasks.specs.Stored.{Over}
 use Rattle.registry_tasks.specs.Sockets.{ServesSome, ServesAddress}
-use Rattle.registry_program.specs.Together.{serves_within}
+use Rattle.registry_cli.specs.Together.{serves_within}
 
 pub serves_as : {K : Type 0} (is_honest : K → Type 0) (state : K → State) (opens : State → Type 0) (S S' : State → State → Type 0)
     → ((s s' : State) → S s s' → S' s s') → (r : Result (Unit {0}) Failure) (o : Output)

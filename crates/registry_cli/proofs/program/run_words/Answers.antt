@@ -2,8 +2,8 @@ use Rattle.std.proofs.Common.{inl, inr, map, refl, arith, rules}
 use Rattle.registry_orders.specs.declared.failure.Failure.TheVariants.{InvalidOptions}
 use Rattle.registry_tasks.specs.Stored.{OverAt}
 use Rattle.registry_tasks.proofs.ExitStatuses.{untouched_telling}
-use Rattle.registry_program.proofs.EndedTasks.{task_runs, task_spares}
-use Rattle.registry_program.proofs.program.run_words.Goals as goal
+use Rattle.registry_cli.proofs.EndedTasks.{task_runs, task_spares}
+use Rattle.registry_cli.proofs.program.run_words.Goals as goal
 
 pub returns-in-Ok : goal.returns-in-Ok
 returns-in-Ok g c = record {

@@ -11,7 +11,7 @@ use Rattle.registry_orders.specs.Outputs.{IsSilent}
 use Rattle.registry_orders.specs.Tasks.{IsTask}
 use Rattle.registry_server.specs.Accepting.{Streams}
 use Rattle.registry_tasks.specs.Opened.{Opened, output_of, RunsTokenOrder, LacksTokenOf}
-use Rattle.registry_program.specs.Running.{RunsWords, IsSparedFor, EndsTask, IsSparedBy}
+use Rattle.registry_cli.specs.Running.{RunsWords, IsSparedFor, EndsTask, IsSparedBy}
 
 pub task_runs : (at : Text → Opened) (words : List Text) (task : Task) (status : ℕ) (e : Streams)
     → IsTask words task → EndsTask at task status e → RunsWords at words status e

@@ -1,5 +1,5 @@
-use Rattle.registry_program.proofs.TogetherLemmas.{serves_as, alone, many}
-use Rattle.registry_program.proofs.program.serve_taken.Goals as goal
+use Rattle.registry_cli.proofs.TogetherLemmas.{serves_as, alone, many}
+use Rattle.registry_cli.proofs.program.serve_taken.Goals as goal
 
 pub returns-then-serving-eq1 : goal.returns-then-serving-eq1
 returns-then-serving-eq1 g c =

@@ -1,8 +1,9 @@
 //! Registries that lie in database files.
 ghost use Rattle.registry_orders.specs.Failures.{IsOfOpening};
 
+use crate::beginning::begin;
+use crate::looking::cause_at;
 use crate::progress::{Progress, show_looked_at};
-use crate::{begin, cause_at};
 use registry_checking::{Opener, Watch};
 use registry_model::Keeper;
 use registry_orders::{Cause, Failure};
@@ -77,7 +78,7 @@ impl<F: Supposed> Watch for Databases<'_, F> {
 impl<F: Supposed> Opener<Store<FileStore<FileFrom<F>>>> for Databases<'_, F> {
     ghost use Rattle.registry_model.specs.Keeping.{State};
     ghost use Rattle.sqlite.specs.WalFiles.{image_at};
-    ghost use Rattle.registry_databases.specs.Databases.{MayOpen};
+    ghost use Rattle.registry_cli.specs.Databases.{MayOpen};
 
     ghost opens = { λ _ _ s. MayOpen (image_at F.Start) s };
 

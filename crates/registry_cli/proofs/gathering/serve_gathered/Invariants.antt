@@ -1,4 +1,4 @@
-use Rattle.registry_program.proofs.gathering.serve_gathered.Given as goal
+use Rattle.registry_cli.proofs.gathering.serve_gathered.Given as goal
 
 -- the registry was just opened
 abbrev pub invariant-loop : goal.invariant-loop

@@ -1,7 +1,7 @@
 use Rattle.std.proofs.Common.{sym, subst}
 use Rattle.registry_loop.proofs.TogetherLemmas.{together_none}
-use Rattle.registry_program.proofs.TogetherLemmas.{opened_again}
-use Rattle.registry_program.proofs.gathering.serve_gathered.Goals as goal
+use Rattle.registry_cli.proofs.TogetherLemmas.{opened_again}
+use Rattle.registry_cli.proofs.gathering.serve_gathered.Goals as goal
 
 pub returns-in-Ok-true-clause-served : goal.returns-in-Ok-true-clause-served
 returns-in-Ok-true-clause-served g c = record {

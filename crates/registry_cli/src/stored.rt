@@ -4,7 +4,7 @@ ghost use Rattle.std.specs.Prelude.{◌<◌, ◌≤◌, true, map};
 ghost use Rattle.sqlite.specs.Files.{over_files};
 ghost use Rattle.registry_tasks.specs.Program.{streams};
 ghost use Rattle.registry_tasks.specs.Stored.{OverAt};
-ghost use Rattle.registry_program.specs.Running.{RunsWords, IsSparedFor};
+ghost use Rattle.registry_cli.specs.Running.{RunsWords, IsSparedFor};
 ghost use Rattle.registry_store.specs.Kept.{IsHonest, shown};
 
 use crate::program::run_words;
