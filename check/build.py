@@ -163,8 +163,8 @@ def prove_all(crates, kit):
                 if len(left) > 1 and all(crate in it.all_below for it in left if it not in ready):
                     # (processors will rest soon: all that wait wait for it)
                     jobs = min(2, most)
-                # (the program is alone)
-                jobs = most if crate.is_program else jobs
+                # (the program is alone; more than four were not measured)
+                jobs = min(4, most) if crate.is_program else jobs
                 running[pool.submit(prove, crate, jobs, kit)] = crate, jobs
             for it in concurrent.futures.wait(running, return_when=concurrent.futures.FIRST_COMPLETED).done:
                 crate, _ = running.pop(it)
