@@ -1,5 +1,5 @@
 -- Blobs in a repository that is there.
-use Rattle.std.proofs.Common.{◌≡◌, ◌∙◌, ℕ, ◌<◌, ◌≤◌, arith, Bool, true, false, not, cond, None, Some, refl, sym, ap, subst}
+use Rattle.std.proofs.Common.{◌≡◌, ◌∙◌, ℕ, ◌≤◌, arith, Bool, true, false, not, cond, None, Some, refl, sym, ap, subst}
 use Rattle.std.proofs.lemmas.Bool.Decides.{nat_tests}
 use Rattle.std.specs.Prelude.{Result, Option, option_map, is_some, length, nat_lt, ◌&&◌}
 use Rattle.std.specs.Option.{option_and_then}
@@ -18,7 +18,7 @@ use Rattle.registry_model.specs.World.{Repo, World, repo_at, has_repo, update_re
 use Rattle.std.specs.Option.{option_map_or}
 use Rattle.registry_model.specs.Answer.{Answer, refused, bare_answer}
 use Rattle.registry_model.specs.Decision.{Decision, refuses, tells, makes, within_quota}
-use Rattle.registry_model.specs.Blobs.{blob_named, found_blob, found_size, read_blob, size_blob, delete_blob, without_blob, can_verify, with_blob, created_blob, push_blob}
+use Rattle.registry_model.specs.Blobs.{blob_named, found_blob, found_size, read_blob, size_blob, delete_blob, without_blob, with_blob, created_blob, push_blob}
 use Rattle.registry_model.specs.Lookups.{blob_at, blob_size_at}
 use Rattle.registry_model.specs.Lookups as lookups
 use Rattle.registry_model.specs.Keeping.{State}

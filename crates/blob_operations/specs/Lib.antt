@@ -1,4 +1,3 @@
 pub mod Uploads
 pub mod Mounting
-pub mod Early
 pub mod Pushing

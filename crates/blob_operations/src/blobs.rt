@@ -7,9 +7,9 @@ ghost use Rattle.registry_model.specs.Keeping.{Spends};
 ghost use Rattle.operation_parts.specs.Operating.{Operates, IsUnspent, HasRepo, Answers, Carries};
 ghost use Rattle.blob_operations.specs.Pushing.{push_refusal};
 
-use crate::early::{after, found_or, within_quota};
 use oci_types::{Digest, Fault, RepoName, Verdict};
 use operation_parts::digests::read_digest;
+use operation_parts::early::{after, found_or, within_quota};
 use operation_parts::quota::blob_goes_over;
 use operation_parts::replies::{blob_location, created_blob, found};
 use registry_model::{Body, Keeper, LARGEST_BLOB, Refusal, Reply, Status};

@@ -5,7 +5,6 @@
 #![tactic(auto)]
 
 pub mod blobs;
-mod early;
 pub mod mounting;
 pub mod session_close;
 pub mod uploads;

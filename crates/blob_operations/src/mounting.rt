@@ -10,10 +10,10 @@ ghost use Rattle.operation_parts.specs.Operating.{IsUnspent, HasRepo, Answers, C
 ghost use Rattle.blob_operations.specs.Mounting.{source_at};
 ghost use Rattle.operation_parts.specs.Finding.{Finds};
 
-use crate::early::{after, found_or, within_quota};
 use crate::uploads::open_session;
 use oci_types::{Digest, Fault, NameFault, RepoName, Token};
 use operation_parts::digests::read_digest;
+use operation_parts::early::{after, found_or, within_quota};
 use operation_parts::quota::blob_goes_over;
 use operation_parts::replies::{blob_location, created_blob};
 use registry_model::{Keeper, Refusal, Reply};

@@ -10,10 +10,10 @@ ghost use Rattle.registry_model.specs.Sessions.{last_range_verdict};
 ghost use Rattle.operation_parts.specs.Operating.{Operates, IsUnspent, HasRepo, Answers, Carries};
 ghost use Rattle.blob_operations.specs.Uploads.{bytes_so_far, finish_with, given_digest, IsOpen};
 
-use crate::early::{after, found_or, within_quota};
 use crate::uploads::{Upload, chunk_refusal, find_upload};
 use oci_types::{Digest, Fault, RepoName};
 use operation_parts::digests::{has_digest, verifiable_digest};
+use operation_parts::early::{after, found_or, within_quota};
 use operation_parts::quota::blob_goes_over;
 use operation_parts::replies::{blob_location, created_blob};
 use registry_model::{Keeper, LARGEST_BLOB, RangeVerdict, Refusal, Reply, range_fits};

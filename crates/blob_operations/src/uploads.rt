@@ -11,8 +11,8 @@ ghost use Rattle.operation_parts.specs.Operating.{Operates, IsUnspent, HasRepo, 
 ghost use Rattle.blob_operations.specs.Uploads.{upload_at, next_number_at, chunk_refusal, append_more, IsOpen};
 ghost use Rattle.operation_parts.specs.Finding.{Finds};
 
-use crate::early::{after, found_or, within_quota};
 use oci_types::{Fault, RepoName, session_number};
+use operation_parts::early::{after, found_or, within_quota};
 use operation_parts::quota::goes_over;
 use operation_parts::replies::{out_of_order, session_reply};
 use registry_model::{

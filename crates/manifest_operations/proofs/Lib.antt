@@ -1,5 +1,4 @@
-pub mod FailedReads
-pub mod EarlyLemmas
+pub mod SayingLemmas
 pub mod ManifestLemmas
 pub mod PushLemmas
 pub mod ListingLemmas

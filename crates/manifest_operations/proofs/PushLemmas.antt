@@ -35,7 +35,7 @@ use Rattle.manifest_operations.specs.Push.{has_needs_at, kept_answer, keep_manif
 use Rattle.operation_parts.proofs.RepoOutcomes.{there_is, Done, told, made}
 use Rattle.manifest_operations.proofs.ManifestLemmas.{digest_is_no_tag, no_reference_is_no_tag, no_reference_is_no_digest}
 use Rattle.operation_parts.proofs.DigestLemmas.{and_false}
-use Rattle.manifest_operations.proofs.EarlyLemmas.{refusal_answers}
+use Rattle.manifest_operations.proofs.SayingLemmas.{refusal_answers}
 use Rattle.operation_parts.proofs.QuotaLemmas.{manifest_over}
 
 -- ---- what is needed

@@ -1,4 +1,4 @@
 pub mod Push
 pub mod Listing
 pub mod Pruning
-pub mod Early
+pub mod Saying

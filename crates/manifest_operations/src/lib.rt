@@ -3,7 +3,6 @@
 #![tactic(auto)]
 
 mod content_type;
-mod early;
 pub mod listing;
 pub mod manifest_push;
 pub mod manifests;

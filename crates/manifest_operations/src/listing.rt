@@ -11,10 +11,10 @@ ghost use Rattle.oci_types.specs.Referrers.{referrer_shown, referrers_shown};
 ghost use Rattle.operation_parts.specs.Operating.{Operates, IsUnspent, HasRepo, Answers, Carries};
 ghost use Rattle.manifest_operations.specs.Listing.{lets_through, added_by, wanted_of, manifests_reply};
 
-use crate::early::found_or;
 use oci_documents::{read_manifest, referrers_text, tags_text};
 use oci_types::{Digest, Fault, Kind, Manifest, ManifestFault, Referrer, RepoName, Tag};
 use operation_parts::digests::read_digest;
+use operation_parts::early::found_or;
 use registry_model::numbers::number;
 use registry_model::{Body, Keeper, Refusal, Reply, Status, page_link};
 use std::alloc::Global;

@@ -9,7 +9,7 @@ ghost use Rattle.registry_model.specs.Ask.{text_in};
 ghost use Rattle.registry_model.specs.Keeping.{Spends};
 ghost use Rattle.registry_model.specs.Manifests.{push_manifest};
 ghost use Rattle.operation_parts.specs.Operating.{Operates, IsUnspent, HasRepo, Answers, Carries};
-ghost use Rattle.manifest_operations.specs.Early.{Says};
+ghost use Rattle.manifest_operations.specs.Saying.{Says};
 ghost use Rattle.manifest_operations.specs.Push.{has_needs_at, push_typed, kept_answer, Keeps, push_under, push_checked};
 ghost use Rattle.operation_parts.specs.Finding.{Finds};
 

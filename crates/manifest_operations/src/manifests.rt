@@ -6,8 +6,8 @@ ghost use Rattle.registry_model.specs.Manifests.{reference_digest, read_manifest
 ghost use Rattle.operation_parts.specs.Operating.{Operates, IsUnspent, HasRepo, Answers, Carries};
 ghost use Rattle.operation_parts.specs.Finding.{FindsIn};
 
-use crate::early::{after, found_or};
 use oci_types::{Digest, Fault, NameFault, Reference, RepoName, Tag};
+use operation_parts::early::{after, found_or};
 use operation_parts::replies::found;
 use registry_model::{Body, Keeper, Refusal, Reply, Status};
 use std::alloc::Global;

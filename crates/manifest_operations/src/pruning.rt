@@ -2,10 +2,9 @@
 
 ghost use Rattle.std.specs.Prelude.{◌≡◌, ◌||◌, true, false, not, filter, IfErr, OnOk, MatchResult};
 ghost use Rattle.oci_types.specs.Text.{Text};
-ghost use Rattle.registry_model.specs.World.{has_repo};
+ghost use Rattle.registry_model.specs.World.{has_repo, World};
 ghost use Rattle.registry_model.specs.Keeping.{ReadsBy, Writes, Spends, digests_shown};
 ghost use Rattle.registry_model.specs.Pruning.{names_in, is_among, prune, delete_blobs};
-ghost use Rattle.registry_model.specs.World.{World};
 ghost use Rattle.manifest_operations.specs.Pruning.{names_at, is_named_at, unnamed_at, has};
 
 use oci_documents::read_manifest;

@@ -1,11 +1,14 @@
 -- What reading a digest tells of the text.
-use Rattle.std.proofs.Common.{◌≡◌, ◌∙◌, Bool, true, false, cond, ◌&&◌, None, Some, refl, sym, ap}
-use Rattle.std.specs.Prelude.{Option}
+use Rattle.std.proofs.Common.{◌≡◌, ◌∙◌, Bool, true, false, cond, ◌&&◌, None, Some, Ok, refl, sym, ap}
+use Rattle.std.specs.Prelude.{Option, Result, MatchResult}
 use Rattle.oci_types.specs.Text.{Text}
 use Rattle.oci_types.specs.Digest.{is_digest, is_verified}
+use Rattle.oci_types.specs.declared.fault.Fault.{Fault}
+use Rattle.oci_types.specs.declared.fault.Fault.TheVariants.{Memory}
 use Rattle.oci_types.specs.declared.digest.Verdict.TheVariants.{Matches, Differs, Unsupported}
 use Rattle.registry_model.specs.Blobs.{can_verify}
 use Rattle.operation_parts.specs.Digests.{digest_in, verifiable_in}
+use Rattle.operation_parts.proofs.ReadLemmas.{text_read}
 
 pub some_by : (d text : Text) (b : Bool) → Some d ≡ cond b (Some text) None → (b ≡ true) × (d ≡ text)
 some_by d text true e = (refl, let h : d ≡ text = cc in h)
@@ -69,3 +72,10 @@ pub unverifiable : (o : Option Text) (d text : Text) → o ≡ Some d → o ≡ 
 unverifiable o d text is e v =
     let n : is_verified text ≡ false = ap is_verified (sym (digest_found o d text is e).0) ∙ v in
     sym (ap (λ b. cond (is_digest text && b) (Some text) None) n ∙ ap (λ b. cond b (Some text) None) (and_false (is_digest text)))
+
+-- the digest that was looked for, if the text is one
+pub digest_read : (r : Result (Option Text) Fault) (d text : Text) → r ≡ Ok (Some d) → MatchResult r (λ o. o ≡ digest_in text) (λ f. f ≡ Memory) → (d ≡ text) × (is_digest text ≡ true)
+digest_read r d text is h = digest_found (Some d) d text refl (text_read r (Some d) (digest_in text) is h)
+
+pub no_digest : (text : Text) (o : Option Text) → o ≡ None → o ≡ digest_in text → is_digest text ≡ false
+no_digest text o none e = none_by text (is_digest text) (sym none ∙ e)

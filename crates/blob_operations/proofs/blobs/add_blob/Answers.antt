@@ -5,7 +5,8 @@ use Rattle.registry_model.specs.Keeping.{State}
 use Rattle.registry_model.specs.Lookups as lookups
 use Rattle.operation_parts.specs.Quota.{blob_grows_over}
 use Rattle.blob_operations.proofs.BlobLemmas.{adds, adds_over}
-use Rattle.blob_operations.proofs.EarlyLemmas.{told_this, kept_on, still_there, refused_early, wrote, after_it}
+use Rattle.operation_parts.proofs.ReadLemmas.{told_this, kept_on, still_there}
+use Rattle.operation_parts.proofs.EarlyLemmas.{refused_early, wrote, after_it}
 use Rattle.blob_operations.proofs.blobs.add_blob.Goals as goal
 
 pub returns-in-Err : goal.returns-in-Err

@@ -10,7 +10,9 @@ use Rattle.registry_model.specs.Lookups.{blob_size_at}
 use Rattle.registry_model.specs.Lookups as lookups
 use Rattle.operation_parts.specs.Digests.{digest_in}
 use Rattle.blob_operations.proofs.BlobLemmas.{deletes_invalid, deletes_absent, deletes, sized_there}
-use Rattle.blob_operations.proofs.EarlyLemmas.{text_told, told_this, kept_on, digest_read, no_digest, refused_early, wrote, after_it}
+use Rattle.operation_parts.proofs.ReadLemmas.{text_told, told_this}
+use Rattle.operation_parts.proofs.DigestLemmas.{digest_read, no_digest}
+use Rattle.operation_parts.proofs.EarlyLemmas.{refused_early, wrote, after_it}
 use Rattle.blob_operations.proofs.blobs.delete_blob.Goals as goal
 
 pub returns-in-Err : goal.returns-in-Err

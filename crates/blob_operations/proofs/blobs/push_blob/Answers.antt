@@ -1,4 +1,4 @@
-use Rattle.std.proofs.Common.{◌≡◌, ◌∙◌, refl, sym, ap, None, Some}
+use Rattle.std.proofs.Common.{◌≡◌, ◌∙◌, refl, sym, ap, None}
 use Rattle.std.specs.Prelude.{Option, length, nat_lt}
 use Rattle.oci_types.specs.Text.{Text}
 use Rattle.oci_types.specs.Digest.{verdict_of}
@@ -10,7 +10,9 @@ use Rattle.registry_model.specs.Limits.{largest_blob}
 use Rattle.operation_parts.specs.Digests.{digest_in}
 use Rattle.blob_operations.specs.Pushing.{push_refusal}
 use Rattle.blob_operations.proofs.BlobLemmas.{pushes_invalid, pushes_refused, push_added, may_push, refusal_answers}
-use Rattle.blob_operations.proofs.EarlyLemmas.{text_told, digest_read, no_digest, refused_early}
+use Rattle.operation_parts.proofs.ReadLemmas.{text_told}
+use Rattle.operation_parts.proofs.DigestLemmas.{digest_read, no_digest}
+use Rattle.operation_parts.proofs.EarlyLemmas.{refused_early}
 use Rattle.blob_operations.proofs.blobs.push_blob.Goals as goal
 
 pub returns-in-Err : goal.returns-in-Err

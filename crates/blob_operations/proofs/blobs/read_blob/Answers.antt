@@ -10,7 +10,9 @@ use Rattle.registry_model.specs.Keeping.{bytes_in}
 use Rattle.registry_model.specs.Lookups.{blob_at}
 use Rattle.operation_parts.specs.Digests.{digest_in}
 use Rattle.blob_operations.proofs.BlobLemmas.{reads, reads_nothing}
-use Rattle.blob_operations.proofs.EarlyLemmas.{text_told, told_this, kept_on, digest_read, no_digest, refused_early}
+use Rattle.operation_parts.proofs.ReadLemmas.{text_told, told_this, kept_on}
+use Rattle.operation_parts.proofs.DigestLemmas.{digest_read, no_digest}
+use Rattle.operation_parts.proofs.EarlyLemmas.{refused_early}
 use Rattle.blob_operations.proofs.blobs.read_blob.Goals as goal
 
 pub returns-in-Err : goal.returns-in-Err

@@ -4,7 +4,7 @@ use Rattle.registry_model.specs.declared.level.Level.{Level}
 use Rattle.registry_model.specs.Ask.{text_in}
 use Rattle.blob_operations.specs.Mounting.{source_at}
 use Rattle.blob_operations.specs.declared.mounting.Source.{Source}
-use Rattle.blob_operations.proofs.EarlyLemmas.{read_failed, read_failed_later}
+use Rattle.operation_parts.proofs.ReadLemmas.{read_failed, read_failed_later}
 use Rattle.blob_operations.proofs.mounting.find_source.Goals as goal
 
 pub returns-in-Memory : goal.returns-in-Memory

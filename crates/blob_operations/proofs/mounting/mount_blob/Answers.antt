@@ -11,7 +11,9 @@ use Rattle.registry_model.specs.declared.refusal.Refusal.TheVariants.{InvalidDig
 use Rattle.operation_parts.specs.Digests.{digest_in}
 use Rattle.operation_parts.proofs.FailedCalls.{read_failed}
 use Rattle.operation_parts.proofs.RepoOutcomes.{there_is, told, same_act, spends_after}
-use Rattle.blob_operations.proofs.EarlyLemmas.{text_told, digest_read, no_digest, refused_early}
+use Rattle.operation_parts.proofs.ReadLemmas.{text_told}
+use Rattle.operation_parts.proofs.DigestLemmas.{digest_read, no_digest}
+use Rattle.operation_parts.proofs.EarlyLemmas.{refused_early}
 use Rattle.blob_operations.proofs.MountLemmas.{source_has, invalid_mount, opens_instead, mounts_from}
 use Rattle.blob_operations.proofs.mounting.mount_blob.Goals as goal
 

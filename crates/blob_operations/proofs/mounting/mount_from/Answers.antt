@@ -10,7 +10,8 @@ use Rattle.operation_parts.specs.Quota.{blob_grows_over}
 use Rattle.operation_parts.proofs.RepoOutcomes.{there_is, told, made}
 use Rattle.blob_operations.proofs.BlobLemmas.{sized_there}
 use Rattle.blob_operations.proofs.MountLemmas.{mount_refused, mount_taken}
-use Rattle.blob_operations.proofs.EarlyLemmas.{told_this, kept_on, still_there, refused_early, wrote, after_it}
+use Rattle.operation_parts.proofs.ReadLemmas.{told_this, kept_on, still_there}
+use Rattle.operation_parts.proofs.EarlyLemmas.{refused_early, wrote, after_it}
 use Rattle.blob_operations.proofs.mounting.mount_from.Goals as goal
 
 pub returns-in-Err : goal.returns-in-Err

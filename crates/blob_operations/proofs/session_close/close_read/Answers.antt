@@ -1,5 +1,4 @@
-use Rattle.std.proofs.Common.{◌≡◌, ◌∙◌, ◌++◌, length, None, Some, refl, sym, ap, subst, rules}
-use Rattle.std.specs.Prelude.{Option}
+use Rattle.std.proofs.Common.{◌≡◌, ◌∙◌, ◌++◌, None, Some, refl, sym, ap, subst, rules}
 use Rattle.registry_model.specs.declared.refusal.Refusal.TheVariants.{UploadUnknown}
 use Rattle.registry_model.specs.Keeping.{State, bytes_in}
 use Rattle.registry_model.specs.Lookups.{session_at, session_size_at}
@@ -7,7 +6,8 @@ use Rattle.operation_parts.proofs.RepoOutcomes.{same_act, spends_after}
 use Rattle.blob_operations.specs.Uploads.{bytes_so_far, finish_with}
 use Rattle.blob_operations.proofs.UploadLemmas.{found_session, open_held, held_fits}
 use Rattle.blob_operations.proofs.SessionCloseLemmas.{held_so_far}
-use Rattle.blob_operations.proofs.EarlyLemmas.{told_this, kept_on, refused_early}
+use Rattle.operation_parts.proofs.ReadLemmas.{told_this, kept_on}
+use Rattle.operation_parts.proofs.EarlyLemmas.{refused_early}
 use Rattle.blob_operations.proofs.session_close.close_read.Goals as goal
 
 pub returns-in-Err : goal.returns-in-Err

@@ -10,7 +10,8 @@ use Rattle.blob_operations.specs.Uploads.{upload_at, given_digest}
 use Rattle.blob_operations.specs.declared.uploads.Upload.{Upload}
 use Rattle.blob_operations.proofs.UploadLemmas.{upload_is, chunk_fits, refusal_sent}
 use Rattle.blob_operations.proofs.SessionCloseLemmas.{given_is, ends_unknown, ends_ungiven, ends_refused, ends_taken}
-use Rattle.blob_operations.proofs.EarlyLemmas.{text_told, told_this, told_later, kept_on, text_read, refused_early}
+use Rattle.operation_parts.proofs.ReadLemmas.{text_told, told_this, told_later, kept_on, text_read}
+use Rattle.operation_parts.proofs.EarlyLemmas.{refused_early}
 use Rattle.blob_operations.proofs.session_close.close_session.Goals as goal
 
 pub returns-in-Err : goal.returns-in-Err

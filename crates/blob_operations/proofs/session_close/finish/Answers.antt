@@ -11,7 +11,8 @@ use Rattle.operation_parts.proofs.RepoOutcomes.{told, made}
 use Rattle.blob_operations.specs.Uploads.{finish_with}
 use Rattle.blob_operations.proofs.UploadLemmas.{found_session, open_there}
 use Rattle.blob_operations.proofs.SessionCloseLemmas.{finish_refused, finish_taken}
-use Rattle.blob_operations.proofs.EarlyLemmas.{told_this, kept_on, refused_early, wrote, after_it}
+use Rattle.operation_parts.proofs.ReadLemmas.{told_this, kept_on}
+use Rattle.operation_parts.proofs.EarlyLemmas.{refused_early, wrote, after_it}
 use Rattle.blob_operations.proofs.session_close.finish.Goals as goal
 
 pub returns-then-length-gt-LARGEST_BLOB-clause-spends : goal.returns-then-length-gt-LARGEST_BLOB-clause-spends

@@ -10,7 +10,8 @@ use Rattle.operation_parts.specs.Quota.{grows_over_at}
 use Rattle.operation_parts.proofs.RepoOutcomes.{told, made}
 use Rattle.blob_operations.specs.Uploads.{bytes_so_far, append_more}
 use Rattle.blob_operations.proofs.UploadLemmas.{found_session, append_refused, append_taken, open_there, open_fits}
-use Rattle.blob_operations.proofs.EarlyLemmas.{told_this, kept_on, refused_early, wrote, after_it}
+use Rattle.operation_parts.proofs.ReadLemmas.{told_this, kept_on}
+use Rattle.operation_parts.proofs.EarlyLemmas.{refused_early, wrote, after_it}
 use Rattle.blob_operations.proofs.uploads.append.Goals as goal
 
 pub returns-in-Err : goal.returns-in-Err

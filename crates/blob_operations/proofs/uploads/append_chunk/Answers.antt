@@ -8,7 +8,8 @@ use Rattle.blob_operations.specs.Uploads.{upload_at, append_more}
 use Rattle.blob_operations.specs.declared.uploads.Upload.{Upload}
 use Rattle.operation_parts.proofs.RepoOutcomes.{told, same_act, spends_after}
 use Rattle.blob_operations.proofs.UploadLemmas.{found_session, upload_is, chunk_fits, refusal_sent, patch_unknown, patch_refused, patch_taken}
-use Rattle.blob_operations.proofs.EarlyLemmas.{told_this, kept_on, refused_early}
+use Rattle.operation_parts.proofs.ReadLemmas.{told_this, kept_on}
+use Rattle.operation_parts.proofs.EarlyLemmas.{refused_early}
 use Rattle.blob_operations.proofs.uploads.append_chunk.Goals as goal
 
 pub returns-in-Err : goal.returns-in-Err

@@ -3,7 +3,7 @@ use Rattle.std.specs.Prelude.{Option}
 use Rattle.blob_operations.specs.Uploads.{upload_at}
 use Rattle.blob_operations.specs.declared.uploads.Upload.{Upload}
 use Rattle.blob_operations.proofs.UploadLemmas.{none_in, no_upload, upload_by}
-use Rattle.blob_operations.proofs.EarlyLemmas.{read_failed}
+use Rattle.operation_parts.proofs.ReadLemmas.{read_failed}
 use Rattle.blob_operations.proofs.uploads.find_upload.Goals as goal
 
 pub returns-in_default : goal.returns-in_default

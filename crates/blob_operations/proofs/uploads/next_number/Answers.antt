@@ -1,7 +1,7 @@
 use Rattle.std.proofs.Common.{ℕ}
 use Rattle.std.specs.Prelude.{Option}
 use Rattle.blob_operations.specs.Uploads.{next_number_at}
-use Rattle.blob_operations.proofs.EarlyLemmas.{read_failed, read_failed_later}
+use Rattle.operation_parts.proofs.ReadLemmas.{read_failed, read_failed_later}
 use Rattle.blob_operations.proofs.uploads.next_number.Goals as goal
 
 pub returns-in_err-open : goal.returns-in_err-open

@@ -1,4 +1,4 @@
-use Rattle.std.proofs.Common.{◌≡◌, ◌∙◌, ℕ, false, ap, sym, refl, None, Some}
+use Rattle.std.proofs.Common.{◌≡◌, ◌∙◌, ℕ, ap, sym, refl, None, Some}
 use Rattle.std.specs.Prelude.{Option}
 use Rattle.registry_model.specs.declared.refusal.Refusal.TheVariants.{TooManyUploads}
 use Rattle.registry_model.specs.Answer.{Answer}
@@ -7,7 +7,8 @@ use Rattle.registry_model.specs.Heads.{is_sent}
 use Rattle.registry_model.specs.Lookups as lookups
 use Rattle.blob_operations.specs.Uploads.{next_number_at}
 use Rattle.blob_operations.proofs.UploadLemmas.{opens_none, opens_next, next_fits}
-use Rattle.blob_operations.proofs.EarlyLemmas.{told_this, kept_on, still_there, refused_early, wrote, after_it, written_by}
+use Rattle.operation_parts.proofs.ReadLemmas.{told_this, kept_on, still_there}
+use Rattle.operation_parts.proofs.EarlyLemmas.{refused_early, wrote, after_it, written_by}
 use Rattle.blob_operations.proofs.uploads.open_session.Goals as goal
 
 pub returns-in-Err : goal.returns-in-Err

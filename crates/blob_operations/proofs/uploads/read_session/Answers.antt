@@ -7,7 +7,8 @@ use Rattle.registry_model.specs.Heads.{is_sent}
 use Rattle.blob_operations.specs.Uploads.{upload_at}
 use Rattle.blob_operations.specs.declared.uploads.Upload.{Upload}
 use Rattle.blob_operations.proofs.UploadLemmas.{status_unknown, status_of}
-use Rattle.blob_operations.proofs.EarlyLemmas.{told_this, kept_on, refused_early}
+use Rattle.operation_parts.proofs.ReadLemmas.{told_this, kept_on}
+use Rattle.operation_parts.proofs.EarlyLemmas.{refused_early}
 use Rattle.blob_operations.proofs.uploads.read_session.Goals as goal
 
 pub returns-in-Err : goal.returns-in-Err

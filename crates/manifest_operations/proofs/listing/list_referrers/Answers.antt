@@ -1,4 +1,4 @@
-use Rattle.std.proofs.Common.{◌≡◌, None, Some, Ok, refl}
+use Rattle.std.proofs.Common.{◌≡◌, None, Some, refl}
 use Rattle.std.specs.Prelude.{Option}
 use Rattle.oci_types.specs.Text.{Text}
 use Rattle.registry_model.specs.declared.refusal.Refusal.TheVariants.{InvalidDigest}
@@ -8,7 +8,9 @@ use Rattle.operation_parts.specs.Digests.{digest_in}
 use Rattle.operation_parts.proofs.FailedCalls.{read_failed}
 use Rattle.operation_parts.proofs.DigestLemmas.{digest_absent, digest_found}
 use Rattle.manifest_operations.specs.Listing.{wanted_of, manifests_reply}
-use Rattle.manifest_operations.proofs.EarlyLemmas.{text_told, text_read, refused_early, replied, no_text}
+use Rattle.operation_parts.proofs.ReadLemmas.{text_told, text_read}
+use Rattle.operation_parts.proofs.EarlyLemmas.{refused_early}
+use Rattle.manifest_operations.proofs.SayingLemmas.{replied, no_text}
 use Rattle.manifest_operations.proofs.ListingLemmas.{lists, lists_nothing}
 use Rattle.manifest_operations.proofs.listing.list_referrers.Goals as goal
 

@@ -6,7 +6,7 @@ use Rattle.registry_model.specs.Doing.{course_of_answer}
 use Rattle.registry_model.specs.Heads.{is_sent}
 use Rattle.registry_model.specs.TagPage.{tags_reply}
 use Rattle.operation_parts.proofs.FailedCalls.{read_failed}
-use Rattle.manifest_operations.proofs.EarlyLemmas.{replied}
+use Rattle.manifest_operations.proofs.SayingLemmas.{replied}
 use Rattle.manifest_operations.proofs.ListingLemmas.{pages, pages_nothing}
 use Rattle.manifest_operations.proofs.listing.list_tags.Goals as goal
 

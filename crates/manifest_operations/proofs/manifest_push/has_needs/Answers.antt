@@ -3,7 +3,7 @@ use Rattle.std.proofs.lemmas.List.{take_all}
 use Rattle.registry_model.specs.Keeping.{State}
 use Rattle.registry_model.specs.Lookups.{blob_size_at}
 use Rattle.manifest_operations.specs.Push.{has_needs_at}
-use Rattle.manifest_operations.proofs.FailedReads.{read_gave_up}
+use Rattle.operation_parts.proofs.ReadLemmas.{read_failed_later}
 use Rattle.manifest_operations.proofs.PushLemmas.{has_more, lacks_one}
 use Rattle.manifest_operations.proofs.manifest_push.has_needs.Goals as goal
 
@@ -26,7 +26,7 @@ pub returns-in_err-blob_size : goal.returns-in_err-blob_size
 returns-in_err-blob_size g c =
     let s = g.K.Keeper.state c.args.keeper.now in
     let l = c.loop-digest in
-    read_gave_up (λ v. v) (has_needs_at s.world c.args.name.now c.args.needs.now) (λ v. v) _ c.from_residual.result c.in_err-blob_size.field-0.0 _ _ _ _ _ _ c.from_residual.ensures
+    read_failed_later (λ v. v) (has_needs_at s.world c.args.name.now c.args.needs.now) (λ v. v) _ c.from_residual.result c.in_err-blob_size.field-0.0 _ _ _ _ _ _ c.from_residual.ensures
     l.invariant.same l.invariant.honest c.requires.unspent c.in_err-blob_size.ensures
 
 pub returns-then-is_none : goal.returns-then-is_none

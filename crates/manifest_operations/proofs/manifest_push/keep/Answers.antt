@@ -4,7 +4,8 @@ use Rattle.registry_model.specs.declared.reply.Status.TheVariants.{Created}
 use Rattle.registry_model.specs.Answer.{Answer, bare_answer}
 use Rattle.registry_model.specs.Ask.{text_in}
 use Rattle.manifest_operations.specs.Push.{has_needs_at, kept_answer}
-use Rattle.manifest_operations.proofs.EarlyLemmas.{read_lost, write_lost, still_there}
+use Rattle.manifest_operations.proofs.SayingLemmas.{read_lost, write_lost}
+use Rattle.operation_parts.proofs.ReadLemmas.{still_there}
 use Rattle.manifest_operations.proofs.PushLemmas.{of_its_kind, other_type, needs_more, goes_past, keeps_it}
 use Rattle.manifest_operations.proofs.manifest_push.keep.Goals as goal
 

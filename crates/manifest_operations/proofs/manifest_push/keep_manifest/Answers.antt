@@ -2,9 +2,9 @@ use Rattle.std.proofs.Common.{subst}
 use Rattle.std.specs.Prelude.{Option}
 use Rattle.oci_types.specs.Text.{Text}
 use Rattle.oci_types.specs.Manifest.{shown}
-use Rattle.manifest_operations.specs.Early.{Says}
+use Rattle.manifest_operations.specs.Saying.{Says}
 use Rattle.manifest_operations.specs.Push.{kept_answer}
-use Rattle.manifest_operations.proofs.EarlyLemmas.{said}
+use Rattle.manifest_operations.proofs.SayingLemmas.{said}
 use Rattle.manifest_operations.proofs.PushLemmas.{kept_answers, kept_sent}
 use Rattle.manifest_operations.proofs.manifest_push.keep_manifest.Goals as goal
 

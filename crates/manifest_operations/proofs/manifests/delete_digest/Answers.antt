@@ -8,7 +8,8 @@ use Rattle.registry_model.specs.Heads.{is_sent}
 use Rattle.registry_model.specs.Keeping.{State}
 use Rattle.registry_model.specs.Lookups.{manifest_size_at}
 use Rattle.registry_model.specs.Lookups as lookups
-use Rattle.manifest_operations.proofs.EarlyLemmas.{told_this, refused_early, wrote, after_it}
+use Rattle.operation_parts.proofs.ReadLemmas.{told_this}
+use Rattle.operation_parts.proofs.EarlyLemmas.{refused_early, wrote, after_it}
 use Rattle.manifest_operations.proofs.ManifestLemmas.{digest_unknown, digest_there, digest_taken}
 use Rattle.manifest_operations.proofs.manifests.delete_digest.Goals as goal
 

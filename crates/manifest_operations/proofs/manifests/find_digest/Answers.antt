@@ -4,7 +4,7 @@ use Rattle.std.specs.Option.{option_and_then}
 use Rattle.oci_types.specs.Text.{Text}
 use Rattle.registry_model.specs.World.{repo_at}
 use Rattle.registry_model.specs.Manifests.{reference_digest}
-use Rattle.manifest_operations.proofs.FailedReads.{read_as}
+use Rattle.operation_parts.proofs.ReadLemmas.{read_as}
 use Rattle.manifest_operations.proofs.ManifestLemmas.{names_itself, names_tagged, names_nothing, no_reference}
 use Rattle.manifest_operations.proofs.manifests.find_digest.Goals as goal
 

@@ -10,7 +10,8 @@ use Rattle.registry_model.specs.Keeping.{manifest_shown}
 use Rattle.registry_model.specs.Answer.{sent, Answer}
 use Rattle.registry_model.specs.Doing.{course_of_answer}
 use Rattle.registry_model.specs.Heads.{is_sent}
-use Rattle.manifest_operations.proofs.EarlyLemmas.{told_this, told_later, kept_on, refused_early}
+use Rattle.operation_parts.proofs.ReadLemmas.{told_this, told_later, kept_on}
+use Rattle.operation_parts.proofs.EarlyLemmas.{refused_early}
 use Rattle.manifest_operations.proofs.ManifestLemmas.{reads, reads_unnamed, shows_manifest}
 use Rattle.manifest_operations.proofs.manifests.read_manifest.Goals as goal
 

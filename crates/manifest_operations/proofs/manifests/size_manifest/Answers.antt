@@ -10,7 +10,8 @@ use Rattle.registry_model.specs.Lookups.{manifest_size_at}
 use Rattle.registry_model.specs.Answer.{unsent}
 use Rattle.registry_model.specs.Doing.{course_of_answer}
 use Rattle.operation_parts.proofs.FailedCalls.{uncarried}
-use Rattle.manifest_operations.proofs.EarlyLemmas.{told_this, told_later, kept_on, refused_early}
+use Rattle.operation_parts.proofs.ReadLemmas.{told_this, told_later, kept_on}
+use Rattle.operation_parts.proofs.EarlyLemmas.{refused_early}
 use Rattle.manifest_operations.proofs.ManifestLemmas.{sizes, sizes_unnamed, shows_manifest}
 use Rattle.manifest_operations.proofs.manifests.size_manifest.Goals as goal
 

@@ -1,7 +1,7 @@
 use Rattle.std.proofs.Common.{◌∙◌, ap}
 use Rattle.registry_model.specs.Keeping.{State, digests_shown}
 use Rattle.manifest_operations.specs.Pruning.{names_at, is_named_at, has}
-use Rattle.manifest_operations.proofs.FailedReads.{read_failed, read_gave_up, read_ran_out}
+use Rattle.operation_parts.proofs.ReadLemmas.{read_failed, read_failed_later, read_ran_out}
 use Rattle.manifest_operations.proofs.PruningLemmas.{named_more, named_by_all}
 use Rattle.manifest_operations.proofs.pruning.named_at.Goals as goal
 
@@ -32,7 +32,7 @@ returns-in_err-names g c =
     let s = g.K.Keeper.state c.args.keeper.now in
     let l = c.loop-manifest in
     let read = c.in_ok-manifests.ensures in
-    read_gave_up has (is_named_at s.world c.args.name.now) digests_shown _ c.from_residual-in_err-names.result c.in_err-names.field-0.0 _ _ _ _ _ _ c.from_residual-in_err-names.ensures
+    read_failed_later has (is_named_at s.world c.args.name.now) digests_shown _ c.from_residual-in_err-names.result c.in_err-names.field-0.0 _ _ _ _ _ _ c.from_residual-in_err-names.ensures
     (λ honest. l.invariant.same honest ∙ (read.found (l.invariant.honest honest)).1) (λ honest. read.honest (l.invariant.honest honest)) read.spends.0 c.in_err-names.ensures
 
 pub returns-in_err-add : goal.returns-in_err-add

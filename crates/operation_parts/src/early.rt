@@ -2,13 +2,13 @@
 //! or a change has.
 
 ghost use Rattle.std.specs.Prelude.{◌≡◌};
-ghost use Rattle.manifest_operations.specs.Early.{FoundOr, after};
+ghost use Rattle.operation_parts.specs.Early.{FoundOr, IsWithin, after};
 
 use oci_types::Fault;
 use registry_model::{Refusal, Reply};
 
 /// What was looked for; or what is answered in its place, the refusal or the fault.
-pub(crate) fn found_or<T>(
+pub fn found_or<T>(
     looked: Result<Option<T>, Fault>,
     refusal: Refusal,
 ) -> Result<T, Result<Reply, Fault>>
@@ -21,12 +21,23 @@ pub(crate) fn found_or<T>(
     }
 }
 
+/// What is answered where a change goes over the quota, or where that could not be told.
+pub fn within_quota(over: Result<bool, Fault>) -> Result<(), Result<Reply, Fault>>
+    ensures { IsWithin over result }
+{
+    match over {
+        Ok(false) => Ok(()),
+        Ok(true) => Err(Ok(Reply::refusal(Refusal::QuotaExceeded))),
+        Err(fault) => Err(Err(fault)),
+    }
+}
+
 /// The reply to what was done, or the fault for which it was not.
-pub(crate) fn after(done: Result<(), Fault>, reply: Reply) -> Result<Reply, Fault>
+pub fn after<T: Drop>(done: Result<T, Fault>, reply: Reply) -> Result<Reply, Fault>
     ensures { result ≡ after done reply }
 {
     match done {
-        Ok(()) => Ok(reply),
+        Ok(_) => Ok(reply),
         Err(fault) => Err(fault),
     }
 }
