@@ -1,5 +1,4 @@
 //! References to manifests.
-ghost use Rattle.std.specs.Prelude.{◌≡◌};
 ghost use Rattle.oci_types.specs.Reading.{ReadsWordBy};
 
 use crate::{Digest, NameFault, Tag};

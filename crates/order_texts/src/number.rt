@@ -1,5 +1,5 @@
 //! Numbers of a line: decimal, with no sign and no leading zero.
-ghost use Rattle.std.specs.Prelude.{◌≡◌, ℕ, ◌^◌, ◌<◌, ◌||◌, MatchOption, slice_index, bytes_eq, codes, decimal};
+ghost use Rattle.std.specs.Prelude.{◌≡◌, ℕ, ◌^◌, ◌<◌, ◌||◌, MatchOption, slice_index, decimal};
 ghost use Rattle.oci_types.specs.Byte.{is_between};
 ghost use Rattle.order_texts.specs.Reading.{begins_plainly};
 

@@ -1,4 +1,4 @@
-ghost use Rattle.std.specs.Prelude.{◌≡◌, ◌<◌, ◌≤◌, map};
+ghost use Rattle.std.specs.Prelude.{◌<◌, ◌≤◌, map};
 ghost use Rattle.registry_tasks.specs.Stored.{Over, OverAt};
 ghost use Rattle.registry_tasks.specs.Sockets.{ServesAddress};
 ghost use Rattle.registry_tasks.specs.Program.{streams};

@@ -1,7 +1,7 @@
 ghost use Rattle.std.specs.Prelude.{◌≡◌, ◌==◌, not, position, length, map, All};
 ghost use Rattle.httparse.specs.Spans.{header_bytes, IsHeaderWithin};
 ghost use Rattle.registry_model.specs.Ask.{text_in};
-ghost use Rattle.registry_http.specs.Asking.{skip_spaces, bearer_text, bearer_if, text_if_utf8, token_in};
+ghost use Rattle.registry_http.specs.Asking.{skip_spaces, bearer_text, text_if_utf8, token_in};
 
 use crate::fields::{same_name, values_of};
 use httparse::spans::HeaderSpan;

@@ -1,5 +1,4 @@
 //! The sockets of a crowd, and those who give orders.
-ghost use Rattle.std.specs.Prelude.{◌≡◌};
 ghost use Rattle.registry_server.specs.Events.{Carries};
 ghost use Rattle.registry_server.specs.Showing.{connected};
 ghost use Rattle.registry_server.specs.Lives.{NoneSilent};

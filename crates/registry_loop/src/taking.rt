@@ -1,5 +1,4 @@
 //! How connections are taken.
-ghost use Rattle.std.specs.Prelude.{◌≡◌};
 ghost use Rattle.registry_server.specs.Events.{Carries};
 ghost use Rattle.registry_server.specs.Showing.{connected};
 

@@ -24,10 +24,10 @@ use Rattle.registry_model.specs.Range.{range_verdict}
 use Rattle.registry_model.specs.Blobs as blobs
 use Rattle.registry_model.specs.Blobs.{with_blob, created_blob}
 use Rattle.registry_model.specs.Sessions as sessions
-use Rattle.registry_model.specs.Sessions.{Session, session_numbered, session_named, is_full, opened, appended, finished, range_checked, last_range_verdict, session_reply}
+use Rattle.registry_model.specs.Sessions.{Session, session_numbered, session_named, is_full, appended, finished, range_checked, last_range_verdict, session_reply}
 use Rattle.registry_model.specs.Mount.{may_read, source, mounted, mount_blob}
 use Rattle.registry_model.specs.Manifests as manifests
-use Rattle.registry_model.specs.Manifests.{pushed_digest, pushed_tag, with_bytes, with_tag, with_manifest, content_type_fits, has_needs}
+use Rattle.registry_model.specs.Manifests.{pushed_digest, pushed_tag, with_bytes, with_manifest, content_type_fits, has_needs}
 use Rattle.registry_model.specs.TagPage as page
 use Rattle.registry_model.specs.Referrers as subjects
 use Rattle.registry_model.specs.Operation.{Operation, reads_blob, sizes_blob, deletes_blob, pushes_blob, opens_session, mounts_blob, reads_session, appends_chunk, closes_session, reads_manifest, sizes_manifest, deletes_manifest, pushes_manifest, lists_tags, lists_referrers}

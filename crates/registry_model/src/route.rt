@@ -1,5 +1,5 @@
 ghost use Rattle.std.specs.Prelude.{◌≡◌};
-ghost use Rattle.registry_model.specs.Form.{form_of, form_at, form_in_version, form_behind, form_by, blob_form_by, last_segment, path_before, name_in};
+ghost use Rattle.registry_model.specs.Form.{form_of, form_at, form_behind, form_by, blob_form_by, last_segment, path_before, name_in};
 
 /// The form of a request's path (OCI Distribution Specification 1.1, Endpoints), with the texts of
 /// its name and of its digest, reference or session number as they stand there; each may be empty.

@@ -1,7 +1,6 @@
 -- What options were given, by what `clap` says of its getters.
-use Rattle.std.proofs.Common.{◌≡◌, ◌∙◌, Bool, true, false, ℕ, List, [], Option, Some, None, Result, Ok, refl, sym, ap, arith}
-use Rattle.std.specs.Prelude.{◌↔◌, IfOk, codes, slice_index, ok_or, unwrap_or, map, option_map}
-use Rattle.std.specs.Borrow.{Bor}
+use Rattle.std.proofs.Common.{◌≡◌, ◌∙◌, Bool, true, false, ℕ, Option, Some, None, Result, Ok, refl, sym, ap, arith}
+use Rattle.std.specs.Prelude.{◌↔◌, IfOk, codes, slice_index, ok_or, unwrap_or}
 use Rattle.std.specs.Str.Parse.{ParsesUnsigned, ParsesBool}
 use Rattle.clap.specs.Words.{ReadsOne}
 use Rattle.oci_types.specs.Text.{Text}
@@ -36,9 +35,3 @@ flag_read E None (Some b) reads = absurd (let none : Some b ≡ None = reads.0 r
 flag_read E (Some t) None reads = ((λ e. absurd (let x : false ≡ true = e in cc)), (λ e. absurd ((reads.1 t refl).1.0 (text_in e))))
 flag_read E (Some t) (Some true) reads = ((λ e. ap Some (reads.1 t refl)), (λ e. refl))
 flag_read E (Some t) (Some false) reads = ((λ e. absurd (let x : false ≡ true = e in cc)), (λ e. absurd (not_both t (reads.1 t refl) (text_in e))))
-
--- a list that may be left out
-pub texts_read : (r : Option (Bor (List (Bor Text)))) (none : Bor (List (Bor Text))) (texts : Option (List Text)) → none.now ≡ []
-    → option_map (λ s. map (λ t. t.now) s.now) r ≡ texts → map (λ t. t.now) (unwrap_or r none).now ≡ unwrap_or texts []
-texts_read None none texts empty e = rw (← e, empty) refl
-texts_read (Some s) none texts empty e = rw (← e) refl

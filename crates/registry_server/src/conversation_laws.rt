@@ -1,6 +1,6 @@
 //! What any list of a conversation's calls comes to.
 
-ghost use Rattle.std.specs.Prelude.{◌≡◌, List, ◌++◌};
+ghost use Rattle.std.specs.Prelude.{List, ◌++◌};
 ghost use Rattle.registry_model.specs.Keeping.{State};
 ghost use Rattle.registry_server.specs.Shown.{Shown, begun};
 ghost use Rattle.registry_server.specs.ConversationEvents.{Event, Passes, Accounts, heard, went};

@@ -1,4 +1,4 @@
-ghost use Rattle.std.specs.Prelude.{◌≡◌, ℕ, false, OnOk, IfOk, IfErr, MatchResult, ◌⊎◌};
+ghost use Rattle.std.specs.Prelude.{◌≡◌, ℕ, false, OnOk, IfOk, IfErr, ◌⊎◌};
 ghost use Rattle.std.specs.Io.KnownBytes.{Appends};
 ghost use Rattle.registry_orders.specs.Failures.{IsOfOpening, IsOfServing};
 ghost use Rattle.registry_orders.specs.Outputs.{output};

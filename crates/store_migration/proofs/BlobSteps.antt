@@ -1,5 +1,5 @@
 -- A blob comes under the key of an old row, and the row goes: it is moved.
-use Rattle.std.proofs.Common.{◌≡◌, ◌∙◌, ℕ, List, length, true, None, Some, Ok, Err, Result, OnOk, refl, sym, ap, subst}
+use Rattle.std.proofs.Common.{◌≡◌, ◌∙◌, List, length, None, Some, Ok, Err, Result, OnOk, refl, sym, ap, subst}
 use Rattle.std.specs.Prelude.{find, option_map}
 use Rattle.sqlite.specs.Order.{Row}
 use Rattle.sqlite.specs.Effect.{Database}

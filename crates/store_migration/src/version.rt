@@ -1,6 +1,5 @@
 //! Which schema the tables are.
 ghost use Rattle.std.specs.Prelude.{◌≡◌, true, OnOk};
-ghost use Rattle.sqlite.specs.State.{HasCleanDisk};
 ghost use Rattle.sqlite.specs.Held.{state};
 ghost use Rattle.store_statements.specs.Changes.{changed};
 ghost use Rattle.store_statements.specs.Clauses.{KeepsInside, LastsUncommitted};

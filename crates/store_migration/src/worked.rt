@@ -1,5 +1,5 @@
 //! A migration of four rows, written out; `specs/Worked.antt` has the tables.
-ghost use Rattle.std.specs.Prelude.{◌≡◌, ℤ, pos, Some, [], ◌∷◌};
+ghost use Rattle.std.specs.Prelude.{◌≡◌, ℤ, Some, [], ◌∷◌};
 ghost use Rattle.oci_types.specs.Text.{Text};
 ghost use Rattle.store_statements.specs.World.{world_of};
 ghost use Rattle.store_migration.specs.OldTables.{IsOldRegistry};

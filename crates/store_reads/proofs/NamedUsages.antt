@@ -13,8 +13,7 @@ use Rattle.sqlite_keyed.proofs.SortLemmas.{IsPermutation-sort_by}
 use Rattle.std.proofs.lemmas.Cmp.{nat_list_cmp_total, on_total}
 use Rattle.oci_types.specs.Text.{Text}
 use Rattle.registry_model.specs.declared.quota.Usage.{Usage}
-use Rattle.registry_model.specs.World.{World}
-use Rattle.registry_model.specs.Lookups.{usage_at, usages_of, no_usage}
+use Rattle.registry_model.specs.Lookups.{usages_of, no_usage}
 use Rattle.store_schema.specs.Rows.{bytes_at}
 use Rattle.store_schema.proofs.Lists.{bytes_eq_itself, bytes_eq-sym}
 use Rattle.store_statements.specs.Keys.{of_first, same_first}

@@ -1,5 +1,5 @@
 -- A value that was found is put behind others, or the fault is passed on.
-use Rattle.std.proofs.Common.{◌≡◌, ◌∙◌, ◌++◌, ℕ, ℤ, List, [], false, Ok, Err, Some, Result, IfOk, IsOkAnd, subst, sym, refl, ap, true≢false}
+use Rattle.std.proofs.Common.{◌≡◌, ◌∙◌, ◌++◌, ℕ, ℤ, List, [], false, Ok, Err, Some, Result, IfOk, IsOkAnd, subst, sym, ap, true≢false}
 use Rattle.std.specs.Prelude.{Option, Vec, option_map, unwrap_or}
 use Rattle.std.specs.declared.alloc.Global.{Global}
 use Rattle.oci_types.specs.declared.fault.Fault.{Fault}

@@ -1,5 +1,5 @@
 -- The manifests on a subject with their bytes, from their rows.
-use Rattle.std.proofs.Common.{◌≡◌, ◌∙◌, ℕ, List, [], ◌∷◌, ◌++◌, map, true, Ok, Err, Result, IfOk, sym, ap, refl}
+use Rattle.std.proofs.Common.{◌≡◌, ◌∙◌, ℕ, List, map, true, Ok, Err, Result, IfOk, sym, ap}
 use Rattle.std.specs.declared.alloc.Global.{Global}
 use Rattle.std.specs.Prelude.{Vec, filter}
 use Rattle.sqlite.specs.Effect.{Database}

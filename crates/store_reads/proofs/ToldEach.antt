@@ -1,5 +1,5 @@
 -- What is read behind each of several values, of a database that stays.
-use Rattle.std.proofs.Common.{◌≡◌, ◌++◌, List, [], ◌∷◌, map, Ok, Err, Result, OnOk, IfOk, IsOkAnd, refl, sym, subst}
+use Rattle.std.proofs.Common.{◌≡◌, ◌++◌, List, [], ◌∷◌, map, Ok, Err, Result, IfOk, IsOkAnd, refl, sym, subst}
 use Rattle.sqlite.specs.Effect.{Database}
 use Rattle.oci_types.specs.declared.fault.Fault.{Fault}
 use Rattle.store_statements.specs.Tables.{Tables}

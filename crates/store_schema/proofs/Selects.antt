@@ -1,10 +1,10 @@
 -- What a SELECT over one table shows: the rows that pass its test, in some order.
 use Rattle.std.proofs.Common.{◌≡◌, ◌⊎◌, inl, inr, ℕ, ℤ, List, [], ◌∷◌, ◌++◌, map, Bool, true, false, cond, None, Some, Ok, Err, Result, IfOk, IfErr, OnOk, OnErr, refl, sym, ap, subst, ◌∙◌, arith}
-use Rattle.std.specs.Prelude.{◌^◌, bytes_eq, ◌&&◌, filter, nat_le, slice_get, unwrap_or, Vec, Option}
+use Rattle.std.specs.Prelude.{◌^◌, bytes_eq, ◌&&◌, filter, nat_le, slice_get, unwrap_or, Vec}
 use Rattle.std.specs.declared.alloc.Global.{Global}
-use Rattle.std.specs.List.{flat_map, list_all, AllByRecursion}
+use Rattle.std.specs.List.{flat_map, list_all}
 use Rattle.std.specs.List.Sorted.{IsPermutation}
-use Rattle.std.specs.Ordering.{is_eq, int_cmp}
+use Rattle.std.specs.Ordering.{is_eq}
 use Rattle.std.proofs.lemmas.List.Sorted.{IsPermutation-map}
 use Rattle.std.proofs.lemmas.Map.Text.{is_eq-slice_cmp}
 use Rattle.sqlite_value.proofs.OrderLemmas.{value_cmp-Text}

@@ -2,7 +2,7 @@
 use Rattle.std.proofs.Common.{◌≡◌, ◌∙◌, ◌<◌, arith, ℕ, pos, List, [], ◌∷◌, map, true, false, cond, Ordering, Less, Equal, Greater, is_gt, lt-ltb, le-ltb, sym, ap, subst, refl}
 use Rattle.std.specs.Prelude.{◌==◌}
 use Rattle.std.specs.List.{AllByRecursion}
-use Rattle.std.specs.Ordering.{is_eq, int_cmp, nat_cmp, int_eq, ordering_then, MatchOrdering}
+use Rattle.std.specs.Ordering.{is_eq, int_cmp, nat_cmp, ordering_then, MatchOrdering}
 use Rattle.std.specs.Cmp.{ranked, tied_itself, int_cmp_total}
 use Rattle.sqlite_value.proofs.OrderLemmas.{value_cmp-Int, then-Equal}
 use Rattle.sqlite_sql.proofs.QueryLemmas.{output_cmp_total}

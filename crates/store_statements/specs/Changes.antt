@@ -1,6 +1,6 @@
 -- What the store's statements change of the rows.
 use Rattle.std.specs.Prelude.{◌≡◌, ℕ, ℤ, pos, Bool, not, List, [], ◌∷◌, map, filter, Option, Some, if◌then◌else◌}
-use Rattle.sqlite.specs.declared.types.Value.TheVariants.{Null, Int}
+use Rattle.sqlite.specs.declared.types.Value.TheVariants.{Int}
 use Rattle.sqlite.specs.declared.types.Value.TheVariants as value
 use Rattle.sqlite.specs.Order.{Row, column}
 use Rattle.oci_types.specs.Text.{Text}

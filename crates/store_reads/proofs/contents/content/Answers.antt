@@ -1,6 +1,5 @@
-use Rattle.std.proofs.Common.{◌≡◌, ◌∙◌, List, ℕ, Ok, Some, Result, IfOk, ap, sym, subst}
-use Rattle.std.specs.Prelude.{Option, Vec, option_map}
-use Rattle.std.specs.declared.alloc.Global.{Global}
+use Rattle.std.proofs.Common.{◌≡◌}
+use Rattle.std.specs.Prelude.{option_map}
 use Rattle.sqlite.specs.Held.{state}
 use Rattle.store_contents.specs.Contents.{bytes_in}
 use Rattle.store_reads.proofs.CheckedReads.{tells, stays, lasts}
