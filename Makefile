@@ -15,7 +15,7 @@ help:
 	@echo 'make build           proves the program and all below it; leaves build/registry (one to two hours of a'
 	@echo '                     processor, on all there are; up to 8 GB, and 4 GB of disk; then what has changed)'
 	@echo 'make test            the merge gate: proofs, edits, tests, all of them from nothing the first time'
-	@echo '                     (three to four hours of a processor, on four at most; up to 16 GB)'
+	@echo '                     (some three hours of a processor, on four at most; up to 16 GB)'
 	@echo 'make try ARGS=".."   runs the program unproved, for a first look: make try ARGS="--help" (3 min, 2 GB)'
 	@echo 'make check CRATE=x   proves one crate over what earlier checks kept (seconds after an edit)'
 	@echo 'make edits CRATE=x   tries the must-fail edits of one crate (20 to 60 s each)'
