@@ -110,20 +110,3 @@ not_added_by show shown (Ok x) e value old new s s' before after read added =
     ran_out e s s' before after added (λ honest. (read.found honest).1) read.spends.0 read.spends.1 read.honest
 not_added_by show shown (Err f) e value old new s s' before after read added =
     subst (λ x. Failed x s s' before after) (sym added) (by_failed f value s s' before after read)
-
-pub record AddedSo {A B : Type 0} (IsSo : A → Type 0) (shown : A → List B) (old new : List B) (s s' : State) (before after : Type 0) : Type 0 where
-  pub item : A
-  pub added : new ≡ old ++ shown item
-  pub told : after → IsSo item × (s' ≡ s)
-  pub unspent : s'.spent ≡ false
-  pub honest : after → before
-
-pub added_so : {A B : Type 0} (IsSo : A → Type 0) (shown : A → List B) (r : Result A Fault) (v : Unit {0}) (old new : List B) (s s' : State) (before after : Type 0) → So IsSo r s s' before after → IsAdded r (Ok v) shown old new → AddedSo IsSo shown old new s s' before after
-added_so IsSo shown (Ok x) v old new s s' before after read added = record { item = x; added = added; told = read.found; unspent = read.spends.1; honest = read.honest }
-added_so IsSo shown (Err f) v old new s s' before after read added = absurd added
-
-pub not_added_so : {A B : Type 0} (IsSo : A → Type 0) (shown : A → List B) (r : Result A Fault) (e : Fault) (old new : List B) (s s' : State) (before after : Type 0) → So IsSo r s s' before after → IsAdded r (Err e) shown old new → Failed e s s' before after
-not_added_so IsSo shown (Ok x) e old new s s' before after read added =
-    ran_out e s s' before after added (λ honest. (read.found honest).1) read.spends.0 read.spends.1 read.honest
-not_added_so IsSo shown (Err f) e old new s s' before after read added =
-    subst (λ x. Failed x s s' before after) (sym added) (so_failed f s s' before after read)

@@ -1,43 +1,63 @@
 -- The levels of tokens on repositories, and that they are one list.
-use Rattle.std.proofs.Common.{◌≡◌, ◌∙◌, Bool, true, false, List, [], ◌∷◌, ◌++◌, map, Option, Some, None, refl, sym, ap, subst, append-nil, append_assoc, MatchBool}
-use Rattle.std.specs.Prelude.{option_map}
+use Rattle.std.proofs.Common.{◌≡◌, ◌∙◌, Bool, true, false, List, [], ◌∷◌, ◌++◌, map, cond, Option, Some, None, refl, sym, ap, subst, MatchBool}
+use Rattle.std.specs.Prelude.{filter, option_map}
 use Rattle.std.specs.Option.{IsSomeAnd}
-use Rattle.std.specs.FinMap.{keys, entries}
-use Rattle.std.proofs.lemmas.List.{map-append, map-id}
+use Rattle.std.specs.FinMap.{keys}
+use Rattle.std.proofs.lemmas.List.{map-append}
+use Rattle.std.proofs.lemmas.List.Elements.{filter-append}
 use Rattle.oci_types.specs.Text.{Text}
 use Rattle.registry_model.specs.declared.level.Level.{Level}
-use Rattle.registry_model.specs.declared.quota.Usage.{Usage}
-use Rattle.registry_model.specs.World.{World, Repo, has_repo}
-use Rattle.registry_model.specs.Usage.{usage_of}
-use Rattle.registry_model.specs.Lookups.{usages_of}
+use Rattle.registry_model.specs.declared.grant.Grant.{Grant}
+use Rattle.registry_model.specs.World.{World, has_repo}
+use Rattle.registry_model.specs.Lookups.{AreLevelsOver, grants_on, repo_names_of}
 use Rattle.registry_model.specs.Keeping.{State}
 use Rattle.registry_model.proofs.TextOrder.{one_list}
 use Rattle.registry_orders.specs.declared.listing.Form.{Form}
 use Rattle.registry_orders.specs.declared.listing.Shown.{Shown}
 use Rattle.registry_orders.specs.declared.listing.Listing.{Listing}
 use Rattle.registry_orders.specs.declared.listing.Listing.TheVariants.{Repos, InRepo, Grants}
-use Rattle.order_texts.specs.Items.{ItemShown}
-use Rattle.order_texts.specs.Grants.{grants_of}
+use Rattle.order_texts.specs.Items.{ItemShown, grant_item}
+use Rattle.order_texts.specs.Grants.{written, is_asked, grants_of, items_of_grants}
 use Rattle.order_carrying.specs.Grants.{AreGrantsOn, AreGrantsOver, AreGrantsOf}
 use Rattle.order_texts.specs.Texts.{text_of}
 use Rattle.order_carrying.specs.Listed.{AreListed, IsListText}
 
 -- ---- one repository after the other
 
-names_alone : (es : List (Text × Repo)) → map (λ (e : Text × Usage). e.0) (map (λ e. (e.0, usage_of e.1)) es) ≡ map (λ e. e.0) es
-names_alone [] = refl
-names_alone (e ∷ es) = ap (λ (t : List Text). e.0 ∷ t) (names_alone es)
+module _ (asked : Option Text) (shown : Shown) where
+  -- levels on one repository
+  of_one : (name : Text) (levels : List (Text × Level)) → items_of_grants asked shown (grants_on name levels) ≡ grants_of name asked shown levels
+  of_one name [] = refl
+  of_one name (l ∷ levels) = step (is_asked asked l.0) (of_one name levels)
+    where
+      step : (b : Bool) → items_of_grants asked shown (grants_on name levels) ≡ grants_of name asked shown levels
+          → map (λ (g : Grant). grant_item g.repo (written shown g.token) g.level) (cond b (record { repo = name; token = l.0; level = l.1 } ∷ filter (λ (g : Grant). is_asked asked g.token) (grants_on name levels)) (filter (λ (g : Grant). is_asked asked g.token) (grants_on name levels)))
+          ≡ map (λ (x : Text × Level). grant_item name (written shown x.0) x.1) (cond b (l ∷ filter (λ (x : Text × Level). is_asked asked x.0) levels) (filter (λ (x : Text × Level). is_asked asked x.0) levels))
+      step true more = ap (λ (t : List ItemShown). grant_item name (written shown l.0) l.1 ∷ t) more
+      step false more = more
 
-pub names_are : (w : World) → map (λ (e : Text × Usage). e.0) (usages_of w) ≡ keys w.repos
-names_are w = names_alone (entries w.repos)
+  of_both : (grants others : List Grant) → items_of_grants asked shown (grants ++ others) ≡ items_of_grants asked shown grants ++ items_of_grants asked shown others
+  of_both grants others =
+      ap (map (λ (g : Grant). grant_item g.repo (written shown g.token) g.level)) (filter-append (λ (g : Grant). is_asked asked g.token) grants others)
+      ∙ map-append (λ (g : Grant). grant_item g.repo (written shown g.token) g.level) (filter (λ g. is_asked asked g.token) grants) (filter (λ g. is_asked asked g.token) others)
+
+  pub grants_over : (w : World) (names : List Text) (grants : List Grant) → AreLevelsOver w names grants → AreGrantsOver w names asked shown (items_of_grants asked shown grants)
+  grants_over w [] grants so = ap (items_of_grants asked shown) so
+  grants_over w (name ∷ names) grants so = (
+    grants_of name asked shown so.0,
+    items_of_grants asked shown so.1,
+    (so.0, so.2, refl),
+    grants_over w names so.1 so.3,
+    ap (items_of_grants asked shown) so.4 ∙ of_both (grants_on name so.0) so.1 ∙ ap (λ (t : List ItemShown). t ++ items_of_grants asked shown so.1) (of_one name so.0),
+  )
+
+-- what one read of all levels tells
+pub grants_told : (w : World) (asked : Option Text) (shown : Shown) (items : List ItemShown) (read grants : List Grant) → read ≡ grants → items ≡ items_of_grants asked shown read → AreLevelsOver w (repo_names_of w) grants
+    → AreGrantsOver w (keys w.repos) asked shown items
+grants_told w asked shown items read grants same is so =
+    subst (λ (t : List ItemShown). AreGrantsOver w (keys w.repos) asked shown t) (sym (is ∙ ap (items_of_grants asked shown) same)) (grants_over asked shown w (keys w.repos) grants so)
 
 module _ (w : World) (asked : Option Text) (shown : Shown) where
-  over_more : (names : List Text) (name : Text) (items others : List ItemShown) → AreGrantsOver w names asked shown items → AreGrantsOn w name asked shown others
-      → AreGrantsOver w (names ++ name ∷ []) asked shown (items ++ others)
-  over_more [] name items others so on = (others, [], on, refl, ap (λ t. t ++ others) so ∙ sym (append-nil others))
-  over_more (n ∷ names) name items others so on =
-      (so.0, so.1 ++ others, so.2, over_more names name so.1 others so.3 on, ap (λ t. t ++ others) so.4 ∙ append_assoc so.0 so.1 others)
-
   -- ---- one list
 
   one_on : (name : Text) (items others : List ItemShown) → AreGrantsOn w name asked shown items → AreGrantsOn w name asked shown others → items ≡ others
@@ -77,25 +97,6 @@ one_listed w (Grants name token shown) items others these those = one_grants w t
 pub one_text : (w : World) (listing : Listing) (form : Form) (text other : Option Text) → IsListText w listing form text → IsListText w listing form other → text ≡ other
 one_text w listing form text other these those =
     these.2 ∙ ap (option_map (text_of form)) (one_listed w listing these.0 those.0 these.1 those.1) ∙ sym those.2
-
--- ---- what a loop over the repositories has so far, in a world that is the one before
-
-pub over_found : (asked : Option Text) (shown : Shown) (s s1 : State) (yielded : List (Text × Usage)) (e : Text × Usage) (items items' others : List ItemShown)
-    → AreGrantsOver s.world (map (λ e. e.0) yielded) asked shown items → AreGrantsOn s1.world e.0 asked shown others → s1 ≡ s → items' ≡ items ++ others
-    → AreGrantsOver s.world (map (λ e. e.0) (yielded ++ e ∷ [])) asked shown items'
-over_found asked shown s s1 yielded e items items' others so on same added =
-    let here : AreGrantsOn s.world e.0 asked shown others = subst (λ (z : State). AreGrantsOn z.world e.0 asked shown others) same on in
-    let more : AreGrantsOver s.world (map (λ (e : Text × Usage). e.0) yielded ++ e.0 ∷ []) asked shown items' =
-    subst (λ (t : List ItemShown). AreGrantsOver s.world (map (λ (e : Text × Usage). e.0) yielded ++ e.0 ∷ []) asked shown t) (sym added) (over_more s.world asked shown (map (λ e. e.0) yielded) e.0 items others so here) in
-    subst (λ names. AreGrantsOver s.world names asked shown items') (sym (map-append (λ (e : Text × Usage). e.0) yielded (e ∷ []))) more
-
-pub over_all : (asked : Option Text) (shown : Shown) (s s1 : State) (yielded all : List (Text × Usage)) (items : List ItemShown)
-    → AreGrantsOver s1.world (map (λ e. e.0) yielded) asked shown items → map (λ x. x) yielded ≡ all → all ≡ usages_of s.world → s1 ≡ s
-    → AreGrantsOver s.world (keys s.world.repos) asked shown items
-over_all asked shown s s1 yielded all items so whole told same =
-    let names : map (λ (e : Text × Usage). e.0) yielded ≡ keys s.world.repos =
-    ap (map (λ (e : Text × Usage). e.0)) (sym (map-id yielded) ∙ whole ∙ told) ∙ names_are s.world in
-    subst (λ (ns : List Text). AreGrantsOver s.world ns asked shown items) names (subst (λ (z : State). AreGrantsOver z.world (map (λ e. e.0) yielded) asked shown items) same so)
 
 -- ---- on one repository, and of one that is there or not
 

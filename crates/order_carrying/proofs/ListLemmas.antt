@@ -9,21 +9,17 @@ use Rattle.std.proofs.lemmas.List.{map-id, map-append}
 use Rattle.std.proofs.lemmas.List.Elements.{filter_map-append}
 use Rattle.std.proofs.lemmas.Map.Text.{is_eq-slice_cmp}
 use Rattle.oci_types.specs.Text.{Text}
-use Rattle.registry_model.specs.declared.quota.Usage.{Usage}
 use Rattle.registry_model.specs.World.{World, Repo, text_cmp, repo_at, has_repo}
-use Rattle.registry_model.specs.Usage.{usage_of}
-use Rattle.registry_model.specs.TagPage.{page_behind}
-use Rattle.registry_model.specs.Lookups.{usages_of, no_page, blob_digests_at}
+use Rattle.registry_model.specs.Lookups.{blob_digests_at, repo_names_of, tags_at}
 use Rattle.registry_model.specs.Pruning.{names_in, is_among}
 use Rattle.registry_model.specs.Keeping.{State}
 use Rattle.manifest_operations.specs.Pruning.{unnamed_of, unnamed_at, names_at}
 use Rattle.manifest_operations.proofs.PruningLemmas.{found_each}
-use Rattle.registry_service.specs.Tags.{tags_at}
 use Rattle.registry_orders.specs.declared.listing.Held.{Held}
 use Rattle.registry_orders.specs.declared.listing.Held.TheVariants.{Tags, Blobs, Unnamed}
 use Rattle.order_texts.specs.Items.{ItemShown, repo_item, tag_item, blob_item, unnamed_item}
 use Rattle.order_carrying.specs.Lists.{repos_of, tags_of, namers_of, blobs_of, held_of}
-use Rattle.order_carrying.specs.Reading.{naming_at, namings_at, namers_among, tag_item_at, blob_item_at, held_at}
+use Rattle.order_carrying.specs.Reading.{naming_at, namings_at, namers_among, blob_item_at, held_at}
 
 -- ---- one item more
 
@@ -61,26 +57,26 @@ among_these digests q = ap (λ (p : Text → Bool). list_any p digests) (λ i d.
 
 -- ---- repositories
 
-names_alone : (es : List (Text × Repo)) → map (λ (e : Text × Usage). repo_item e.0) (map (λ e. (e.0, usage_of e.1)) es) ≡ map (λ e. repo_item e.0) es
+names_alone : (es : List (Text × Repo)) → map repo_item (map (λ (e : Text × Repo). e.0) es) ≡ map (λ e. repo_item e.0) es
 names_alone [] = refl
 names_alone (e ∷ es) = ap (λ (t : List ItemShown). repo_item e.0 ∷ t) (names_alone es)
 
--- one repository more of those that a loop goes over
-pub repo_more : (so_far more : List ItemShown) (yielded : List (Text × Usage)) (e : Text × Usage) → so_far ≡ map (λ (e : Text × Usage). repo_item e.0) yielded → more ≡ so_far ++ repo_item e.0 ∷ []
-    → more ≡ map (λ (e : Text × Usage). repo_item e.0) (yielded ++ e ∷ [])
-repo_more so_far more yielded e found added =
-    added ∙ ap (λ xs. xs ++ repo_item e.0 ∷ []) found ∙ sym (map-append (λ (e : Text × Usage). repo_item e.0) yielded (e ∷ []))
-
-pub repos_are : (w : World) → map (λ (e : Text × Usage). repo_item e.0) (usages_of w) ≡ repos_of w
+pub repos_are : (w : World) → map repo_item (repo_names_of w) ≡ repos_of w
 repos_are w = names_alone (entries w.repos)
 
 -- ---- tags
 
-tags_in : (o : Option Repo) → filter_map (λ t. option_map (tag_item t) (option_and_then (λ (r : Repo). get r.tags t) o)) (option_map_or (λ r. page_behind r [] None) o no_page).tags ≡ option_map_or tags_of o []
+-- one tag more of those that a loop goes over
+pub tag_more : (so_far more : List ItemShown) (yielded : List (Text × Text)) (e : Text × Text) → so_far ≡ map (λ (e : Text × Text). tag_item e.0 e.1) yielded → more ≡ so_far ++ tag_item e.0 e.1 ∷ []
+    → more ≡ map (λ (e : Text × Text). tag_item e.0 e.1) (yielded ++ e ∷ [])
+tag_more so_far more yielded e found added =
+    added ∙ ap (λ xs. xs ++ tag_item e.0 e.1 ∷ []) found ∙ sym (map-append (λ (e : Text × Text). tag_item e.0 e.1) yielded (e ∷ []))
+
+tags_in : (o : Option Repo) → map (λ (e : Text × Text). tag_item e.0 e.1) (option_map_or (λ (r : Repo). entries r.tags) o []) ≡ option_map_or tags_of o []
 tags_in None = refl
 tags_in (Some r) = refl
 
-pub tags_are : (w : World) (name : Text) → filter_map (tag_item_at w name) (tags_at w name) ≡ held_at w name Tags
+pub tags_are : (w : World) (name : Text) → map (λ (e : Text × Text). tag_item e.0 e.1) (tags_at w name) ≡ held_at w name Tags
 tags_are w name = tags_in (repo_at w name)
 
 -- ---- blobs

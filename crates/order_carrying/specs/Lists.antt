@@ -1,10 +1,8 @@
 -- What the lists of an operator show of the world, item by item (profile).
-use Rattle.std.specs.Prelude.{List, [], map, filter, length, option_map}
-use Rattle.std.specs.List.{filter_map}
-use Rattle.std.specs.FinMap.{get, entries}
+use Rattle.std.specs.Prelude.{List, map, filter, length}
+use Rattle.std.specs.FinMap.{entries}
 use Rattle.oci_types.specs.Text.{Text}
 use Rattle.registry_model.specs.World.{Repo, World}
-use Rattle.registry_model.specs.TagPage.{tags_behind}
 use Rattle.registry_model.specs.Pruning.{names_in, is_among}
 use Rattle.manifest_operations.specs.Pruning.{unnamed_of}
 use Rattle.registry_orders.specs.declared.listing.Held.{Held}
@@ -15,9 +13,9 @@ use Rattle.order_texts.specs.Items.{ItemShown, repo_item, tag_item, blob_item, u
 abbrev pub repos_of : World → List ItemShown
 repos_of w = map (λ e. repo_item e.0) (entries w.repos)
 
--- the tags of a page without bounds, which are in byte order, each with the digest that it names
+-- the tags, in byte order, each with the digest that it names
 abbrev pub tags_of : Repo → List ItemShown
-tags_of r = filter_map (λ tag. option_map (tag_item tag) (get r.tags tag)) (tags_behind r [])
+tags_of r = map (λ e. tag_item e.0 e.1) (entries r.tags)
 
 -- the manifests that name a digest, in byte order of their own
 abbrev pub namers_of : Repo → Text → List Text

@@ -6,13 +6,13 @@ use Rattle.oci_types.specs.Text.{Text}
 use Rattle.oci_types.specs.declared.fault.Fault.{Fault}
 use Rattle.oci_types.specs.declared.fault.Fault.TheVariants.{Memory, Storage}
 use Rattle.registry_model.specs.World.{World, repo_at}
-use Rattle.registry_model.specs.Lookups.{tag_at, blob_size_at, manifest_digests_at}
+use Rattle.registry_model.specs.Lookups.{blob_size_at, manifest_digests_at}
 use Rattle.registry_model.specs.Pruning.{is_among}
 use Rattle.registry_model.specs.Keeping.{State}
 use Rattle.manifest_operations.specs.Pruning.{names_at}
 use Rattle.registry_orders.specs.declared.listing.Held.{Held}
 use Rattle.order_texts.specs.declared.items.Item.{Item}
-use Rattle.order_texts.specs.Items.{ItemShown, items_shown, tag_item, blob_item}
+use Rattle.order_texts.specs.Items.{ItemShown, items_shown, blob_item}
 use Rattle.order_carrying.specs.declared.reading.Naming.{Naming}
 use Rattle.order_carrying.specs.Lists.{held_of}
 
@@ -32,9 +32,6 @@ namings_at w name = map (naming_at w name) (manifest_digests_at w name)
 -- those that name the digest
 abbrev pub namers_among : List (Text × List Text) → Text → List Text
 namers_among namings digest = map (λ n. n.0) (filter (λ n. is_among n.1 digest) namings)
-
-abbrev pub tag_item_at : World → Text → Text → Option ItemShown
-tag_item_at w name tag = option_map (tag_item tag) (tag_at w name tag)
 
 abbrev pub blob_item_at : World → Text → List (Text × List Text) → Text → Option ItemShown
 blob_item_at w name namings digest =

@@ -4,10 +4,10 @@ ghost use Rattle.std.specs.FinMap.{keys};
 ghost use Rattle.registry_model.specs.Keeping.{ReadsSo, Spends};
 ghost use Rattle.order_texts.specs.Items.{items_shown};
 ghost use Rattle.order_carrying.specs.Grants.{AreGrantsOn, AreGrantsOver, AreGrantsOf};
-ghost use Rattle.order_carrying.specs.Reading.{items_if, IsAdded};
+ghost use Rattle.order_carrying.specs.Reading.{items_if};
 
 use oci_types::{Fault, RepoName, Token};
-use order_texts::{Item, grants_of};
+use order_texts::{Item, grants_of, items_of_grants};
 use registry_model::Keeper;
 use registry_orders::Shown;
 use registry_service::Service;
@@ -34,18 +34,7 @@ fn on_one<K: Keeper>(
     }
 }
 
-/// Adds the items that a read found; its fault is passed on.
-fn push_all(items: &mut Vec<Item>, found: Result<Vec<Item>, Fault>) -> Result<(), Fault>
-    ensures { IsAdded found result items_shown (items_shown items.old) (items_shown items.new) }
-{
-    let mut others = found?;
-    match items.append(&mut others) {
-        Ok(()) => Ok(()),
-        Err(_) => Err(Fault::Memory),
-    }
-}
-
-/// The levels on each repository, in byte order of the names.
+/// The levels on each repository, in byte order of the names: one read tells all of them.
 fn on_all<K: Keeper>(
     alloc: Global,
     service: &mut Service<K>,
@@ -59,13 +48,11 @@ fn on_all<K: Keeper>(
     ensures spends { Spends result (K.state service.old) (K.state service.new) }
     ensures honest { K.is_honest service.new → K.is_honest service.old }
 {
-    let usages = service.usages(alloc)?;
-    let mut items = Vec::new(alloc);
-    for (name, _) in usages {
-        let found = on_one(alloc, service, &name, asked, shown);
-        push_all(&mut items, found)?;
+    let grants = service.grants(alloc)?;
+    match items_of_grants(alloc, &grants, asked, shown) {
+        Ok(items) => Ok(Some(items)),
+        Err(_) => Err(Fault::Memory),
     }
-    Ok(Some(items))
 }
 
 /// The levels on the repository of a name, or on all; none where the one of the name is not there.

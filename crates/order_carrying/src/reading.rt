@@ -3,12 +3,12 @@ ghost use Rattle.std.specs.Prelude.{◌≡◌, [], ◌∷◌, ◌++◌, map, Som
 ghost use Rattle.std.specs.List.{cons_option};
 ghost use Rattle.registry_model.specs.Keeping.{ReadsBy, Spends};
 ghost use Rattle.registry_model.specs.Pruning.{is_among};
-ghost use Rattle.order_texts.specs.Items.{item_shown, items_shown, tag_item, blob_item};
+ghost use Rattle.order_texts.specs.Items.{item_shown, items_shown, blob_item};
 ghost use Rattle.order_carrying.specs.Lists.{repos_of};
 ghost use Rattle.order_carrying.specs.Reading.{naming_shown, namings_shown, namings_at, namers_among, held_at};
 ghost use Rattle.order_carrying.specs.Reading.{items_if, IsAdded};
 
-use oci_types::{Digest, Fault, RepoName, Tag};
+use oci_types::{Digest, Fault, RepoName};
 use order_texts::Item;
 use registry_model::Keeper;
 use registry_orders::Held;
@@ -49,28 +49,12 @@ pub fn repos<K: Keeper>(alloc: Global, service: &mut Service<K>) -> Result<Optio
     ensures spends { Spends result (K.state service.old) (K.state service.new) }
     ensures honest { K.is_honest service.new → K.is_honest service.old }
 {
-    let usages = service.usages(alloc)?;
+    let names = service.repo_names(alloc)?;
     let mut items = Vec::new(alloc);
-    for (name, _) in usages {
+    for name in names {
         push(&mut items, Item::Repo { name })?;
     }
     Ok(Some(items))
-}
-
-/// Adds a tag, if a read found that it names a digest; the read's fault is passed on.
-fn push_tag(
-    items: &mut Vec<Item>,
-    tag: Tag,
-    found: Result<Option<Digest>, Fault>,
-) -> Result<(), Fault>
-    ensures { IsAdded found result (λ digest. cons_option (option_map (tag_item tag) digest) [])
-        (items_shown items.old) (items_shown items.new) }
-{
-    let named = found?;
-    match named {
-        Some(digest) => push(items, Item::Tag { tag, digest }),
-        None => Ok(()),
-    }
 }
 
 /// The tags of a repository, in byte order; none where it is not there.
@@ -87,9 +71,8 @@ fn tags<K: Keeper>(
 {
     let tags = service.tags(alloc, name)?;
     let mut items = Vec::new(alloc);
-    for tag in tags {
-        let found = service.tag(alloc, name, &tag);
-        push_tag(&mut items, tag, found)?;
+    for (tag, digest) in tags {
+        push(&mut items, Item::Tag { tag, digest })?;
     }
     Ok(Some(items))
 }

@@ -1,11 +1,11 @@
 //! The items of levels of tokens on repositories.
 ghost use Rattle.std.specs.Prelude.{◌≡◌, string_bytes, IfOk};
 ghost use Rattle.order_texts.specs.Items.{item_shown, items_shown, grant_item};
-ghost use Rattle.order_texts.specs.Grants.{written, is_asked, grants_of};
+ghost use Rattle.order_texts.specs.Grants.{written, is_asked, grants_of, items_of_grants};
 
 use crate::items::Item;
 use oci_types::{RepoName, Token};
-use registry_model::Level;
+use registry_model::{Grant, Level};
 use registry_orders::Shown;
 use std::alloc::{AllocError, Global};
 
@@ -65,6 +65,25 @@ pub fn grants_of(
     for (token, level) in levels {
         if is_asked(asked, token) {
             items.push(grant(alloc, name, token, *level, shown)?)?;
+        }
+    }
+    Ok(items)
+}
+
+/// The items of levels on any repositories, in their order, of those tokens that are asked for.
+pub fn items_of_grants(
+    alloc: Global,
+    grants: &[Grant],
+    asked: &Option<Token>,
+    shown: Shown,
+) -> Result<Vec<Item>, AllocError>
+    ensures { IfOk result (λ items.
+        items_shown items ≡ items_of_grants asked.now shown grants.now) }
+{
+    let mut items = Vec::new(alloc);
+    for one in grants {
+        if is_asked(asked, &one.token) {
+            items.push(grant(alloc, &one.repo, &one.token, one.level, shown)?)?;
         }
     }
     Ok(items)

@@ -5,8 +5,8 @@
 //! The crates above rely on `read_order`, which reads a line exactly where it spells an order, and on
 //! `write_failure`; the other end on `write_order` and `read_answer`. `laws` says that a line spells one
 //! order at most, and how long it is. The line that asks a server to stop is no order: `is_stop`,
-//! `write_stopping`. Of lists they rely on `text_of`, which gives the exact text of items, on `grants_of`,
-//! which makes the items of levels, and on `write_table`.
+//! `write_stopping`. Of lists they rely on `text_of`, which gives the exact text of items, on `grants_of` and
+//! `items_of_grants`, which make the items of levels, and on `write_table`.
 #![tactic(auto)]
 
 pub mod answer;
@@ -24,7 +24,7 @@ mod words;
 pub mod writing;
 
 pub use answer::{Answer, read_answer, write_failure};
-pub use grants::grants_of;
+pub use grants::{grants_of, items_of_grants};
 pub use items::Item;
 pub use reading::{Unread, read_order};
 pub use stopping::{STOP, is_stop, write_stopping};

@@ -1,11 +1,10 @@
 //! The keeper over ordered maps.
-ghost use Rattle.std.specs.Prelude.{◌≡◌, ◌≤◌};
-ghost use Rattle.registry_model.specs.World.{no_world, repo_at, update_repo};
+ghost use Rattle.std.specs.Prelude.{◌≡◌};
+ghost use Rattle.registry_model.specs.World.{no_world};
 ghost use Rattle.registry_model.specs.Doing.{keeps};
-ghost use Rattle.registry_model.specs.Limits.{largest};
-ghost use Rattle.registry_maps.specs.Maps.{world_of};
 
 mod blobs;
+mod last_number;
 mod listing;
 
 use crate::levels::{set_level, take_level};
@@ -13,7 +12,7 @@ use crate::memory::or_memory;
 use crate::putting::put;
 use crate::repository::Repository;
 use oci_types::{Digest, Fault, Kind, Manifest, RepoName, Tag, Token};
-use registry_model::{Keeper, Level, Quota, Usage};
+use registry_model::{Grant, Keeper, Level, Quota, Usage};
 use std::alloc::Global;
 use std::collections::BTreeMap;
 
@@ -46,20 +45,6 @@ impl MapKeeper {
             grants: BTreeMap::new(alloc),
         }
     }
-
-    /// Counts the session numbers of a repository up to this one as given out, and no other, so that a
-    /// registry which goes on where another ended gives none twice. Nothing where the repository is not
-    /// there.
-    pub fn set_last_number(&mut self, name: &RepoName, last: u64)
-        requires { last ≤ largest }
-        ensures { let w = world_of self.old.repos self.old.grants in
-            ⟦<MapKeeper as Keeper>⟧.state self.new
-            ≡ keeps (update_repo w name.now (λ r. record r { last = last }) (repo_at w name.now)) }
-    {
-        if let Some(repository) = self.repos.get_mut(name) {
-            repository.last = last;
-        }
-    }
 }
 
 impl Keeper for MapKeeper {
@@ -83,6 +68,14 @@ impl Keeper for MapKeeper {
 
     fn has_repo(&mut self, repo: &RepoName) -> Result<bool, Fault> {
         Ok(self.repos.contains_key(repo))
+    }
+
+    fn repo_names(&mut self, alloc: Global) -> Result<Vec<RepoName>, Fault> {
+        or_memory(self.names(alloc))
+    }
+
+    fn count_repos(&mut self) -> Result<u64, Fault> {
+        Ok(self.repos.len() as u64)
     }
 
     fn level(&mut self, token: &Token, repo: &RepoName) -> Result<Option<Level>, Fault> {
@@ -135,6 +128,13 @@ impl Keeper for MapKeeper {
         match self.repos.get(repo) {
             Some(repository) => or_memory(repository.tag(tag)),
             None => Ok(None),
+        }
+    }
+
+    fn tags(&mut self, alloc: Global, repo: &RepoName) -> Result<Vec<(Tag, Digest)>, Fault> {
+        match self.repos.get(repo) {
+            Some(repository) => or_memory(repository.tags(alloc)),
+            None => Ok(Vec::new(alloc)),
         }
     }
 
@@ -216,6 +216,10 @@ impl Keeper for MapKeeper {
 
     fn levels(&mut self, alloc: Global, repo: &RepoName) -> Result<Vec<(Token, Level)>, Fault> {
         or_memory(self.levels_on(alloc, repo))
+    }
+
+    fn grants(&mut self, alloc: Global) -> Result<Vec<Grant>, Fault> {
+        or_memory(self.all_grants(alloc))
     }
 
     fn blob_digests(&mut self, alloc: Global, repo: &RepoName) -> Result<Vec<Digest>, Fault> {

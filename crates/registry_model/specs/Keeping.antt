@@ -14,6 +14,10 @@ pub record State : Type 0 where
   pub world : World
   pub spent : Bool
 
+-- what a call asks of the world: this is so where the keeper is honest and not spent
+abbrev pub Asks : Type 0 → State → (World → Type 0) → Type 0
+Asks honest s IsSo = honest → s.spent ≡ false → IsSo s.world
+
 -- a read gives the value, or gives up, and nothing changes; of a keeper whose storage fails nothing is known
 abbrev pub ReadsBy : {A B : Type 0} → (A → B) → Result A Fault → B → State → State → Type 0
 ReadsBy show (Ok v) value s s' = (show v ≡ value) × (s' ≡ s)
@@ -66,3 +70,9 @@ usages_shown v = v.items
 
 abbrev pub digests_shown : Vec Text Global → List Text
 digests_shown v = v.items
+
+abbrev pub names_shown : Vec Text Global → List Text
+names_shown v = v.items
+
+abbrev pub tags_shown : Vec (Text × Text) Global → List (Text × Text)
+tags_shown v = v.items

@@ -1,10 +1,11 @@
 -- What a keeper's reads find, and what its writes make, by names. Nothing is found where the repository is
 -- not there, and a write to one that is not there makes nothing.
-use Rattle.std.specs.Prelude.{◌≡◌, ℕ, T, List, [], ◌++◌, map, false, Option, Some, None, length, option_map}
+use Rattle.std.specs.Prelude.{◌≡◌, ℕ, T, List, [], ◌∷◌, ◌++◌, map, false, Option, Some, None, length, option_map}
 use Rattle.std.specs.Option.{option_and_then, option_map_or}
 use Rattle.std.specs.FinMap.{get, len, keys, entries, find, is_sorted}
 use Rattle.oci_types.specs.Text.{Text}
 use Rattle.oci_types.specs.declared.kind.Kind.{Kind}
+use Rattle.registry_model.specs.declared.grant.Grant.{Grant}
 use Rattle.registry_model.specs.declared.level.Level.{Level}
 use Rattle.registry_model.specs.declared.quota.Usage.{Usage}
 use Rattle.registry_model.specs.World.{Repo, World, repo_at, level_at, text_cmp, update_repo}
@@ -37,6 +38,10 @@ manifest_size_at w name digest =
 abbrev pub tag_at : World → Text → Text → Option Text
 tag_at w name tag = option_and_then (λ r. get r.tags tag) (repo_at w name)
 
+-- in byte order, each with the digest that it names
+abbrev pub tags_at : World → Text → List (Text × Text)
+tags_at w name = option_map_or (λ r. entries r.tags) (repo_at w name) []
+
 abbrev pub no_page : Page
 no_page = record { tags = []; more = false }
 
@@ -64,6 +69,13 @@ no_usage = record { used = 0; quota = 0; blobs = 0; manifests = 0; tags = 0; ses
 abbrev pub usage_at : World → Text → Usage
 usage_at w name = option_map_or usage_of (repo_at w name) no_usage
 
+-- in byte order
+abbrev pub repo_names_of : World → List Text
+repo_names_of w = keys w.repos
+
+abbrev pub repo_count : World → ℕ
+repo_count w = len w.repos
+
 -- in byte order of names
 abbrev pub usages_of : World → List (Text × Usage)
 usages_of w = map (λ e. (e.0, usage_of e.1)) (entries w.repos)
@@ -79,6 +91,17 @@ manifest_digests_at w name = option_map_or (λ r. keys r.manifests) (repo_at w n
 pub record AreLevelsOn (w : World) (name : Text) (levels : List (Text × Level)) : Type 0 where
   pub rise : T (is_sorted text_cmp levels)
   pub each : (token : Text) → find text_cmp token levels ≡ level_at w token name
+
+-- levels on one repository
+abbrev pub grants_on : Text → List (Text × Level) → List Grant
+grants_on name levels = map (λ l. record { repo = name; token = l.0; level = l.1 }) levels
+
+-- the levels that tokens have on each of the repositories, one repository after the other
+abbrev pub AreLevelsOver : World → List Text → List Grant → Type 0
+AreLevelsOver w [] grants = grants ≡ []
+AreLevelsOver w (name ∷ names) grants =
+    (levels : List (Text × Level)) × (others : List Grant) × AreLevelsOn w name levels
+    × AreLevelsOver w names others × (grants ≡ grants_on name levels ++ others)
 
 -- ---- writes
 

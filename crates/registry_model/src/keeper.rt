@@ -3,14 +3,14 @@ ghost use Rattle.oci_types.specs.Digest.{matches};
 ghost use Rattle.oci_types.specs.Manifest.{shown, manifest_in};
 ghost use Rattle.registry_model.specs.Limits.{largest, largest_blob, largest_manifest, most_sessions};
 ghost use Rattle.registry_model.specs.World.{is_known, has_repo, level_at};
-ghost use Rattle.registry_model.specs.Lookups.{AreLevelsOn, blob_at, blob_size_at, manifest_at, manifest_size_at, tag_at, page_at, manifests_on_at, session_at, session_size_at, sessions_open_at, last_number_at, usage_at, usages_of, blob_digests_at, manifest_digests_at, bytes_or_none, put_blob, open_session, append, finish, mount, put_manifest, delete_blob, delete_manifest, delete_tag};
+ghost use Rattle.registry_model.specs.Lookups.{AreLevelsOn, AreLevelsOver, repo_names_of, repo_count, tags_at, blob_at, blob_size_at, manifest_at, manifest_size_at, tag_at, page_at, manifests_on_at, session_at, session_size_at, sessions_open_at, last_number_at, usage_at, usages_of, blob_digests_at, manifest_digests_at, bytes_or_none, put_blob, open_session, append, finish, mount, put_manifest, delete_blob, delete_manifest, delete_tag};
 ghost use Rattle.registry_model.specs.Command.{set_repo, drop_repo, grant, revoke, revoke_all, drop_sessions};
 ghost use Rattle.registry_model.specs.Pruning.{delete_blobs};
 ghost use Rattle.registry_model.specs.Ask.{text_in};
-ghost use Rattle.registry_model.specs.Keeping.{State, Reads, ReadsBy, ReadsSo, Writes, WritesBy, Spends, bytes_in, manifest_shown, page_shown, entries_shown, usages_shown, digests_shown};
+ghost use Rattle.registry_model.specs.Keeping.{State, Asks, Reads, ReadsBy, ReadsSo, Writes, WritesBy, Spends, bytes_in, manifest_shown, page_shown, entries_shown, usages_shown, digests_shown, names_shown, tags_shown};
 ghost use Rattle.registry_model.specs.Closing.{session_matches, finish_as_is, WritesWhereSo};
 
-use crate::{Level, Quota, Usage};
+use crate::{Grant, Level, Quota, Usage};
 use oci_types::{Digest, Fault, Kind, Manifest, RepoName, Tag, Token};
 use std::alloc::Global;
 
@@ -46,6 +46,20 @@ pub trait Keeper {
         ensures spends { Spends result (state self.old) (state self.new) }
         ensures honest { is_honest self.new → is_honest self.old };
 
+    /// The names of the repositories, in byte order. Reads nothing of what they hold.
+    fn repo_names(&mut self, alloc: Global) -> Result<Vec<RepoName>, Fault>
+        ensures found { is_honest self.new → ReadsBy names_shown result
+            (repo_names_of (state self.old).world) (state self.old) (state self.new) }
+        ensures spends { Spends result (state self.old) (state self.new) }
+        ensures honest { is_honest self.new → is_honest self.old };
+
+    /// How many repositories there are.
+    fn count_repos(&mut self) -> Result<u64, Fault>
+        ensures found { is_honest self.new → Reads result (repo_count (state self.old).world)
+            (state self.old) (state self.new) }
+        ensures spends { Spends result (state self.old) (state self.new) }
+        ensures honest { is_honest self.new → is_honest self.old };
+
     /// The level of a token on a repository, where it has one.
     fn level(&mut self, token: &Token, repo: &RepoName) -> Found<Level>
         ensures found { is_honest self.new → Reads result (level_at (state self.old).world token.now repo.now)
@@ -55,17 +69,15 @@ pub trait Keeper {
 
     /// The bytes of a blob.
     fn blob(&mut self, alloc: Global, repo: &RepoName, digest: &Digest) -> Found<Vec<u8>>
-        ensures found { is_honest self.new
-            → ReadsBy bytes_in result (blob_at (state self.old).world repo.now digest.now)
-            (state self.old) (state self.new) }
+        ensures found { is_honest self.new → ReadsBy bytes_in result
+            (blob_at (state self.old).world repo.now digest.now) (state self.old) (state self.new) }
         ensures spends { Spends result (state self.old) (state self.new) }
         ensures honest { is_honest self.new → is_honest self.old };
 
     /// The length of a blob in bytes. Reads no blob.
     fn blob_size(&mut self, repo: &RepoName, digest: &Digest) -> Found<u64>
-        ensures found { is_honest self.new
-            → Reads result (blob_size_at (state self.old).world repo.now digest.now)
-            (state self.old) (state self.new) }
+        ensures found { is_honest self.new → Reads result
+            (blob_size_at (state self.old).world repo.now digest.now) (state self.old) (state self.new) }
         ensures spends { Spends result (state self.old) (state self.new) }
         ensures honest { is_honest self.new → is_honest self.old };
 
@@ -76,17 +88,15 @@ pub trait Keeper {
         repo: &RepoName,
         digest: &Digest,
     ) -> Found<(Kind, Vec<u8>)>
-        ensures found { is_honest self.new
-            → ReadsBy manifest_shown result (manifest_at (state self.old).world repo.now digest.now)
-            (state self.old) (state self.new) }
+        ensures found { is_honest self.new → ReadsBy manifest_shown result
+            (manifest_at (state self.old).world repo.now digest.now) (state self.old) (state self.new) }
         ensures spends { Spends result (state self.old) (state self.new) }
         ensures honest { is_honest self.new → is_honest self.old };
 
     /// The kind of a manifest, and its length in bytes. Reads no manifest.
     fn manifest_size(&mut self, repo: &RepoName, digest: &Digest) -> Found<(Kind, u64)>
-        ensures found { is_honest self.new
-            → Reads result (manifest_size_at (state self.old).world repo.now digest.now)
-            (state self.old) (state self.new) }
+        ensures found { is_honest self.new → Reads result
+            (manifest_size_at (state self.old).world repo.now digest.now) (state self.old) (state self.new) }
         ensures spends { Spends result (state self.old) (state self.new) }
         ensures honest { is_honest self.new → is_honest self.old };
 
@@ -94,6 +104,13 @@ pub trait Keeper {
     fn tag(&mut self, alloc: Global, repo: &RepoName, tag: &Tag) -> Found<Digest>
         ensures found { is_honest self.new → Reads result (tag_at (state self.old).world repo.now tag.now)
             (state self.old) (state self.new) }
+        ensures spends { Spends result (state self.old) (state self.new) }
+        ensures honest { is_honest self.new → is_honest self.old };
+
+    /// The tags of a repository, in byte order, each with the digest that it names.
+    fn tags(&mut self, alloc: Global, repo: &RepoName) -> Result<Vec<(Tag, Digest)>, Fault>
+        ensures found { is_honest self.new → ReadsBy tags_shown result
+            (tags_at (state self.old).world repo.now) (state self.old) (state self.new) }
         ensures spends { Spends result (state self.old) (state self.new) }
         ensures honest { is_honest self.new → is_honest self.old };
 
@@ -105,9 +122,8 @@ pub trait Keeper {
         last: &str,
         n: Option<u64>,
     ) -> Result<(Vec<Tag>, bool), Fault>
-        ensures found { is_honest self.new
-            → ReadsBy page_shown result (page_at (state self.old).world repo.now last.now n)
-            (state self.old) (state self.new) }
+        ensures found { is_honest self.new → ReadsBy page_shown result
+            (page_at (state self.old).world repo.now last.now n) (state self.old) (state self.new) }
         ensures spends { Spends result (state self.old) (state self.new) }
         ensures honest { is_honest self.new → is_honest self.old };
 
@@ -118,25 +134,22 @@ pub trait Keeper {
         repo: &RepoName,
         digest: &Digest,
     ) -> Result<Vec<(Digest, Vec<u8>)>, Fault>
-        ensures found { is_honest self.new
-            → ReadsBy entries_shown result (manifests_on_at (state self.old).world repo.now digest.now)
-            (state self.old) (state self.new) }
+        ensures found { is_honest self.new → ReadsBy entries_shown result
+            (manifests_on_at (state self.old).world repo.now digest.now) (state self.old) (state self.new) }
         ensures spends { Spends result (state self.old) (state self.new) }
         ensures honest { is_honest self.new → is_honest self.old };
 
     /// The length in bytes of an open upload session. Reads no byte of it.
     fn session_size(&mut self, repo: &RepoName, number: u64) -> Found<u64>
-        ensures found { is_honest self.new
-            → Reads result (session_size_at (state self.old).world repo.now number)
-            (state self.old) (state self.new) }
+        ensures found { is_honest self.new → Reads result
+            (session_size_at (state self.old).world repo.now number) (state self.old) (state self.new) }
         ensures spends { Spends result (state self.old) (state self.new) }
         ensures honest { is_honest self.new → is_honest self.old };
 
     /// The bytes of an open upload session.
     fn session(&mut self, alloc: Global, repo: &RepoName, number: u64) -> Found<Vec<u8>>
-        ensures found { is_honest self.new
-            → ReadsBy bytes_in result (session_at (state self.old).world repo.now number)
-            (state self.old) (state self.new) }
+        ensures found { is_honest self.new → ReadsBy bytes_in result
+            (session_at (state self.old).world repo.now number) (state self.old) (state self.new) }
         ensures spends { Spends result (state self.old) (state self.new) }
         ensures honest { is_honest self.new → is_honest self.old };
 
@@ -176,27 +189,31 @@ pub trait Keeper {
         ensures spends { Spends result (state self.old) (state self.new) }
         ensures honest { is_honest self.new → is_honest self.old };
 
+    /// Each level of a token on a repository, in byte order of the repositories, and on each of the tokens.
+    fn grants(&mut self, alloc: Global) -> Result<Vec<Grant>, Fault>
+        ensures found { is_honest self.new → ReadsSo (λ v. let w = (state self.old).world in
+            AreLevelsOver w (repo_names_of w) v.items) result (state self.old) (state self.new) }
+        ensures spends { Spends result (state self.old) (state self.new) }
+        ensures honest { is_honest self.new → is_honest self.old };
+
     /// The digests of a repository's blobs, in byte order. Reads no blob.
     fn blob_digests(&mut self, alloc: Global, repo: &RepoName) -> Result<Vec<Digest>, Fault>
-        ensures found { is_honest self.new
-            → ReadsBy digests_shown result (blob_digests_at (state self.old).world repo.now)
-            (state self.old) (state self.new) }
+        ensures found { is_honest self.new → ReadsBy digests_shown result
+            (blob_digests_at (state self.old).world repo.now) (state self.old) (state self.new) }
         ensures spends { Spends result (state self.old) (state self.new) }
         ensures honest { is_honest self.new → is_honest self.old };
 
     /// The digests of a repository's manifests, in byte order. Reads no manifest.
     fn manifest_digests(&mut self, alloc: Global, repo: &RepoName) -> Result<Vec<Digest>, Fault>
-        ensures found { is_honest self.new
-            → ReadsBy digests_shown result (manifest_digests_at (state self.old).world repo.now)
-            (state self.old) (state self.new) }
+        ensures found { is_honest self.new → ReadsBy digests_shown result
+            (manifest_digests_at (state self.old).world repo.now) (state self.old) (state self.new) }
         ensures spends { Spends result (state self.old) (state self.new) }
         ensures honest { is_honest self.new → is_honest self.old };
 
     /// Adds a blob to a repository that is there (`has_repo` tells), under a digest that the bytes
     /// match (`Digest::verifies` tells); of at most 67,108,864 bytes. A digest that is there keeps its bytes.
     fn put_blob(&mut self, repo: &RepoName, digest: &Digest, bytes: &[u8]) -> Result<(), Fault>
-        requires there { is_honest self.old → (state self.old).spent ≡ false
-            → has_repo (state self.old).world repo.now ≡ true }
+        requires there { Asks (is_honest self.old) (state self.old) (λ w. has_repo w repo.now ≡ true) }
         requires matching { matches digest.now bytes.now ≡ true }
         requires fits { length bytes.now ≤ largest_blob }
         ensures made { is_honest self.new
@@ -208,12 +225,11 @@ pub trait Keeper {
     /// Opens an empty upload session under the number behind the last one, and answers it. Fewer than 1,000
     /// are open (`sessions_open` tells), and the last is below 9,223,372,036,854,775,807 (`last_number`).
     fn open_session(&mut self, repo: &RepoName) -> Result<u64, Fault>
-        requires there { is_honest self.old → (state self.old).spent ≡ false
-            → has_repo (state self.old).world repo.now ≡ true }
-        requires few { is_honest self.old → (state self.old).spent ≡ false
-            → sessions_open_at (state self.old).world repo.now < most_sessions }
-        requires below { is_honest self.old → (state self.old).spent ≡ false
-            → last_number_at (state self.old).world repo.now < largest }
+        requires there { Asks (is_honest self.old) (state self.old) (λ w. has_repo w repo.now ≡ true) }
+        requires few { Asks (is_honest self.old) (state self.old)
+            (λ w. sessions_open_at w repo.now < most_sessions) }
+        requires below { Asks (is_honest self.old) (state self.old)
+            (λ w. last_number_at w repo.now < largest) }
         ensures made { is_honest self.new
             → WritesBy (λ n. n) result (last_number_at (state self.old).world repo.now + 1)
             (open_session (state self.old).world repo.now) (state self.old) (state self.new) }
@@ -223,19 +239,16 @@ pub trait Keeper {
     /// Puts bytes behind those of an open upload session (`session_size` tells), which then has at most
     /// 67,108,864. Touches none that it has.
     fn append(&mut self, repo: &RepoName, number: u64, bytes: &[u8]) -> Result<(), Fault>
-        requires open { is_honest self.old → (state self.old).spent ≡ false
-            → is_some (session_at (state self.old).world repo.now number) ≡ true }
-        requires fits { is_honest self.old → (state self.old).spent ≡ false
-            → length (bytes_or_none (session_at (state self.old).world repo.now number)) + length bytes.now
-            ≤ largest_blob }
-        ensures made { is_honest self.new
-            → Writes result (append (state self.old).world repo.now number bytes.now)
-            (state self.old) (state self.new) }
+        requires open { Asks (is_honest self.old) (state self.old)
+            (λ w. is_some (session_at w repo.now number) ≡ true) }
+        requires fits { Asks (is_honest self.old) (state self.old)
+            (λ w. length (bytes_or_none (session_at w repo.now number)) + length bytes.now ≤ largest_blob) }
+        ensures made { is_honest self.new → Writes result
+            (append (state self.old).world repo.now number bytes.now) (state self.old) (state self.new) }
         ensures spends { Spends result (state self.old) (state self.new) }
         ensures honest { is_honest self.new → is_honest self.old };
 
-    /// Ends an open upload session and adds its whole bytes as a blob, whose digest they match.
-    /// `bytes` are all of them, the last chunk among them.
+    /// Ends an open session and adds its whole bytes, the last chunk with them, as a blob of that digest.
     fn finish(
         &mut self,
         repo: &RepoName,
@@ -243,8 +256,8 @@ pub trait Keeper {
         digest: &Digest,
         bytes: &[u8],
     ) -> Result<(), Fault>
-        requires open { is_honest self.old → (state self.old).spent ≡ false
-            → is_some (session_at (state self.old).world repo.now number) ≡ true }
+        requires open { Asks (is_honest self.old) (state self.old)
+            (λ w. is_some (session_at w repo.now number) ≡ true) }
         requires matching { matches digest.now bytes.now ≡ true }
         requires fits { length bytes.now ≤ largest_blob }
         ensures made { is_honest self.new
@@ -266,13 +279,11 @@ pub trait Keeper {
 
     /// Adds a blob that another repository has (`blob_size` tells), or the same one.
     fn mount(&mut self, from: &RepoName, to: &RepoName, digest: &Digest) -> Result<(), Fault>
-        requires there { is_honest self.old → (state self.old).spent ≡ false
-            → has_repo (state self.old).world to.now ≡ true }
-        requires source { is_honest self.old → (state self.old).spent ≡ false
-            → is_some (blob_at (state self.old).world from.now digest.now) ≡ true }
-        ensures made { is_honest self.new
-            → Writes result (mount (state self.old).world from.now to.now digest.now)
-            (state self.old) (state self.new) }
+        requires there { Asks (is_honest self.old) (state self.old) (λ w. has_repo w to.now ≡ true) }
+        requires source { Asks (is_honest self.old) (state self.old)
+            (λ w. is_some (blob_at w from.now digest.now) ≡ true) }
+        ensures made { is_honest self.new → Writes result
+            (mount (state self.old).world from.now to.now digest.now) (state self.old) (state self.new) }
         ensures spends { Spends result (state self.old) (state self.new) }
         ensures honest { is_honest self.new → is_honest self.old };
 
@@ -286,8 +297,7 @@ pub trait Keeper {
         manifest: &Manifest,
         tag: Option<&Tag>,
     ) -> Result<(), Fault>
-        requires there { is_honest self.old → (state self.old).spent ≡ false
-            → has_repo (state self.old).world repo.now ≡ true }
+        requires there { Asks (is_honest self.old) (state self.old) (λ w. has_repo w repo.now ≡ true) }
         requires matching { matches digest.now bytes.now ≡ true }
         requires reads { manifest_in bytes.now ≡ Ok (shown manifest.now) }
         requires fits { length bytes.now ≤ largest_manifest }
@@ -299,38 +309,34 @@ pub trait Keeper {
 
     /// Takes a blob away (`blob_size` tells that it is there).
     fn delete_blob(&mut self, repo: &RepoName, digest: &Digest) -> Result<(), Fault>
-        requires there { is_honest self.old → (state self.old).spent ≡ false
-            → is_some (blob_at (state self.old).world repo.now digest.now) ≡ true }
-        ensures made { is_honest self.new
-            → Writes result (delete_blob (state self.old).world repo.now digest.now)
-            (state self.old) (state self.new) }
+        requires there { Asks (is_honest self.old) (state self.old)
+            (λ w. is_some (blob_at w repo.now digest.now) ≡ true) }
+        ensures made { is_honest self.new → Writes result
+            (delete_blob (state self.old).world repo.now digest.now) (state self.old) (state self.new) }
         ensures spends { Spends result (state self.old) (state self.new) }
         ensures honest { is_honest self.new → is_honest self.old };
 
     /// Takes blobs away, all or none; a digest of which there is no blob changes nothing.
     fn delete_blobs(&mut self, repo: &RepoName, digests: &[Digest]) -> Result<(), Fault>
-        requires there { is_honest self.old → (state self.old).spent ≡ false
-            → has_repo (state self.old).world repo.now ≡ true }
-        ensures made { is_honest self.new
-            → Writes result (delete_blobs (state self.old).world repo.now digests.now)
-            (state self.old) (state self.new) }
+        requires there { Asks (is_honest self.old) (state self.old) (λ w. has_repo w repo.now ≡ true) }
+        ensures made { is_honest self.new → Writes result
+            (delete_blobs (state self.old).world repo.now digests.now) (state self.old) (state self.new) }
         ensures spends { Spends result (state self.old) (state self.new) }
         ensures honest { is_honest self.new → is_honest self.old };
 
     /// Takes a manifest away (`manifest_size` tells that it is there), and each tag that names it.
     fn delete_manifest(&mut self, repo: &RepoName, digest: &Digest) -> Result<(), Fault>
-        requires there { is_honest self.old → (state self.old).spent ≡ false
-            → is_some (manifest_at (state self.old).world repo.now digest.now) ≡ true }
-        ensures made { is_honest self.new
-            → Writes result (delete_manifest (state self.old).world repo.now digest.now)
-            (state self.old) (state self.new) }
+        requires there { Asks (is_honest self.old) (state self.old)
+            (λ w. is_some (manifest_at w repo.now digest.now) ≡ true) }
+        ensures made { is_honest self.new → Writes result
+            (delete_manifest (state self.old).world repo.now digest.now) (state self.old) (state self.new) }
         ensures spends { Spends result (state self.old) (state self.new) }
         ensures honest { is_honest self.new → is_honest self.old };
 
     /// Takes a tag away (`tag` tells that it is there).
     fn delete_tag(&mut self, repo: &RepoName, tag: &Tag) -> Result<(), Fault>
-        requires there { is_honest self.old → (state self.old).spent ≡ false
-            → is_some (tag_at (state self.old).world repo.now tag.now) ≡ true }
+        requires there { Asks (is_honest self.old) (state self.old)
+            (λ w. is_some (tag_at w repo.now tag.now) ≡ true) }
         ensures made { is_honest self.new → Writes result (delete_tag (state self.old).world repo.now tag.now)
             (state self.old) (state self.new) }
         ensures spends { Spends result (state self.old) (state self.new) }
@@ -338,16 +344,14 @@ pub trait Keeper {
 
     /// Makes an empty repository, or sets the quota of one that is there and changes nothing else.
     fn set_repo(&mut self, name: &RepoName, quota: Quota) -> Result<(), Fault>
-        ensures made { is_honest self.new
-            → Writes result (set_repo (state self.old).world name.now quota.bytes)
-            (state self.old) (state self.new) }
+        ensures made { is_honest self.new → Writes result
+            (set_repo (state self.old).world name.now quota.bytes) (state self.old) (state self.new) }
         ensures spends { Spends result (state self.old) (state self.new) }
         ensures honest { is_honest self.new → is_honest self.old };
 
     /// Takes a repository that is there away, with what it holds and every level on it.
     fn drop_repo(&mut self, name: &RepoName) -> Result<(), Fault>
-        requires there { is_honest self.old → (state self.old).spent ≡ false
-            → has_repo (state self.old).world name.now ≡ true }
+        requires there { Asks (is_honest self.old) (state self.old) (λ w. has_repo w name.now ≡ true) }
         ensures made { is_honest self.new
             → Writes result (drop_repo (state self.old).world name.now) (state self.old) (state self.new) }
         ensures spends { Spends result (state self.old) (state self.new) }
@@ -355,18 +359,16 @@ pub trait Keeper {
 
     /// Gives a token a level on a repository that is there, in the place of the one that it has.
     fn grant(&mut self, token: &Token, name: &RepoName, level: Level) -> Result<(), Fault>
-        requires there { is_honest self.old → (state self.old).spent ≡ false
-            → has_repo (state self.old).world name.now ≡ true }
-        ensures made { is_honest self.new
-            → Writes result (grant (state self.old).world token.now name.now level)
-            (state self.old) (state self.new) }
+        requires there { Asks (is_honest self.old) (state self.old) (λ w. has_repo w name.now ≡ true) }
+        ensures made { is_honest self.new → Writes result
+            (grant (state self.old).world token.now name.now level) (state self.old) (state self.new) }
         ensures spends { Spends result (state self.old) (state self.new) }
         ensures honest { is_honest self.new → is_honest self.old };
 
     /// Takes the level of a token on a repository away (`level` tells that it has one).
     fn revoke(&mut self, token: &Token, name: &RepoName) -> Result<(), Fault>
-        requires granted { is_honest self.old → (state self.old).spent ≡ false
-            → is_some (level_at (state self.old).world token.now name.now) ≡ true }
+        requires granted { Asks (is_honest self.old) (state self.old)
+            (λ w. is_some (level_at w token.now name.now) ≡ true) }
         ensures made { is_honest self.new → Writes result (revoke (state self.old).world token.now name.now)
             (state self.old) (state self.new) }
         ensures spends { Spends result (state self.old) (state self.new) }
@@ -374,8 +376,8 @@ pub trait Keeper {
 
     /// Takes every level of a token away (`known` tells that it has one).
     fn revoke_all(&mut self, token: &Token) -> Result<(), Fault>
-        requires granted { is_honest self.old → (state self.old).spent ≡ false
-            → is_known ((state self.old).world.grants token.now) ≡ true }
+        requires granted { Asks (is_honest self.old) (state self.old)
+            (λ w. is_known (w.grants token.now) ≡ true) }
         ensures made { is_honest self.new → Writes result (revoke_all (state self.old).world token.now)
             (state self.old) (state self.new) }
         ensures spends { Spends result (state self.old) (state self.new) }
@@ -383,8 +385,7 @@ pub trait Keeper {
 
     /// Ends every open upload session of a repository that is there; the last number stays.
     fn drop_sessions(&mut self, name: &RepoName) -> Result<(), Fault>
-        requires there { is_honest self.old → (state self.old).spent ≡ false
-            → has_repo (state self.old).world name.now ≡ true }
+        requires there { Asks (is_honest self.old) (state self.old) (λ w. has_repo w name.now ≡ true) }
         ensures made { is_honest self.new → Writes result (drop_sessions (state self.old).world name.now)
             (state self.old) (state self.new) }
         ensures spends { Spends result (state self.old) (state self.new) }

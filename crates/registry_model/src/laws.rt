@@ -6,7 +6,8 @@ ghost use Rattle.oci_types.specs.Text.{Text};
 ghost use Rattle.oci_types.specs.Manifest.{ManifestShown, manifest_in};
 ghost use Rattle.registry_model.specs.World.{World, Grants, Repo, repo_at};
 ghost use Rattle.registry_model.specs.declared.level.Level.{Level};
-ghost use Rattle.registry_model.specs.Lookups.{AreLevelsOn};
+ghost use Rattle.registry_model.specs.declared.grant.Grant.{Grant};
+ghost use Rattle.registry_model.specs.Lookups.{AreLevelsOn, AreLevelsOver};
 ghost use Rattle.registry_model.specs.Ask.{Ask};
 ghost use Rattle.registry_model.specs.Heads.{as_head, as_get, without_content};
 ghost use Rattle.registry_model.specs.Judging.{decision, reply_to, after_request};
@@ -80,6 +81,12 @@ pub fn pruning_keeps_what_is_named()
 pub fn levels_are_one_list()
     ensures { (w : World) (name : Text) (levels others : List (Text × Level))
         → AreLevelsOn w name levels → AreLevelsOn w name others → levels ≡ others }
+{}
+
+/// The levels on repositories, one repository after the other, are one list.
+pub fn grants_are_one_list()
+    ensures { (w : World) (names : List Text) (grants others : List Grant)
+        → AreLevelsOver w names grants → AreLevelsOver w names others → grants ≡ others }
 {}
 
 /// Steps one after the other: one outcome for each, the definitions' up to a storage failure, and to

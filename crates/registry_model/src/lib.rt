@@ -4,6 +4,7 @@
 #![tactic(auto)]
 
 pub mod admin;
+pub mod grant;
 pub mod keeper;
 pub mod laws;
 pub mod level;
@@ -20,6 +21,7 @@ pub mod soundness;
 pub mod worked;
 
 pub use admin::{AdminCommand, AdminFault};
+pub use grant::Grant;
 pub use keeper::Keeper;
 pub use level::Level;
 pub use limits::{

@@ -1,5 +1,4 @@
 pub mod Operations
 pub mod AdminCommands
 pub mod Steps
-pub mod Tags
 pub mod Serving

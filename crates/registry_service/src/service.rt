@@ -4,17 +4,16 @@ ghost use Rattle.registry_model.specs.declared.refusal.Refusal.TheVariants.{Toke
 ghost use Rattle.registry_model.specs.Answer.{answer_of, refused};
 ghost use Rattle.registry_model.specs.Ask.{ask_of};
 ghost use Rattle.registry_model.specs.Doing.{Does, SpendsAs, CarriesOut, course_of_answer, course_of_result};
-ghost use Rattle.registry_model.specs.Keeping.{Reads, ReadsBy, ReadsSo, Spends, usages_shown, digests_shown};
-ghost use Rattle.registry_model.specs.Lookups.{AreLevelsOn, usages_of, tag_at, blob_digests_at, blob_size_at, manifest_digests_at};
+ghost use Rattle.registry_model.specs.Keeping.{Reads, ReadsBy, ReadsSo, Spends, names_shown, tags_shown, usages_shown, digests_shown};
+ghost use Rattle.registry_model.specs.Lookups.{AreLevelsOn, AreLevelsOver, repo_names_of, usages_of, tags_at, blob_digests_at, blob_size_at, manifest_digests_at};
 ghost use Rattle.registry_model.specs.World.{has_repo};
 ghost use Rattle.manifest_operations.specs.Pruning.{names_at, unnamed_at};
-ghost use Rattle.registry_service.specs.Tags.{tags_shown, tags_at};
 
 use crate::admin_commands::apply_command;
 use crate::judging::judge;
 use manifest_operations::{names_at, unnamed};
 use oci_types::{Digest, Fault, RepoName, Tag, Token};
-use registry_model::{AdminCommand, AdminFault, Keeper, Level, Reply, Request, Usage};
+use registry_model::{AdminCommand, AdminFault, Grant, Keeper, Level, Reply, Request, Usage};
 use std::alloc::Global;
 use std::marker::Model;
 
@@ -99,6 +98,28 @@ impl<K: Keeper> Service<K> {
         self.keeper.levels(alloc, name)
     }
 
+    /// Each level of a token on a repository, in byte order of the repositories, and on each of the tokens.
+    pub fn grants(&mut self, alloc: Global) -> Result<Vec<Grant>, Fault>
+        ensures found { K.is_honest self.new → ReadsSo
+            (λ v. let w = (K.state self.old).world in AreLevelsOver w (repo_names_of w) v.items) result
+            (K.state self.old) (K.state self.new) }
+        ensures spends { Spends result (K.state self.old) (K.state self.new) }
+        ensures honest { K.is_honest self.new → K.is_honest self.old }
+    {
+        self.keeper.grants(alloc)
+    }
+
+    /// The names of the repositories, in byte order.
+    pub fn repo_names(&mut self, alloc: Global) -> Result<Vec<RepoName>, Fault>
+        ensures found { K.is_honest self.new
+            → ReadsBy names_shown result (repo_names_of (K.state self.old).world)
+            (K.state self.old) (K.state self.new) }
+        ensures spends { Spends result (K.state self.old) (K.state self.new) }
+        ensures honest { K.is_honest self.new → K.is_honest self.old }
+    {
+        self.keeper.repo_names(alloc)
+    }
+
     /// Whether a repository is there.
     pub fn has_repo(&mut self, name: &RepoName) -> Result<bool, Fault>
         ensures found { K.is_honest self.new
@@ -110,32 +131,16 @@ impl<K: Keeper> Service<K> {
         self.keeper.has_repo(name)
     }
 
-    /// The tags of a repository, in byte order; none where it is not there.
-    pub fn tags(&mut self, alloc: Global, name: &RepoName) -> Result<Vec<Tag>, Fault>
+    /// The tags of a repository, in byte order, each with the digest that it names; none where it is not
+    /// there.
+    pub fn tags(&mut self, alloc: Global, name: &RepoName) -> Result<Vec<(Tag, Digest)>, Fault>
         ensures found { K.is_honest self.new
             → ReadsBy tags_shown result (tags_at (K.state self.old).world name.now)
             (K.state self.old) (K.state self.new) }
         ensures spends { Spends result (K.state self.old) (K.state self.new) }
         ensures honest { K.is_honest self.new → K.is_honest self.old }
     {
-        let (tags, _) = self.keeper.tags_after(alloc, name, "", None)?;
-        Ok(tags)
-    }
-
-    /// The digest that a tag of a repository names.
-    pub fn tag(
-        &mut self,
-        alloc: Global,
-        name: &RepoName,
-        tag: &Tag,
-    ) -> Result<Option<Digest>, Fault>
-        ensures found { K.is_honest self.new
-            → Reads result (tag_at (K.state self.old).world name.now tag.now)
-            (K.state self.old) (K.state self.new) }
-        ensures spends { Spends result (K.state self.old) (K.state self.new) }
-        ensures honest { K.is_honest self.new → K.is_honest self.old }
-    {
-        self.keeper.tag(alloc, name, tag)
+        self.keeper.tags(alloc, name)
     }
 
     /// The digests of a repository's blobs, in byte order; none where it is not there.

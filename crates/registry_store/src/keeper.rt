@@ -13,7 +13,7 @@ use crate::origin::Origin;
 use crate::store::Store;
 use crate::{counted_blobs, counted_manifests, counted_sessions, usage_reads};
 use oci_types::{Digest, Fault, Kind, Manifest, RepoName, Tag, Token};
-use registry_model::{Keeper, Level, Quota, Usage};
+use registry_model::{Grant, Keeper, Level, Quota, Usage};
 use sqlite::Alter;
 use std::alloc::Global;
 use store_reads::{Change, NO_CHANGE};
@@ -44,6 +44,14 @@ impl<S: Alter, O: Origin> Keeper for Store<S, O> {
 
     fn has_repo(&mut self, repo: &RepoName) -> Result<bool, Fault> {
         unless_spent!(self, store_reads::has_repo(&mut self.conn, repo))
+    }
+
+    fn repo_names(&mut self, alloc: Global) -> Result<Vec<RepoName>, Fault> {
+        unless_spent!(self, store_reads::repo_names(alloc, &mut self.conn))
+    }
+
+    fn count_repos(&mut self) -> Result<u64, Fault> {
+        unless_spent!(self, store_reads::count_repos(&mut self.conn))
     }
 
     fn level(&mut self, token: &Token, repo: &RepoName) -> Result<Option<Level>, Fault> {
@@ -88,6 +96,10 @@ impl<S: Alter, O: Origin> Keeper for Store<S, O> {
 
     fn tag(&mut self, alloc: Global, repo: &RepoName, tag: &Tag) -> Result<Option<Digest>, Fault> {
         unless_spent!(self, store_reads::tag(alloc, &mut self.conn, repo, tag))
+    }
+
+    fn tags(&mut self, alloc: Global, repo: &RepoName) -> Result<Vec<(Tag, Digest)>, Fault> {
+        unless_spent!(self, store_reads::all_tags(alloc, &mut self.conn, repo))
     }
 
     fn tags_after(
@@ -155,6 +167,10 @@ impl<S: Alter, O: Origin> Keeper for Store<S, O> {
 
     fn levels(&mut self, alloc: Global, repo: &RepoName) -> Result<Vec<(Token, Level)>, Fault> {
         unless_spent!(self, store_reads::levels(alloc, &mut self.conn, repo))
+    }
+
+    fn grants(&mut self, alloc: Global) -> Result<Vec<Grant>, Fault> {
+        unless_spent!(self, store_reads::all_grants(alloc, &mut self.conn))
     }
 
     fn blob_digests(&mut self, alloc: Global, repo: &RepoName) -> Result<Vec<Digest>, Fault> {

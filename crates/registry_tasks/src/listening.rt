@@ -115,8 +115,8 @@ pub fn introduce<K: Keeper, E: Write>(
     ensures stays { OnOk result (K.is_honest keeper.new → K.state keeper.new ≡ K.state keeper.old) }
     ensures fails { IfErr result IsOfServing }
 {
-    let count = match keeper.usages(alloc) {
-        Ok(usages) => usages.len(),
+    let count = match keeper.count_repos() {
+        Ok(count) => count,
         Err(Fault::Memory) => return Ok(()),
         Err(Fault::Storage) => return Err(Failure::StorageFailure),
     };

@@ -14,6 +14,8 @@ mod ends;
 #[cfg(test)]
 mod interleaved;
 #[cfg(test)]
+mod listing;
+#[cfg(test)]
 mod messages;
 #[cfg(test)]
 mod model;

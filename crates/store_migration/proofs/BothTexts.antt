@@ -34,6 +34,7 @@ grant_texts = record {
   find = record { is = refl; plain = (refl, refl); unlisted = refl };
   known = record { is = refl; plain = (refl, refl); unlisted = refl };
   list = record { is = refl; plain = (refl, refl); unlisted = refl };
+  list_all = record { is = refl; plain = (refl, refl); unlisted = refl };
   add = record { is = refl; plain = (refl, refl); unlisted = refl };
   set_level = record { is = refl; plain = (refl, refl); unlisted = refl };
   take = record { is = refl; plain = (refl, refl); unlisted = refl };
@@ -47,6 +48,7 @@ tag_texts = record {
   find = record { is = refl; plain = (refl, refl); unlisted = refl };
   page = record { is = refl; plain = (refl, refl); unlisted = refl };
   list = record { is = refl; plain = (refl, refl); unlisted = refl };
+  pairs = record { is = refl; plain = (refl, refl); unlisted = refl };
   add = record { is = refl; plain = (refl, refl); unlisted = refl };
   set_digest = record { is = refl; plain = (refl, refl); unlisted = refl };
   take = record { is = refl; plain = (refl, refl); unlisted = refl };

@@ -10,15 +10,15 @@ use Rattle.sqlite.specs.Source.TheVariants.{Values}
 use Rattle.sqlite.specs.Term.{lit, col}
 use Rattle.sqlite.specs.declared.types.Value.TheVariants.{Null, Int}
 use Rattle.std.specs.Prelude.{◌∷◌, [], codes, pos}
-use Rattle.store_schema.specs.Commands.{deletes, selects, selects_ordered, updates, selects_page}
+use Rattle.store_schema.specs.Commands.{deletes, selects, selects_first, selects_ordered, selects_ordered_twice, updates, selects_page}
 use Rattle.store_schema.specs.Layout.{equals}
 use Rattle.store_schema.specs.Ordered.{above}
 use Rattle.store_statements.specs.BlobTexts.{blob_find, blob_sizes, blob_digests, blob_contents, blob_add, blob_take, blob_take_all, KnowsBlobTexts}
-use Rattle.store_statements.specs.GrantTexts.{grant_find, grant_known, grant_list, grant_add, grant_set_level, grant_take, grant_take_all, grant_take_token, KnowsGrantTexts}
+use Rattle.store_statements.specs.GrantTexts.{grant_find, grant_known, grant_list, grant_list_all, grant_add, grant_set_level, grant_take, grant_take_all, grant_take_token, KnowsGrantTexts}
 use Rattle.store_statements.specs.ManifestTexts.{manifest_find, manifest_subject, manifest_sizes, manifest_digests, manifest_contents, manifest_add, manifest_take, manifest_take_all, KnowsManifestTexts}
 use Rattle.store_statements.specs.PieceTexts.{piece_list, piece_contents, piece_add, piece_take_of, piece_take_all, KnowsPieceTexts}
 use Rattle.store_statements.specs.RepoTexts.{repo_find, repo_list, repo_add, repo_set_quota, repo_set_last, repo_take, KnowsRepoTexts}
-use Rattle.store_statements.specs.TagTexts.{tag_find, tag_page, tag_list, tag_add, tag_set_digest, tag_take, tag_take_named, tag_take_all, KnowsTagTexts}
+use Rattle.store_statements.specs.TagTexts.{tag_find, tag_page, tag_list, tag_pairs, tag_add, tag_set_digest, tag_take, tag_take_named, tag_take_all, KnowsTagTexts}
 use Rattle.store_statements.specs.UploadTexts.{upload_find, upload_sizes, upload_add, upload_set_size, upload_take, upload_take_all, KnowsUploadTexts}
 use Rattle.store_statements.specs.VersionTexts.{version_find, version_add, KnowsVersionTexts}
 
@@ -37,8 +37,9 @@ pub grant_texts : KnowsGrantTexts fresh_schema grants_stand
 unfolding everything same_name grants_stand
 grant_texts = record {
   find = means_by fresh_schema grant_find (selects fresh_schema grants_table (equals 1 0 ∷ equals 2 1 ∷ []) (col 1 3 ∷ []) (codes "level" ∷ [])) refl;
-  known = means_by fresh_schema grant_known (selects fresh_schema grants_table (equals 1 0 ∷ []) (col 1 3 ∷ []) (codes "level" ∷ [])) refl;
+  known = means_by fresh_schema grant_known (selects_first fresh_schema grants_table (equals 1 0 ∷ []) (col 1 3 ∷ []) (codes "level" ∷ [])) refl;
   list = means_by fresh_schema grant_list (selects_ordered fresh_schema grants_table (equals 2 0 ∷ []) (col 1 1 ∷ col 1 3 ∷ []) 1 (codes "token" ∷ codes "level" ∷ [])) refl;
+  list_all = means_by fresh_schema grant_list_all (selects_ordered_twice fresh_schema grants_table [] (col 1 2 ∷ col 1 1 ∷ col 1 3 ∷ []) 2 1 (codes "repo" ∷ codes "token" ∷ codes "level" ∷ [])) refl;
   add = means_by fresh_schema grant_add (Insert grants_stand.at (Values (lit Null ∷ col 0 0 ∷ col 0 1 ∷ col 0 2 ∷ []) 4)) refl;
   set_level = means_by fresh_schema grant_set_level (updates grants_stand.at fresh_schema grants_table (equals 1 0 ∷ equals 2 1 ∷ []) (col 1 0 ∷ col 1 0 ∷ col 1 1 ∷ col 1 2 ∷ col 0 2 ∷ [])) refl;
   take = means_by fresh_schema grant_take (deletes grants_stand.at fresh_schema grants_table (equals 1 0 ∷ equals 2 1 ∷ [])) refl;
@@ -52,6 +53,7 @@ tag_texts = record {
   find = means_by fresh_schema tag_find (selects fresh_schema tags_table (equals 1 0 ∷ equals 2 1 ∷ []) (col 1 3 ∷ []) (codes "digest" ∷ [])) refl;
   page = means_by fresh_schema tag_page (selects_page fresh_schema tags_table (equals 1 0 ∷ above 2 1 ∷ []) (col 1 2 ∷ []) 2 2 (codes "tag" ∷ [])) refl;
   list = means_by fresh_schema tag_list (selects fresh_schema tags_table (equals 1 0 ∷ []) (col 1 2 ∷ []) (codes "tag" ∷ [])) refl;
+  pairs = means_by fresh_schema tag_pairs (selects_ordered fresh_schema tags_table (equals 1 0 ∷ []) (col 1 2 ∷ col 1 3 ∷ []) 2 (codes "tag" ∷ codes "digest" ∷ [])) refl;
   add = means_by fresh_schema tag_add (Insert tags_stand.at (Values (lit Null ∷ col 0 0 ∷ col 0 1 ∷ col 0 2 ∷ []) 4)) refl;
   set_digest = means_by fresh_schema tag_set_digest (updates tags_stand.at fresh_schema tags_table (equals 1 0 ∷ equals 2 1 ∷ []) (col 1 0 ∷ col 1 0 ∷ col 1 1 ∷ col 1 2 ∷ col 0 2 ∷ [])) refl;
   take = means_by fresh_schema tag_take (deletes tags_stand.at fresh_schema tags_table (equals 1 0 ∷ equals 2 1 ∷ [])) refl;

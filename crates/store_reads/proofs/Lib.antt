@@ -14,3 +14,4 @@ pub mod MapSums
 pub mod UsageTurns
 pub mod Foretold
 pub mod Behind
+pub mod RepoLists

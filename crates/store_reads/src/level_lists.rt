@@ -1,16 +1,17 @@
-//! Who has what level on a repository.
+//! Who has what level on a repository, and on all.
 ghost use Rattle.std.specs.Prelude.{◌≡◌, map, IfOk};
-ghost use Rattle.registry_model.specs.Lookups.{AreLevelsOn};
+ghost use Rattle.registry_model.specs.Lookups.{AreLevelsOn, AreLevelsOver, repo_names_of};
 ghost use Rattle.store_statements.specs.Between.{Stays, Tells};
 ghost use Rattle.store_statements.specs.Clauses.{Lasts};
 ghost use Rattle.store_statements.specs.Told.{IsRead};
 ghost use Rattle.store_reads.specs.LevelLists.{token_level_shown};
 
 use oci_types::{Fault, NameFault, RepoName, Token};
-use registry_model::Level;
+use registry_model::{Grant, Level};
 use sqlite::{Alter, Connection, Error, Row};
 use std::alloc::Global;
 use store_contents::fault_of;
+use store_statements::grant_list::list_grants;
 use store_statements::grants::{level_in, token_rows};
 use store_statements::telling::checked;
 
@@ -70,4 +71,14 @@ pub fn levels<S: Alter>(
 {
     let found = levels_of(alloc, token_rows(conn, repo.as_str()));
     checked(conn, found)
+}
+
+/// Each level of a token on a repository, in byte order of the repositories, and on each of the tokens.
+pub fn all_grants<S: Alter>(alloc: Global, conn: &mut Connection<S>) -> Result<Vec<Grant>, Fault>
+    ensures found { Tells S.Store conn.old conn.new result
+        (λ w grants. AreLevelsOver w (repo_names_of w) grants.items) }
+    ensures settled { Stays S.Store conn.old conn.new result }
+    ensures survives { Lasts S.Store conn.old conn.new }
+{
+    list_grants(alloc, conn)
 }

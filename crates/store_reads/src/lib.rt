@@ -23,13 +23,13 @@ pub use change_lookups::{
     finish_change, known_finish_change, manifest_change, mount_change, or_untold, put_change,
 };
 pub use grants::{known, level};
-pub use level_lists::levels;
+pub use level_lists::{all_grants, levels};
 pub use manifests::{manifest, manifest_digests, manifest_size};
 pub use pages::tags_after;
 pub use referrers::manifests_of_subject;
 pub use repo_usages::{usage, usages};
-pub use repos::{has_repo, last_number};
+pub use repos::{count_repos, has_repo, last_number, repo_names};
 pub use sessions::session_numbered;
-pub use tags::tag;
+pub use tags::{all_tags, tag};
 pub use uploads::{session_size, sessions_open};
 pub use usage_change::{Change, NO_CHANGE};

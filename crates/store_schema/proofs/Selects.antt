@@ -1,5 +1,5 @@
 -- What a SELECT over one table shows: the rows that pass its test, in some order.
-use Rattle.std.proofs.Common.{◌≡◌, ◌⊎◌, inl, inr, ℕ, ℤ, List, [], ◌∷◌, ◌++◌, map, Bool, true, false, cond, None, Some, Ok, Err, Result, IfOk, IfErr, OnOk, OnErr, refl, sym, ap, subst, ◌∙◌, arith}
+use Rattle.std.proofs.Common.{◌≡◌, ◌⊎◌, inl, inr, ℕ, ℤ, List, [], ◌∷◌, ◌++◌, map, Bool, true, false, cond, None, Some, Ok, Err, Result, IfOk, IfErr, OnOk, OnErr, refl, sym, ap, subst, ◌∙◌, arith, take}
 use Rattle.std.specs.Prelude.{◌^◌, bytes_eq, ◌&&◌, filter, nat_le, slice_get, unwrap_or, Vec}
 use Rattle.std.specs.declared.alloc.Global.{Global}
 use Rattle.std.specs.List.{flat_map, list_all}
@@ -33,6 +33,7 @@ use Rattle.sqlite_trees.specs.declared.store.Store.{Ghosts}
 use Rattle.sqlite.specs.Held.{Held, state}
 use Rattle.sqlite.specs.Given.{IsRefused}
 use Rattle.store_schema.specs.Layout.{Means, command_in, select_from}
+use Rattle.store_schema.specs.Ordered.{first_from}
 
 -- ---- texts
 
@@ -83,6 +84,34 @@ shows schema text names tree terms project params old new rows has means stored 
     let read = reads_as text params old new schema has _ (means_command schema text _ means) means.plain means.unlisted rows h in
     let found = answer_rows tree terms project (overlay old.now.trees []) params rows (read.answer Null) in
     subst (λ xs. IsPermutation (map (λ r. eval_all project (params ∷ r ∷ [])) (chosen params terms xs)) rows) (stored_here tree old.now.trees stored) found
+
+-- ---- one row of any
+
+-- the first of them in some order, if there is one
+pub record ShowsOne (all rows : List Row) : Type 0 where
+  pub some : List Row
+  pub same : IsPermutation all some
+  pub first : rows ≡ take 1 some
+
+answer_one : (tree : ℕ) (terms project : List Term) (db : Trees) (params : Row) (rows : List Row) → IsAnswer (first_from tree terms project) db params rows
+    → ShowsOne (map (λ r. eval_all project (params ∷ r ∷ [])) (chosen params terms (db tree))) rows
+answer_one tree terms project db params rows a =
+    let q = first_from tree terms project in
+    let staged : a.staged ≡ map (λ r. params ∷ r ∷ []) (chosen params terms (db tree)) = a.grouped ∙ one_each (λ r. list_all (holds (params ∷ r ∷ [])) terms) (λ r. params ∷ r ∷ []) (db tree) in
+    let kept : a.kept ≡ map (output q) (map (λ r. params ∷ r ∷ []) (chosen params terms (db tree))) = a.distinct ∙ ap (map (output q)) staged in
+    let outs = map (λ (o : Output). o.1) a.ordered in
+    let same_rows : IsPermutation (map (λ (o : Output). o.1) a.kept) outs = IsPermutation-map (λ (o : Output). o.1) a.kept a.ordered a.same in
+    let shown : map (λ (o : Output). o.1) a.kept ≡ map (λ r. eval_all project (params ∷ r ∷ [])) (chosen params terms (db tree)) =
+    ap (map (λ (o : Output). o.1)) kept ∙ map-map (λ (o : Output). o.1) (output q) _ ∙ map-map (λ e. eval_all project e) (λ r. params ∷ r ∷ []) _ in
+    record { some = outs; same = subst (λ xs. IsPermutation xs outs) shown same_rows; first = a.shown }
+
+pub shows_one : (schema : Schema) (text : List ℕ) (names : List (List ℕ)) (tree : ℕ) (terms project : List Term) (params : Row) (old new : State) (rows : List Row) → old.now.schema ≡ schema
+    → Means schema text (Select (record { lets = []; body = first_from tree terms project }) names) → nat_le (2 ^ 31) tree ≡ false → Shown text params old new rows
+    → ShowsOne (map (λ r. eval_all project (params ∷ r ∷ [])) (chosen params terms (old.now.trees tree))) rows
+shows_one schema text names tree terms project params old new rows has means stored h =
+    let read = reads_as text params old new schema has _ (means_command schema text _ means) means.plain means.unlisted rows h in
+    let found = answer_one tree terms project (overlay old.now.trees []) params rows (read.answer Null) in
+    subst (λ xs. ShowsOne (map (λ r. eval_all project (params ∷ r ∷ [])) (chosen params terms xs)) rows) (stored_here tree old.now.trees stored) found
 
 -- ---- tests
 

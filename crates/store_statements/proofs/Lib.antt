@@ -71,3 +71,5 @@ pub mod Alone
 pub mod Endings
 pub mod ChangesTold
 pub mod ReadInside
+pub mod GrantList
+pub mod LevelsOver

@@ -1,10 +1,12 @@
 -- What the reads of repositories show.
-use Rattle.std.proofs.Common.{◌≡◌, ◌∙◌, ℕ, List, [], ◌∷◌, map, false, Ok, Err, IfOk, ap, sym, subst, refl}
+use Rattle.std.proofs.Common.{◌≡◌, ◌∙◌, ℕ, List, [], ◌∷◌, map, length, false, Ok, Err, IfOk, ap, sym, subst, refl}
 use Rattle.std.specs.Prelude.{find}
 use Rattle.std.specs.List.{AllByRecursion}
 use Rattle.std.specs.Ordering.{is_eq}
 use Rattle.std.specs.Option.{option_to_list}
 use Rattle.std.proofs.lemmas.Map.Text.{is_eq-slice_cmp}
+use Rattle.std.proofs.lemmas.Cmp.{nat_list_cmp_total, on_total}
+use Rattle.std.proofs.lemmas.List.Sorted.{length_permutation}
 use Rattle.sqlite_value.proofs.OrderLemmas.{value_cmp-Text, then-Equal}
 use Rattle.sqlite_sql.proofs.QueryLemmas.{output_cmp_total}
 use Rattle.sqlite.specs.declared.types.Value.TheVariants.{Null, Text}
@@ -18,7 +20,7 @@ use Rattle.sqlite.proofs.Callers.{reads_as}
 use Rattle.sqlite_trees.proofs.ListLemmas.{filter_all, all_of}
 use Rattle.sqlite_keyed.specs.Lists.{sort_by}
 use Rattle.sqlite_keyed.proofs.ListLemmas.{ascending-map}
-use Rattle.sqlite_keyed.proofs.SortLemmas.{HasNoTies}
+use Rattle.sqlite_keyed.proofs.SortLemmas.{HasNoTies, IsPermutation-sort_by}
 use Rattle.store_schema.specs.Schema.{repos_table}
 use Rattle.store_schema.specs.Rows.{bytes_at}
 use Rattle.store_schema.specs.Layout.{equals, tree_of}
@@ -33,6 +35,7 @@ use Rattle.store_statements.specs.Held.{held, HoldsTables}
 use Rattle.store_statements.specs.Shown.{by_name}
 use Rattle.store_statements.proofs.RepoRows.{name_test, first_parts}
 use Rattle.store_statements.proofs.Selected.{finds}
+use Rattle.store_statements.proofs.SelectedRows.{length_mapped}
 use Rattle.store_statements.proofs.Sorted.{ordered, sort_same}
 
 pub shows_repo : (name : List ℕ) (old new : State) (r : Answer) → HoldsTables old.now → IfOk r (λ rows. Shown repo_find (Text name ∷ []) old new rows.items)
@@ -84,3 +87,9 @@ pub shows_names : (old new : State) (r : Answer) → HoldsTables old.now → IfO
     → IfOk r (λ rows. rows.items ≡ map (λ r. column r 1 ∷ []) (sort_by by_name (held old).repos))
 shows_names old new (Err e) h ran = tt
 shows_names old new (Ok rows) h ran = listed old new rows.items h ran
+
+-- as many as there are repositories
+pub as_many_names : (repos rows : List Row) → rows ≡ map (λ r. column r 1 ∷ []) (sort_by by_name repos) → length rows ≡ length repos
+as_many_names repos rows e =
+    ap length e ∙ length_mapped (λ r. column r 1 ∷ []) (sort_by by_name repos)
+    ∙ sym (length_permutation (sort_by by_name repos) repos (IsPermutation-sort_by by_name (on_total (λ r. bytes_at r 1) nat_list_cmp_total) repos))

@@ -9,27 +9,40 @@ use Rattle.sqlite_sql.proofs.QueryLemmas.{output_cmp_total}
 use Rattle.sqlite.specs.declared.types.Value.{Value}
 use Rattle.sqlite.specs.declared.types.Value.TheVariants.{Int}
 use Rattle.sqlite.specs.Order.{Row, value_cmp}
-use Rattle.sqlite.specs.Term.{Term, eval_all}
+use Rattle.sqlite.specs.Term.{Term, col, eval_all}
 use Rattle.sqlite.specs.Tree.{Trees}
-use Rattle.sqlite.specs.Query.{IsAnswer, Output, output, output_cmp}
+use Rattle.sqlite.specs.Query.{Query, IsAnswer, Output, output, output_cmp}
+use Rattle.sqlite.specs.Collation.TheVariants.{Binary}
+use Rattle.sqlite_value.specs.declared.keys.Key.{Key}
+use Rattle.sqlite_value.specs.Keys.{ascending}
 use Rattle.sqlite_keyed.specs.Lists.{insert_sorted, sort_by}
 use Rattle.sqlite_keyed.proofs.SortLemmas.{HasNoTies, sorted_is-sort_by, sort_by-map}
 use Rattle.store_schema.proofs.Selects.{chosen, one_each, map-map}
 use Rattle.store_schema.proofs.Pages.{out_of}
+use Rattle.store_schema.specs.Layout.{select_from}
 use Rattle.store_schema.specs.Ordered.{ordered_from}
 use Rattle.store_statements.proofs.SessionKeys.{int_eq_number}
 
--- the rows that pass, sorted by the column
-pub ordered : (tree at : ℕ) (terms project : List Term) (db : Trees) (params : Row) (rows : List Row) → let q = ordered_from tree terms project at in
+-- the rows that pass, in an order
+abbrev pub in_order : ℕ → List Term → List Term → List (Term × Key) → Query
+in_order tree terms project order = record (select_from tree terms project) { order = order }
+
+pub ordered_by : (tree : ℕ) (order : List (Term × Key)) (terms project : List Term) (db : Trees) (params : Row) (rows : List Row) → let q = in_order tree terms project order in
     HasNoTies (output_cmp q) (output_cmp_total q) (map (out_of q params) (chosen params terms (db tree))) → IsAnswer q db params rows
     → rows ≡ map (λ r. eval_all project (params ∷ r ∷ [])) (sort_by (λ a b. output_cmp q (out_of q params a) (out_of q params b)) (chosen params terms (db tree)))
-ordered tree at terms project db params rows apart a =
-    let q = ordered_from tree terms project at in
+ordered_by tree order terms project db params rows apart a =
+    let q = in_order tree terms project order in
     let some = chosen params terms (db tree) in
     let staged : a.staged ≡ map (λ r. params ∷ r ∷ []) some = a.grouped ∙ one_each _ (λ r. params ∷ r ∷ []) (db tree) in
     let kept : a.kept ≡ map (out_of q params) some = a.distinct ∙ ap (map (output q)) staged ∙ map-map (output q) (λ r. params ∷ r ∷ []) some in
-    let order : a.ordered ≡ sort_by (output_cmp q) (map (out_of q params) some) = sorted_is-sort_by (output_cmp q) (output_cmp_total q) _ a.ordered apart (subst (λ l. Rattle.std.specs.List.Sorted.IsPermutation l a.ordered) kept a.same) a.sorted in
-    a.shown ∙ ap (map (λ (o : Output). o.1)) (order ∙ sort_by-map (output_cmp q) (out_of q params) some) ∙ map-map (λ (o : Output). o.1) (out_of q params) _
+    let placed : a.ordered ≡ sort_by (output_cmp q) (map (out_of q params) some) = sorted_is-sort_by (output_cmp q) (output_cmp_total q) _ a.ordered apart (subst (λ l. Rattle.std.specs.List.Sorted.IsPermutation l a.ordered) kept a.same) a.sorted in
+    a.shown ∙ ap (map (λ (o : Output). o.1)) (placed ∙ sort_by-map (output_cmp q) (out_of q params) some) ∙ map-map (λ (o : Output). o.1) (out_of q params) _
+
+-- in that of one column
+pub ordered : (tree at : ℕ) (terms project : List Term) (db : Trees) (params : Row) (rows : List Row) → let q = ordered_from tree terms project at in
+    HasNoTies (output_cmp q) (output_cmp_total q) (map (out_of q params) (chosen params terms (db tree))) → IsAnswer q db params rows
+    → rows ≡ map (λ r. eval_all project (params ∷ r ∷ [])) (sort_by (λ a b. output_cmp q (out_of q params a) (out_of q params b)) (chosen params terms (db tree)))
+ordered tree at terms project db params rows apart a = ordered_by tree ((col 1 at, ascending Binary) ∷ []) terms project db params rows apart a
 
 -- ---- the same order by another comparison
 

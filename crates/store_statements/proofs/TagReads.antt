@@ -6,11 +6,14 @@ use Rattle.std.specs.List.Sorted.{IsPermutation}
 use Rattle.sqlite.specs.declared.types.Value.TheVariants.{Text}
 use Rattle.sqlite.specs.Order.{column}
 use Rattle.sqlite.specs.State.{State, Shown}
+use Rattle.sqlite_keyed.specs.Lists.{sort_by}
 use Rattle.store_schema.proofs.Selects.{Answer, is_text, one_test, both_tests}
 use Rattle.store_statements.specs.Keys.{of_first, has_key}
 use Rattle.store_statements.specs.Tables.{IsTagRow}
-use Rattle.store_statements.specs.TagTexts.{tag_find, tag_list}
+use Rattle.store_statements.specs.TagTexts.{tag_find, tag_list, tag_pairs}
 use Rattle.store_statements.specs.Held.{HoldsTables, held}
+use Rattle.store_statements.specs.ManifestShown.{by_second}
+use Rattle.store_statements.proofs.InOrder.{orders}
 use Rattle.store_statements.proofs.Keys.{key_parts}
 use Rattle.store_statements.proofs.SelectedRows.{lists, finds}
 
@@ -23,3 +26,10 @@ pub tags_shown : (old new : State) (repo : List ℕ) (r : Answer) → HoldsTable
     → IfOk r (λ rows. IsPermutation (map (λ r. column r 2 ∷ []) (filter (of_first repo) (held old).tags)) rows.items)
 tags_shown old new repo r h ran = lists IsTagRow tag_list _ _ _ _ (Text repo ∷ []) (of_first repo) old new h.known.tags.stored h.tables.tags.types h.known.tag_texts.list
     (λ r it. one_test _ _ (is_text (column r 1) _ repo it.repo)) r ran
+
+-- in byte order, with the digests
+pub shows_tags : (old new : State) (repo : List ℕ) (r : Answer) → HoldsTables old.now → IfOk r (λ rows. Shown tag_pairs (Text repo ∷ []) old new rows.items)
+    → IfOk r (λ rows. rows.items ≡ map (λ r. column r 2 ∷ column r 3 ∷ []) (sort_by by_second (filter (of_first repo) (held old).tags)))
+shows_tags old new repo r h ran = orders IsTagRow tag_pairs _ _ _ _ _ (Text repo ∷ []) (of_first repo) repo old new r
+    h.known.tags.stored h.tables.tags.types h.tables.tags.apart h.known.tag_texts.pairs
+    (λ r it. one_test _ _ (is_text (column r 1) _ repo it.repo)) (λ r it. it.tag) (λ r e. e) ran

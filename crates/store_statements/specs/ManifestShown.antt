@@ -45,3 +45,11 @@ referrer r = (bytes_at r 2, record { id = integer_at r 6 })
 -- of a row that shows the digest and the content
 abbrev pub referrer_shown : Row → Text × ContentId
 referrer_shown row = (bytes_at row 0, record { id = integer_at row 1 })
+
+-- a tag with the digest that it names
+abbrev pub tag_row : Row → Text × Text
+tag_row r = (bytes_at r 2, bytes_at r 3)
+
+-- of a row that shows the tag and the digest
+abbrev pub tag_shown : Row → Text × Text
+tag_shown row = (bytes_at row 0, bytes_at row 1)

@@ -8,7 +8,7 @@ use Rattle.sqlite.specs.Command.TheVariants.{Insert}
 use Rattle.store_schema.specs.Schema.{tags_table}
 use Rattle.store_schema.specs.Layout.{Stands, Means, equals}
 use Rattle.store_schema.specs.Ordered.{above}
-use Rattle.store_schema.specs.Commands.{deletes, selects, selects_page, updates}
+use Rattle.store_schema.specs.Commands.{deletes, selects, selects_ordered, selects_page, updates}
 
 abbrev pub tag_find : List ℕ
 tag_find = codes "SELECT digest FROM registry_tags WHERE repo = ?1 AND tag = ?2"
@@ -18,6 +18,9 @@ tag_page = codes "SELECT tag FROM registry_tags WHERE repo = ?1 AND tag > ?2 ORD
 
 abbrev pub tag_list : List ℕ
 tag_list = codes "SELECT tag FROM registry_tags WHERE repo = ?1"
+
+abbrev pub tag_pairs : List ℕ
+tag_pairs = codes "SELECT tag, digest FROM registry_tags WHERE repo = ?1 ORDER BY tag"
 
 abbrev pub tag_add : List ℕ
 tag_add = codes "INSERT INTO registry_tags (repo, tag, digest) VALUES (?1, ?2, ?3)"
@@ -41,6 +44,9 @@ pub record KnowsTagTexts (schema : Schema) (stands : Stands schema tags_table) :
       (selects_page schema tags_table (equals 1 0 ∷ above 2 1 ∷ []) (col 1 2 ∷ []) 2 2 (codes "tag" ∷ []))
   pub list : Means schema tag_list
       (selects schema tags_table (equals 1 0 ∷ []) (col 1 2 ∷ []) (codes "tag" ∷ []))
+  pub pairs : Means schema tag_pairs
+      (selects_ordered schema tags_table (equals 1 0 ∷ []) (col 1 2 ∷ col 1 3 ∷ []) 2
+      (codes "tag" ∷ codes "digest" ∷ []))
   pub add : Means schema tag_add (Insert stands.at (Values (lit Null ∷ col 0 0 ∷ col 0 1 ∷ col 0 2 ∷ []) 4))
   pub set_digest : Means schema tag_set_digest
       (updates stands.at schema tags_table (equals 1 0 ∷ equals 2 1 ∷ [])

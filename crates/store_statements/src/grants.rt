@@ -153,7 +153,7 @@ pub fn find_level<S: Alter>(
     checked(conn, found)
 }
 
-/// Whether the token has a grant on some repository.
+/// Whether the token has a grant on some repository: one row is asked for, however many it has.
 pub fn is_known<S: Alter>(conn: &mut Connection<S>, token: &str) -> Result<bool, Fault>
     ensures found { Finds S.Store conn.old conn.new result
         (λ t known. known ≡ nat_lt 0 (length (filter (of_first token.now) t.grants))) }
@@ -161,7 +161,7 @@ pub fn is_known<S: Alter>(conn: &mut Connection<S>, token: &str) -> Result<bool,
     ensures survives { Lasts S.Store conn.old conn.new }
 {
     let shown = conn.query_all(
-        "SELECT level FROM registry_grants WHERE token = ?1",
+        "SELECT level FROM registry_grants WHERE token = ?1 LIMIT 1",
         params![token],
     );
     let found = any_row(shown);

@@ -9,6 +9,7 @@
 pub mod blob_storing;
 pub mod blobs;
 pub mod contents;
+pub mod grant_list;
 pub mod grants;
 pub mod laws;
 pub mod manifests;
@@ -18,6 +19,7 @@ pub mod pieces;
 mod reading;
 pub mod repos;
 pub mod subjects;
+pub mod tag_list;
 pub mod tag_pages;
 pub mod tags;
 pub mod telling;

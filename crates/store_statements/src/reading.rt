@@ -39,7 +39,7 @@ impl FromRow for ContentId {
 }
 
 /// What was parsed of a text in a row.
-fn parsed<T>(name: Result<T, NameFault>) -> Result<T, Error>
+pub(crate) fn parsed<T>(name: Result<T, NameFault>) -> Result<T, Error>
     ensures { IfOk result (λ value. name ≡ Ok value) }
 {
     match name {

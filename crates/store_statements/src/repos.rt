@@ -14,7 +14,7 @@ ghost use Rattle.store_statements.specs.Steps.{repos_without, repos_changed, Rep
 ghost use Rattle.store_statements.specs.Drops.{HasNoChildren};
 ghost use Rattle.store_statements.specs.FirstRows.{repo_shown};
 
-use crate::reading::{FromRow, all, first};
+use crate::reading::{FromRow, all, count_rows, first};
 use crate::telling::{checked, done, told};
 use oci_types::{Fault, RepoName};
 use sqlite::{Alter, Connection, Error, Row, Transaction, params};
@@ -134,5 +134,16 @@ pub fn list_repos<S: Alter>(alloc: Global, conn: &mut Connection<S>) -> Result<V
 {
     let shown = conn.query_all("SELECT name FROM registry_repos ORDER BY name", &[]);
     let found = all(alloc, shown);
+    checked(conn, found)
+}
+
+/// How many repositories there are.
+pub fn count_repos<S: Alter>(conn: &mut Connection<S>) -> Result<usize, Fault>
+    ensures found { Finds S.Store conn.old conn.new result (λ t n. n ≡ length t.repos) }
+    ensures settled { Stays S.Store conn.old conn.new result }
+    ensures survives { Lasts S.Store conn.old conn.new }
+{
+    let shown = conn.query_all("SELECT name FROM registry_repos ORDER BY name", &[]);
+    let found = count_rows(shown);
     checked(conn, found)
 }

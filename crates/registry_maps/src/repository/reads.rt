@@ -1,14 +1,14 @@
 //! What a repository tells.
 ghost use Rattle.std.specs.Prelude.{◌≡◌, ◌+◌, Some, length, option_map, sum_by, IfOk};
 ghost use Rattle.std.specs.Ordering.{is_lt};
-ghost use Rattle.std.specs.FinMap.{get, keys, len};
+ghost use Rattle.std.specs.FinMap.{get, entries, keys, len};
 ghost use Rattle.std.specs.BTreeMap.{values, IsOrdered};
 ghost use Rattle.registry_model.specs.World.{text_cmp};
 ghost use Rattle.registry_model.specs.Usage.{in_64_bits, used, usage_of};
 ghost use Rattle.registry_model.specs.Manifests.{kind_in};
 ghost use Rattle.registry_model.specs.TagPage.{first_of, more_than, tags_behind, page_behind};
 ghost use Rattle.registry_model.specs.Referrers.{manifests_on};
-ghost use Rattle.registry_model.specs.Keeping.{bytes_in, manifest_shown, page_shown, entries_shown, digests_shown};
+ghost use Rattle.registry_model.specs.Keeping.{bytes_in, manifest_shown, page_shown, entries_shown, digests_shown, tags_shown};
 ghost use Rattle.registry_maps.specs.Maps.{repo_of};
 
 use crate::kept_manifest::KeptManifest;
@@ -123,6 +123,17 @@ impl Repository {
             Some(digest) => Ok(Some(digest.clone()?)),
             None => Ok(None),
         }
+    }
+
+    /// The tags, in byte order, each with the digest that it names.
+    pub fn tags(&self, alloc: Global) -> Result<Vec<(Tag, Digest)>, AllocError>
+        ensures { IfOk result (λ found. tags_shown found ≡ entries (repo_of self.now).tags) }
+    {
+        let mut found = Vec::new(alloc);
+        for (tag, digest) in self.tags.iter() {
+            push_pair(&mut found, tag.clone(), digest.clone())?;
+        }
+        Ok(found)
     }
 
     /// The tags behind a text, in byte order.

@@ -1,0 +1,19 @@
+use Rattle.std.proofs.Common.{List, sym, subst}
+use Rattle.std.proofs.lemmas.Result.{IfOk-weaker}
+use Rattle.sqlite.specs.Held.{state}
+use Rattle.registry_model.specs.declared.grant.Grant.{Grant}
+use Rattle.registry_model.specs.Lookups.{AreLevelsOver, repo_names_of}
+use Rattle.store_statements.specs.Held.{held, world_in}
+use Rattle.store_statements.proofs.LevelsOver.{grants_found}
+use Rattle.store_statements.proofs.Transactions.{registry}
+use Rattle.store_reads.proofs.level_lists.all_grants.Goals as goal
+
+pub returns : goal.returns
+returns g c =
+    let old = state g.S.Store c.args.conn.now in
+    let w = world_in old in
+    record {
+      found = λ clean is. IfOk-weaker c.list_grants.result _ _ (λ grants h. subst (λ (l : List Grant). AreLevelsOver w (repo_names_of w) l) (sym h) (grants_found (held old) (registry old is))) (c.list_grants.ensures.found clean is);
+      settled = c.list_grants.ensures.settled;
+      survives = c.list_grants.ensures.survives;
+    }
