@@ -80,8 +80,8 @@ impl MapKeeper {
             AreLevelsOver w (repo_names_of w) all.items) }
     {
         let mut all = Vec::new(alloc);
-        for name in self.repos.keys() {
-            self.push_grants(alloc, name, &mut all)?;
+        for repo in self.repos.keys() {
+            self.push_grants(alloc, repo, &mut all)?;
         }
         Ok(all)
     }
