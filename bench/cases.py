@@ -48,6 +48,9 @@ class Plan:
     # how long many connections ask
     seconds: float = 1.0
     grown: int = 16
+    # whether an older program is measured too, and what each program costs by rows and sizes (bench/growth.py)
+    beside_old: bool = False
+    costs: dict = field(default_factory=dict)
     # the cases that are wanted, where not all are
     lines: tuple = ()
     notes: list = field(default_factory=list)

@@ -5,7 +5,7 @@ Each case is a number of requests on one kept connection, each reply read to its
 least of some rounds. Ratios within one run are what counts, so the servers take turns, part by part, and
 so does an older executable where one is named. Prints a table, and writes build/bench.json.
 The peer is docker-registry of the distribution with its filesystem driver, on the same disk; a whole push
-is POST with the bytes here, and POST and one PUT there.
+is POST with the bytes here, and POST and one PUT there. How cost grows has a table of its own (growth.py).
 """
 import argparse
 import json
@@ -16,14 +16,17 @@ import sys
 import tempfile
 import time
 
+import laws
 import limits
-from cases import PARTS, QUICK, Cases, Plan
+from cases import PARTS as CASES, QUICK, Cases, Plan
+from growth import GROWTH, shares
 from many import driven, many
 from servers import Docker, Firkhen, new_database
 
 REGISTRY = os.path.abspath("build/registry")
 US, OLD, DOCKER, LIMITS = "registry", "old", "docker-registry", "limits"
-PARTS[many.__name__] = many
+# what each part consists of, one after the other
+PARTS = {**{name: (it,) for name, it in CASES.items()}, many.__name__: (many,), "growth": GROWTH}
 QUICK_PARTS = ("blobs", "uploads", "manifests", "lists", "growing")
 # what one time is to be to others: the most that it may be of their sum
 AIMS = (
@@ -85,8 +88,10 @@ def run(asked, plan):
         starts = servers(asked, room)
         found = {name: {} for name in (*starts, LIMITS)}
         for name in asked.part or (QUICK_PARTS if asked.quick else PARTS):
-            for server, start in starts.items():
-                run_part(PARTS[name], start, plan, found[server])
+            for part in PARTS[name]:
+                for server, start in starts.items():
+                    if part not in GROWTH or server != DOCKER:
+                        run_part(part, start, plan, found[server])
             if name == "blobs":
                 take_limits(plan, found[LIMITS])
             if name == many.__name__:
@@ -107,7 +112,10 @@ def beside(ours, other):
 
 
 def show(found, lines):
+    """The rows, if any were taken."""
     others = [name for name in (OLD, DOCKER) if name in found]
+    if not found[US]:
+        return
     head = "".join(f"{name + ' us':>20}{'times':>7}{'MiB':>7}" for name in others)
     print(f"{'':38}{'registry us':>13}{'a second':>10}{'MiB':>7}{head}")
     for case, (seconds, peak) in found[US].items():
@@ -147,12 +155,23 @@ def slower(found):
             yield f"SLOWER  {seconds / old[0]:8.2f} times the old one's  {case}"
 
 
-def write(found):
+def show_growth(costs):
+    """What grows, by our rows, if they were taken."""
+    if costs.get(US):
+        print("\nHow cost grows, in time of the server's processor and by the clock:", *laws.table(costs, US), sep="\n")
+        print("", *shares(costs), sep="\n")
+
+
+def write(found, costs):
     with open("build/bench.json", "w", encoding="utf-8") as file:
         rows = {
             server: {case: {"seconds": seconds, "peak MiB": peak} for case, (seconds, peak) in cases.items()}
             for server, cases in found.items()
         }
+        for server, by_row in costs.items():
+            rows[server]["growth"] = {
+                str(row): {size: cost._asdict() for size, cost in by_size.items()} for row, by_size in by_row.items()
+            }
         json.dump(rows, file, indent=1)
 
 
@@ -174,18 +193,19 @@ def main():
         print("bench needs build/registry", file=sys.stderr)
         return 2
     plan = QUICK if asked.quick else Plan()
-    plan.rounds = asked.rounds or plan.rounds
+    plan.rounds, plan.beside_old = asked.rounds or plan.rounds, bool(asked.old)
     for program in limits.lacking() + [DOCKER] * (shutil.which(DOCKER) is None):
         plan.notes.append(f"{program} is not installed: skipped")
     found = run(asked, plan)
     show(found, plan.lines)
-    said = [*aims(found), *slower(found)]
+    show_growth(plan.costs)
+    said = [*aims(found), *laws.verdicts(plan.costs, US), *slower(found)]
     if said:
-        print("\nWhat is aimed at, as ratios of this run:", *said, sep="\n  ")
+        print("\nWhat is aimed at, as ratios of this run and as laws:", *said, sep="\n  ")
     for note in plan.notes:
         print(f"note: {note}")
     print(f"{time.perf_counter() - begun:.0f} s")
-    write(found)
+    write(found, plan.costs)
     return int(any(note.startswith("FAILED") for note in plan.notes))
 
 

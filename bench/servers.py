@@ -120,6 +120,18 @@ class Peer:
         except (OSError, StopIteration):
             return None
 
+    def processor(self):
+        """The seconds that the server's thread has had of a processor, told when it rests."""
+        told = None
+        while self.process.poll() is None:
+            with open(f"/proc/{self.process.pid}/stat", encoding="ascii") as file:
+                rests = file.read().rpartition(") ")[2].startswith("S")
+            with open(f"/proc/{self.process.pid}/schedstat", encoding="ascii") as file:
+                before, told = told, int(file.read().split()[0])
+            if rests and told == before:
+                return told / 1e9
+        raise RuntimeError(f"{self.name} has ended")
+
     def end(self):
         if self.sock:
             self.sock.close()
@@ -153,20 +165,30 @@ def service_environment():
 class Firkhen(Peer):
     fields = {"Authorization": "Bearer t1"}
 
-    def __init__(self, name, executable, new, room):
+    def __init__(self, name, executable, new, room, takes_orders=False):
         self.name, self.executable, self.sock = name, executable, None
         self.store = os.path.join(room, "registry.db")
+        # (a path from here, since that of a socket has at most 103 bytes)
+        self.orders = os.path.relpath(os.path.join(room, "orders")) if takes_orders else None
         copy_database(new, self.store)
         self.serve()
 
     def serve(self):
         self.port = free_port()
         words = [self.executable, "serve", "--db", self.store, "--listen", f"127.0.0.1:{self.port}"]
+        words += ["--orders", self.orders] if self.orders else []
         start = time.perf_counter()
         self.process = subprocess.Popen(words, stdout=subprocess.PIPE, env=service_environment())
         self.process.stdout.readline()
         self.opened = time.perf_counter() - start
         self.connect()
+
+    def order(self, name, *words):
+        """What an order prints that the server is sent."""
+        ran = subprocess.run([self.executable, name, "--orders", self.orders, *words], stdout=subprocess.PIPE, check=False)
+        if ran.returncode:
+            raise RuntimeError(f"{self.name}: {name}: status {ran.returncode}")
+        return ran.stdout
 
     def push(self, blob, repo=REPO):
         self.request("POST", f"/v2/{repo}/blobs/uploads/?digest={blob.digest}", blob.bytes)
