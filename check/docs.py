@@ -7,7 +7,8 @@ text, and alone on a line for any lines. One shell has all commands of a page, i
 away again, with a home folder that has this checkout as `firkhen`. A command that ends in `&` goes on; it is
 waited for until it has printed what the page says.
 
-The picture in docs/ARCHITECTURE.md is compared with what check/house.py draws. `make check-docs` calls this.
+The picture in docs/ARCHITECTURE.md is compared with what check/house.py draws, and what all pages cite is looked up
+(check/citations.py). `make check-docs` calls this.
 (podman and skopeo note in /var/lib/containers/cache where they have seen blobs.)
 """
 import glob
@@ -21,6 +22,7 @@ import tempfile
 import time
 from contextlib import suppress
 
+import citations
 import house
 from executables import TOP
 from serving import listens, until
@@ -194,6 +196,14 @@ def compare_picture():
         indented("\n".join(it for it in drawn.splitlines() if it not in there))
 
 
+def look_up_citations():
+    count, wrong = citations.look()
+    for it in wrong:
+        say(False, it)
+    if not wrong:
+        say(True, f"{count} citations of files, items, examples, edits and names")
+
+
 def lacks(page):
     called = PAGES.get(page, [])
     lacking = [it for it in called if shutil.which(it, path=PATH) is None]
@@ -206,6 +216,7 @@ def main():
         print("check-docs needs build/registry", file=sys.stderr)
         return 2
     compare_picture()
+    look_up_citations()
     left_out = 0
     for page in sys.argv[1:] or PAGES:
         lacking = lacks(page)
