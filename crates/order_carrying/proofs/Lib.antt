@@ -1,6 +1,7 @@
 pub mod CallingLemmas
 pub mod FailedReads
 pub mod ListLemmas
+pub mod NamingLemmas
 pub mod GrantLemmas
 pub mod OrderStatuses
 pub mod AnsweringLemmas

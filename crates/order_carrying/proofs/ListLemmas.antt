@@ -2,24 +2,22 @@
 use Rattle.std.proofs.Common.{◌≡◌, ◌∙◌, ℕ, length, List, [], ◌∷◌, ◌++◌, map, Bool, true, false, cond, Option, None, Some, refl, sym, ap, is_some}
 use Rattle.std.specs.Prelude.{filter, option_map}
 use Rattle.std.specs.Option.{option_map_or, option_and_then}
-use Rattle.std.specs.List.{filter_map, cons_option, list_any, AllByRecursion}
+use Rattle.std.specs.List.{filter_map, cons_option, AllByRecursion}
 use Rattle.std.specs.FinMap.{FinMap, get, keys, entries, find, entries_sorted, get-entries}
-use Rattle.std.specs.Ordering.{eq_by_cmp}
 use Rattle.std.proofs.lemmas.List.{map-id, map-append}
 use Rattle.std.proofs.lemmas.List.Elements.{filter_map-append}
-use Rattle.std.proofs.lemmas.Map.Text.{is_eq-slice_cmp}
 use Rattle.oci_types.specs.Text.{Text}
 use Rattle.registry_model.specs.World.{World, Repo, text_cmp, repo_at, has_repo}
 use Rattle.registry_model.specs.Lookups.{blob_digests_at, repo_names_of, tags_at}
 use Rattle.registry_model.specs.Pruning.{names_in, is_among}
 use Rattle.registry_model.specs.Keeping.{State}
-use Rattle.manifest_operations.specs.Pruning.{unnamed_of, unnamed_at, names_at}
+use Rattle.manifest_operations.specs.Pruning.{unnamed_of, unnamed_at}
 use Rattle.manifest_operations.proofs.PruningLemmas.{found_each}
 use Rattle.registry_orders.specs.declared.listing.Held.{Held}
 use Rattle.registry_orders.specs.declared.listing.Held.TheVariants.{Tags, Blobs, Unnamed}
 use Rattle.order_texts.specs.Items.{ItemShown, repo_item, tag_item, blob_item, unnamed_item}
 use Rattle.order_carrying.specs.Lists.{repos_of, tags_of, namers_of, blobs_of, held_of}
-use Rattle.order_carrying.specs.Reading.{naming_at, namings_at, namers_among, blob_item_at, held_at}
+use Rattle.order_carrying.specs.Reading.{namings_at, namers_among, blob_item_at, held_at}
 
 -- ---- one item more
 
@@ -40,20 +38,6 @@ pub all_found : {A B : Type 0} (h : World → List A → List B) (s s1 : State) 
     → items ≡ h s1.world yielded → map (λ x. x) yielded ≡ all → all ≡ given → s1 ≡ s → items ≡ h s.world given
 all_found h s s1 items yielded all given found whole told same =
     found ∙ ap (h s1.world) (sym (map-id yielded) ∙ whole ∙ told) ∙ ap {A = State} (λ x. h x.world given) same
-
--- what one manifest more names, in a world that is the one before
-pub named_more : (s s1 : State) (name : Text) (so_far more : List (Text × List Text)) (yielded : List Text) (manifest : Text) (names : List Text)
-    → so_far ≡ map (naming_at s.world name) yielded → more ≡ so_far ++ (manifest, names) ∷ [] → names ≡ names_at s1.world name manifest → s1 ≡ s
-    → more ≡ map (naming_at s.world name) (yielded ++ manifest ∷ [])
-named_more s s1 name so_far more yielded manifest names found added told same =
-    added ∙ ap (λ xs. xs ++ (manifest, names) ∷ []) found
-    ∙ ap (λ (ns : List Text). map (naming_at s.world name) yielded ++ (manifest, ns) ∷ []) (told ∙ ap {A = State} (λ z. names_at z.world name manifest) same)
-    ∙ sym (map-append (naming_at s.world name) yielded (manifest ∷ []))
-
--- ---- what is among digests
-
-pub among_these : (digests : List Text) (q : Text) → list_any (λ d. eq_by_cmp text_cmp d q) digests ≡ is_among digests q
-among_these digests q = ap (λ (p : Text → Bool). list_any p digests) (λ i d. is_eq-slice_cmp d q i)
 
 -- ---- repositories
 
@@ -149,13 +133,12 @@ blobs_in (Some r) =
 pub blobs_are : (w : World) (name : Text) → filter_map (blob_item_at w name (namings_at w name)) (blob_digests_at w name) ≡ held_at w name Blobs
 blobs_are w name = blobs_in (repo_at w name)
 
-pub blobs_found : (s s1 s2 : State) (name : Text) (items : List ItemShown) (namings : List (Text × List Text)) (yielded all : List Text)
-    → items ≡ filter_map (blob_item_at s2.world name namings) yielded → map (λ x. x) yielded ≡ all
-    → namings ≡ namings_at s.world name → s1 ≡ s → all ≡ blob_digests_at s1.world name → s2 ≡ s1 → items ≡ held_at s.world name Blobs
-blobs_found s s1 s2 name items namings yielded all found whole named first told second =
-    all_found (λ w ds. filter_map (blob_item_at w name namings) ds) s s2 items yielded all (blob_digests_at s.world name) found whole
+pub blobs_found : (s s1 s2 : State) (name : Text) (items : List ItemShown) (yielded all : List Text)
+    → items ≡ filter_map (blob_item_at s2.world name (namings_at s2.world name)) yielded → map (λ x. x) yielded ≡ all
+    → s1 ≡ s → all ≡ blob_digests_at s1.world name → s2 ≡ s1 → items ≡ held_at s.world name Blobs
+blobs_found s s1 s2 name items yielded all found whole first told second =
+    all_found (λ w ds. filter_map (blob_item_at w name (namings_at w name)) ds) s s2 items yielded all (blob_digests_at s.world name) found whole
     (told ∙ ap {A = State} (λ x. blob_digests_at x.world name) first) (second ∙ first)
-    ∙ ap (λ ns. filter_map (blob_item_at s.world name ns) (blob_digests_at s.world name)) named
     ∙ blobs_are s.world name
 
 -- ---- blobs that no manifest names

@@ -4,5 +4,6 @@ pub mod Lists
 pub mod Grants
 pub mod Listed
 pub mod Reading
+pub mod Naming
 pub mod Carrying
 pub mod Answering

@@ -13,16 +13,9 @@ use Rattle.manifest_operations.specs.Pruning.{names_at}
 use Rattle.registry_orders.specs.declared.listing.Held.{Held}
 use Rattle.order_texts.specs.declared.items.Item.{Item}
 use Rattle.order_texts.specs.Items.{ItemShown, items_shown, blob_item}
-use Rattle.order_carrying.specs.declared.reading.Naming.{Naming}
 use Rattle.order_carrying.specs.Lists.{held_of}
 
 -- a manifest, and what it names
-abbrev pub naming_shown : Naming → Text × List Text
-naming_shown n = (n.manifest, n.names.items)
-
-abbrev pub namings_shown : Vec Naming Global → List (Text × List Text)
-namings_shown v = map naming_shown v.items
-
 abbrev pub naming_at : World → Text → Text → Text × List Text
 naming_at w name manifest = (manifest, names_at w name manifest)
 

@@ -14,6 +14,7 @@ pub mod carrying;
 mod grants;
 pub mod laws;
 pub mod lists;
+mod naming;
 mod reading;
 
 pub use answering::answer_line;
