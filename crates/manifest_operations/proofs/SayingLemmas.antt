@@ -16,7 +16,7 @@ use Rattle.registry_model.specs.Heads.{is_sent}
 use Rattle.registry_model.specs.Keeping.{State, WritesBy, Spends}
 use Rattle.operation_parts.specs.Operating.{Answers, Carries}
 use Rattle.operation_parts.proofs.RepoOutcomes.{Done}
-use Rattle.operation_parts.proofs.FailedCalls.{Clauses}
+use Rattle.operation_parts.proofs.FailedCalls.{Clauses, Uncarried}
 use Rattle.operation_parts.proofs.ReadLemmas.{Told}
 use Rattle.operation_parts.proofs.EarlyLemmas.{Written}
 use Rattle.manifest_operations.specs.Saying.{Says}
@@ -38,6 +38,20 @@ replied (Ok reply) b name act s s' before late is answers sent stays unspent kep
 replied (Err f) b name act s s' before late is answers sent stays unspent kept honest done =
     subst (λ x. Clauses (Err x) name act s s' before late) (sym is)
     (let whole : Clauses (Err Memory) name act s s' before late = record { comes = stays; answers = tt; carries = tt; spends = (unspent, kept); honest = honest } in whole)
+
+-- the same of one that may have a length alone
+pub replied_size : (r : Result Reply Fault) (b : Answer) (name : Text) (act : Repo → Decision) (s s' : State) (before late : Type 0)
+    → MatchResult r (λ reply. answer_of reply ≡ b) (λ f. f ≡ Memory) → course_of_answer b ≡ answered
+    → (late → s' ≡ s) → s.spent ≡ false → s'.spent ≡ false → (late → before) → (late → (a : Answer) → a ≡ b → Done a name act s s') → Uncarried r name act s s' before late
+replied_size (Ok reply) b name act s s' before late is answers stays unspent kept honest done = record {
+  comes = λ h. done h (answer_of reply) is;
+  answers = ap course_of_answer is ∙ answers;
+  spends = (unspent, kept);
+  honest = honest;
+}
+replied_size (Err f) b name act s s' before late is answers stays unspent kept honest done =
+    subst (λ x. Uncarried (Err x) name act s s' before late) (sym is)
+    (let whole : Uncarried (Err Memory) name act s s' before late = record { comes = stays; answers = tt; spends = (unspent, kept); honest = honest } in whole)
 
 -- the clauses of what gives a part of the reply
 abbrev pub Given : {A B : Type 0} → (A → B) → Result A Fault → B → World → State → State → Type 0 → Type 0 → Type 0

@@ -1,4 +1,4 @@
 pub mod Push
-pub mod Listing
+pub mod Referrers
 pub mod Pruning
 pub mod Saying

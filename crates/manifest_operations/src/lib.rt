@@ -7,5 +7,6 @@ pub mod listing;
 pub mod manifest_push;
 pub mod manifests;
 mod pruning;
+pub mod referrers;
 
 pub use pruning::{names_at, prune, unnamed, unnamed_blobs_are_pruned};

@@ -2,6 +2,8 @@ mod LastKey
 mod Texts
 mod Descriptors
 mod Replies
-mod WrittenTexts
+mod Escapes
+mod Pieces
+mod Commas
 mod NamedDigests
 mod FoundOrRefused

@@ -1,1 +1,4 @@
 pub mod Shown
+pub mod Sink
+pub mod Quoting
+pub mod Referrers

@@ -1,7 +1,8 @@
 //! Image manifests and indexes read from bytes, and the JSON texts of a registry's replies.
 //!
 //! `read_manifest` answers exactly what `oci_types` says that the bytes spell, or the first rule that
-//! fails. `referrers_text`, `tags_text` and `error_text` give the exact bytes of the replies.
+//! fails. `tags_text`, `error_text` and `ReferrersBody` give the exact bytes of the replies; the last gives
+//! them to a `Sink`, which keeps them or counts them.
 #![tactic(auto)]
 
 mod body;
@@ -10,11 +11,14 @@ mod errors;
 pub mod laws;
 mod manifest;
 mod member;
+mod quoting;
 mod referrers;
 mod reply;
+mod sink;
 mod tags;
 
 pub use errors::error_text;
 pub use manifest::read_manifest;
-pub use referrers::referrers_text;
+pub use referrers::ReferrersBody;
+pub use sink::{Length, Sink};
 pub use tags::tags_text;

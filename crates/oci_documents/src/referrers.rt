@@ -1,116 +1,142 @@
-//! The body of a list of referrers.
+//! The body of a list of referrers, written one referrer after the other: an image index of them (OCI
+//! Distribution Specification 1.1, Listing Referrers), as compact JSON with keys in byte order.
 
-ghost use Rattle.std.specs.Prelude.{◌≡◌, [], codes, string_bytes, option_map, IfOk, IfErr, OnOk};
-ghost use Rattle.serde_json.specs.View.{view, items_view, members_view};
-ghost use Rattle.oci_types.specs.Member.{pairs_of, text_members};
-ghost use Rattle.oci_types.specs.Referrers.{referrer_shown, referrers_shown, referrers_line, put_texts, put_text, fixed_members, referrer_data, referrer_items, referrers_data};
+ghost use Rattle.std.specs.Prelude.{◌≡◌, List, [], ◌∷◌, ◌++◌, map, string_bytes, option_map, MatchResult};
+ghost use Rattle.oci_types.specs.Json.{with_commas};
+ghost use Rattle.oci_types.specs.Member.{pairs_of};
+ghost use Rattle.oci_types.specs.Referrers.{ReferrerShown, referrer_shown, pair_line, annotations_line, artifact_type_line, referrer_line, referrers_line};
+ghost use Rattle.oci_documents.specs.Sink.{Takes};
+ghost use Rattle.oci_documents.specs.Referrers.{separator, fixed_line};
 
-use crate::reply::written;
-use oci_types::{Fault, Kind, Referrer};
-use serde_json::{Map, Value, json};
-use std::alloc::{AllocError, Global};
+use crate::quoting::write_quoted;
+use crate::sink::Sink;
+use oci_types::{Fault, Referrer};
+use std::alloc::Global;
 use std::collections::BTreeMap;
 
-fn put_fixed(
-    alloc: Global,
-    members: &mut Map<String, Value>,
-    referrer: &Referrer,
-) -> Result<(), AllocError>
-    requires { members.old.entries ≡ [] }
-    ensures { OnOk result (members_view members.new.entries
-        ≡ fixed_members referrer.now.digest referrer.now.kind referrer.now.size) }
+/// Writes a comma, unless what follows is the first of its list.
+fn separate<S: Sink>(out: &mut S, is_first: bool) -> Result<(), Fault>
+    ensures { Takes S.took result out.old out.new (separator is_first) }
 {
-    let digest = Value::try_from_str(alloc, referrer.digest.as_str())?;
-    serde_json::put(members, alloc, "digest", digest)?;
-    let media_type = Value::try_from_str(alloc, referrer.kind.media_type())?;
-    serde_json::put(members, alloc, "mediaType", media_type)?;
-    serde_json::put(members, alloc, "size", Value::from(referrer.size))
+    if is_first { Ok(()) } else { out.take(b",") }
 }
 
-fn put_artifact_type(
-    alloc: Global,
-    members: &mut Map<String, Value>,
-    artifact_type: &Option<String>,
-) -> Result<(), AllocError>
-    ensures { OnOk result (members_view members.new.entries
-        ≡ put_text (codes "artifactType") (option_map string_bytes artifact_type.now)
-        (members_view members.old.entries)) }
+fn write_pair<S: Sink>(out: &mut S, key: &str, text: &str) -> Result<(), Fault>
+    ensures { Takes S.took result out.old out.new (pair_line (key.now, text.now)) }
 {
-    let Some(text) = artifact_type else {
-        return Ok(());
-    };
-    let value = Value::try_from_str(alloc, text.as_str())?;
-    serde_json::put(members, alloc, "artifactType", value)
+    write_quoted(out, key)?;
+    out.take(b":")?;
+    write_quoted(out, text)
 }
 
-/// Fills an empty map with the texts.
-fn fill(
-    alloc: Global,
-    members: &mut Map<String, Value>,
-    texts: &BTreeMap<String, String>,
-) -> Result<(), AllocError>
-    requires { members.old.entries ≡ [] }
-    ensures { OnOk result (members_view members.new.entries
-        ≡ text_members (pairs_of texts.now.entries)) }
+fn write_pairs<S: Sink>(out: &mut S, texts: &BTreeMap<String, String>) -> Result<(), Fault>
+    ensures { Takes S.took result out.old out.new
+        (with_commas (map pair_line (pairs_of texts.now.entries))) }
 {
+    let mut is_first = true;
     for (key, text) in texts.iter() {
-        let name = key.clone()?;
-        drop(members.insert(name, Value::try_from_str(alloc, text.as_str())?)?);
+        separate(out, is_first)?;
+        write_pair(out, key.as_str(), text.as_str())?;
+        is_first = false;
     }
     Ok(())
 }
 
-fn put_annotations(
-    alloc: Global,
-    members: &mut Map<String, Value>,
+fn write_annotations<S: Sink>(
+    out: &mut S,
     annotations: &BTreeMap<String, String>,
-) -> Result<(), AllocError>
-    ensures { OnOk result (members_view members.new.entries
-        ≡ put_texts (codes "annotations") (pairs_of annotations.now.entries)
-        (members_view members.old.entries)) }
+) -> Result<(), Fault>
+    ensures { Takes S.took result out.old out.new (annotations_line (pairs_of annotations.now.entries)) }
 {
     if annotations.is_empty() {
         return Ok(());
     }
-    let mut texts = Map::new(alloc);
-    fill(alloc, &mut texts, annotations)?;
-    serde_json::put(members, alloc, "annotations", Value::Object(texts))
+    out.take(b"\"annotations\":{")?;
+    write_pairs(out, annotations)?;
+    out.take(b"},")
 }
 
-fn referrer_value(alloc: Global, referrer: &Referrer) -> Result<Value, AllocError>
-    ensures { IfOk result (λ v. view v ≡ referrer_data (referrer_shown referrer.now)) }
+fn write_artifact_type<S: Sink>(out: &mut S, artifact_type: &Option<String>) -> Result<(), Fault>
+    ensures { Takes S.took result out.old out.new
+        (artifact_type_line (option_map string_bytes artifact_type.now)) }
 {
-    let mut members = Map::new(alloc);
-    put_fixed(alloc, &mut members, referrer)?;
-    put_artifact_type(alloc, &mut members, &referrer.artifact_type)?;
-    put_annotations(alloc, &mut members, &referrer.annotations)?;
-    Ok(Value::Object(members))
+    let Some(text) = artifact_type else {
+        return Ok(());
+    };
+    out.take(b"\"artifactType\":")?;
+    write_quoted(out, text.as_str())?;
+    out.take(b",")
 }
 
-fn referrer_values(alloc: Global, referrers: &[Referrer]) -> Result<Vec<Value>, AllocError>
-    ensures { IfOk result (λ v. items_view v.items ≡ referrer_items (referrers_shown referrers.now)) }
+/// Writes the members that a referrer always has, and its end.
+fn write_fixed<S: Sink>(out: &mut S, referrer: &Referrer) -> Result<(), Fault>
+    ensures { Takes S.took result out.old out.new (fixed_line (referrer_shown referrer.now)) }
 {
-    let mut values = Vec::new(alloc);
-    for referrer in referrers {
-        values.push(referrer_value(alloc, referrer)?)?;
+    out.take(b"\"digest\":")?;
+    write_quoted(out, referrer.digest.as_str())?;
+    out.take(b",\"mediaType\":")?;
+    write_quoted(out, referrer.kind.media_type())?;
+    out.take(b",\"size\":")?;
+    out.take(itoa::Buffer::new().format(referrer.size).as_bytes())?;
+    out.take(b"}")
+}
+
+fn write_referrer<S: Sink>(out: &mut S, referrer: &Referrer) -> Result<(), Fault>
+    ensures { Takes S.took result out.old out.new (referrer_line (referrer_shown referrer.now)) }
+{
+    out.take(b"{")?;
+    write_annotations(out, &referrer.annotations)?;
+    write_artifact_type(out, &referrer.artifact_type)?;
+    write_fixed(out, referrer)
+}
+
+/// The body of a list of referrers, as far as it is written. It fails only for want of memory, and is of
+/// no more use then.
+#[derive(Drop)]
+pub struct ReferrersBody<S: Sink> {
+    out: S,
+    is_empty: bool,
+}
+
+impl<S: Sink> ReferrersBody<S> {
+    ghost use Rattle.oci_documents.specs.Referrers.{Lists};
+
+    /// The body as far as it stands before the first referrer.
+    pub fn begin(alloc: Global) -> Result<ReferrersBody<S>, Fault>
+        ensures { MatchResult result (λ body. Lists S.took body []) (λ fault. fault ≡ Fault.Memory) }
+    {
+        let mut out = S::empty(alloc);
+        out.take(b"{\"manifests\":[")?;
+        Ok(ReferrersBody {
+            out,
+            is_empty: true,
+        })
     }
-    Ok(values)
-}
 
-fn referrers_value(alloc: Global, referrers: &[Referrer]) -> Result<Value, AllocError>
-    ensures { IfOk result (λ v. view v ≡ referrers_data (referrers_shown referrers.now)) }
-{
-    let manifests = Value::Array(referrer_values(alloc, referrers)?);
-    let media_type = Kind::Index.media_type();
-    json!(in alloc; {"manifests": manifests, "mediaType": media_type, "schemaVersion": 2u64})
-}
+    /// Writes one referrer more. Its `annotations` are left out where there are none, and so is its
+    /// `artifactType`.
+    pub fn add(&mut self, referrer: &Referrer) -> Result<(), Fault>
+        ensures { MatchResult result
+            (λ _. (rs : List ReferrerShown) → Lists S.took self.old rs
+            → Lists S.took self.new (rs ++ referrer_shown referrer.now ∷ []))
+            (λ fault. fault ≡ Fault.Memory) }
+    {
+        separate(&mut self.out, self.is_empty)?;
+        write_referrer(&mut self.out, referrer)?;
+        self.is_empty = false;
+        Ok(())
+    }
 
-/// An image index of the referrers, in the order given (OCI Distribution Specification 1.1, Listing
-/// Referrers), as compact JSON with keys in byte order. A referrer's `annotations` are left out where
-/// there are none, and so is its `artifactType`. It fails only for want of memory.
-pub fn referrers_text(alloc: Global, referrers: &[Referrer]) -> Result<String, Fault>
-    ensures text { IfOk result (λ s. string_bytes s ≡ referrers_line (referrers_shown referrers.now)) }
-    ensures memory { IfErr result (λ e. e ≡ Fault.Memory) }
-{
-    written(alloc, referrers_value(alloc, referrers))
+    /// What took the whole body.
+    pub fn end(self) -> Result<S, Fault>
+        ensures { MatchResult result
+            (λ out. (rs : List ReferrerShown) → Lists S.took self rs → S.took out (referrers_line rs))
+            (λ fault. fault ≡ Fault.Memory) }
+    {
+        let ReferrersBody { mut out, .. } = self;
+        out.take(
+            b"],\"mediaType\":\"application/vnd.oci.image.index.v1+json\",\"schemaVersion\":2}",
+        )?;
+        Ok(out)
+    }
 }

@@ -1,14 +1,12 @@
 -- The body of a list of referrers (OCI Distribution Specification 1.1, Content Discovery, Listing Referrers):
 -- an image index whose members are the referrers' descriptors, with keys in byte order.
 use Rattle.std.specs.Prelude.{ℕ, List, [], ◌∷◌, ◌++◌, map, codes, decimal, string_bytes, Option, Some, None, option_map}
-use Rattle.serde_json.specs.Data.{Data, string, array, object, number, unsigned, Items, Members, no_members, member, put}
-use Rattle.serde_json.specs.View.{items_of}
 use Rattle.oci_types.specs.Text.{Text}
 use Rattle.oci_types.specs.declared.kind.Kind.{Kind}
 use Rattle.oci_types.specs.declared.referrers.Referrer.{Referrer}
 use Rattle.oci_types.specs.Json.{quoted, with_commas}
 use Rattle.oci_types.specs.Kind.{media_type_of}
-use Rattle.oci_types.specs.Member.{Pairs, pairs_of, text_members}
+use Rattle.oci_types.specs.Member.{Pairs, pairs_of}
 
 -- what a list of referrers shows of a manifest
 pub record ReferrerShown : Type 0 where
@@ -56,34 +54,3 @@ abbrev pub referrers_line : List ReferrerShown → Text
 referrers_line rs =
     codes "{\"manifests\":[" ++ (with_commas (map referrer_line rs)
     ++ codes "],\"mediaType\":\"application/vnd.oci.image.index.v1+json\",\"schemaVersion\":2}")
-
--- ---- for private clauses: the value that is written
-
--- with a text, where there is one
-abbrev pub put_text : Text → Option Text → Members → Members
-put_text key None ms = ms
-put_text key (Some text) ms = put key (string text) ms
-
--- with an object of texts, unless it is empty
-abbrev pub put_texts : Text → Pairs → Members → Members
-put_texts key [] ms = ms
-put_texts key (p ∷ ps) ms = put key (object (text_members (p ∷ ps))) ms
-
-abbrev pub fixed_members : Text → Kind → ℕ → Members
-fixed_members digest kind size =
-    member (codes "digest") (string digest) (member (codes "mediaType") (string (media_type_of kind))
-    (member (codes "size") (number (unsigned size)) no_members))
-
-abbrev pub referrer_data : ReferrerShown → Data
-referrer_data r =
-    object (put_texts (codes "annotations") r.annotations
-    (put_text (codes "artifactType") r.artifact_type (fixed_members r.digest r.kind r.size)))
-
-abbrev pub referrer_items : List ReferrerShown → Items
-referrer_items rs = items_of (map referrer_data rs)
-
-abbrev pub referrers_data : List ReferrerShown → Data
-referrers_data rs =
-    object (member (codes "manifests") (array (referrer_items rs))
-    (member (codes "mediaType") (string (codes "application/vnd.oci.image.index.v1+json"))
-    (member (codes "schemaVersion") (number (unsigned 2)) no_members)))

@@ -1,21 +1,24 @@
 -- HEAD is answered as GET, without the content.
-use Rattle.std.proofs.Common.{◌≡◌, Bool, true, false, Option, None, Some, refl, ap, if◌then◌else◌}
+use Rattle.std.proofs.Common.{◌≡◌, Bool, true, false, not, Option, None, Some, refl, ap, if◌then◌else◌}
 use Rattle.std.specs.Prelude.{option_map, length}
 use Rattle.oci_types.specs.Text.{Text}
+use Rattle.oci_types.specs.Digest.{is_digest}
 use Rattle.oci_types.specs.RepoName.{is_repo_name}
 use Rattle.oci_types.specs.Token.{is_token}
 use Rattle.registry_model.specs.declared.request.Verb.{Verb}
 use Rattle.registry_model.specs.declared.request.Verb.TheVariants.{Get, Head}
 use Rattle.registry_model.specs.World.{World, Grants, Repo, repo_at, is_known}
+use Rattle.registry_model.specs.Answer.{sent, unsent}
 use Rattle.registry_model.specs.Ask.{Ask, Keys}
 use Rattle.registry_model.specs.Form.{Form, no_form, base, blob, uploads, session, manifest, tags, referrers}
 use Rattle.registry_model.specs.Heads.{as_head, as_get, without_content}
-use Rattle.registry_model.specs.Decision.{Decision, refuses, in_repo}
+use Rattle.registry_model.specs.Decision.{Decision, refuses, tells, in_repo}
 use Rattle.registry_model.specs.Blobs.{found_blob, found_size, read_blob, size_blob, blob_named}
 use Rattle.registry_model.specs.Manifests.{Found, found_manifest, found_manifest_size, read_manifest, size_manifest, manifest_named}
-use Rattle.registry_model.specs.Operation.{reads_blob, reads_manifest, operation_of, addressed}
+use Rattle.registry_model.specs.Referrers.{filter_in, referrers_body, referrers_reply, list_referrers, size_referrers}
+use Rattle.registry_model.specs.Operation.{reads_blob, reads_manifest, lists_referrers, operation_of, addressed}
 use Rattle.registry_model.specs.Judging.{allows, granted, decide, served, judged, changed, reply_to, after_request}
-use Rattle.registry_model.specs.declared.refusal.Refusal.TheVariants.{AccessDenied, InvalidName, TokenRequired}
+use Rattle.registry_model.specs.declared.refusal.Refusal.TheVariants.{AccessDenied, InvalidName, InvalidDigest, TokenRequired}
 
 record Alike (a b : Decision) : Type 0 where
   reply : without_content a.reply ≡ without_content b.reply
@@ -27,6 +30,10 @@ same a = record { reply = refl; change = refl }
 if_alike : (b : Bool) (x y z : Decision) → Alike x y → Alike (if b then x else z) (if b then y else z)
 if_alike true x y z h = h
 if_alike false x y z h = same z
+
+else_alike : (b : Bool) (x y z : Decision) → Alike x y → Alike (if b then z else x) (if b then z else y)
+else_alike true x y z h = same z
+else_alike false x y z h = h
 
 in_repo_alike : (o : Option Repo) (f g : Repo → Decision) → ((r : Repo) → Alike (f r) (g r)) → Alike (in_repo o f) (in_repo o g)
 in_repo_alike None f g h = same (in_repo None f)
@@ -45,6 +52,13 @@ manifest_alike r reference = go (manifest_named r reference)
     go : (o : Option Found) → Alike (found_manifest_size o) (found_manifest o)
     go None = record { reply = refl; change = refl }
     go (Some m) = record { reply = refl; change = refl }
+
+referrers_alike : (r : Repo) (digest : Text) (artifact_type : Option Text) → Alike (size_referrers r digest artifact_type) (list_referrers r digest artifact_type)
+referrers_alike r digest artifact_type =
+    let wanted = filter_in artifact_type in
+    let body = referrers_body r digest wanted in
+    else_alike (not (is_digest digest)) (tells (referrers_reply wanted (unsent (length body)))) (tells (referrers_reply wanted (sent body))) (refuses InvalidDigest)
+    (record { reply = refl; change = refl })
 
 module _ (grants : Grants) (repos : Text → Option Repo) (token : Option Text) (keys : Keys) (content_type content_range : Option Text) (body : Text) where
   abbrev asked : Verb → Form → Ask
@@ -66,7 +80,10 @@ module _ (grants : Grants) (repos : Text → Option Repo) (token : Option Text) 
       decided name (manifest name reference)
       (if_alike (allows grants name (reads_manifest reference)) _ _ (refuses AccessDenied) (in_repo_alike (repos name) _ _ (λ r. manifest_alike r reference)))
   served_alike (tags name) = same _
-  served_alike (referrers name digest) = same _
+  served_alike (referrers name digest) =
+      decided name (referrers name digest)
+      (if_alike (allows grants name (lists_referrers digest keys.artifact_type)) _ _ (refuses AccessDenied)
+      (in_repo_alike (repos name) _ _ (λ r. referrers_alike r digest keys.artifact_type)))
 
 judged_alike : (w : World) (token : Option Text) (q : Ask) → Alike (judged w token (as_head q)) (judged w token (as_get q))
 judged_alike w None q = same _

@@ -16,13 +16,13 @@ use Rattle.registry_model.specs.Form.{Form, no_form, base, blob, uploads, sessio
 use Rattle.registry_model.specs.Ask.{Keys, Ask}
 use Rattle.registry_model.specs.Answer.{Answer}
 use Rattle.registry_model.specs.Decision.{Decision, refuses, tells, in_repo}
-use Rattle.registry_model.specs.Operation.{Operation, reads_blob, sizes_blob, deletes_blob, pushes_blob, opens_session, mounts_blob, reads_session, appends_chunk, closes_session, reads_manifest, sizes_manifest, deletes_manifest, pushes_manifest, lists_tags, lists_referrers, operation_on, operation_of, addressed, valid_name, rank, rank_of, needed_level}
+use Rattle.registry_model.specs.Operation.{Operation, reads_blob, sizes_blob, deletes_blob, pushes_blob, opens_session, mounts_blob, reads_session, appends_chunk, closes_session, reads_manifest, sizes_manifest, deletes_manifest, pushes_manifest, lists_tags, lists_referrers, sizes_referrers, operation_on, operation_of, addressed, valid_name, rank, rank_of, needed_level}
 use Rattle.registry_model.specs.Blobs.{found_blob, blob_named, found_size}
 use Rattle.registry_model.specs.Sessions.{Session, show_session, session_named}
 use Rattle.registry_model.specs.Mount.{may_read, source, mounted}
 use Rattle.registry_model.specs.Manifests.{Found, found_manifest, found_manifest_size, manifest_named}
 use Rattle.registry_model.specs.TagPage.{size_in, list_page}
-use Rattle.registry_model.specs.Referrers.{list_referrers}
+use Rattle.registry_model.specs.Referrers.{list_referrers, size_referrers}
 use Rattle.registry_model.specs.Judging.{operate, allows, granted, decide, at_base, served_on, served, decision}
 use Rattle.registry_model.specs.Team.{is_reading}
 
@@ -63,6 +63,7 @@ module _ (g : Grants) (f f' : Text → Option Repo) (agree : (name : Text) → i
   operate_same r name (pushes_manifest reference content_type) body = refl
   operate_same r name (lists_tags n last) body = refl
   operate_same r name (lists_referrers digest artifact_type) body = refl
+  operate_same r name (sizes_referrers digest artifact_type) body = refl
 
   in_repo_same : (o : Option Repo) (name : Text) (op : Operation) (body : Text) → in_repo o (λ r. operate g f r name op body) ≡ in_repo o (λ r. operate g f' r name op body)
   in_repo_same None name op body = refl
@@ -122,12 +123,15 @@ page_none : (r : Repo) (name : Text) (last : Option Text) (o : Option (Option �
 page_none r name last None = refl
 page_none r name last (Some n) = refl
 
+told_none : (b : Bool) (a : Answer) → (cond b (refuses InvalidDigest) (tells a)).change ≡ None
+told_none true a = refl
+told_none false a = refl
+
 referrers_none : (r : Repo) (digest : Text) (artifact_type : Option Text) → (list_referrers r digest artifact_type).change ≡ None
-referrers_none r digest artifact_type = by (not (is_digest digest)) _
-  where
-    by : (b : Bool) (a : Answer) → (cond b (refuses InvalidDigest) (tells a)).change ≡ None
-    by true a = refl
-    by false a = refl
+referrers_none r digest artifact_type = told_none (not (is_digest digest)) _
+
+referrers_size_none : (r : Repo) (digest : Text) (artifact_type : Option Text) → (size_referrers r digest artifact_type).change ≡ None
+referrers_size_none r digest artifact_type = told_none (not (is_digest digest)) _
 
 read_blob_reads : (digest : Text) → ChangesNothing (reads_blob digest)
 read_blob_reads digest g f r name body = found_none digest (blob_named r digest)
@@ -150,6 +154,9 @@ tags_read n last g f r name body = page_none r name last (size_in n)
 referrers_read : (digest : Text) (artifact_type : Option Text) → ChangesNothing (lists_referrers digest artifact_type)
 referrers_read digest artifact_type g f r name body = referrers_none r digest artifact_type
 
+referrers_size_reads : (digest : Text) (artifact_type : Option Text) → ChangesNothing (sizes_referrers digest artifact_type)
+referrers_size_reads digest artifact_type g f r name body = referrers_size_none r digest artifact_type
+
 -- what GET and HEAD ask for changes nothing
 reading_operation : (form : Form) (v : Verb) (keys : Keys) (content_type range : Option Text) → is_reading v ≡ true → IfSome (operation_on form v keys content_type range) ChangesNothing
 reading_operation no_form v keys t range h = tt
@@ -165,7 +172,7 @@ reading_operation (manifest name reference) verb.Head keys t range h = manifest_
 reading_operation (tags name) verb.Get keys t range h = tags_read keys.n keys.last
 reading_operation (tags name) verb.Head keys t range h = tags_read keys.n keys.last
 reading_operation (referrers name digest) verb.Get keys t range h = referrers_read digest keys.artifact_type
-reading_operation (referrers name digest) verb.Head keys t range h = referrers_read digest keys.artifact_type
+reading_operation (referrers name digest) verb.Head keys t range h = referrers_size_reads digest keys.artifact_type
 reading_operation _ verb.Post keys t range h = absurd (cc)
 reading_operation _ verb.Patch keys t range h = absurd (cc)
 reading_operation _ verb.Put keys t range h = absurd (cc)
@@ -261,6 +268,7 @@ module _ (g : Grants) (f : Text → Option Repo) where
   operation_changes name (pushes_manifest reference content_type) body e = pushed name (pushes_manifest reference content_type) body e
   operation_changes name (lists_tags n last) body e = reads_never name (lists_tags n last) body (tags_read n last)
   operation_changes name (lists_referrers digest artifact_type) body e = reads_never name (lists_referrers digest artifact_type) body (referrers_read digest artifact_type)
+  operation_changes name (sizes_referrers digest artifact_type) body e = reads_never name (sizes_referrers digest artifact_type) body (referrers_size_reads digest artifact_type)
 
   granted_changes : (name : Text) (form : Form) (o : Option Operation) (body : Text) → OnSome (granted g f name form o body).change (MayPush g name)
   granted_changes name form None body = tt

@@ -30,7 +30,7 @@ use Rattle.registry_model.specs.Sessions.{Session, session_named, is_full, range
 use Rattle.registry_model.specs.Mount.{source, mounted}
 use Rattle.registry_model.specs.Manifests as manifests
 use Rattle.registry_model.specs.TagPage as page
-use Rattle.registry_model.specs.Operation.{Operation, reads_blob, sizes_blob, deletes_blob, pushes_blob, opens_session, mounts_blob, reads_session, appends_chunk, closes_session, reads_manifest, sizes_manifest, deletes_manifest, pushes_manifest, lists_tags, lists_referrers, operation_of, addressed}
+use Rattle.registry_model.specs.Operation.{Operation, reads_blob, sizes_blob, deletes_blob, pushes_blob, opens_session, mounts_blob, reads_session, appends_chunk, closes_session, reads_manifest, sizes_manifest, deletes_manifest, pushes_manifest, lists_tags, lists_referrers, sizes_referrers, operation_of, addressed}
 use Rattle.registry_model.specs.Judging.{operate, allows, granted, decide, at_base, served_on, judged, changed, reply_to, after_request}
 use Rattle.registry_model.specs.Command.{refusal_of, carried_out, after_command}
 
@@ -132,6 +132,7 @@ idle_operation grants repos r name (pushes_manifest reference content_type) body
     (idle_push_read r name reference content_type body (manifest_in body)))))
 idle_operation grants repos r name (lists_tags n last) body = idle_page r name last (page.size_in n)
 idle_operation grants repos r name (lists_referrers digest artifact_type) body = either (not (is_digest digest)) _ _ (λ _. refl) (λ _. refl)
+idle_operation grants repos r name (sizes_referrers digest artifact_type) body = either (not (is_digest digest)) _ _ (λ _. refl) (λ _. refl)
 
 -- ---- the order of refusals
 

@@ -30,7 +30,7 @@ use Rattle.registry_model.specs.Manifests as manifests
 use Rattle.registry_model.specs.Manifests.{pushed_digest, pushed_tag, with_bytes, with_manifest, content_type_fits, has_needs}
 use Rattle.registry_model.specs.TagPage as page
 use Rattle.registry_model.specs.Referrers as subjects
-use Rattle.registry_model.specs.Operation.{Operation, reads_blob, sizes_blob, deletes_blob, pushes_blob, opens_session, mounts_blob, reads_session, appends_chunk, closes_session, reads_manifest, sizes_manifest, deletes_manifest, pushes_manifest, lists_tags, lists_referrers}
+use Rattle.registry_model.specs.Operation.{Operation, reads_blob, sizes_blob, deletes_blob, pushes_blob, opens_session, mounts_blob, reads_session, appends_chunk, closes_session, reads_manifest, sizes_manifest, deletes_manifest, pushes_manifest, lists_tags, lists_referrers, sizes_referrers}
 use Rattle.registry_model.specs.Judging.{operate}
 use Rattle.registry_model.proofs.ChangedMaps.{bytes_eq-itself}
 use Rattle.registry_model.proofs.SoundRepositories.{fits, sound_with_blob, sound_without_blob, sound_opened, sound_appended, sound_without_session, sound_with_bytes, sound_with_tag, sound_without_tag, sound_without_manifest, with_bytes_there, used_with_tag}
@@ -219,6 +219,9 @@ module _ (r : Repo) (s : IsSoundRepo r) where
   sound_referrers : (digest : Text) (artifact_type : Option Text) → IsSoundDecision (subjects.list_referrers r digest artifact_type)
   sound_referrers digest artifact_type = past (not (is_digest digest)) _ _ tt (λ _. tt)
 
+  sound_referrers_size : (digest : Text) (artifact_type : Option Text) → IsSoundDecision (subjects.size_referrers r digest artifact_type)
+  sound_referrers_size digest artifact_type = past (not (is_digest digest)) _ _ tt (λ _. tt)
+
   -- ---- all
 
   pub sound_operation : (grants : Grants) (repos : Text → Option Repo) → ((name : Text) (other : Repo) → repos name ≡ Some other → IsSoundRepo other)
@@ -238,3 +241,4 @@ module _ (r : Repo) (s : IsSoundRepo r) where
   sound_operation grants repos all name (pushes_manifest reference content_type) body = sound_push_manifest name reference content_type body
   sound_operation grants repos all name (lists_tags n last) body = sound_page name last (page.size_in n)
   sound_operation grants repos all name (lists_referrers digest artifact_type) body = sound_referrers digest artifact_type
+  sound_operation grants repos all name (sizes_referrers digest artifact_type) body = sound_referrers_size digest artifact_type

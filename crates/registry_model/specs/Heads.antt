@@ -3,7 +3,7 @@ use Rattle.std.specs.Prelude.{ℕ, Bool, true, false, length}
 use Rattle.registry_model.specs.declared.request.Verb.{Verb}
 use Rattle.registry_model.specs.declared.request.Verb.TheVariants.{Get, Head}
 use Rattle.registry_model.specs.Ask.{Ask}
-use Rattle.registry_model.specs.Operation.{Operation, sizes_blob, sizes_manifest}
+use Rattle.registry_model.specs.Operation.{Operation, sizes_blob, sizes_manifest, sizes_referrers}
 use Rattle.registry_model.specs.Answer.{Content, sent, unsent, Answer}
 
 abbrev pub is_head : Verb → Bool
@@ -19,6 +19,7 @@ is_sent (unsent size) = false
 abbrev pub is_sizing : Operation → Bool
 is_sizing (sizes_blob digest) = true
 is_sizing (sizes_manifest reference) = true
+is_sizing (sizes_referrers digest artifact_type) = true
 is_sizing _ = false
 
 -- the request with the one method in the place of its own, and with the other

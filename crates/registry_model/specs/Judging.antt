@@ -14,7 +14,7 @@ use Rattle.registry_model.specs.World.{Repo, Grants, World, repo_at, is_known, w
 use Rattle.registry_model.specs.Answer.{Answer, bare_answer, refused, sent}
 use Rattle.registry_model.specs.Form.{Form, no_form, base, blob, uploads, session, manifest, tags, referrers}
 use Rattle.registry_model.specs.Ask.{Ask}
-use Rattle.registry_model.specs.Operation.{Operation, reads_blob, sizes_blob, deletes_blob, pushes_blob, opens_session, mounts_blob, reads_session, appends_chunk, closes_session, reads_manifest, sizes_manifest, deletes_manifest, pushes_manifest, lists_tags, lists_referrers, operation_of, allow_of, addressed, rank, rank_of, needed_level}
+use Rattle.registry_model.specs.Operation.{Operation, reads_blob, sizes_blob, deletes_blob, pushes_blob, opens_session, mounts_blob, reads_session, appends_chunk, closes_session, reads_manifest, sizes_manifest, deletes_manifest, pushes_manifest, lists_tags, lists_referrers, sizes_referrers, operation_of, allow_of, addressed, rank, rank_of, needed_level}
 use Rattle.registry_model.specs.Decision.{Decision, refuses, tells, in_repo}
 use Rattle.registry_model.specs.Blobs as blobs
 use Rattle.registry_model.specs.Sessions as sessions
@@ -45,6 +45,8 @@ operate grants repos r name (pushes_manifest reference content_type) body =
 operate grants repos r name (lists_tags n last) body = page.list_tags r name n last
 operate grants repos r name (lists_referrers digest artifact_type) body =
     subjects.list_referrers r digest artifact_type
+operate grants repos r name (sizes_referrers digest artifact_type) body =
+    subjects.size_referrers r digest artifact_type
 
 -- ---- the order of refusals
 

@@ -29,7 +29,7 @@ pub data Operation : Type 0 where
   -- the page's size, and what it begins behind
   lists_tags : Option Text → Option Text → Operation
   -- a subject, and an artifact type
-  lists_referrers : Text → Option Text → Operation
+  lists_referrers sizes_referrers : Text → Option Text → Operation
 
 -- ---- by the path's form and the method, compared byte for byte
 
@@ -70,7 +70,7 @@ on_tags _ keys = None
 
 abbrev pub on_referrers : Verb → Text → Keys → Option Operation
 on_referrers verb.Get digest keys = Some (lists_referrers digest keys.artifact_type)
-on_referrers verb.Head digest keys = Some (lists_referrers digest keys.artifact_type)
+on_referrers verb.Head digest keys = Some (sizes_referrers digest keys.artifact_type)
 on_referrers _ digest keys = None
 
 -- None where the form has not the method
@@ -142,3 +142,4 @@ needed_level (deletes_manifest reference) = Delete
 needed_level (pushes_manifest reference content_type) = Push
 needed_level (lists_tags n last) = Pull
 needed_level (lists_referrers digest artifact_type) = Pull
+needed_level (sizes_referrers digest artifact_type) = Pull

@@ -12,7 +12,7 @@ use Rattle.oci_types.specs.Referrers.{ReferrerShown, referrers_line}
 use Rattle.registry_model.specs.declared.refusal.Refusal.TheVariants.{InvalidDigest}
 use Rattle.registry_model.specs.declared.reply.Status.TheVariants.{OK}
 use Rattle.registry_model.specs.World.{Repo}
-use Rattle.registry_model.specs.Answer.{Answer, bare_answer, sent}
+use Rattle.registry_model.specs.Answer.{Answer, Content, bare_answer, sent, unsent}
 use Rattle.registry_model.specs.Decision.{Decision, refuses, tells}
 use Rattle.registry_model.specs.Manifests.{is_text}
 
@@ -59,15 +59,27 @@ abbrev pub filters_named : Option Text → Option Text
 filters_named None = None
 filters_named (Some wanted) = Some (codes "artifactType")
 
-abbrev pub referrers_reply : Option Text → List ReferrerShown → Answer
-referrers_reply wanted referrers = record (bare_answer OK) {
+-- the list of referrers, or what HEAD leaves of it (RFC 9110, section 9.3.2)
+abbrev pub referrers_reply : Option Text → Content → Answer
+referrers_reply wanted body = record (bare_answer OK) {
   content_type = Some (media_type_of Index);
   filters = filters_named wanted;
-  body = sent (referrers_line referrers);
+  body = body;
 }
+
+-- the body that lists the referrers of the artifact type that is asked for
+abbrev pub referrers_body : Repo → Text → Option Text → Text
+referrers_body r digest wanted = referrers_line (referrers_of r digest wanted)
 
 abbrev pub list_referrers : Repo → Text → Option Text → Decision
 list_referrers r digest artifact_type =
     if not (is_digest digest) then refuses InvalidDigest
     else (let wanted = filter_in artifact_type in
-    tells (referrers_reply wanted (referrers_of r digest wanted)))
+    tells (referrers_reply wanted (sent (referrers_body r digest wanted))))
+
+-- the same for HEAD, which asks for the length alone
+abbrev pub size_referrers : Repo → Text → Option Text → Decision
+size_referrers r digest artifact_type =
+    if not (is_digest digest) then refuses InvalidDigest
+    else (let wanted = filter_in artifact_type in
+    tells (referrers_reply wanted (unsent (length (referrers_body r digest wanted)))))

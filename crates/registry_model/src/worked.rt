@@ -251,8 +251,8 @@ pub fn deletions_take_away()
         ≡ json Status.NotFound manifest_unknown }
 {}
 
-/// A digest on which no manifest stands has the empty index of referrers; a text that is no digest
-/// has none.
+/// A digest on which no manifest stands has the empty index of referrers, of which HEAD tells the
+/// length; a text that is no digest has none.
 pub fn referrers_are_listed()
     ensures none { (w : World) → Setting w (new_repo 1000)
         → reply_to w (asks Verb.Get (referrers app abc_digest) no_keys [])
@@ -263,6 +263,9 @@ pub fn referrers_are_listed()
         (record no_keys { artifact_type = Some (codes "application/x.sbom") }) [])
         ≡ record (bare_answer Status.OK)
         { filters = Some (codes "artifactType"); content_type = Some index_type; body = sent no_referrers } }
+    ensures sized { (w : World) → Setting w (new_repo 1000)
+        → reply_to w (asks Verb.Head (referrers app abc_digest) no_keys [])
+        ≡ record (bare_answer Status.OK) { content_type = Some index_type; body = unsent 88 } }
     ensures no_digest { (w : World) (r : Repo) → Setting w r
         → reply_to w (asks Verb.Get (referrers app (codes "sha256:12")) no_keys [])
         ≡ json Status.BadRequest invalid_digest }

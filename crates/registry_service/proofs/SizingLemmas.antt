@@ -63,14 +63,14 @@ of_tags verb.Put keys = refl
 of_tags verb.Delete keys = refl
 of_tags verb.Other keys = refl
 
-of_referrers : (v : Verb) (digest : Text) (keys : Keys) → sizes (on_referrers v digest keys) ≡ false
-of_referrers verb.Get digest keys = refl
-of_referrers verb.Head digest keys = refl
-of_referrers verb.Post digest keys = refl
-of_referrers verb.Patch digest keys = refl
-of_referrers verb.Put digest keys = refl
-of_referrers verb.Delete digest keys = refl
-of_referrers verb.Other digest keys = refl
+of_referrers : (v : Verb) (digest : Text) (keys : Keys) → is_head v ≡ false → sizes (on_referrers v digest keys) ≡ false
+of_referrers verb.Get digest keys whole = refl
+of_referrers verb.Head digest keys whole = absurd (true≢false whole)
+of_referrers verb.Post digest keys whole = refl
+of_referrers verb.Patch digest keys whole = refl
+of_referrers verb.Put digest keys whole = refl
+of_referrers verb.Delete digest keys whole = refl
+of_referrers verb.Other digest keys whole = refl
 
 by_form : (form : Form) (v : Verb) (keys : Keys) (content_type range : Option Text) → is_head v ≡ false → sizes (operation_on form v keys content_type range) ≡ false
 by_form no_form v keys content_type range whole = refl
@@ -80,7 +80,7 @@ by_form (uploads name) v keys content_type range whole = of_uploads v keys
 by_form (session name reference) v keys content_type range whole = of_session v reference keys.digest range
 by_form (manifest name reference) v keys content_type range whole = of_manifest v reference content_type whole
 by_form (tags name) v keys content_type range whole = of_tags v keys
-by_form (referrers name digest) v keys content_type range whole = of_referrers v digest keys
+by_form (referrers name digest) v keys content_type range whole = of_referrers v digest keys whole
 
 pub not_sizing : (q : Ask) (operation : Operation) → operation_of q ≡ Some operation → is_head q.verb ≡ false → is_sizing operation ≡ false
 not_sizing q operation found whole = sym (ap sizes found) ∙ by_form q.form q.verb q.keys q.content_type q.content_range whole

@@ -23,3 +23,5 @@ shown_operation (operation.PushManifest reference content_type) =
 shown_operation (operation.ListTags n last) = model.lists_tags (text_in n) (text_in last)
 shown_operation (operation.ListReferrers digest artifact_type) =
     model.lists_referrers digest.now (text_in artifact_type)
+shown_operation (operation.SizeReferrers digest artifact_type) =
+    model.sizes_referrers digest.now (text_in artifact_type)

@@ -17,9 +17,10 @@ use blob_operations::blobs::{delete_blob, push_blob, read_blob, size_blob};
 use blob_operations::mounting::mount_blob;
 use blob_operations::session_close::close_session;
 use blob_operations::uploads::{append_chunk, open_session, read_session};
-use manifest_operations::listing::{list_referrers, list_tags};
+use manifest_operations::listing::list_tags;
 use manifest_operations::manifest_push::push_manifest;
 use manifest_operations::manifests::{delete_manifest, read_manifest, size_manifest};
+use manifest_operations::referrers::{list_referrers, size_referrers};
 use oci_types::{Fault, NameFault, RepoName, Token};
 use registry_model::{Body, Keeper, Refusal, Reply, Request, Route, Status, Verb};
 use std::alloc::Global;
@@ -73,6 +74,10 @@ fn operate_there<K: Keeper>(
             digest,
             artifact_type,
         } => list_referrers(keeper, alloc, name, digest, artifact_type),
+        Operation::SizeReferrers {
+            digest,
+            artifact_type,
+        } => size_referrers(keeper, alloc, name, digest, artifact_type),
     }
 }
 

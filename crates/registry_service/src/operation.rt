@@ -43,6 +43,10 @@ pub enum Operation<'a> {
         digest: &'a str,
         artifact_type: Option<&'a str>,
     },
+    SizeReferrers {
+        digest: &'a str,
+        artifact_type: Option<&'a str>,
+    },
 }
 
 fn find_on_blob(method: Verb, digest: &str) -> Option<Operation<'_>>
@@ -145,7 +149,7 @@ fn find_on_referrers<'a>(method: Verb, digest: &'a str, query: &Query<'a>) -> Op
             digest,
             artifact_type,
         }),
-        Verb::Head => Some(Operation::ListReferrers {
+        Verb::Head => Some(Operation::SizeReferrers {
             digest,
             artifact_type,
         }),
@@ -215,6 +219,7 @@ fn needed_level(operation: &Operation) -> Level
         Operation::PushManifest { .. } => Level::Push,
         Operation::ListTags { .. } => Level::Pull,
         Operation::ListReferrers { .. } => Level::Pull,
+        Operation::SizeReferrers { .. } => Level::Pull,
     }
 }
 

@@ -1,6 +1,6 @@
 -- What is known of usages behind a write, and what a write tells whose change was looked up before.
-use Rattle.std.proofs.Common.{◌≡◌, ◌≢◌, ◌+◌, ◌++◌, ℕ, arith, is_some, Bool, true, false, None, Some, Ok, Err, Result, OnOk, OnErr, sym, subst, refl}
-use Rattle.std.specs.Prelude.{Option, IfOk, IfSome}
+use Rattle.std.proofs.Common.{◌≡◌, ◌≢◌, ◌+◌, ◌++◌, ℕ, arith, is_some, Bool, true, false, None, Some, Ok, Err, Result, OnOk, OnErr, ap, sym, subst, refl}
+use Rattle.std.specs.Prelude.{⊤, Option, IfOk, IfSome}
 use Rattle.std.specs.FinMap.{get}
 use Rattle.sqlite_trees.specs.declared.store.Store.{Ghosts}
 use Rattle.sqlite.specs.State as sqlite
@@ -21,10 +21,10 @@ use Rattle.store_statements.proofs.Transactions.{registry, survives_all}
 use Rattle.store_reads.specs.declared.usage_change.Change.{Change}
 use Rattle.registry_store.specs.declared.known_usages.KnownUsages.{KnownUsages}
 use Rattle.store_session_writes.specs.Whole.{DoneWhereSo}
-use Rattle.store_reads.specs.Usages.{Foretells, or_untold}
+use Rattle.store_reads.specs.Usages.{Foretells}
 use Rattle.registry_store.specs.Usages.{known_at, Knows, IsKnown, StaysKnown, Sets, IsNext}
 use Rattle.store_reads.proofs.CleanBefore.{was_clean}
-use Rattle.store_reads.proofs.Foretold.{earlier, later, if_told, untold_settled, session_has_repo}
+use Rattle.store_reads.proofs.Foretold.{earlier, later, session_has_repo}
 use Rattle.registry_store.proofs.KnownWorlds.{follows, unfollowed, forgets}
 use Rattle.registry_store.proofs.KnownAnswers.{whether_then}
 use Rattle.registry_store.proofs.KeeperAnswers.{made}
@@ -95,18 +95,18 @@ whether_before : (answer : Result Bool Fault) (old mid new : sqlite.State) (so :
 whether_before (Ok done) old mid new so f stays made = whether_then done done old mid new so f refl stays made
 whether_before (Err fault) old mid new so f stays made = tt
 
-module _ {S : Type 0} (g : Ghosts S) (old mid new : Held S) (told : Result (Option Change) Fault) (change : Option Change) (is_told : Ok change ≡ or_untold told)
+module _ {S : Type 0} (g : Ghosts S) (old mid new : Held S) (told : Result (Option Change) Fault) (change : Option Change) (is_told : told ≡ Ok change)
     (looked : Lasts g old mid) (stays : Stays g old mid told) (wrote : Lasts g mid new) where
   pub lasts : Lasts g old new
   lasts = survives_all (state g old) (state g mid) (state g new) _ _ looked wrote
 
   -- the look-up changed nothing
   pub looked_up : HasCleanDisk (state g new) → IsSettled (state g old) → StaysSettled (state g old) (state g mid)
-  looked_up clean is = stays (was_clean (state g mid) (state g new) wrote clean) is (untold_settled told change is_told)
+  looked_up clean is = stays (was_clean (state g mid) (state g new) wrote clean) is (ap is_storage is_told)
 
   has_then : (P : World → Type 0) → WorldHas g old P → IsSettled (state g old) → WorldHas g mid P
   has_then P has is clean =
-      later P (state g old) (state g mid) (stays clean is (untold_settled told change is_told)).1 (has (was_clean (state g old) (state g mid) looked clean))
+      later P (state g old) (state g mid) (stays clean is (ap is_storage is_told)).1 (has (was_clean (state g old) (state g mid) looked clean))
 
   module _ {A : Type 0} (answer : Result A Fault) where
     -- the write made its change of what was there before
@@ -115,6 +115,10 @@ module _ {S : Type 0} (g : Ghosts S) (old mid new : Held S) (told : Result (Opti
       where
         by : StaysSettled (state g old) (state g mid) → OnOk answer (SettlesOn (state g new) (f (world_in (state g old))))
         by same = earlier (λ w. OnOk answer (SettlesOn (state g new) (f w))) (state g old) (state g mid) same.1 (made (has_then P has is) clean same.0)
+
+    -- the same of a write that asks for nothing
+    pub makes_then : (f : World → World) → MakesWorld g mid new answer f → MakesWorld g old new answer f
+    makes_then f made clean is = made_then (λ w. ⊤) f (λ _. made) (λ _. tt) clean is
 
     pub memory_then : StaysOnMemory g mid new answer → StaysOnMemory g old new answer
     memory_then memory clean is wanting = by (looked_up clean is)
@@ -133,7 +137,7 @@ module _ {S : Type 0} (g : Ghosts S) (old mid new : Held S) (told : Result (Opti
         by : HasCleanDisk (state g mid) → Knows knew (world_in (state g new))
         by then =
             follows_made known knew (state g old) (state g new) name (f (world_in (state g old))) change answer (knows (was_clean (state g old) (state g mid) looked then))
-            (there (was_clean (state g old) (state g mid) looked then)) (if_told told change (Foretells (world_in (state g old)) name (f (world_in (state g old)))) is_told (tells then is)) sets kept sound (made clean is) (memory clean is)
+            (there (was_clean (state g old) (state g mid) looked then)) (subst (λ r. IfOk r (λ o. IfSome o (Foretells (world_in (state g old)) name (f (world_in (state g old)))))) is_told (tells then is)) sets kept sound (made clean is) (memory clean is)
 
   module _ (answer : Result Bool Fault) where
     pub done_then : (so : World → Bool) (f : World → World) → (HasCleanDisk (state g new) → IsSettled (state g mid) → IfOk answer (λ done. DoneWhereSo done (state g mid) (state g new) so f))
@@ -152,4 +156,4 @@ module _ {S : Type 0} (g : Ghosts S) (old mid new : Held S) (told : Result (Opti
         by : HasCleanDisk (state g mid) → Knows knew (world_in (state g new))
         by then =
             follows_done known knew (state g old) (state g new) name so f change answer (knows (was_clean (state g old) (state g mid) looked then)) (there (world_in (state g old)))
-            (if_told told change (Foretells (world_in (state g old)) name (f (world_in (state g old)))) is_told (tells then is)) sets kept sound (made clean is) (memory clean is)
+            (subst (λ r. IfOk r (λ o. IfSome o (Foretells (world_in (state g old)) name (f (world_in (state g old)))))) is_told (tells then is)) sets kept sound (made clean is) (memory clean is)

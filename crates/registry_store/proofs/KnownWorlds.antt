@@ -1,26 +1,30 @@
 -- What is known of usages, of the world after a change.
-use Rattle.std.proofs.Common.{◌≡◌, ◌≢◌, ◌∙◌, ◌<◌, ◌+◌, ℕ, min, Bool, true, false, cond, None, Some, Ok, Err, Result, OnOk, refl, sym, ap, subst, arith}
-use Rattle.std.specs.Prelude.{Option, is_some, IfSome}
-use Rattle.std.specs.Option.{option_map_or}
-use Rattle.std.specs.Ordering.{eq_by_cmp}
+use Rattle.std.proofs.Common.{◌≡◌, ◌≢◌, ◌∙◌, ◌<◌, ◌+◌, ℕ, length, min, Bool, true, false, cond, None, Some, Ok, Err, Result, OnOk, refl, sym, ap, subst, arith}
+use Rattle.std.specs.Prelude.{Option, option_map, is_some, IfSome}
+use Rattle.std.specs.Option.{option_and_then, option_map_or}
+use Rattle.std.specs.Ordering.{eq_by_cmp, nat_cmp}
 use Rattle.std.specs.Cmp.{eq_by_cmp_equiv}
-use Rattle.std.specs.FinMap.{get, remove, get-insert, get-remove}
+use Rattle.std.specs.FinMap.{get, remove, get-insert, get-remove, len-empty}
 use Rattle.std.proofs.lemmas.Bool.Decides.{nat_tests}
 use Rattle.oci_types.specs.Text.{Text}
+use Rattle.oci_types.specs.declared.kind.Kind.{Kind}
 use Rattle.oci_types.specs.declared.fault.Fault.{Fault}
 use Rattle.oci_types.specs.declared.fault.Fault.TheVariants.{Memory, Storage}
 use Rattle.sqlite.specs.State.{State}
-use Rattle.registry_model.specs.World.{Repo, World, text_cmp, repo_at, has_repo, with_repo, update_repo}
+use Rattle.registry_model.specs.World.{Repo, World, text_cmp, repo_at, has_repo, new_repo, with_repo, update_repo}
 use Rattle.registry_model.specs.declared.quota.Usage.{Usage}
 use Rattle.registry_model.specs.Usage.{used, usage_of, in_64_bits}
-use Rattle.registry_model.specs.Lookups.{usage_at, no_usage}
+use Rattle.registry_model.specs.Manifests.{kind_in}
+use Rattle.registry_model.specs.Command.{set_repo, with_quota}
+use Rattle.registry_model.specs.Lookups.{blob_at, manifest_at, tag_at, usage_at, no_usage}
 use Rattle.registry_model.proofs.TextOrder.{text_total, same_key}
 use Rattle.store_statements.specs.Held.{IsSettled, StaysSettled, SettlesOn, is_storage, world_in}
 use Rattle.store_reads.specs.declared.usage_change.Change.{Change}
 use Rattle.registry_store.specs.declared.known_usages.KnownUsages.{KnownUsages}
 use Rattle.store_reads.specs.Usages.{Turns, Foretells}
-use Rattle.registry_store.specs.Usages.{known_at, Knows, Sets, Applies, IsNext}
+use Rattle.registry_store.specs.Usages.{known_at, Knows, Sets, Applies, IsNext, HasQuota}
 use Rattle.store_reads.proofs.Foretold.{later}
+use Rattle.store_reads.proofs.MapSums.{sum_empty}
 
 -- ---- numbers
 
@@ -40,9 +44,9 @@ applied : (c : Change) (r s : Repo) (v u : Usage) → v ≡ usage_of r → Appli
 applied c r s v u is a t =
     let bytes = bytes_after (used r) (used s) v.used u.used c.added c.gone (ap (λ x. x.used) is) a.exact a.bytes t.bytes a.fits in
     let quota = a.quota ∙ ap (λ x. x.quota) is ∙ sym t.quota in
-    let blobs = a.blobs ∙ ap (λ x. x.blobs + c.blobs) is ∙ sym t.blobs in
-    let manifests = a.manifests ∙ ap (λ x. x.manifests + c.manifests) is ∙ sym t.manifests in
-    let tags = a.tags ∙ ap (λ x. x.tags + c.tags) is ∙ sym t.tags in
+    let blobs = same_rest c.blobs_gone _ _ (a.blobs ∙ ap (λ x. x.blobs + c.blobs) is ∙ sym t.blobs) in
+    let manifests = same_rest c.manifests_gone _ _ (a.manifests ∙ ap (λ x. x.manifests + c.manifests) is ∙ sym t.manifests) in
+    let tags = same_rest c.tags_gone _ _ (a.tags ∙ ap (λ x. x.tags + c.tags) is ∙ sym t.tags) in
     let sessions = same_rest c.ended _ _ (a.sessions ∙ ap (λ x. x.sessions + c.opened) is ∙ sym t.sessions) in
     λ i. record { used = bytes i; quota = quota i; blobs = blobs i; manifests = manifests i; tags = tags i; sessions = sessions i }
   where
@@ -64,13 +68,6 @@ module _ (w : World) (name : Text) where
 
   pub beside_gone : (q : Text) → q ≢ name → get (remove w.repos name) q ≡ repo_at w q
   beside_gone q apart = get-remove text_total w.repos name q ∙ ap (λ b. cond b None (get w.repos q)) (other_name q name apart)
-
-  pub beside : (f : Repo → Repo) (q : Text) → q ≢ name → repo_at (update_repo w name f (repo_at w name)) q ≡ repo_at w q
-  beside f q apart = by (repo_at w name)
-    where
-      by : (o : Option Repo) → repo_at (update_repo w name f o) q ≡ repo_at w q
-      by None = refl
-      by (Some r) = beside_put (f r) q apart
 
   put_there : (r : Repo) → repo_at (with_repo w name r) name ≡ Some r
   put_there r = get-insert text_total w.repos name r name ∙ ap (λ b. cond b (Some r) (get w.repos name)) ((eq_by_cmp_equiv text_total).refl name)
@@ -135,6 +132,63 @@ pub keeps : (old new : KnownUsages) (before after : State) (name : Text) (usage 
     → after.now ≡ before.now → Knows new (world_in after)
 keeps old new before after name usage knows sets is same =
     later (Knows new) before after same (set_knows old new (world_in before) (world_in before) name (λ u. u ≡ usage) knows sets (λ q apart. refl) (λ u e. e ∙ is))
+
+-- ---- what is there is in a repository that is there
+
+module _ (w : World) (name : Text) where
+  has_then : {A : Type 0} (f : Repo → Option A) → is_some (option_and_then f (repo_at w name)) ≡ true → has_repo w name ≡ true
+  has_then {A} f = by (repo_at w name)
+    where
+      by : (o : Option Repo) → is_some (option_and_then f o) ≡ true → is_some o ≡ true
+      by None there = there
+      by (Some r) there = refl
+
+  pub blob_has_repo : (digest : Text) → is_some (blob_at w name digest) ≡ true → has_repo w name ≡ true
+  blob_has_repo digest = has_then (λ r. get r.blobs digest)
+
+  pub tag_has_repo : (tag : Text) → is_some (tag_at w name tag) ≡ true → has_repo w name ≡ true
+  tag_has_repo tag = has_then (λ r. get r.tags tag)
+
+  pub manifest_has_repo : (digest : Text) → is_some (manifest_at w name digest) ≡ true → has_repo w name ≡ true
+  manifest_has_repo digest there = has_then (λ r. get r.manifests digest) (by (option_and_then (λ (r : Repo). get r.manifests digest) (repo_at w name)) there)
+    where
+      by : (o : Option Text) → is_some (option_map {U = Kind × Text} (λ bytes. (kind_in bytes, bytes)) o) ≡ true → is_some o ≡ true
+      by None h = h
+      by (Some bytes) h = refl
+
+-- ---- a quota that was set
+
+-- an empty repository holds nothing
+new_usage : (quota : ℕ) → usage_of (new_repo quota) ≡ record no_usage { quota = quota }
+new_usage quota = λ i. record {
+  used = in_64_bits (sum_empty text_cmp (length {A = ℕ}) i + sum_empty text_cmp (length {A = ℕ}) i + sum_empty nat_cmp (length {A = ℕ}) i);
+  quota = quota;
+  blobs = len-empty text_cmp Text i;
+  manifests = len-empty text_cmp Text i;
+  tags = len-empty text_cmp Text i;
+  sessions = len-empty nat_cmp Text i;
+}
+
+usage_set : (w : World) (name : Text) (quota : ℕ) → usage_at (set_repo w name quota) name ≡ record (usage_at w name) { quota = quota }
+usage_set w name quota = usage_from (set_repo w name quota) name _ (put_there w name (with_quota (repo_at w name) quota)) ∙ by (repo_at w name)
+  where
+    by : (o : Option Repo) → usage_of (with_quota o quota) ≡ record (option_map_or usage_of o no_usage) { quota = quota }
+    by None = new_usage quota
+    by (Some r) = refl
+
+requoted : (old new : KnownUsages) (w : World) (name : Text) (quota : ℕ) → Knows old w → Sets old new name (HasQuota quota (known_at old name)) → Knows new (set_repo w name quota)
+requoted old new w name quota knows sets =
+    set_knows old new w (set_repo w name quota) name (HasQuota quota (known_at old name)) knows sets (beside_put w name (with_quota (repo_at w name) quota))
+    (λ u has. by u (known_at old name) (λ v e. knows name v e) has ∙ sym (usage_set w name quota))
+  where
+    by : (u : Usage) (o : Option Usage) → ((v : Usage) → o ≡ Some v → v ≡ usage_at w name) → HasQuota quota o u → u ≡ record (usage_at w name) { quota = quota }
+    by u None was has = absurd has
+    by u (Some v) was has = has ∙ ap (λ (x : Usage). record x { quota = quota }) (was v refl)
+
+-- after the write
+pub requotes : (old new : KnownUsages) (before after : State) (name : Text) (quota : ℕ) → Knows old (world_in before) → Sets old new name (HasQuota quota (known_at old name))
+    → world_in after ≡ set_repo (world_in before) name quota → Knows new (world_in after)
+requotes old new before after name quota knows sets made = subst (Knows new) (sym made) (requoted old new (world_in before) name quota knows sets)
 
 -- ---- what holds of a store
 

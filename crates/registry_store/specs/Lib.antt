@@ -2,3 +2,4 @@ pub mod Kept
 pub mod Opening
 pub mod Unwritten
 pub mod Usages
+pub mod Writes

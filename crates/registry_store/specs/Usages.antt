@@ -1,5 +1,5 @@
 -- What is known of what repositories hold and may hold, and what it is after a write.
-use Rattle.std.specs.Prelude.{◌≡◌, ◌+◌, ◌<◌, false, Option, Some, None, Result}
+use Rattle.std.specs.Prelude.{◌≡◌, ℕ, ◌+◌, ◌<◌, false, Option, Some, None, Result}
 use Rattle.std.specs.BTreeMap.{get}
 use Rattle.sqlite_trees.specs.declared.store.Store.{Ghosts}
 use Rattle.sqlite.specs.State.{HasCleanDisk}
@@ -42,9 +42,9 @@ pub record Applies (c : Change) (u v : Usage) : Type 0 where
   pub bytes : v.used + c.gone ≡ u.used + c.added
   pub fits : v.used < 18446744073709551616
   pub quota : v.quota ≡ u.quota
-  pub blobs : v.blobs ≡ u.blobs + c.blobs
-  pub manifests : v.manifests ≡ u.manifests + c.manifests
-  pub tags : v.tags ≡ u.tags + c.tags
+  pub blobs : v.blobs + c.blobs_gone ≡ u.blobs + c.blobs
+  pub manifests : v.manifests + c.manifests_gone ≡ u.manifests + c.manifests
+  pub tags : v.tags + c.tags_gone ≡ u.tags + c.tags
   pub sessions : v.sessions + c.ended ≡ u.sessions + c.opened
 
 -- the usage was known, and so was its change
@@ -52,3 +52,8 @@ abbrev pub IsNext : Option Usage → Option Change → Usage → Type 0
 IsNext None change v = ⊥
 IsNext (Some u) None v = ⊥
 IsNext (Some u) (Some c) v = Applies c u v
+
+-- the usage was known, and but for the quota it is so still
+abbrev pub HasQuota : ℕ → Option Usage → Usage → Type 0
+HasQuota quota None v = ⊥
+HasQuota quota (Some u) v = v ≡ record u { quota = quota }

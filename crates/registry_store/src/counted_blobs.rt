@@ -4,16 +4,17 @@ ghost use Rattle.oci_types.specs.Digest.{matches};
 ghost use Rattle.registry_model.specs.Limits.{largest_blob};
 ghost use Rattle.registry_model.specs.World.{has_repo};
 ghost use Rattle.registry_model.specs.Lookups.{put_blob, mount, delete_blob};
+ghost use Rattle.registry_model.specs.Pruning.{delete_blobs};
 ghost use Rattle.store_statements.specs.Between.{MakesWorld, StaysOnMemory};
 ghost use Rattle.store_statements.specs.Clauses.{Lasts, WorldHas};
 ghost use Rattle.registry_store.specs.Usages.{IsKnown, StaysKnown};
 
 use crate::following::follow_made;
+use crate::foretelling::{Write, foretell};
 use crate::known_usages::KnownUsages;
 use oci_types::{Digest, Fault, RepoName};
 use sqlite::{Alter, Connection};
 use std::alloc::Global;
-use store_reads::{mount_change, or_untold, put_change};
 
 /// Puts a blob in; a digest that is there keeps its bytes.
 pub(crate) fn put_blob<S: Alter>(
@@ -35,7 +36,7 @@ pub(crate) fn put_blob<S: Alter>(
         → WorldHas S.Store conn.old (λ w. has_repo w repo.now ≡ true)
         → StaysKnown S.Store conn.old conn.new known.new result }
 {
-    let Ok(change) = or_untold(put_change(conn, repo, digest, bytes)) else {
+    let Ok(change) = foretell(alloc, conn, known, repo, Write::PutBlob { digest, bytes }) else {
         return Err(Fault::Storage);
     };
     let made = store_writes::put_blob(alloc, conn, repo, digest, bytes);
@@ -45,6 +46,7 @@ pub(crate) fn put_blob<S: Alter>(
 
 /// Adds a blob that another repository has, or the same one.
 pub(crate) fn mount<S: Alter>(
+    alloc: Global,
     conn: &mut Connection<S>,
     known: &mut KnownUsages,
     from: &RepoName,
@@ -59,7 +61,7 @@ pub(crate) fn mount<S: Alter>(
         → WorldHas S.Store conn.old (λ w. has_repo w to.now ≡ true)
         → StaysKnown S.Store conn.old conn.new known.new result }
 {
-    let Ok(change) = or_untold(mount_change(conn, from, to, digest)) else {
+    let Ok(change) = foretell(alloc, conn, known, to, Write::Mount { from, digest }) else {
         return Err(Fault::Storage);
     };
     let made = store_writes::mount(conn, from, to, digest);
@@ -67,8 +69,9 @@ pub(crate) fn mount<S: Alter>(
     made
 }
 
-/// Takes a blob away, and forgets what was known of its repository.
+/// Takes a blob away.
 pub(crate) fn delete_blob<S: Alter>(
+    alloc: Global,
     conn: &mut Connection<S>,
     known: &mut KnownUsages,
     repo: &RepoName,
@@ -78,8 +81,36 @@ pub(crate) fn delete_blob<S: Alter>(
     ensures memory { StaysOnMemory S.Store conn.old conn.new result }
     ensures survives { Lasts S.Store conn.old conn.new }
     ensures known { IsKnown S.Store conn.old known.old
+        → WorldHas S.Store conn.old (λ w. has_repo w repo.now ≡ true)
         → StaysKnown S.Store conn.old conn.new known.new result }
 {
-    known.forget(repo);
-    store_writes::delete_blob(conn, repo, digest)
+    let Ok(change) = foretell(alloc, conn, known, repo, Write::DeleteBlob { digest }) else {
+        return Err(Fault::Storage);
+    };
+    let made = store_writes::delete_blob(conn, repo, digest);
+    follow_made(known, repo, change, &made);
+    made
+}
+
+/// Takes blobs away, all or none; a digest of which there is no blob changes nothing.
+pub(crate) fn delete_blobs<S: Alter>(
+    alloc: Global,
+    conn: &mut Connection<S>,
+    known: &mut KnownUsages,
+    repo: &RepoName,
+    digests: &[Digest],
+) -> Result<(), Fault>
+    ensures made { MakesWorld S.Store conn.old conn.new result (λ w. delete_blobs w repo.now digests.now) }
+    ensures memory { StaysOnMemory S.Store conn.old conn.new result }
+    ensures survives { Lasts S.Store conn.old conn.new }
+    ensures known { IsKnown S.Store conn.old known.old
+        → WorldHas S.Store conn.old (λ w. has_repo w repo.now ≡ true)
+        → StaysKnown S.Store conn.old conn.new known.new result }
+{
+    let Ok(change) = foretell(alloc, conn, known, repo, Write::DeleteBlobs { digests }) else {
+        return Err(Fault::Storage);
+    };
+    let made = store_writes::delete_blobs(conn, repo, digests);
+    follow_made(known, repo, change, &made);
+    made
 }

@@ -4,7 +4,9 @@ ghost use Rattle.sqlite.specs.State.{HasCleanDisk};
 ghost use Rattle.sqlite.specs.Held.{state};
 ghost use Rattle.oci_types.specs.Digest.{matches};
 ghost use Rattle.registry_model.specs.Limits.{largest_blob};
+ghost use Rattle.registry_model.specs.World.{has_repo};
 ghost use Rattle.registry_model.specs.Lookups.{session_at, finish};
+ghost use Rattle.registry_model.specs.Command.{drop_sessions};
 ghost use Rattle.registry_model.specs.Closing.{session_matches, finish_as_is};
 ghost use Rattle.store_statements.specs.Held.{IsSettled};
 ghost use Rattle.store_statements.specs.Between.{MakesWorld, StaysOnMemory};
@@ -13,11 +15,11 @@ ghost use Rattle.store_session_writes.specs.Whole.{DoneWhereSo};
 ghost use Rattle.registry_store.specs.Usages.{IsKnown, StaysKnown};
 
 use crate::following::{follow_done, follow_made};
+use crate::foretelling::{Write, foretell};
 use crate::known_usages::KnownUsages;
 use oci_types::{Digest, Fault, RepoName};
 use sqlite::{Alter, Connection};
 use std::alloc::Global;
-use store_reads::{finish_change, known_finish_change, or_untold};
 
 /// Ends an open session and puts its whole bytes in as a blob; a digest that is there keeps its bytes.
 pub(crate) fn finish<S: Alter>(
@@ -40,7 +42,12 @@ pub(crate) fn finish<S: Alter>(
         → WorldHas S.Store conn.old (λ w. is_some (session_at w repo.now number) ≡ true)
         → StaysKnown S.Store conn.old conn.new known.new result }
 {
-    let Ok(change) = or_untold(finish_change(conn, repo, number, digest, bytes)) else {
+    let finish = Write::Finish {
+        number,
+        digest,
+        bytes,
+    };
+    let Ok(change) = foretell(alloc, conn, known, repo, finish) else {
         return Err(Fault::Storage);
     };
     let made = store_session_writes::finish(alloc, conn, repo, number, digest, bytes);
@@ -68,10 +75,33 @@ pub(crate) fn finish_known<S: Alter>(
     ensures known { IsKnown S.Store conn.old known.old
         → StaysKnown S.Store conn.old conn.new known.new result }
 {
-    let Ok(change) = or_untold(known_finish_change(conn, repo, number, digest)) else {
+    let finish = Write::FinishKnown { number, digest };
+    let Ok(change) = foretell(alloc, conn, known, repo, finish) else {
         return Err(Fault::Storage);
     };
     let done = store_session_writes::finish_known(alloc, conn, repo, number, digest);
     follow_done(known, repo, change, &done);
     done
+}
+
+/// Ends all open sessions of the repository.
+pub(crate) fn drop_sessions<S: Alter>(
+    alloc: Global,
+    conn: &mut Connection<S>,
+    known: &mut KnownUsages,
+    repo: &RepoName,
+) -> Result<(), Fault>
+    ensures made { MakesWorld S.Store conn.old conn.new result (λ w. drop_sessions w repo.now) }
+    ensures memory { StaysOnMemory S.Store conn.old conn.new result }
+    ensures survives { Lasts S.Store conn.old conn.new }
+    ensures known { IsKnown S.Store conn.old known.old
+        → WorldHas S.Store conn.old (λ w. has_repo w repo.now ≡ true)
+        → StaysKnown S.Store conn.old conn.new known.new result }
+{
+    let Ok(change) = foretell(alloc, conn, known, repo, Write::DropSessions) else {
+        return Err(Fault::Storage);
+    };
+    let made = store_session_writes::drop_sessions(conn, repo);
+    follow_made(known, repo, change, &made);
+    made
 }

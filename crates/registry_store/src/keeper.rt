@@ -11,7 +11,7 @@ use crate::fault_noting::note_fault;
 use crate::following::follow_made;
 use crate::origin::Origin;
 use crate::store::Store;
-use crate::{counted_blobs, counted_manifests, counted_sessions, usage_reads};
+use crate::{counted_blobs, counted_manifests, counted_repos, counted_sessions, usage_reads};
 use oci_types::{Digest, Fault, Kind, Manifest, RepoName, Tag, Token};
 use registry_model::{Grant, Keeper, Level, Quota, Usage};
 use sqlite::Alter;
@@ -27,6 +27,16 @@ macro_rules! unless_spent {
         let answer = $asked;
         note_fault(&mut $store.spent, answer)
     }};
+}
+
+/// Has a write made by a function that what is known of usages follows.
+macro_rules! counted {
+    ($store:ident, $write:path, $($given:expr),*) => {
+        unless_spent!(
+            $store,
+            $write($store.alloc, &mut $store.conn, &mut $store.known, $($given),*)
+        )
+    };
 }
 
 impl<S: Alter, O: Origin> Keeper for Store<S, O> {
@@ -185,17 +195,7 @@ impl<S: Alter, O: Origin> Keeper for Store<S, O> {
     }
 
     fn put_blob(&mut self, repo: &RepoName, digest: &Digest, bytes: &[u8]) -> Result<(), Fault> {
-        unless_spent!(
-            self,
-            counted_blobs::put_blob(
-                self.alloc,
-                &mut self.conn,
-                &mut self.known,
-                repo,
-                digest,
-                bytes
-            )
-        )
+        counted!(self, counted_blobs::put_blob, repo, digest, bytes)
     }
 
     fn open_session(&mut self, repo: &RepoName) -> Result<u64, Fault> {
@@ -241,18 +241,7 @@ impl<S: Alter, O: Origin> Keeper for Store<S, O> {
         digest: &Digest,
         bytes: &[u8],
     ) -> Result<(), Fault> {
-        unless_spent!(
-            self,
-            counted_sessions::finish(
-                self.alloc,
-                &mut self.conn,
-                &mut self.known,
-                repo,
-                number,
-                digest,
-                bytes
-            )
-        )
+        counted!(self, counted_sessions::finish, repo, number, digest, bytes)
     }
 
     fn finish_known(
@@ -261,24 +250,11 @@ impl<S: Alter, O: Origin> Keeper for Store<S, O> {
         number: u64,
         digest: &Digest,
     ) -> Result<bool, Fault> {
-        unless_spent!(
-            self,
-            counted_sessions::finish_known(
-                self.alloc,
-                &mut self.conn,
-                &mut self.known,
-                repo,
-                number,
-                digest
-            )
-        )
+        counted!(self, counted_sessions::finish_known, repo, number, digest)
     }
 
     fn mount(&mut self, from: &RepoName, to: &RepoName, digest: &Digest) -> Result<(), Fault> {
-        unless_spent!(
-            self,
-            counted_blobs::mount(&mut self.conn, &mut self.known, from, to, digest)
-        )
+        counted!(self, counted_blobs::mount, from, to, digest)
     }
 
     fn put_manifest(
@@ -289,65 +265,37 @@ impl<S: Alter, O: Origin> Keeper for Store<S, O> {
         manifest: &Manifest,
         tag: Option<&Tag>,
     ) -> Result<(), Fault> {
-        unless_spent!(
+        counted!(
             self,
-            counted_manifests::put_manifest(
-                self.alloc,
-                &mut self.conn,
-                &mut self.known,
-                repo,
-                digest,
-                bytes,
-                manifest,
-                tag,
-            )
+            counted_manifests::put_manifest,
+            repo,
+            digest,
+            bytes,
+            manifest,
+            tag
         )
     }
 
     fn delete_blob(&mut self, repo: &RepoName, digest: &Digest) -> Result<(), Fault> {
-        unless_spent!(
-            self,
-            counted_blobs::delete_blob(&mut self.conn, &mut self.known, repo, digest)
-        )
+        counted!(self, counted_blobs::delete_blob, repo, digest)
     }
 
     fn delete_blobs(&mut self, repo: &RepoName, digests: &[Digest]) -> Result<(), Fault> {
-        unless_spent!(
-            self,
-            {
-                self.known.forget(repo);
-                store_writes::delete_blobs(&mut self.conn, repo, digests)
-            }
-        )
+        counted!(self, counted_blobs::delete_blobs, repo, digests)
     }
 
     fn delete_manifest(&mut self, repo: &RepoName, digest: &Digest) -> Result<(), Fault> {
-        unless_spent!(
-            self,
-            {
-                self.known.forget(repo);
-                store_writes::delete_manifest(&mut self.conn, repo, digest)
-            }
-        )
+        counted!(self, counted_manifests::delete_manifest, repo, digest)
     }
 
     fn delete_tag(&mut self, repo: &RepoName, tag: &Tag) -> Result<(), Fault> {
-        unless_spent!(
-            self,
-            {
-                self.known.forget(repo);
-                store_writes::delete_tag(&mut self.conn, repo, tag)
-            }
-        )
+        counted!(self, counted_manifests::delete_tag, repo, tag)
     }
 
     fn set_repo(&mut self, name: &RepoName, quota: Quota) -> Result<(), Fault> {
         unless_spent!(
             self,
-            {
-                self.known.forget(name);
-                store_writes::set_repo(&mut self.conn, name, quota)
-            }
+            counted_repos::set_repo(&mut self.conn, &mut self.known, name, quota)
         )
     }
 
@@ -377,13 +325,7 @@ impl<S: Alter, O: Origin> Keeper for Store<S, O> {
     }
 
     fn drop_sessions(&mut self, name: &RepoName) -> Result<(), Fault> {
-        unless_spent!(
-            self,
-            {
-                self.known.forget(name);
-                store_session_writes::drop_sessions(&mut self.conn, name)
-            }
-        )
+        counted!(self, counted_sessions::drop_sessions, name)
     }
 
     /// Frees each content that no blob, manifest or upload session names: exactly the others stay, and the

@@ -1,7 +1,7 @@
 //! What is known of what repositories hold, so that a push need not count it anew.
 ghost use Rattle.std.specs.Prelude.{◌≡◌, None};
 ghost use Rattle.oci_types.specs.Text.{Text};
-ghost use Rattle.registry_store.specs.Usages.{known_at, Sets, IsNext};
+ghost use Rattle.registry_store.specs.Usages.{known_at, Sets, IsNext, HasQuota};
 
 use crate::next_usage::next_usage;
 use oci_types::RepoName;
@@ -11,9 +11,9 @@ use std::collections::BTreeMap;
 use store_reads::Change;
 
 /// Of how many repositories the usage is known at once.
-const MOST_KNOWN: usize = 64;
+const MOST_KNOWN: usize = 4096;
 
-/// The usages of some repositories, at most 64. One that there is no memory for is forgotten.
+/// The usages of some repositories, at most 4,096. One that there is no memory for is forgotten.
 #[derive(Drop)]
 pub struct KnownUsages {
     usages: BTreeMap<RepoName, Usage>,
@@ -43,7 +43,7 @@ impl KnownUsages {
         self.usages.remove(repo);
     }
 
-    /// Lets one go where 64 are known.
+    /// Lets one go where as many are known as may be.
     fn make_room(&mut self, repo: &RepoName)
         requires { known_at self.old repo.now ≡ None }
         ensures { Sets self.old self.new repo.now (λ _. ⊥) }
@@ -79,6 +79,16 @@ impl KnownUsages {
         match next_usage(self.usage(repo), change) {
             Some(usage) => self.keep(repo, usage),
             None => self.forget(repo),
+        }
+    }
+
+    /// The repository has this quota, in bytes; what else was known of it is so still.
+    pub fn set_quota(&mut self, repo: &RepoName, quota: u64)
+        ensures { Sets self.old self.new repo.now (HasQuota quota (known_at self.old repo.now)) }
+    {
+        match self.usage(repo) {
+            Some(usage) => self.keep(repo, Usage { quota, ..usage }),
+            None => {}
         }
     }
 }

@@ -3,9 +3,11 @@
 
 mod counted_blobs;
 mod counted_manifests;
+mod counted_repos;
 mod counted_sessions;
 mod fault_noting;
 mod following;
+mod foretelling;
 mod keeper;
 mod known_usages;
 mod next_usage;

@@ -41,7 +41,8 @@ static LISTS: [(&str, &str); 8] = [
     ),
     (
         "list lines tags team/app",
-        "0\nv10 sha256:dff9de10919148711140d349bf03f1a99eb06f94b03e51715ccebfa7cdc518e2\nv2 sha256:dff9de10919148711140d349bf03f1a99eb06f94b03e51715ccebfa7cdc518e2\n",
+        "0\nv10 sha256:dff9de10919148711140d349bf03f1a99eb06f94b03e51715ccebfa7cdc518e2\n\
+         v2 sha256:dff9de10919148711140d349bf03f1a99eb06f94b03e51715ccebfa7cdc518e2\n",
     ),
     ("list lines tags team/lib", "0\n"),
     (

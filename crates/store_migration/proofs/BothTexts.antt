@@ -54,6 +54,7 @@ tag_texts = record {
   take = record { is = refl; plain = (refl, refl); unlisted = refl };
   take_named = record { is = refl; plain = (refl, refl); unlisted = refl };
   take_all = record { is = refl; plain = (refl, refl); unlisted = refl };
+  named = record { is = refl; plain = (refl, refl); unlisted = refl };
 }
 
 pub blob_texts : KnowsBlobTexts both_schema blob_links_stand

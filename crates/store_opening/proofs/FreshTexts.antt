@@ -18,7 +18,7 @@ use Rattle.store_statements.specs.GrantTexts.{grant_find, grant_known, grant_lis
 use Rattle.store_statements.specs.ManifestTexts.{manifest_find, manifest_subject, manifest_sizes, manifest_digests, manifest_contents, manifest_add, manifest_take, manifest_take_all, KnowsManifestTexts}
 use Rattle.store_statements.specs.PieceTexts.{piece_list, piece_contents, piece_add, piece_take_of, piece_take_all, KnowsPieceTexts}
 use Rattle.store_statements.specs.RepoTexts.{repo_find, repo_list, repo_add, repo_set_quota, repo_set_last, repo_take, KnowsRepoTexts}
-use Rattle.store_statements.specs.TagTexts.{tag_find, tag_page, tag_list, tag_pairs, tag_add, tag_set_digest, tag_take, tag_take_named, tag_take_all, KnowsTagTexts}
+use Rattle.store_statements.specs.TagTexts.{tag_find, tag_page, tag_list, tag_pairs, tag_add, tag_set_digest, tag_take, tag_take_named, tag_take_all, tag_named, KnowsTagTexts}
 use Rattle.store_statements.specs.UploadTexts.{upload_find, upload_sizes, upload_add, upload_set_size, upload_take, upload_take_all, KnowsUploadTexts}
 use Rattle.store_statements.specs.VersionTexts.{version_find, version_add, KnowsVersionTexts}
 
@@ -59,6 +59,7 @@ tag_texts = record {
   take = means_by fresh_schema tag_take (deletes tags_stand.at fresh_schema tags_table (equals 1 0 ∷ equals 2 1 ∷ [])) refl;
   take_named = means_by fresh_schema tag_take_named (deletes tags_stand.at fresh_schema tags_table (equals 1 0 ∷ equals 3 1 ∷ [])) refl;
   take_all = means_by fresh_schema tag_take_all (deletes tags_stand.at fresh_schema tags_table (equals 1 0 ∷ [])) refl;
+  named = means_by fresh_schema tag_named (selects fresh_schema tags_table (equals 1 0 ∷ equals 3 1 ∷ []) (col 1 2 ∷ []) (codes "tag" ∷ [])) refl;
 }
 
 pub blob_texts : KnowsBlobTexts fresh_schema blob_links_stand

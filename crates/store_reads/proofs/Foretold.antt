@@ -1,5 +1,5 @@
 -- What look-ups tell of a write's change.
-use Rattle.std.proofs.Common.{◌≡◌, ◌∙◌, ◌+◌, ◌++◌, ℕ, length, true, false, cond, None, Some, Ok, Err, Result, IfOk, refl, sym, ap, subst}
+use Rattle.std.proofs.Common.{◌≡◌, ◌∙◌, ◌+◌, ◌++◌, ℕ, length, true, false, cond, None, Some, Ok, Err, Result, IfOk, IfErr, refl, sym, ap, subst}
 use Rattle.std.specs.Prelude.{Option, option_map, is_some, IfSome}
 use Rattle.std.specs.Option.{option_and_then, option_map_or, unwrap_or}
 use Rattle.std.specs.FinMap.{get}
@@ -32,11 +32,11 @@ has : {A B : Type 0} (f : A → B) (o : Option A) (v : B) → Some v ≡ option_
 has f None v e = absurd cc
 has f (Some x) v e = refl
 
-lacks : {A B : Type 0} (f : A → B) (o : Option A) → ◌≡◌ {A = Option B} None (option_map f o) → o ≡ None
+pub lacks : {A B : Type 0} (f : A → B) (o : Option A) → ◌≡◌ {A = Option B} None (option_map f o) → o ≡ None
 lacks f None e = refl
 lacks f (Some x) e = absurd cc
 
-sized : (o : Option Text) (size : ℕ) → Some size ≡ option_map length o → (bytes : Text) × (o ≡ Some bytes) × (length bytes ≡ size)
+pub sized : (o : Option Text) (size : ℕ) → Some size ≡ option_map length o → (bytes : Text) × (o ≡ Some bytes) × (length bytes ≡ size)
 sized None size e = absurd cc
 sized (Some bytes) size e = (bytes, refl, sym (ap (λ x. unwrap_or x size) e))
 
@@ -46,14 +46,17 @@ session_length None size e = absurd cc
 session_length (Some bytes) size e = sym (ap (λ x. unwrap_or x size) e)
 
 module _ (w : World) (name : Text) (r : Repo) (at : repo_at w name ≡ Some r) where
-  blob_shown : (digest : Text) → blob_size_at w name digest ≡ option_map length (get r.blobs digest)
+  pub blob_shown : (digest : Text) → blob_size_at w name digest ≡ option_map length (get r.blobs digest)
   blob_shown digest = ap (λ o. option_map length (option_and_then (λ (x : Repo). get x.blobs digest) o)) at
 
   session_shown : (number : ℕ) → session_size_at w name number ≡ option_map length (get r.sessions number)
   session_shown number = ap (λ o. option_map length (option_and_then (λ (x : Repo). get x.sessions number) o)) at
 
-  manifest_shown : (digest : Text) → manifest_size_at w name digest ≡ option_map {U = Kind × ℕ} (λ bytes. (kind_in bytes, length bytes)) (get r.manifests digest)
+  pub manifest_shown : (digest : Text) → manifest_size_at w name digest ≡ option_map {U = Kind × ℕ} (λ bytes. (kind_in bytes, length bytes)) (get r.manifests digest)
   manifest_shown digest = ap (λ o. option_map {U = Kind × ℕ} (λ bytes. (kind_in bytes, length bytes)) (option_and_then (λ (x : Repo). get x.manifests digest) o)) at
+
+  pub tag_shown : (tag : Text) → tag_at w name tag ≡ get r.tags tag
+  tag_shown tag = ap (option_and_then (λ (x : Repo). get x.tags tag)) at
 
   tags_shown : (tag : Option Text) → new_tags w name tag ≡ tags_more r tag
   tags_shown None = refl
@@ -114,22 +117,20 @@ tag_new w name tag e = ap (λ o. cond (is_some o) 0 1) e
 
 -- ---- a change that may be untold
 
-pub untold_settled : (q : Result (Option Change) Fault) (o : Option Change) → Ok o ≡ or_untold q → is_storage q ≡ false
-untold_settled (Ok change) o e = refl
-untold_settled (Err Memory) o e = refl
-untold_settled (Err Storage) o e = absurd cc
+pub untold_settled : (q : Result (Option Change) Fault) → is_storage (or_untold q) ≡ false → is_storage q ≡ false
+untold_settled (Ok change) sound = refl
+untold_settled (Err Memory) sound = refl
+untold_settled (Err Storage) sound = sound
 
-same_change : (a b : Option Change) → ◌≡◌ {A = Result (Option Change) Fault} (Ok a) (Ok b) → b ≡ a
-same_change a b e = sym (ap (λ r. unwrap_ok r a) e)
-  where
-    unwrap_ok : Result (Option Change) Fault → Option Change → Option Change
-    unwrap_ok (Ok x) d = x
-    unwrap_ok (Err f) d = d
+pub if_told : (q : Result (Option Change) Fault) (P : Change → Type 0) → IfOk q (λ change. IfSome change P) → IfOk (or_untold q) (λ change. IfSome change P)
+if_told (Ok change) P told = told
+if_told (Err Memory) P told = tt
+if_told (Err Storage) P told = tt
 
-pub if_told : (q : Result (Option Change) Fault) (o : Option Change) (P : Change → Type 0) → Ok o ≡ or_untold q → IfOk q (λ change. IfSome change P) → IfSome o P
-if_told (Ok change) o P e told = subst (λ x. IfSome x P) (same_change o change e) told
-if_told (Err Memory) o P e told = subst (λ x. IfSome x P) (same_change o None e) tt
-if_told (Err Storage) o P e told = absurd cc
+pub untold_fails : (q : Result (Option Change) Fault) → IfErr (or_untold q) (λ fault. fault ≡ Storage)
+untold_fails (Ok change) = tt
+untold_fails (Err Memory) = tt
+untold_fails (Err Storage) = refl
 
 -- ---- sessions
 

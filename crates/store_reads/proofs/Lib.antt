@@ -15,3 +15,6 @@ pub mod UsageTurns
 pub mod Foretold
 pub mod Behind
 pub mod RepoLists
+pub mod DeletionTurns
+pub mod ForetoldDeletions
+pub mod DeletedRows

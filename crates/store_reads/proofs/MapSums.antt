@@ -1,11 +1,11 @@
 -- A map after a change: the sum over its values, and how many entries it has.
-use Rattle.std.proofs.Common.{◌≡◌, ◌∙◌, ℕ, ◌+◌, List, [], ◌∷◌, map, true, false, Bool, cond, None, Some, refl, sym, ap, arith}
+use Rattle.std.proofs.Common.{◌≡◌, ◌∙◌, ℕ, ◌+◌, List, [], ◌∷◌, map, length, true, false, Bool, cond, None, Some, refl, sym, ap, arith}
 use Rattle.std.specs.Prelude.{Option, is_some, sum_by}
 use Rattle.std.specs.declared.cmp.Ordering.{Ordering}
 use Rattle.std.specs.declared.cmp.Ordering.TheVariants.{Less, Equal, Greater}
 use Rattle.std.specs.Ordering.{eq_by_cmp, is_eq}
 use Rattle.std.specs.Cmp.{IsTotalOrder, Equal-is}
-use Rattle.std.specs.FinMap.{FinMap, find, values, get, insert, remove, len, get-entries, entries, entries-insert, get-insert, get-remove, len-insert, same_map, IsAntisymmetric}
+use Rattle.std.specs.FinMap.{FinMap, find, values, get, insert, remove, empty, len, get-entries, len-entries, len-empty, entries, entries-insert, get-insert, get-remove, len-insert, same_map, IsAntisymmetric}
 use Rattle.std.specs.FinMap.Entries.{put, by_order}
 use Rattle.std.proofs.lemmas.Cmp.{tied_itself}
 use Rattle.std.proofs.lemmas.List.Sums.{sum_by-cons}
@@ -24,6 +24,14 @@ module _ {K X : Type 0} (R : K → K → Ordering) (f : X → ℕ) where
             let h = sum_put k v es (ap (λ o. cond (is_eq o) (Some e.1) (find R k es)) (sym p) ∙ none) in
             omega (arith, h, sum_by-cons f e.1 (map (λ e. e.1) (put R k v es)), sum_by-cons f e.1 (map (λ e. e.1) es))
       ] refl
+
+  sum_none : (es : List (K × X)) → length es ≡ 0 → total es ≡ 0
+  sum_none [] none = refl
+  sum_none (e ∷ es) none = absurd (omega arith)
+
+  -- an empty map has no values
+  pub sum_empty : sum_by f (values (empty {X = X} {R = R})) ≡ 0
+  sum_empty = sum_none (entries (empty {X = X} {R = R})) (sym (len-entries (empty {X = X} {R = R})) ∙ len-empty R X)
 
 module _ {K X : Type 0} {R : K → K → Ordering} (o : IsTotalOrder R) (f : X → ℕ) where
   -- a key that is new adds its value

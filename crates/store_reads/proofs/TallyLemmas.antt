@@ -19,7 +19,7 @@ use Rattle.store_reads.specs.declared.tallies.Holdings.{Holdings}
 use Rattle.store_statements.specs.Held.{held, tables_in}
 use Rattle.store_reads.specs.Tallies.{tally_of, tally_in, holdings_in}
 
-as_min : (n : ℕ) → in_64_bits n ≡ min n 18446744073709551615
+pub as_min : (n : ℕ) → in_64_bits n ≡ min n 18446744073709551615
 as_min n = grind (arith, nat_tests)
 
 -- one more, over what was added up so far

@@ -19,13 +19,16 @@ change added gone blobs manifests tags opened ended = record {
   added = added;
   gone = gone;
   blobs = blobs;
+  blobs_gone = 0;
   manifests = manifests;
+  manifests_gone = 0;
   tags = tags;
+  tags_gone = 0;
   opened = opened;
   ended = ended;
 }
 
-no_turn : (r : Repo) → Turns (change 0 0 0 0 0 0 0) r r
+pub no_turn : (r : Repo) → Turns (change 0 0 0 0 0 0 0) r r
 no_turn r = record {
   bytes = omega arith;
   quota = refl;
@@ -110,8 +113,8 @@ module _ (r : Repo) where
   tags_more None = 0
   tags_more (Some tag) = cond (is_some (get r.tags tag)) 0 1
 
-  tagged : (c : Change) (s : Repo) → c.tags ≡ 0 → s.tags ≡ r.tags → Turns c r s → (tag : Option Text) (digest : Text) → Turns (record c { tags = tags_more tag }) r (with_tag s tag digest)
-  tagged c s none same t None digest = record {
+  tagged : (c : Change) (s : Repo) → c.tags ≡ 0 → c.tags_gone ≡ 0 → s.tags ≡ r.tags → Turns c r s → (tag : Option Text) (digest : Text) → Turns (record c { tags = tags_more tag }) r (with_tag s tag digest)
+  tagged c s none stays same t None digest = record {
     bytes = t.bytes;
     quota = t.quota;
     blobs = t.blobs;
@@ -119,12 +122,12 @@ module _ (r : Repo) where
     tags = omega (arith, none, t.tags);
     sessions = t.sessions;
   }
-  tagged c s none same t (Some tag) digest = record {
+  tagged c s none stays same t (Some tag) digest = record {
     bytes = t.bytes;
     quota = t.quota;
     blobs = t.blobs;
     manifests = t.manifests;
-    tags = ap (λ m. len (insert m tag digest)) same ∙ by (get r.tags tag) refl;
+    tags = let e = ap (λ m. len (insert m tag digest)) same ∙ by (get r.tags tag) refl in omega (arith, e, stays);
     sessions = t.sessions;
   }
     where
@@ -135,11 +138,11 @@ module _ (r : Repo) where
   module _ (digest bytes : Text) (tag : Option Text) where
     pub manifest_there : is_some (get r.manifests digest) ≡ true → Turns (change 0 0 0 0 (tags_more tag) 0 0) r (with_manifest r digest bytes tag)
     manifest_there there = subst (λ b. Turns (change 0 0 0 0 (tags_more tag) 0 0) r (with_tag (cond b r (record r { manifests = insert r.manifests digest bytes })) tag digest)) (sym there)
-        (tagged (change 0 0 0 0 0 0 0) r refl refl (no_turn r) tag digest)
+        (tagged (change 0 0 0 0 0 0 0) r refl refl refl (no_turn r) tag digest)
 
     pub manifest_new : get r.manifests digest ≡ None → Turns (change (length bytes) 0 0 1 (tags_more tag) 0 0) r (with_manifest r digest bytes tag)
     manifest_new none = subst (λ x. Turns (change (length bytes) 0 0 1 (tags_more tag) 0 0) r (with_tag (cond (is_some x) r (record r { manifests = insert r.manifests digest bytes })) tag digest)) (sym none)
-        (tagged (change (length bytes) 0 0 1 0 0 0) (record r { manifests = insert r.manifests digest bytes }) refl refl added tag digest)
+        (tagged (change (length bytes) 0 0 1 0 0 0) (record r { manifests = insert r.manifests digest bytes }) refl refl refl added tag digest)
       where
         added : Turns (change (length bytes) 0 0 1 0 0 0) r (record r { manifests = insert r.manifests digest bytes })
         added = record {

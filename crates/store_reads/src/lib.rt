@@ -4,6 +4,7 @@
 mod blobs;
 mod change_lookups;
 mod contents;
+mod deletion_lookups;
 mod each;
 mod grants;
 mod level_lists;
@@ -21,6 +22,10 @@ mod usage_change;
 pub use blobs::{blob, blob_digests, blob_size};
 pub use change_lookups::{
     finish_change, known_finish_change, manifest_change, mount_change, or_untold, put_change,
+};
+pub use deletion_lookups::{
+    delete_blob_change, delete_blobs_change, delete_manifest_change, delete_tag_change,
+    drop_sessions_change,
 };
 pub use grants::{known, level};
 pub use level_lists::{all_grants, levels};

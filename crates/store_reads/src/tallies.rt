@@ -42,7 +42,7 @@ fn added_up(sizes: &[u64]) -> Tally
 }
 
 /// The same of sizes that were found.
-fn tallied(found: Result<Vec<u64>, Fault>) -> Result<Tally, Fault>
+pub(crate) fn tallied(found: Result<Vec<u64>, Fault>) -> Result<Tally, Fault>
     ensures value { IfOk result (λ tally. IsOkAnd found (λ sizes. tally ≡ tally_of sizes.items)) }
     ensures storage { is_storage result ≡ false → is_storage found ≡ false }
 {

@@ -26,7 +26,8 @@ selects_page schema table terms project at limit names =
 -- in the order of one column, and of the next one where that is the same
 abbrev pub selects_ordered_twice : Schema → Table → List Term → List Term → ℕ → ℕ → List (List ℕ) → Command
 selects_ordered_twice schema table terms project at next names =
-    Select (record { lets = []; body = ordered_twice_from (tree_of schema table) terms project at next }) names
+    let body = ordered_twice_from (tree_of schema table) terms project at next in
+    Select (record { lets = []; body = body }) names
 
 -- one row of those at which each term holds, if there is one
 abbrev pub selects_first : Schema → Table → List Term → List Term → List (List ℕ) → Command

@@ -10,7 +10,8 @@ use Rattle.sqlite_keyed.specs.Lists.{sort_by}
 use Rattle.store_schema.proofs.Selects.{Answer, is_text, one_test, both_tests}
 use Rattle.store_statements.specs.Keys.{of_first, has_key}
 use Rattle.store_statements.specs.Tables.{IsTagRow}
-use Rattle.store_statements.specs.TagTexts.{tag_find, tag_list, tag_pairs}
+use Rattle.store_statements.specs.Steps.{names_digest}
+use Rattle.store_statements.specs.TagTexts.{tag_find, tag_list, tag_named, tag_pairs}
 use Rattle.store_statements.specs.Held.{HoldsTables, held}
 use Rattle.store_statements.specs.ManifestShown.{by_second}
 use Rattle.store_statements.proofs.InOrder.{orders}
@@ -33,3 +34,8 @@ pub shows_tags : (old new : State) (repo : List ℕ) (r : Answer) → HoldsTable
 shows_tags old new repo r h ran = orders IsTagRow tag_pairs _ _ _ _ _ (Text repo ∷ []) (of_first repo) repo old new r
     h.known.tags.stored h.tables.tags.types h.tables.tags.apart h.known.tag_texts.pairs
     (λ r it. one_test _ _ (is_text (column r 1) _ repo it.repo)) (λ r it. it.tag) (λ r e. e) ran
+
+pub named_shown : (old new : State) (repo digest : List ℕ) (r : Answer) → HoldsTables old.now → IfOk r (λ rows. Shown tag_named (Text repo ∷ Text digest ∷ []) old new rows.items)
+    → IfOk r (λ rows. IsPermutation (map (λ r. column r 2 ∷ []) (filter (names_digest repo digest) (held old).tags)) rows.items)
+named_shown old new repo digest r h ran = lists IsTagRow tag_named _ _ _ _ (Text repo ∷ Text digest ∷ []) (names_digest repo digest) old new h.known.tags.stored h.tables.tags.types h.known.tag_texts.named
+    (λ r it. both_tests _ _ _ _ (is_text (column r 1) _ repo it.repo) (is_text (column r 3) _ digest it.digest)) r ran

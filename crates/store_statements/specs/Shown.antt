@@ -40,4 +40,4 @@ grant_row r = record { repo = bytes_at r 2; token = bytes_at r 1; level = level_
 
 -- of a row that shows repository, token and level
 abbrev pub grant_shown : Row → Grant
-grant_shown row = record { repo = bytes_at row 0; token = bytes_at row 1; level = level_of (natural_at row 2) }
+grant_shown r = record { repo = bytes_at r 0; token = bytes_at r 1; level = level_of (natural_at r 2) }

@@ -37,6 +37,9 @@ tag_take_named = codes "DELETE FROM registry_tags WHERE repo = ?1 AND digest = ?
 abbrev pub tag_take_all : List ℕ
 tag_take_all = codes "DELETE FROM registry_tags WHERE repo = ?1"
 
+abbrev pub tag_named : List ℕ
+tag_named = codes "SELECT tag FROM registry_tags WHERE repo = ?1 AND digest = ?2"
+
 pub record KnowsTagTexts (schema : Schema) (stands : Stands schema tags_table) : Type 0 where
   pub find : Means schema tag_find
       (selects schema tags_table (equals 1 0 ∷ equals 2 1 ∷ []) (col 1 3 ∷ []) (codes "digest" ∷ []))
@@ -55,3 +58,5 @@ pub record KnowsTagTexts (schema : Schema) (stands : Stands schema tags_table) :
   pub take_named : Means schema tag_take_named
       (deletes stands.at schema tags_table (equals 1 0 ∷ equals 3 1 ∷ []))
   pub take_all : Means schema tag_take_all (deletes stands.at schema tags_table (equals 1 0 ∷ []))
+  pub named : Means schema tag_named
+      (selects schema tags_table (equals 1 0 ∷ equals 3 1 ∷ []) (col 1 2 ∷ []) (codes "tag" ∷ []))

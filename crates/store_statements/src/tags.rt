@@ -131,3 +131,22 @@ pub fn count_tags<S: Alter>(conn: &mut Connection<S>, repo: &str) -> Result<usiz
     let found = count_rows(shown);
     checked(conn, found)
 }
+
+/// How many tags of the repository name the digest.
+pub fn count_tags_named<S: Alter>(
+    conn: &mut Connection<S>,
+    repo: &str,
+    digest: &str,
+) -> Result<usize, Fault>
+    ensures found { Finds S.Store conn.old conn.new result
+        (λ t n. n ≡ length (filter (names_digest repo.now digest.now) t.tags)) }
+    ensures settled { Stays S.Store conn.old conn.new result }
+    ensures survives { Lasts S.Store conn.old conn.new }
+{
+    let shown = conn.query_all(
+        "SELECT tag FROM registry_tags WHERE repo = ?1 AND digest = ?2",
+        params![repo, digest],
+    );
+    let found = count_rows(shown);
+    checked(conn, found)
+}

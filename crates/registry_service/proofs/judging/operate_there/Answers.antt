@@ -183,3 +183,15 @@ returns-in-ListReferrers g c = record {
   spends = c.list_referrers.ensures.spends;
   honest = c.list_referrers.ensures.honest;
 }
+
+pub size_referrers-requires : goal.size_referrers-requires
+size_referrers-requires g c = record { unspent = c.requires.unspent; there = c.requires.there }
+
+pub returns-in-SizeReferrers : goal.returns-in-SizeReferrers
+returns-in-SizeReferrers g c = record {
+  comes = λ honest. rw c.in-SizeReferrers.is (c.size_referrers.ensures.comes honest);
+  answers = c.size_referrers.ensures.answers;
+  carries = λ whole. absurd (true≢false (sym (ap (λ o. is_sizing (shown_operation o)) c.in-SizeReferrers.is) ∙ whole));
+  spends = c.size_referrers.ensures.spends;
+  honest = c.size_referrers.ensures.honest;
+}

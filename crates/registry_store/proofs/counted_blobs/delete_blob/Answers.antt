@@ -1,15 +1,33 @@
+use Rattle.std.proofs.Common.{true≢false}
+use Rattle.registry_model.specs.World.{World, Repo}
 use Rattle.registry_model.specs.Blobs.{without_blob}
 use Rattle.registry_model.specs.Lookups.{delete_blob}
-use Rattle.registry_store.proofs.KnownWorlds.{beside}
-use Rattle.registry_store.proofs.Followed.{forgotten}
+use Rattle.store_statements.proofs.Checks.{never_storage}
+use Rattle.registry_store.proofs.Followed.{lasts, makes_then, memory_then, known_then}
 use Rattle.registry_store.proofs.counted_blobs.delete_blob.Goals as goal
 
 pub returns : goal.returns
-returns g c = record {
-  made = c.delete_blob.ensures.made;
-  memory = c.delete_blob.ensures.memory;
-  survives = c.delete_blob.ensures.survives;
-  known =
-      forgotten g.S.Store c.args.conn.now c.delete_blob.new.conn c.args.known.now c.forget.new.self c.args.repo.now (λ w. delete_blob w c.args.repo.now c.args.digest.now) c.delete_blob.result
-      c.delete_blob.ensures.survives c.forget.ensures (λ w. beside w c.args.repo.now (λ r. without_blob r c.args.digest.now)) c.delete_blob.ensures.made c.delete_blob.ensures.memory;
+returns g c =
+    let makes =
+    makes_then g.S.Store c.args.conn.now c.foretell.new.conn c.delete_blob-made.new.conn c.foretell.result c.in-Ok.change c.in-Ok.is c.foretell.ensures.survives c.foretell.ensures.settled c.delete_blob-made.ensures.survives
+    c.delete_blob-made.result (λ w. delete_blob w c.args.repo.now c.args.digest.now) c.delete_blob-made.ensures.made in
+    let stays =
+    memory_then g.S.Store c.args.conn.now c.foretell.new.conn c.delete_blob-made.new.conn c.foretell.result c.in-Ok.change c.in-Ok.is c.foretell.ensures.survives c.foretell.ensures.settled c.delete_blob-made.ensures.survives
+    c.delete_blob-made.result c.delete_blob-made.ensures.memory in
+    record {
+      made = makes;
+      memory = stays;
+      survives = lasts g.S.Store c.args.conn.now c.foretell.new.conn c.delete_blob-made.new.conn c.foretell.result c.in-Ok.change c.in-Ok.is c.foretell.ensures.survives c.foretell.ensures.settled c.delete_blob-made.ensures.survives;
+      known = λ known there.
+          known_then g.S.Store c.args.conn.now c.foretell.new.conn c.delete_blob-made.new.conn c.foretell.result c.in-Ok.change c.in-Ok.is c.foretell.ensures.survives c.foretell.ensures.settled c.delete_blob-made.ensures.survives
+          c.delete_blob-made.result c.args.known.now c.follow_made.new.known c.args.repo.now (λ (w : World) (r : Repo). without_blob r c.args.digest.now) known there c.foretell.ensures.found c.follow_made.ensures.followed c.follow_made.ensures.kept
+          makes stays;
+    }
+
+pub returns-in_default : goal.returns-in_default
+returns-in_default g c = record {
+  made = λ clean is. tt;
+  memory = λ clean is wanting. absurd (never_storage wanting);
+  survives = c.foretell.ensures.survives;
+  known = λ known there clean is sound. absurd (true≢false sound);
 }

@@ -8,18 +8,18 @@ use Rattle.registry_store.proofs.counted_blobs.mount.Goals as goal
 pub returns : goal.returns
 returns g c =
     let makes =
-    made_then g.S.Store c.args.conn.now c.mount_change.new.conn c.mount-made.new.conn c.mount_change.result c.in-Ok.change c.in-Ok.ensures c.mount_change.ensures.survives c.mount_change.ensures.settled c.mount-made.ensures.survives
+    made_then g.S.Store c.args.conn.now c.foretell.new.conn c.mount-made.new.conn c.foretell.result c.in-Ok.change c.in-Ok.is c.foretell.ensures.survives c.foretell.ensures.settled c.mount-made.ensures.survives
     c.mount-made.result (λ w. has_repo w c.args.to.now ≡ true) (λ w. mount w c.args.from.now c.args.to.now c.args.digest.now) c.mount-made.ensures.made in
     let stays =
-    memory_then g.S.Store c.args.conn.now c.mount_change.new.conn c.mount-made.new.conn c.mount_change.result c.in-Ok.change c.in-Ok.ensures c.mount_change.ensures.survives c.mount_change.ensures.settled c.mount-made.ensures.survives
+    memory_then g.S.Store c.args.conn.now c.foretell.new.conn c.mount-made.new.conn c.foretell.result c.in-Ok.change c.in-Ok.is c.foretell.ensures.survives c.foretell.ensures.settled c.mount-made.ensures.survives
     c.mount-made.result c.mount-made.ensures.memory in
     record {
       made = makes;
       memory = stays;
-      survives = lasts g.S.Store c.args.conn.now c.mount_change.new.conn c.mount-made.new.conn c.mount_change.result c.in-Ok.change c.in-Ok.ensures c.mount_change.ensures.survives c.mount_change.ensures.settled c.mount-made.ensures.survives;
+      survives = lasts g.S.Store c.args.conn.now c.foretell.new.conn c.mount-made.new.conn c.foretell.result c.in-Ok.change c.in-Ok.is c.foretell.ensures.survives c.foretell.ensures.settled c.mount-made.ensures.survives;
       known = λ known there.
-          known_then g.S.Store c.args.conn.now c.mount_change.new.conn c.mount-made.new.conn c.mount_change.result c.in-Ok.change c.in-Ok.ensures c.mount_change.ensures.survives c.mount_change.ensures.settled c.mount-made.ensures.survives
-          c.mount-made.result c.args.known.now c.follow_made.new.known c.args.to.now (λ (w : World). with_mounted c.args.digest.now (blob_at w c.args.from.now c.args.digest.now)) known there c.mount_change.ensures.found c.follow_made.ensures.followed c.follow_made.ensures.kept
+          known_then g.S.Store c.args.conn.now c.foretell.new.conn c.mount-made.new.conn c.foretell.result c.in-Ok.change c.in-Ok.is c.foretell.ensures.survives c.foretell.ensures.settled c.mount-made.ensures.survives
+          c.mount-made.result c.args.known.now c.follow_made.new.known c.args.to.now (λ (w : World). with_mounted c.args.digest.now (blob_at w c.args.from.now c.args.digest.now)) known there c.foretell.ensures.found c.follow_made.ensures.followed c.follow_made.ensures.kept
           (makes there) stays;
     }
 
@@ -27,6 +27,6 @@ pub returns-in_default : goal.returns-in_default
 returns-in_default g c = record {
   made = λ there clean is. tt;
   memory = λ clean is wanting. absurd (never_storage wanting);
-  survives = c.mount_change.ensures.survives;
+  survives = c.foretell.ensures.survives;
   known = λ known there clean is sound. absurd (true≢false sound);
 }

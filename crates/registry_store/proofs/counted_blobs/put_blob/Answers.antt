@@ -12,18 +12,18 @@ put_blob-made-requires g c = record { matching = c.requires.matching; fits = c.r
 pub returns : goal.returns
 returns g c =
     let makes =
-    made_then g.S.Store c.args.conn.now c.put_change.new.conn c.put_blob-made.new.conn c.put_change.result c.in-Ok.change c.in-Ok.ensures c.put_change.ensures.survives c.put_change.ensures.settled c.put_blob-made.ensures.survives
+    made_then g.S.Store c.args.conn.now c.foretell.new.conn c.put_blob-made.new.conn c.foretell.result c.in-Ok.change c.in-Ok.is c.foretell.ensures.survives c.foretell.ensures.settled c.put_blob-made.ensures.survives
     c.put_blob-made.result (λ w. has_repo w c.args.repo.now ≡ true) (λ w. put_blob w c.args.repo.now c.args.digest.now c.args.bytes.now) c.put_blob-made.ensures.made in
     let stays =
-    memory_then g.S.Store c.args.conn.now c.put_change.new.conn c.put_blob-made.new.conn c.put_change.result c.in-Ok.change c.in-Ok.ensures c.put_change.ensures.survives c.put_change.ensures.settled c.put_blob-made.ensures.survives
+    memory_then g.S.Store c.args.conn.now c.foretell.new.conn c.put_blob-made.new.conn c.foretell.result c.in-Ok.change c.in-Ok.is c.foretell.ensures.survives c.foretell.ensures.settled c.put_blob-made.ensures.survives
     c.put_blob-made.result c.put_blob-made.ensures.memory in
     record {
       made = makes;
       memory = stays;
-      survives = lasts g.S.Store c.args.conn.now c.put_change.new.conn c.put_blob-made.new.conn c.put_change.result c.in-Ok.change c.in-Ok.ensures c.put_change.ensures.survives c.put_change.ensures.settled c.put_blob-made.ensures.survives;
+      survives = lasts g.S.Store c.args.conn.now c.foretell.new.conn c.put_blob-made.new.conn c.foretell.result c.in-Ok.change c.in-Ok.is c.foretell.ensures.survives c.foretell.ensures.settled c.put_blob-made.ensures.survives;
       known = λ known there.
-          known_then g.S.Store c.args.conn.now c.put_change.new.conn c.put_blob-made.new.conn c.put_change.result c.in-Ok.change c.in-Ok.ensures c.put_change.ensures.survives c.put_change.ensures.settled c.put_blob-made.ensures.survives
-          c.put_blob-made.result c.args.known.now c.follow_made.new.known c.args.repo.now (λ (w : World) (r : Repo). with_blob r c.args.digest.now c.args.bytes.now) known there c.put_change.ensures.found c.follow_made.ensures.followed c.follow_made.ensures.kept
+          known_then g.S.Store c.args.conn.now c.foretell.new.conn c.put_blob-made.new.conn c.foretell.result c.in-Ok.change c.in-Ok.is c.foretell.ensures.survives c.foretell.ensures.settled c.put_blob-made.ensures.survives
+          c.put_blob-made.result c.args.known.now c.follow_made.new.known c.args.repo.now (λ (w : World) (r : Repo). with_blob r c.args.digest.now c.args.bytes.now) known there c.foretell.ensures.found c.follow_made.ensures.followed c.follow_made.ensures.kept
           (makes there) stays;
     }
 
@@ -31,6 +31,6 @@ pub returns-in_default : goal.returns-in_default
 returns-in_default g c = record {
   made = λ there clean is. tt;
   memory = λ clean is wanting. absurd (never_storage wanting);
-  survives = c.put_change.ensures.survives;
+  survives = c.foretell.ensures.survives;
   known = λ known there clean is sound. absurd (true≢false sound);
 }

@@ -15,18 +15,18 @@ finish-made-requires g c = record { matching = c.requires.matching; fits = c.req
 pub returns : goal.returns
 returns g c =
     let makes =
-    made_then g.S.Store c.args.conn.now c.finish_change.new.conn c.finish-made.new.conn c.finish_change.result c.in-Ok.change c.in-Ok.ensures c.finish_change.ensures.survives c.finish_change.ensures.settled c.finish-made.ensures.survives
+    made_then g.S.Store c.args.conn.now c.foretell.new.conn c.finish-made.new.conn c.foretell.result c.in-Ok.change c.in-Ok.is c.foretell.ensures.survives c.foretell.ensures.settled c.finish-made.ensures.survives
     c.finish-made.result (λ w. is_some (session_at w c.args.repo.now c.args.number) ≡ true) (λ w. finish w c.args.repo.now c.args.number c.args.digest.now c.args.bytes.now) c.finish-made.ensures.made in
     let stays =
-    memory_then g.S.Store c.args.conn.now c.finish_change.new.conn c.finish-made.new.conn c.finish_change.result c.in-Ok.change c.in-Ok.ensures c.finish_change.ensures.survives c.finish_change.ensures.settled c.finish-made.ensures.survives
+    memory_then g.S.Store c.args.conn.now c.foretell.new.conn c.finish-made.new.conn c.foretell.result c.in-Ok.change c.in-Ok.is c.foretell.ensures.survives c.foretell.ensures.settled c.finish-made.ensures.survives
     c.finish-made.result c.finish-made.ensures.memory in
     record {
       made = makes;
       memory = stays;
-      survives = lasts g.S.Store c.args.conn.now c.finish_change.new.conn c.finish-made.new.conn c.finish_change.result c.in-Ok.change c.in-Ok.ensures c.finish_change.ensures.survives c.finish_change.ensures.settled c.finish-made.ensures.survives;
+      survives = lasts g.S.Store c.args.conn.now c.foretell.new.conn c.finish-made.new.conn c.foretell.result c.in-Ok.change c.in-Ok.is c.foretell.ensures.survives c.foretell.ensures.settled c.finish-made.ensures.survives;
       known = λ known there.
-          known_then g.S.Store c.args.conn.now c.finish_change.new.conn c.finish-made.new.conn c.finish_change.result c.in-Ok.change c.in-Ok.ensures c.finish_change.ensures.survives c.finish_change.ensures.settled c.finish-made.ensures.survives
-          c.finish-made.result c.args.known.now c.follow_made.new.known c.args.repo.now (λ (w : World) (r : Repo). finished r c.args.number c.args.digest.now c.args.bytes.now) known (λ clean. session_has_repo (world_in (state g.S.Store c.args.conn.now)) c.args.repo.now c.args.number (there clean)) c.finish_change.ensures.found c.follow_made.ensures.followed c.follow_made.ensures.kept
+          known_then g.S.Store c.args.conn.now c.foretell.new.conn c.finish-made.new.conn c.foretell.result c.in-Ok.change c.in-Ok.is c.foretell.ensures.survives c.foretell.ensures.settled c.finish-made.ensures.survives
+          c.finish-made.result c.args.known.now c.follow_made.new.known c.args.repo.now (λ (w : World) (r : Repo). finished r c.args.number c.args.digest.now c.args.bytes.now) known (λ clean. session_has_repo (world_in (state g.S.Store c.args.conn.now)) c.args.repo.now c.args.number (there clean)) c.foretell.ensures.found c.follow_made.ensures.followed c.follow_made.ensures.kept
           (makes there) stays;
     }
 
@@ -34,6 +34,6 @@ pub returns-in_default : goal.returns-in_default
 returns-in_default g c = record {
   made = λ there clean is. tt;
   memory = λ clean is wanting. absurd (never_storage wanting);
-  survives = c.finish_change.ensures.survives;
+  survives = c.foretell.ensures.survives;
   known = λ known there clean is sound. absurd (true≢false sound);
 }

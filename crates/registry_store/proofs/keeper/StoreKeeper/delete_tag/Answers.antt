@@ -1,16 +1,18 @@
-use Rattle.registry_model.specs.Lookups.{delete_tag}
-use Rattle.registry_model.specs.Manifests.{without_tag}
-use Rattle.registry_store.proofs.KnownWorlds.{beside}
-use Rattle.registry_store.proofs.Followed.{forgotten}
+use Rattle.std.proofs.Common.{◌≡◌, true}
+use Rattle.std.specs.Prelude.{is_some}
+use Rattle.sqlite.specs.Held.{state}
+use Rattle.registry_model.specs.Lookups.{tag_at, delete_tag}
+use Rattle.store_statements.specs.Held.{world_in}
+use Rattle.registry_store.proofs.KnownWorlds.{tag_has_repo}
+use Rattle.registry_store.proofs.KeeperStates.{asked}
 use Rattle.registry_store.proofs.KeeperAnswers.{spends_told, still_spent, was_honest, write_holds, write_says}
 use Rattle.registry_store.proofs.keeper.StoreKeeper.delete_tag.Goals as goal
 
 pub invariant_of-self : goal.invariant_of-self
 invariant_of-self g c =
     write_holds g.S.Store g.O.Origin.is_ours c.self.inside.conn c.args.self.now c.self.inside.spent c.self.view_is c.self.inside.known c.self.invariant c.if-self.false c.delete_tag-answer.new.conn c.delete_tag-answer.ensures.survives
-    c.note_fault.result c.delete_tag-answer.result c.note_fault.new.spent c.note_fault.ensures.same c.note_fault.ensures.noted c.forget.new.self (λ w. delete_tag w c.args.repo.now c.args.tag.now)
-    (λ ours. c.delete_tag-answer.ensures.made) (λ ours. c.delete_tag-answer.ensures.memory) (λ ours. forgotten g.S.Store c.self.inside.conn c.delete_tag-answer.new.conn c.self.inside.known c.forget.new.self c.args.repo.now (λ w. delete_tag w c.args.repo.now c.args.tag.now) c.delete_tag-answer.result
-    c.delete_tag-answer.ensures.survives c.forget.ensures (λ w. beside w c.args.repo.now (λ r. without_tag r c.args.tag.now)) c.delete_tag-answer.ensures.made c.delete_tag-answer.ensures.memory)
+    c.note_fault.result c.delete_tag-answer.result c.note_fault.new.spent c.note_fault.ensures.same c.note_fault.ensures.noted c.delete_tag-answer.new.known (λ w. delete_tag w c.args.repo.now c.args.tag.now)
+    (λ ours. c.delete_tag-answer.ensures.made) (λ ours. c.delete_tag-answer.ensures.memory) (λ ours known. c.delete_tag-answer.ensures.known known (λ clean. tag_has_repo (world_in (state g.S.Store c.self.inside.conn)) c.args.repo.now c.args.tag.now (asked g.S.Store c.self.inside.conn c.args.self.now c.self.inside.spent c.self.view_is (λ w. is_some (tag_at w c.args.repo.now c.args.tag.now) ≡ true) g.O.Origin.is_ours c.if-self.false ours c.requires.there clean)))
 
 pub returns-then-self : goal.returns-then-self
 returns-then-self g c = record {

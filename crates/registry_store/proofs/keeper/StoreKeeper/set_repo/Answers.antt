@@ -1,17 +1,12 @@
 use Rattle.registry_model.specs.Command.{set_repo}
-use Rattle.registry_model.specs.Command.{with_quota}
-use Rattle.registry_model.specs.World.{repo_at}
-use Rattle.registry_store.proofs.KnownWorlds.{beside_put}
-use Rattle.registry_store.proofs.Followed.{forgotten}
 use Rattle.registry_store.proofs.KeeperAnswers.{spends_told, still_spent, was_honest, write_holds, write_says}
 use Rattle.registry_store.proofs.keeper.StoreKeeper.set_repo.Goals as goal
 
 pub invariant_of-self : goal.invariant_of-self
 invariant_of-self g c =
     write_holds g.S.Store g.O.Origin.is_ours c.self.inside.conn c.args.self.now c.self.inside.spent c.self.view_is c.self.inside.known c.self.invariant c.if-self.false c.set_repo-answer.new.conn c.set_repo-answer.ensures.survives
-    c.note_fault.result c.set_repo-answer.result c.note_fault.new.spent c.note_fault.ensures.same c.note_fault.ensures.noted c.forget.new.self (λ w. set_repo w c.args.name.now c.args.quota.bytes)
-    (λ ours. c.set_repo-answer.ensures.made) (λ ours. c.set_repo-answer.ensures.memory) (λ ours. forgotten g.S.Store c.self.inside.conn c.set_repo-answer.new.conn c.self.inside.known c.forget.new.self c.args.name.now (λ w. set_repo w c.args.name.now c.args.quota.bytes) c.set_repo-answer.result
-    c.set_repo-answer.ensures.survives c.forget.ensures (λ w. beside_put w c.args.name.now (with_quota (repo_at w c.args.name.now) c.args.quota.bytes)) c.set_repo-answer.ensures.made c.set_repo-answer.ensures.memory)
+    c.note_fault.result c.set_repo-answer.result c.note_fault.new.spent c.note_fault.ensures.same c.note_fault.ensures.noted c.set_repo-answer.new.known (λ w. set_repo w c.args.name.now c.args.quota.bytes)
+    (λ ours. c.set_repo-answer.ensures.made) (λ ours. c.set_repo-answer.ensures.memory) (λ ours. c.set_repo-answer.ensures.known)
 
 pub returns-then-self : goal.returns-then-self
 returns-then-self g c = record {

@@ -1,0 +1,32 @@
+use Rattle.std.proofs.Common.{true≢false}
+use Rattle.registry_model.specs.World.{World, Repo}
+use Rattle.registry_model.specs.Pruning.{delete_blobs, without_blobs}
+use Rattle.store_statements.proofs.Checks.{never_storage}
+use Rattle.registry_store.proofs.Followed.{lasts, makes_then, memory_then, known_then}
+use Rattle.registry_store.proofs.counted_blobs.delete_blobs.Goals as goal
+
+pub returns : goal.returns
+returns g c =
+    let makes =
+    makes_then g.S.Store c.args.conn.now c.foretell.new.conn c.delete_blobs-made.new.conn c.foretell.result c.in-Ok.change c.in-Ok.is c.foretell.ensures.survives c.foretell.ensures.settled c.delete_blobs-made.ensures.survives
+    c.delete_blobs-made.result (λ w. delete_blobs w c.args.repo.now c.args.digests.now) c.delete_blobs-made.ensures.made in
+    let stays =
+    memory_then g.S.Store c.args.conn.now c.foretell.new.conn c.delete_blobs-made.new.conn c.foretell.result c.in-Ok.change c.in-Ok.is c.foretell.ensures.survives c.foretell.ensures.settled c.delete_blobs-made.ensures.survives
+    c.delete_blobs-made.result c.delete_blobs-made.ensures.memory in
+    record {
+      made = makes;
+      memory = stays;
+      survives = lasts g.S.Store c.args.conn.now c.foretell.new.conn c.delete_blobs-made.new.conn c.foretell.result c.in-Ok.change c.in-Ok.is c.foretell.ensures.survives c.foretell.ensures.settled c.delete_blobs-made.ensures.survives;
+      known = λ known there.
+          known_then g.S.Store c.args.conn.now c.foretell.new.conn c.delete_blobs-made.new.conn c.foretell.result c.in-Ok.change c.in-Ok.is c.foretell.ensures.survives c.foretell.ensures.settled c.delete_blobs-made.ensures.survives
+          c.delete_blobs-made.result c.args.known.now c.follow_made.new.known c.args.repo.now (λ (w : World) (r : Repo). without_blobs r c.args.digests.now) known there c.foretell.ensures.found c.follow_made.ensures.followed c.follow_made.ensures.kept
+          makes stays;
+    }
+
+pub returns-in_default : goal.returns-in_default
+returns-in_default g c = record {
+  made = λ clean is. tt;
+  memory = λ clean is wanting. absurd (never_storage wanting);
+  survives = c.foretell.ensures.survives;
+  known = λ known there clean is sound. absurd (true≢false sound);
+}
