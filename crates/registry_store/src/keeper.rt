@@ -29,7 +29,7 @@ macro_rules! unless_spent {
     }};
 }
 
-/// Has a write made by a function that what is known of usages follows.
+/// Makes a write to what a repository holds, which what is known of usages follows.
 macro_rules! counted {
     ($store:ident, $write:path, $($given:expr),*) => {
         unless_spent!(

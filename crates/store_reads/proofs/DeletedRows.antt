@@ -1,5 +1,5 @@
 -- How many of a repository's rows go with a deletion, and how many bytes.
-use Rattle.std.proofs.Common.{◌≡◌, ◌∙◌, ◌+◌, ◌<◌, ℕ, List, min, [], ◌∷◌, length, Bool, true, false, cond, not, None, Some, refl, sym, ap, subst, arith}
+use Rattle.std.proofs.Common.{◌≡◌, ◌∙◌, ◌+◌, ◌<◌, ℕ, List, min, [], ◌∷◌, length, Bool, true, false, cond, not, None, Some, refl, sym, ap, arith}
 use Rattle.std.specs.Prelude.{◌&&◌, Option, option_map, bytes_eq, filter, find, sum_by}
 use Rattle.std.specs.FinMap.{FinMap, get, retain_keys, values, len}
 use Rattle.std.proofs.Math.Path.{subst₂}

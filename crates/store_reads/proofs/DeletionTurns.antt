@@ -1,8 +1,8 @@
 -- What a deletion takes from what a repository holds.
-use Rattle.std.proofs.Common.{◌≡◌, ◌∙◌, ℕ, ◌+◌, length, None, Some, refl, sym, ap, subst, arith}
+use Rattle.std.proofs.Common.{◌≡◌, ℕ, ◌+◌, length, None, Some, refl, sym, ap, subst, arith}
 use Rattle.std.specs.Prelude.{Option, option_map, sum_by}
 use Rattle.std.specs.Ordering.{nat_cmp}
-use Rattle.std.specs.FinMap.{get, remove, values, len, len-empty}
+use Rattle.std.specs.FinMap.{get, values, len, len-empty}
 use Rattle.oci_types.specs.Text.{Text}
 use Rattle.registry_model.specs.World.{Repo}
 use Rattle.registry_model.specs.Blobs.{without_blob}

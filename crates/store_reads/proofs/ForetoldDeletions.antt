@@ -1,17 +1,17 @@
 -- What look-ups tell of a deletion's change.
-use Rattle.std.proofs.Common.{◌≡◌, ◌∙◌, ◌+◌, ◌++◌, ◌<◌, ℕ, List, [], ◌∷◌, length, take, get_or, Bool, true, false, cond, None, Some, refl, sym, ap, subst, suc, zero, arith}
-use Rattle.std.specs.Prelude.{◌||◌, Option, option_map, bytes_eq, IfSome}
+use Rattle.std.proofs.Common.{◌≡◌, ◌∙◌, ◌+◌, ◌<◌, ℕ, List, [], ◌∷◌, length, take, get_or, false, cond, None, Some, refl, sym, ap, subst, suc, zero, arith}
+use Rattle.std.specs.Prelude.{◌||◌, Option, option_map, IfSome}
 use Rattle.std.specs.Option.{IsSomeAnd}
 use Rattle.std.specs.Ordering.{is_eq}
 use Rattle.std.specs.List.Sorted.{IsStrictlySortedBy}
-use Rattle.std.specs.FinMap.{get, len}
+use Rattle.std.specs.FinMap.{get}
 use Rattle.std.proofs.lemmas.List.{take_more}
 use Rattle.std.proofs.lemmas.Map.Keys.{sorted_tail, Less-from_sorted}
 use Rattle.std.proofs.lemmas.Map.Text.{is_eq-slice_cmp}
 use Rattle.sqlite.specs.State.{State}
 use Rattle.oci_types.specs.Text.{Text}
 use Rattle.oci_types.specs.declared.kind.Kind.{Kind}
-use Rattle.registry_model.specs.World.{Repo, World, text_cmp, repo_at}
+use Rattle.registry_model.specs.World.{Repo, World, text_cmp}
 use Rattle.registry_model.specs.Blobs.{without_blob}
 use Rattle.registry_model.specs.Pruning.{is_among, without_blobs}
 use Rattle.registry_model.specs.Manifests.{kind_in, without_manifest, without_tag}

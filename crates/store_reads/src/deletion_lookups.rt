@@ -115,7 +115,7 @@ pub fn delete_blobs_change<S: Alter>(
 }
 
 /// How many tags of the repository name the digest.
-fn count_naming<S: Alter>(
+fn count_tags_naming<S: Alter>(
     conn: &mut Connection<S>,
     repo: &RepoName,
     digest: &Digest,
@@ -171,7 +171,7 @@ pub fn delete_manifest_change<S: Alter>(
     ensures settled { Stays S.Store conn.old conn.new result }
     ensures survives { Lasts S.Store conn.old conn.new }
 {
-    match count_naming(conn, repo, digest) {
+    match count_tags_naming(conn, repo, digest) {
         Ok(tags) => named_manifest_change(conn, repo, digest, tags),
         Err(fault) => Err(fault),
     }

@@ -1,4 +1,4 @@
-use Rattle.std.proofs.Common.{◌≡◌, ◌∙◌, Bool, true, false, not, is_some, refl, sym, ap}
+use Rattle.std.proofs.Common.{◌≡◌, ◌∙◌, true, false, not, is_some, refl, sym, ap}
 use Rattle.sqlite.specs.Held.{state}
 use Rattle.store_statements.specs.Held.{world_in}
 use Rattle.store_statements.proofs.Checks.{survives_here}

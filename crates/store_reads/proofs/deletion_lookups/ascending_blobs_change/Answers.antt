@@ -1,4 +1,4 @@
-use Rattle.std.proofs.Common.{◌∙◌, false, ap, arith, refl, subst}
+use Rattle.std.proofs.Common.{false, arith, refl, subst}
 use Rattle.std.specs.Prelude.{IfSome}
 use Rattle.std.proofs.lemmas.List.{take_all}
 use Rattle.std.proofs.lemmas.Result.{IfOk-from_err}
@@ -8,7 +8,6 @@ use Rattle.store_statements.specs.Held.{world_in}
 use Rattle.store_statements.proofs.Checks.{survives_here}
 use Rattle.store_statements.proofs.Transactions.{survives_all}
 use Rattle.store_reads.specs.Usages.{Foretells}
-use Rattle.store_reads.proofs.Foretold.{earlier}
 use Rattle.store_reads.proofs.ReadSequences.{stays_here, stays_behind, told_behind, passed_on}
 use Rattle.store_reads.proofs.ForetoldDeletions.{none_yet, more_gone}
 use Rattle.store_reads.proofs.deletion_lookups.ascending_blobs_change.Goals as goal

@@ -1,4 +1,3 @@
-use Rattle.std.proofs.Common.{refl}
 use Rattle.sqlite.specs.Held.{state}
 use Rattle.store_statements.proofs.Checks.{survives_here}
 use Rattle.store_reads.proofs.ReadSequences.{stays_here}

@@ -10,18 +10,18 @@ use Rattle.store_reads.proofs.deletion_lookups.delete_manifest_change.Goals as g
 pub returns-in-Ok : goal.returns-in-Ok
 returns-in-Ok g c = record {
   found = λ clean is.
-      tells_behind g.S.Store c.args.conn.now c.count_naming.new.conn (λ mid is. c.in-Ok.ensures.settled mid is refl) c.named_manifest_change.new.conn c.named_manifest_change.ensures.survives
+      tells_behind g.S.Store c.args.conn.now c.count_tags_naming.new.conn (λ mid is. c.in-Ok.ensures.settled mid is refl) c.named_manifest_change.new.conn c.named_manifest_change.ensures.survives
       c.named_manifest_change.result (λ w change. IfSome change (Foretells w c.args.repo.now (λ r. without_manifest r c.args.digest.now)))
-      (c.named_manifest_change.ensures.found (found_behind g.S.Store c.args.conn.now c.count_naming.new.conn (λ mid is. c.in-Ok.ensures.settled mid is refl)
+      (c.named_manifest_change.ensures.found (found_behind g.S.Store c.args.conn.now c.count_tags_naming.new.conn (λ mid is. c.in-Ok.ensures.settled mid is refl)
       (λ w. AreNaming w c.args.repo.now c.args.digest.now c.in-Ok.tags) is (λ mid. c.in-Ok.ensures.found mid is))) clean is;
-  settled = stays_behind g.S.Store c.args.conn.now c.count_naming.new.conn (λ mid is. c.in-Ok.ensures.settled mid is refl) c.named_manifest_change.new.conn c.named_manifest_change.ensures.survives
+  settled = stays_behind g.S.Store c.args.conn.now c.count_tags_naming.new.conn (λ mid is. c.in-Ok.ensures.settled mid is refl) c.named_manifest_change.new.conn c.named_manifest_change.ensures.survives
       c.named_manifest_change.result c.named_manifest_change.ensures.settled;
-  survives = survives_all (state g.S.Store c.args.conn.now) (state g.S.Store c.count_naming.new.conn) (state g.S.Store c.named_manifest_change.new.conn) _ _ c.count_naming.ensures.survives c.named_manifest_change.ensures.survives;
+  survives = survives_all (state g.S.Store c.args.conn.now) (state g.S.Store c.count_tags_naming.new.conn) (state g.S.Store c.named_manifest_change.new.conn) _ _ c.count_tags_naming.ensures.survives c.named_manifest_change.ensures.survives;
 }
 
 pub returns-in-Err : goal.returns-in-Err
 returns-in-Err g c = record {
   found = λ clean is. tt;
   settled = λ clean is unspent. c.in-Err.ensures.settled clean is unspent;
-  survives = c.count_naming.ensures.survives;
+  survives = c.count_tags_naming.ensures.survives;
 }

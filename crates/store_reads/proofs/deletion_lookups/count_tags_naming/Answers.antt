@@ -2,7 +2,7 @@ use Rattle.sqlite.specs.Held.{state}
 use Rattle.store_statements.specs.Held.{held}
 use Rattle.store_statements.proofs.Transactions.{registry}
 use Rattle.store_reads.proofs.DeletedRows.{naming_found}
-use Rattle.store_reads.proofs.deletion_lookups.count_naming.Goals as goal
+use Rattle.store_reads.proofs.deletion_lookups.count_tags_naming.Goals as goal
 
 pub returns-in-Ok : goal.returns-in-Ok
 returns-in-Ok g c = record {
