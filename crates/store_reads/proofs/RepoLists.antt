@@ -1,5 +1,5 @@
 -- The names of all repositories and how many there are, and the tags of one, from the sorted rows.
-use Rattle.std.proofs.Common.{◌≡◌, ◌∙◌, List, [], map, length, false, None, Some, refl, sym, ap}
+use Rattle.std.proofs.Common.{◌≡◌, ◌∙◌, [], map, length, false, None, Some, refl, sym, ap}
 use Rattle.std.specs.Prelude.{filter, find, Option, option_map}
 use Rattle.std.specs.Option.{option_map_or}
 use Rattle.std.specs.Ordering.{eq_by_cmp}

@@ -1,5 +1,5 @@
 -- What the list of all grants shows: their rows in the order of two columns, the repository and the token.
-use Rattle.std.proofs.Common.{◌≡◌, ◌∙◌, ℕ, List, [], ◌∷◌, map, Bool, true, false, Ok, Err, IfOk, Ordering, Less, Equal, Greater, sym, ap, subst, refl}
+use Rattle.std.proofs.Common.{◌≡◌, ◌∙◌, ℕ, List, [], ◌∷◌, map, false, Ok, Err, IfOk, Ordering, Less, Equal, Greater, sym, ap, subst, refl}
 use Rattle.std.specs.Prelude.{◌&&◌, bytes_eq}
 use Rattle.std.specs.List.{AllByRecursion}
 use Rattle.std.specs.Ordering.{is_eq, ordering_then}

@@ -1,10 +1,10 @@
 -- The levels on all repositories, from the rows of grants that are sorted by repository and token: they are those on each repository, one after the other.
-use Rattle.std.proofs.Common.{◌≡◌, ◌∙◌, ◌⊎◌, inl, inr, List, [], ◌∷◌, ◌++◌, map, Bool, true, false, cond, Option, None, Some, is_some, refl, sym, ap, subst, append_assoc, Ordering, Less, Equal, Greater, is_gt}
+use Rattle.std.proofs.Common.{◌≡◌, ◌∙◌, ◌⊎◌, inl, inr, List, [], ◌∷◌, ◌++◌, map, Bool, true, false, cond, Some, is_some, refl, sym, ap, subst, Ordering, Less, Equal, Greater, is_gt}
 use Rattle.std.specs.Prelude.{◌&&◌, T, bytes_eq, filter}
 use Rattle.std.specs.List.{AllByRecursion}
 use Rattle.std.specs.Ordering.{is_eq, is_lt, ordering_reverse, ordering_then}
 use Rattle.std.specs.FinMap as finite
-use Rattle.std.specs.FinMap.{entries, keys, is_sorted, get, get-entries, entries_sorted}
+use Rattle.std.specs.FinMap.{entries, is_sorted, get-entries, entries_sorted}
 use Rattle.std.specs.FinMap.Entries.{below_all}
 use Rattle.std.specs.Cmp.{tied_itself}
 use Rattle.std.proofs.lemmas.Cmp.{nat_list_cmp_total}
@@ -15,9 +15,8 @@ use Rattle.sqlite.specs.Tree.{IsAscending}
 use Rattle.sqlite_trees.proofs.ListLemmas.{map-map}
 use Rattle.sqlite_keyed.specs.Lists.{insert_sorted, sort_by}
 use Rattle.oci_types.specs.Text.{Text}
-use Rattle.registry_model.specs.declared.grant.Grant.{Grant}
 use Rattle.registry_model.specs.declared.level.Level.{Level}
-use Rattle.registry_model.specs.World.{text_cmp, Repo, World}
+use Rattle.registry_model.specs.World.{text_cmp}
 use Rattle.registry_model.specs.Lookups.{AreLevelsOver, grants_on, repo_names_of}
 use Rattle.store_schema.specs.Rows.{bytes_at, natural_at}
 use Rattle.store_schema.proofs.Lists.{bytes_eq_true, bytes_eq_itself}
