@@ -1,5 +1,5 @@
-//! Lists of referrers (OCI Distribution Specification 1.1, Listing Referrers). GET writes the list, HEAD
-//! counts the bytes of what it would write.
+//! Lists of referrers (OCI Distribution Specification 1.1, Listing Referrers). GET writes the list, and HEAD
+//! counts the bytes that GET would write.
 
 ghost use Rattle.std.specs.Prelude.{◌≡◌, ◌++◌, List, MatchResult, length, option_map, string_bytes};
 ghost use Rattle.oci_types.specs.Referrers.{ReferrerShown, referrer_shown};

@@ -21,8 +21,12 @@ abbrev pub has_none : {A : Type 0} → List A → Bool
 has_none [] = true
 has_none (x ∷ xs) = false
 
--- these are listed so far: {"manifests":[REFERRER,..
-pub record Lists {S : Type 0} (took : S → Text → Type 0) (body : ReferrersBody S) (rs : List ReferrerShown)
-    : Type 0 where
-  pub text : took body.out (codes "{\"manifests\":[" ++ with_commas (map referrer_line rs))
+-- {"manifests":[REFERRER,..
+abbrev pub begun_line : List ReferrerShown → Text
+begun_line rs = codes "{\"manifests\":[" ++ with_commas (map referrer_line rs)
+
+-- these are listed so far, and nothing else was taken
+pub record Lists {S : Type 0} (took : S → Text → Type 0)
+    (body : ReferrersBody S) (rs : List ReferrerShown) : Type 0 where
+  pub text : took body.out (begun_line rs)
   pub is_empty : body.is_empty ≡ has_none rs

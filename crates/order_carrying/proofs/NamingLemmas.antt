@@ -13,7 +13,7 @@ use Rattle.std.specs.FinMap.{FinMap, keys, entries, entries_sorted, is_sorted}
 use Rattle.std.specs.FinMap.Entries.{below_all}
 use Rattle.std.proofs.Math.Bool.{or-false}
 use Rattle.std.proofs.Math.Seq.{take-suc}
-use Rattle.std.proofs.lemmas.Bool.{false_from_ne_true, cond-true, cond-false}
+use Rattle.std.proofs.lemmas.Bool.{false_from_ne_true, cond-true, cond-false, not-true, not-false, or_parts}
 use Rattle.std.proofs.lemmas.List.{map-append, append-nil, length_push, get_or_push, map-id, take_all}
 use Rattle.std.proofs.lemmas.List.Elements.{filter-append}
 use Rattle.std.proofs.lemmas.List.Folds.{list_any-append}
@@ -30,14 +30,6 @@ use Rattle.manifest_operations.specs.Pruning.{names_at}
 use Rattle.order_carrying.specs.Reading.{naming_at, namings_at, namers_among}
 use Rattle.order_carrying.specs.Naming.{is_last, with_namer, IsPut}
 
-left_of : (a b : Bool) → (a || b) ≡ false → a ≡ false
-left_of true b h = h
-left_of false b h = refl
-
-right_of : (a b : Bool) → (a || b) ≡ false → b ≡ false
-right_of true b h = absurd (cc)
-right_of false b h = h
-
 same_bytes : (m : Text) → bytes_eq m m ≡ true
 same_bytes m = sym (is_eq-slice_cmp m m) ∙ (eq_by_cmp_equiv text_total).refl m
 
@@ -52,19 +44,11 @@ last_tested last manifest manifests at = tested last ∙ ap (λ o. option_map_or
     tested None = refl
     tested (Some last) = is_eq-slice_cmp last.now manifest.now
 
-not_true : (t b : Bool) → t ≡ not b → t ≡ true → b ≡ false
-not_true t true e h = cc
-not_true t false e h = refl
-
-not_false : (t b : Bool) → t ≡ not b → t ≡ false → b ≡ true
-not_false t true e h = refl
-not_false t false e h = cc
-
 pub put_more : (ms new : List Text) (m : Text) (test was_last : Bool) → test ≡ not was_last → was_last ≡ is_last ms m → test ≡ true → new ≡ ms ++ m ∷ [] → new ≡ with_namer ms m
-put_more ms new m test was_last e at tested pushed = pushed ∙ sym (cond-false (is_last ms m) ms (ms ++ m ∷ []) (sym at ∙ not_true test was_last e tested))
+put_more ms new m test was_last e at tested pushed = pushed ∙ sym (cond-false (is_last ms m) ms (ms ++ m ∷ []) (sym at ∙ not-true was_last (sym e ∙ tested)))
 
 pub put_already : (ms : List Text) (m : Text) (test was_last : Bool) → test ≡ not was_last → was_last ≡ is_last ms m → test ≡ false → ms ≡ with_namer ms m
-put_already ms m test was_last e at tested = sym (cond-true (is_last ms m) ms (ms ++ m ∷ []) (sym at ∙ not_false test was_last e tested))
+put_already ms m test was_last e at tested = sym (cond-true (is_last ms m) ms (ms ++ m ∷ []) (sym at ∙ not-false was_last (sym e ∙ tested)))
 
 last_put : (ms : List Text) (m : Text) → is_last (ms ++ m ∷ []) m ≡ true
 last_put ms m =
@@ -208,7 +192,7 @@ some_of_them names [] m q h = refl
 some_of_them names (x ∷ ms) m q h =
     let others : List (Text × List Text) = map (λ (m : Text). (m, names m)) ms in
     ap (λ xs. is_among xs m) (one_of (is_among (names x) q) (names x) x (filter (λ n. is_among n.1 q) others))
-    ∙ one_or_none x m (is_among (names x) q) (namers_among others q) (left_of _ _ h) (some_of_them names ms m q (right_of (bytes_eq x m) _ h))
+    ∙ one_or_none x m (is_among (names x) q) (namers_among others q) (or_parts _ _ h).0 (some_of_them names ms m q (or_parts (bytes_eq x m) _ h).1)
 
 one_more : (names : Text → List Text) (ms : List Text) (m q : Text)
     → namers_among (map (λ (m : Text). (m, names m)) (ms ++ m ∷ [])) q ≡ namers_among (map (λ (m : Text). (m, names m)) ms) q ++ cond (is_among (names m) q) (m ∷ []) []
@@ -258,7 +242,7 @@ pub still_there : (yielded : List Text) (digest q : Text) (before old new : List
     → new ≡ cond (bytes_eq digest q) [] old → is_among (yielded ++ digest ∷ []) q ≡ false → new ≡ before
 still_there yielded digest q before old new kept taken is_new =
     let others : (is_among yielded q || (bytes_eq digest q || false)) ≡ false = sym (list_any-append (λ other. bytes_eq other q) yielded (digest ∷ [])) ∙ is_new in
-    taken ∙ cond-false (bytes_eq digest q) [] old (left_of _ _ (right_of _ _ others)) ∙ kept (left_of _ _ others)
+    taken ∙ cond-false (bytes_eq digest q) [] old (or_parts _ _ (or_parts _ _ others).1).0 ∙ kept (or_parts _ _ others).0
 
 -- what was taken is what the world's manifests say
 pub taken_of : (s began : State) (name digest : Text) (namers : Text → List Text) (now given : List Text) → given ≡ now → now ≡ namers digest
