@@ -1,8 +1,9 @@
 """What costs at growing sizes say: *flat*, *linear* or *worse*; and the table and verdicts of bench/growth.py.
 
 The rule. A cost is *flat* where the largest size costs at most 1.5 times what the smallest does, plus a floor of
-20 us of a processor, or of 2 MiB. It is *linear* where from each size to the next it grows at most 1.5 times as much
-as the size does, plus the floor. Else it is *worse*.
+20 us of a processor, or of 2 MiB. It is *linear* where from each size to the next it grows less than the size to the
+power of 1.5, plus the floor: half way to what grows by the square, so that what lies in no cache of a processor any
+more is no other law. Else it is *worse*.
 """
 import math
 from dataclasses import dataclass
@@ -10,7 +11,7 @@ from typing import NamedTuple
 
 FLAT, LINEAR, WORSE = "flat", "linear", "worse"
 LAWS = (FLAT, LINEAR, WORSE)
-BEYOND = 1.5
+BEYOND, POWER = 1.5, 1.5
 FLOOR, FLOOR_OF_MEMORY = 20e-6, 2.0
 
 
@@ -44,7 +45,7 @@ def law(costs, floor):
     if found[-1][1] <= BEYOND * found[0][1] + floor:
         return FLAT
     steps = zip(found, found[1:])
-    kept = (after <= BEYOND * before * larger / size + floor for (size, before), (larger, after) in steps)
+    kept = (after <= before * (larger / size) ** POWER + floor for (size, before), (larger, after) in steps)
     return LINEAR if all(kept) else WORSE
 
 
