@@ -122,7 +122,7 @@ fn turns<K: Keeper>(
         let count = conversation.outgoing().len();
         bytes.extend_from_slice(conversation.outgoing())?;
         conversation.sent(count);
-        if step != Step::Answered {
+        if !matches!(step, Step::Answered | Step::Interim) {
             return Ok(step);
         }
     }

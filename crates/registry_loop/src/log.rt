@@ -60,7 +60,7 @@ struct Said<'a> {
 
 /// What is known of the request of a turn, if a reply came of it, but for how long it took.
 fn said_of<'a>(connections: &'a Connections, turn: &Turn) -> Option<Said<'a>> {
-    if turn.step == Step::Waits {
+    if matches!(turn.step, Step::Waits | Step::Interim) {
         return None;
     }
     let going = connections.outgoing(turn.number);

@@ -21,7 +21,7 @@ use Rattle.registry_server.specs.declared.phase.Step.{Step}
 use Rattle.registry_server.specs.declared.phase.Step.TheVariants as step
 use Rattle.registry_server.specs.Shown.{Shown, listens, listens_as, with_more, with_finished, with_going}
 use Rattle.registry_server.specs.Holding.{HoldsAs, Holds}
-use Rattle.registry_server.specs.Stepping.{AnswersFirst, WaitsForMore, PutsPart, replying, refusing, continuing, EndsAs, ActsAs, Receives}
+use Rattle.registry_server.specs.Stepping.{AnswersFirst, WaitsForMore, PutsInterim, PutsPart, replying, refusing, continuing, EndsAs, ActsAs, Receives}
 use Rattle.registry_server.specs.ConversationEvents.{Event, came, ended, acted, sent, Happens, heard_if}
 use Rattle.registry_server.proofs.HoldingLemmas.{said_there}
 use Rattle.registry_server.specs.Accounts.{Replied, items_of, SoFar, EndsSo, AccountsAs}
@@ -100,6 +100,15 @@ module _ (all later out b before going : Text) (rs : List Replied) (s s' : State
   nothing_put : c.going ≡ going → Progress all later b before (out ++ c.going) rs
   nothing_put e = subst (λ (g : Text). Progress all later b before (out ++ g) rs) (sym e) p
 
+  -- what stands before the body is put
+  interim : PutsInterim b before going s s' c → Next all later (out ++ c.going) rs s s' c
+  interim x =
+      idly all later (out ++ c.going) rs s s' c x.same
+      (still_open c.phase all later (out ++ c.going) b x.first rs c refl x.holds
+      (subst (λ (o : Text). Progress all later b x.first o rs) (sym (put_on out going c.going x.first x.put))
+      (subst (λ (y : Text). Progress all later b (y ++ x.first) ((out ++ going) ++ x.first) rs) x.unsaid
+      (put_first all later b before (out ++ going) rs p x.first))))
+
   waits : WaitsForMore b before going s s' c → Next all later (out ++ c.going) rs s s' c
   waits x = idly all later (out ++ c.going) rs s s' c x.same (still_open c.phase all later (out ++ c.going) b before rs c refl x.holds (nothing_put x.put))
 
@@ -138,6 +147,7 @@ module _ (all later out b before going : Text) (rs : List Replied) (s s' : State
 
   turn : (found : Step) → (c.finished ≡ true → later ≡ []) → ActsAs found b before going s s' c → Next all later (out ++ c.going) rs s s' c
   turn step.Answered done x = was_answered x
+  turn step.Interim done x = interim x
   turn step.Waits done x = waits x
   turn (step.Ended e) done x = ends e x.0 done x.1
 
@@ -176,11 +186,9 @@ acts_on found es all out rs s s' c c' x stands = by_phase c.phase refl stands
     goes_on : Open all (heard_if c.finished (acted found ∷ es)) (out ++ c.going) rs c → NextBefore es all out rs s s' c'
     goes_on y =
         let a = x.2 y.rest y.said y.holds in
-        turn all (heard_if c'.finished es) out y.rest (y.said ++ a.first) (c.going ++ a.first) rs s s' c'
-        (subst (λ (o : Text). Progress all (heard_if c'.finished es) y.rest (y.said ++ a.first) o rs) (append_assoc out c.going a.first)
-        (put_first all (heard_if c'.finished es) y.rest y.said (out ++ c.going) rs
-        (subst (λ (l : Text). Progress all l y.rest y.said (out ++ c.going) rs) later y.progress) a.first))
-        found (λ done. heard_done c'.finished es done) a.acts
+        turn all (heard_if c'.finished es) out y.rest y.said c.going rs s s' c'
+        (subst (λ (l : Text). Progress all l y.rest y.said (out ++ c.going) rs) later y.progress)
+        found (λ done. heard_done c'.finished es done) a
 
     by_phase : (p : Phase) → c.phase ≡ p → StandsAs p all (heard_if c.finished (acted found ∷ es)) (out ++ c.going) rs c → NextBefore es all out rs s s' c'
     by_phase Head e y = goes_on y

@@ -9,7 +9,7 @@ use Rattle.httparse.specs.declared.spans.RequestSpans.{RequestSpans}
 use Rattle.httparse.proofs.GrammarLemmas.{request_unique}
 use Rattle.oci_types.specs.Text.{Text}
 use Rattle.registry_http.specs.Framing.{framing}
-use Rattle.registry_http.specs.Expecting.{text_before, IsBefore}
+use Rattle.registry_http.specs.Expecting.{continue_if, text_before, IsBefore}
 use Rattle.registry_http.specs.Reading.{HeadIsRead, IsHeadAt}
 use Rattle.registry_http.specs.Spelling.{Item, IsRequest, closes, HoldsNoHead, BodyIsCut, BodyIsRefused, IsCut, IsRefused}
 use Rattle.registry_http.specs.declared.ending.FramingRefusal.{FramingRefusal}
@@ -71,22 +71,22 @@ head_taken heading b t u t' x none all kept =
     ∙ take_at (print_request x.head) (drop heading.len b) heading.len (sym x.len)
 
 pub length_begins : (heading : Heading) (b t u t' u' : Text) (n : ℕ) (x : BeginsAt heading b) → heading.framing ≡ framed.Length n → t ≡ [] → u ≡ b
-    → t' ≡ t ++ take heading.len u → u' ≡ drop heading.len u → HoldsAs (Body (Length n)) t' u' b (text_before x.head)
+    → t' ≡ t ++ take heading.len u → u' ≡ drop heading.len u → HoldsAs (Body (Length n)) t' u' b (continue_if heading.awaits)
 length_begins heading b t u t' u' n x is none all kept rest = (
   x.head,
   drop heading.len b,
   x.there,
-  refl,
+  ap continue_if x.awaits,
   (sym x.framed ∙ is, head_taken heading b t u t' x none all kept, rest ∙ ap (drop heading.len) all),
 )
 
 pub chunks_begin : (heading : Heading) (b t u t' u' : Text) (x : BeginsAt heading b) → heading.framing ≡ framed.Chunked → t ≡ [] → u ≡ b
-    → t' ≡ t ++ take heading.len u → u' ≡ drop heading.len u → HoldsAs (Body (Line 0)) t' u' b (text_before x.head)
+    → t' ≡ t ++ take heading.len u → u' ≡ drop heading.len u → HoldsAs (Body (Line 0)) t' u' b (continue_if heading.awaits)
 chunks_begin heading b t u t' u' x is none all kept rest = (
   x.head,
   drop heading.len b,
   x.there,
-  refl,
+  ap continue_if x.awaits,
   (
     sym x.framed ∙ is,
     record {

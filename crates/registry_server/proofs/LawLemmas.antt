@@ -18,7 +18,7 @@ use Rattle.registry_server.specs.declared.phase.Step.{Step}
 use Rattle.registry_server.specs.declared.phase.Step.TheVariants as step
 use Rattle.registry_server.specs.Shown.{Shown, begun, listens, listens_as, with_more, with_finished, with_going}
 use Rattle.registry_server.specs.Holding.{HoldsAs, Holds}
-use Rattle.registry_server.specs.Stepping.{AnswersFirst, WaitsForMore, PutsPart, replying, refusing, continuing, EndsAs, ActsAs, Receives}
+use Rattle.registry_server.specs.Stepping.{AnswersFirst, WaitsForMore, PutsInterim, PutsPart, replying, refusing, continuing, EndsAs, ActsAs, Receives}
 use Rattle.registry_server.specs.ConversationEvents.{Event, came, ended, acted, sent, Happens, Passes, heard_if, heard, went, traffic, ServedTo, SoFar, AccountsAs, Accounts}
 use Rattle.registry_server.proofs.EndLemmas.{off_end, off_refused, off_write, told}
 use Rattle.registry_server.proofs.HoldingLemmas.{said_there}
@@ -96,6 +96,15 @@ module _ (all later out b before going : Text) (s0 s s' : State) (c : Shown) (p 
       subst (λ (g : Text). Progress b before (on_way all later (out ++ g) s0 s')) (sym e)
       (subst (λ (t : State). Progress b before (on_way all later (out ++ going) s0 t)) (sym same) p)
 
+  -- what stands before the body is put
+  interim : PutsInterim b before going s s' c → Stands all later (out ++ c.going) s0 s' c
+  interim x =
+      still_open c.phase all later (out ++ c.going) b x.first s0 s' c refl x.holds
+      (subst (λ (t : State). Progress b x.first (on_way all later (out ++ c.going) s0 t)) (sym x.same)
+      (subst (λ (g : Text). Progress b x.first (on_way all later (out ++ g) s0 s)) (sym x.put)
+      (subst (λ (y : Text). Progress b (y ++ x.first) (on_way all later (out ++ (going ++ x.first)) s0 s)) x.unsaid
+      (first_on all later out b before x.first going s0 s p))))
+
   waits : WaitsForMore b before going s s' c → Stands all later (out ++ c.going) s0 s' c
   waits x = still_open c.phase all later (out ++ c.going) b before s0 s' c refl x.holds (nothing_put x.put x.same)
 
@@ -129,6 +138,7 @@ module _ (all later out b before going : Text) (s0 s s' : State) (c : Shown) (p 
 
   turn : (found : Step) → (c.finished ≡ true → later ≡ []) → ActsAs found b before going s s' c → Stands all later (out ++ c.going) s0 s' c
   turn step.Answered done x = was_answered x
+  turn step.Interim done x = interim x
   turn step.Waits done x = waits x
   turn (step.Ended e) done x = is_over e all later (out ++ c.going) s0 s' c x.0 (ends e done x.1)
 
@@ -164,10 +174,9 @@ acts_on found es all out s0 s s' c c' x stands = by_phase c.phase refl stands
     goes_on : Open all (heard_if c.finished (acted found ∷ es)) (out ++ c.going) s0 s c → StandsBefore es all out s0 s' c'
     goes_on y =
         let a = x.2 y.rest y.said y.holds in
-        turn all (heard_if c'.finished es) out y.rest (y.said ++ a.first) (c.going ++ a.first) s0 s s' c'
-        (first_on all (heard_if c'.finished es) out y.rest y.said a.first c.going s0 s
-        (subst (λ (l : Text). Progress y.rest y.said (on_way all l (out ++ c.going) s0 s)) later y.progress))
-        found (λ done. heard_done c'.finished es done) a.acts
+        turn all (heard_if c'.finished es) out y.rest y.said c.going s0 s s' c'
+        (subst (λ (l : Text). Progress y.rest y.said (on_way all l (out ++ c.going) s0 s)) later y.progress)
+        found (λ done. heard_done c'.finished es done) a
 
     by_phase : (p : Phase) → c.phase ≡ p → StandsAs p all (heard_if c.finished (acted found ∷ es)) (out ++ c.going) s0 s c → StandsBefore es all out s0 s' c'
     by_phase Head e y = goes_on y

@@ -1,5 +1,5 @@
 -- What a turn comes to, from its parts.
-use Rattle.std.proofs.Common.{◌≡◌, ℕ, ◌+◌, ◌<◌, ◌≤◌, ◌⊎◌, ◌==◌, inl, inr, Bool, true, false, [], ◌∷◌, ◌++◌, length, take, drop, Some, Result, Ok, Err, refl, sym, ap, ◌∙◌, subst, append-nil, append_assoc, length-append, length-take, length-drop, le_of_eq, arith}
+use Rattle.std.proofs.Common.{◌≡◌, ℕ, ◌+◌, ◌&&◌, codes, List, ◌<◌, ◌≤◌, ◌⊎◌, ◌==◌, inl, inr, Bool, true, false, [], ◌∷◌, ◌++◌, length, take, drop, Some, Result, Ok, Err, refl, sym, ap, ◌∙◌, subst, append-nil, append_assoc, length-append, length-take, length-drop, le_of_eq, arith}
 use Rattle.std.proofs.lemmas.Bool.Decides.{nat_tests}
 use Rattle.std.proofs.lemmas.List.{drop-append-le}
 use Rattle.std.specs.Bool.{MatchBool}
@@ -11,7 +11,8 @@ use Rattle.registry_model.specs.Doing.{Does}
 use Rattle.registry_http.specs.Asking.{ask_in}
 use Rattle.registry_http.specs.Sending.{SendsReply}
 use Rattle.registry_http.specs.declared.outgoing.WriteFault.{WriteFault}
-use Rattle.registry_http.specs.Expecting.{IsBefore, continue_if, text_before}
+use Rattle.registry_http.specs.Expecting.{IsBefore, expects_if, awaits_by, continue_if, text_before}
+use Rattle.registry_http.specs.Fields.{NamedValue, fields_of, values, first}
 use Rattle.registry_http.specs.Framing.{framing}
 use Rattle.registry_http.specs.Serving.{reply_for}
 use Rattle.registry_http.specs.ReplyText.{refusal_text}
@@ -27,12 +28,12 @@ use Rattle.registry_server.specs.declared.phase.Phase.{Phase}
 use Rattle.registry_server.specs.declared.phase.Phase.TheVariants as phase
 use Rattle.registry_server.specs.declared.phase.Step.{Step}
 use Rattle.registry_server.specs.declared.phase.Step.TheVariants as step
-use Rattle.registry_server.specs.Shown.{Shown, with_more, with_phase, coming_len}
+use Rattle.registry_server.specs.Shown.{Shown, listens, listens_as, with_more, with_phase, coming_len, heads, turns_left}
 use Rattle.registry_server.specs.Headings.{BeginsAt}
 use Rattle.registry_server.specs.declared.heading.Heading.{Heading}
 use Rattle.registry_server.specs.declared.part.Part.{Part}
 use Rattle.registry_server.specs.Holding.{HoldsAs, Holds, HoldsWhole}
-use Rattle.registry_server.specs.Stepping.{IsRefusedThere, AnswersFirst, PutsPart, replying, refusing, EndsAs, ActsAs, Acts, Refuses, Receives, Waited}
+use Rattle.registry_server.specs.Stepping.{IsRefusedThere, AnswersFirst, PutsPart, replying, refusing, EndsAs, ActsAs, Acts, LeadsOn, Refuses, Receives, Waited}
 use Rattle.registry_server.proofs.HoldingLemmas.{holds_on, before_there, refused_there, item_request, item_begins}
 
 -- ---- what is to go out grows
@@ -54,16 +55,6 @@ refusal_on Cut r gone out out' within s = absurd s
 refusal_on (Refused q) r gone out out' within s = (s.0, going_on gone out out' (refusal_text r) within s.1)
 refusal_on ReadFailed r gone out out' within s = absurd s
 refusal_on (WriteFailed n) r gone out out' within s = (s.0, going_on gone out out' (take n (refusal_text r)) within s.1)
-
--- ---- a turn in which nothing is put before the body
-
-module _ (found : Step) (b said : Text) (old : Shown) (s s' : State) (new : Shown) where
-  pub act : ActsAs found b said old.going s s' new → Acts found b said old s s' new
-  act p = record {
-    first = [];
-    acts = subst (λ (x : Text). ActsAs found b x (old.going ++ []) s s' new) (sym (append-nil said))
-        (subst (λ (g : Text). ActsAs found b said g s s' new) (sym (append-nil old.going)) p);
-  }
 
 -- ---- a refusal
 
@@ -112,6 +103,44 @@ waited_closed found b before old new s w none unsaid is holds = by_flag old.fini
         subst (λ (k : Step). ActsAs k b before old.going s s new) (sym x.0)
         (subst (λ (c : Shown). ActsAs step.Waits b before old.going s s c) (sym x.1)
         (record { goes_on = e; cut = inl none; before_is = is; holds = holds; put = refl; same = refl }))
+
+-- ---- turns come to an end
+
+heads_few : (p : Phase) → heads p ≤ 1
+heads_few phase.Head = omega arith
+heads_few (phase.Body part) = omega arith
+heads_few (phase.Ended e) = omega arith
+
+pub leads_refused : (found : Step) (r : FramingRefusal) (old mid new : Shown) → Refuses found r mid new → LeadsOn found old new
+leads_refused found r old mid new x = subst (λ (k : Step). LeadsOn k old new) (sym x.found_is) x.ended
+
+pub leads_ended : (found : Step) (e : End) (old mid new : Shown) → found ≡ step.Ended e → new ≡ with_phase mid (phase.Ended e) → LeadsOn found old new
+leads_ended found e old mid new told ends = subst (λ (k : Step). LeadsOn k old new) (sym told) (ap (λ (c : Shown). c.phase) ends)
+
+pub leads_waited : (found : Step) (e : End) (old mid new : Shown) → Waited found e mid new → listens_as mid.phase false ≡ true → turns_left mid ≤ turns_left old
+    → LeadsOn found old new
+leads_waited found e old mid new w hears fewer = by_flag mid.finished refl w
+  where
+    by_flag : (f : Bool) → mid.finished ≡ f
+        → MatchBool f ((found ≡ step.Ended e) × (new ≡ with_phase mid (phase.Ended e))) ((found ≡ step.Waits) × (new ≡ mid)) → LeadsOn found old new
+    by_flag true same x = leads_ended found e old mid new x.0 x.1
+    by_flag false same x =
+        subst (λ (k : Step). LeadsOn k old new) (sym x.0)
+        (subst (λ (c : Shown). (turns_left c ≤ turns_left old) × (listens c ≡ true)) (sym x.1) (fewer, ap (listens_as mid.phase) same ∙ hears))
+
+pub leads_from : (found : Step) (old mid new : Shown) → turns_left mid ≤ turns_left old → LeadsOn found mid new → LeadsOn found old new
+leads_from step.Answered old mid new fewer x = omega (arith, fewer, x)
+leads_from step.Interim old mid new fewer x = omega (arith, fewer, x)
+leads_from step.Waits old mid new fewer x = (omega (arith, fewer, x.0), x.1)
+leads_from (step.Ended e) old mid new fewer x = x
+
+-- the bytes of the request that was answered are let go
+pub leads_answered : (old mid new : Shown) → mid ≡ old → 0 < length mid.taken → coming_len new ≡ length mid.unread → turns_left new < turns_left old
+leads_answered old mid new same some rest =
+    let few = heads_few new.phase in
+    let taken : length mid.taken ≡ length old.taken = ap (λ (c : Shown). length c.taken) same in
+    let unread : length mid.unread ≡ length old.unread = ap (λ (c : Shown). length c.unread) same in
+    omega (arith, few, some, rest, taken, unread)
 
 -- ---- what is held grows in no turn
 
@@ -209,11 +238,6 @@ part_ends found n b before going s s' old new told ends part =
     subst (λ (k : Step). ActsAs k b before going s s' new) (sym told)
     (subst (λ (c : Shown). ActsAs (step.Ended (WriteFailed n)) b before going s s' c) (sym ends) (refl, part))
 
--- what stands before the body was put first
-pub first_put : (found : Step) (b first : Text) (old : Shown) (going : Text) (s s' : State) (new : Shown) → going ≡ old.going ++ first
-    → ActsAs found b first going s s' new → Acts found b [] old s s' new
-first_put found b first old going s s' new put acts = record { first = first; acts = subst (λ (g : Text). ActsAs found b first g s s' new) put acts }
-
 -- ---- a request was answered
 
 module _ (taken unread going b said : Text) (w : HoldsWhole taken unread b said) where
@@ -244,18 +268,25 @@ module _ (taken unread going b said : Text) (w : HoldsWhole taken unread b said)
 
 -- ---- a head was found, or none
 
-module _ (heading : Heading) (b : Text) (x : BeginsAt heading b) where
-  pub said_to : (tail : Text) → IsBefore (b ++ tail) (continue_if heading.awaits)
-  said_to tail = subst (λ (f : Bool). IsBefore (b ++ tail) (continue_if f)) (sym x.awaits) (before_there x.head b (drop heading.len b) tail x.there)
+none_awaited : (a b : Bool) → continue_if ((a && b) && false) ≡ []
+none_awaited true true = refl
+none_awaited true false = refl
+none_awaited false true = refl
+none_awaited false false = refl
 
+never_awaits : (minor : ℕ) (fields : List NamedValue) (r : FramingRefusal) → continue_if (awaits_by minor fields (framed.Refused r)) ≡ []
+never_awaits minor fields r = none_awaited (minor == 1) (expects_if (first (values (codes "expect") fields)))
+
+module _ (heading : Heading) (b : Text) (x : BeginsAt heading b) where
   pub refused_at : (r : FramingRefusal) → heading.framing ≡ framed.Refused r → IsRefusedThere b (text_before x.head) r
   refused_at r is tail = (
     refused_there x.head b (drop heading.len b) tail r x.there (subst (λ (f : Framing). BodyIsRefused f (drop heading.len b ++ tail) r) (sym is ∙ x.framed) refl),
     before_there x.head b (drop heading.len b) tail x.there,
   )
 
-  pub put_first : (gone : ℕ) (out out' : Text) → gone ≤ length out → out' ≡ out ++ continue_if heading.awaits → drop gone out' ≡ drop gone out ++ text_before x.head
-  put_first gone out out' within e = going_on gone out out' (continue_if heading.awaits) within e ∙ ap (λ (f : Bool). drop gone out ++ continue_if f) x.awaits
+  -- no client waits where the body is refused
+  pub none_before : (r : FramingRefusal) → heading.framing ≡ framed.Refused r → text_before x.head ≡ []
+  none_before r is = ap (λ (f : Framing). continue_if (awaits_by x.head.minor (fields_of x.head) f)) (sym x.framed ∙ is) ∙ never_awaits x.head.minor (fields_of x.head) r
 
 -- what is held between two requests
 pub held_at_head : (c : Shown) (b said : Text) → c.phase ≡ phase.Head → Holds c b said → HoldsAs phase.Head c.taken c.unread b said
@@ -265,21 +296,19 @@ module _ (found : Step) (b said : Text) (old new : Shown) (s : State) (x : Holds
   pub nothing_came : Waited found Closed old new → old.unread ≡ [] → Acts found b said old s s new
   nothing_came w none =
       let all : b ≡ [] = sym h.1 ∙ none in
-      act found b said old s s new
-      (waited_closed found b said old new s w all h.2 (subst (λ (y : Text). IsBefore b y) (sym h.2) (before_empty b all)) x)
+      waited_closed found b said old new s w all h.2 (subst (λ (y : Text). IsBefore b y) (sym h.2) (before_empty b all)) x
 
   pub head_cut : Waited found Cut old new → (old.unread ≡ [] → ⊥) → (old.unread ≡ []) ⊎ HeadIsCut old.unread → Acts found b said old s s new
   head_cut w some (inl none) = absurd (some none)
   head_cut w some (inr cut) =
       let here = subst HeadIsCut h.1 cut in
-      act found b said old s s new (waited_cut found b said old new s w (inl here) (subst (λ (y : Text). IsBefore b y) (sym h.2) (before_cut b here)) x)
+      waited_cut found b said old new s w (inl here) (subst (λ (y : Text). IsBefore b y) (sym h.2) (before_cut b here)) x
 
   pub head_never : Refuses found UnreadableHead old new → ((tail : Text) → HeadIsUnreadable (old.unread ++ tail)) → Acts found b said old s s new
   head_never w never =
-      act found b said old s s new
-      (refused found UnreadableHead b said old new s w
+      refused found UnreadableHead b said old new s w
       (λ tail. let bad = subst (λ (y : Text). HeadIsUnreadable (y ++ tail)) h.1 (never tail) in
-      (inl (refl, bad), subst (λ (y : Text). IsBefore (b ++ tail) y) (sym h.2) (before_unreadable (b ++ tail) bad))))
+      (inl (refl, bad), subst (λ (y : Text). IsBefore (b ++ tail) y) (sym h.2) (before_unreadable (b ++ tail) bad)))
 
 -- a body that was taken so far is refused
 pub body_never : (part : Part) (taken unread b said : Text) (r : FramingRefusal) (x : HoldsAs (phase.Body part) taken unread b said)

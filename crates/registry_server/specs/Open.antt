@@ -2,7 +2,7 @@
 use Rattle.std.specs.Prelude.{◌≡◌, ◌≢◌, ℕ, ◌+◌, ◌<◌, ◌≤◌, ⊤, Bool, true, false, ◌||◌, ◌&&◌, nat_lt, is_none, if◌then◌else◌, List, [], ◌∷◌, ◌++◌, ◌==◌, length, drop, min, Option, Some, None, All}
 use Rattle.oci_types.specs.Text.{Text}
 use Rattle.registry_server.specs.declared.phase.Step.{Step}
-use Rattle.registry_server.specs.declared.phase.Step.TheVariants.{Answered, Waits, Ended}
+use Rattle.registry_server.specs.declared.phase.Step.TheVariants.{Answered, Interim, Waits, Ended}
 use Rattle.registry_server.specs.Shown.{Shown, begun, listens, with_finished, with_going, coming_len, held_len}
 use Rattle.registry_server.specs.Stepping.{Receives}
 use Rattle.registry_server.specs.declared.bounds.Bounds.{Bounds}
@@ -109,9 +109,11 @@ pub record Closes (n : ℕ) (old new : List Slot) : Type 0 where
 abbrev pub is_told : Shown → Bool
 is_told c = length c.going == 0
 
--- another turn may come to something at once: it answered, and no reply waits for its way out
+-- another turn may come to something at once: it answered, or put an interim response out, and nothing waits
+-- for its way out
 abbrev pub goes_on : Step → Shown → Bool
 goes_on Answered c = is_told c
+goes_on Interim c = is_told c
 goes_on Waits c = false
 goes_on (Ended e) c = false
 

@@ -1,5 +1,5 @@
 -- A conversation as its contracts see it.
-use Rattle.std.specs.Prelude.{ℕ, ◌+◌, Bool, true, false, not, [], ◌++◌, ◌==◌, length}
+use Rattle.std.specs.Prelude.{ℕ, ◌+◌, ◌*◌, Bool, true, false, not, [], ◌++◌, ◌==◌, length}
 use Rattle.oci_types.specs.Text.{Text}
 use Rattle.registry_server.specs.declared.phase.Phase.{Phase}
 use Rattle.registry_server.specs.declared.phase.Phase.TheVariants.{Head, Body, Ended}
@@ -61,3 +61,13 @@ coming_len c = length c.taken + length c.unread
 -- these, and those that are to go out
 abbrev pub held_len : Shown → ℕ
 held_len c = coming_len c + length c.going
+
+-- a head is looked for
+abbrev pub heads : Phase → ℕ
+heads Head = 1
+heads (Body part) = 0
+heads (Ended e) = 0
+
+-- falls with each turn behind which another may come to something
+abbrev pub turns_left : Shown → ℕ
+turns_left c = 2 * coming_len c + heads c.phase

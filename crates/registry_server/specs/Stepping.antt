@@ -1,5 +1,5 @@
 -- What one turn of a conversation comes to.
-use Rattle.std.specs.Prelude.{◌≡◌, ℕ, ◌<◌, ◌⊎◌, true, false, [], ◌++◌, length, take, Some}
+use Rattle.std.specs.Prelude.{◌≡◌, ℕ, ◌<◌, ◌≤◌, ◌⊎◌, true, false, [], ◌++◌, length, take, Some}
 use Rattle.std.specs.Bool.{MatchBool}
 use Rattle.oci_types.specs.Text.{Text}
 use Rattle.registry_model.specs.Answer.{Answer}
@@ -18,7 +18,7 @@ use Rattle.registry_http.specs.declared.ending.End.TheVariants.{Closed, Cut, Ref
 use Rattle.registry_server.specs.declared.phase.Phase.TheVariants as phase
 use Rattle.registry_server.specs.declared.phase.Step.{Step}
 use Rattle.registry_server.specs.declared.phase.Step.TheVariants as step
-use Rattle.registry_server.specs.Shown.{Shown, with_more, with_phase, coming_len}
+use Rattle.registry_server.specs.Shown.{Shown, listens, with_more, with_phase, coming_len, turns_left}
 use Rattle.registry_server.specs.Holding.{Holds}
 
 -- ---- where before was put out already, behind going, of the text of the request that b begins with
@@ -42,6 +42,15 @@ pub record WaitsForMore (b before going : Text) (s s' : State) (new : Shown) : T
   pub before_is : IsBefore b before
   pub holds : Holds new b before
   pub put : new.going ≡ going
+  pub same : s' ≡ s
+
+-- the head that b begins with was taken, and before its body, which takes turns of its own, first was put
+pub record PutsInterim (b before going : Text) (s s' : State) (new : Shown) : Type 0 where
+  pub first : Text
+  pub unsaid : before ≡ []
+  pub first_is : (tail : Text) → IsBefore (b ++ tail) first
+  pub holds : Holds new b first
+  pub put : new.going ≡ going ++ first
   pub same : s' ≡ s
 
 -- the request is refused, whatever bytes follow
@@ -75,16 +84,23 @@ EndsAs (WriteFailed n) b before going s s' new = PutsPart n b before going s s' 
 
 abbrev pub ActsAs : Step → Text → Text → Text → State → State → Shown → Type 0
 ActsAs step.Answered b before going s s' new = AnswersFirst b before going s s' new
+ActsAs step.Interim b before going s s' new = PutsInterim b before going s s' new
 ActsAs step.Waits b before going s s' new = WaitsForMore b before going s s' new
 ActsAs (step.Ended e) b before going s s' new =
     (new.phase ≡ phase.Ended e) × EndsAs e b before going s s' new
 
 -- ---- one turn
 
--- said was put out before; behind what was to go out, first is put, which with it stands before the body
-pub record Acts (found : Step) (b said : Text) (old : Shown) (s s' : State) (new : Shown) : Type 0 where
-  pub first : Text
-  pub acts : ActsAs found b (said ++ first) (old.going ++ first) s s' new
+-- said was put out before, of the text of the request in hand
+abbrev pub Acts : Step → Text → Text → Shown → State → State → Shown → Type 0
+Acts found b said old s s' new = ActsAs found b said old.going s s' new
+
+-- turns come to an end, which a further one says again, or to more bytes being waited for
+abbrev pub LeadsOn : Step → Shown → Shown → Type 0
+LeadsOn step.Answered old new = turns_left new < turns_left old
+LeadsOn step.Interim old new = turns_left new < turns_left old
+LeadsOn step.Waits old new = (turns_left new ≤ turns_left old) × (listens new ≡ true)
+LeadsOn (step.Ended e) old new = new.phase ≡ phase.Ended e
 
 -- ---- parts of a turn
 

@@ -93,7 +93,8 @@ impl Connection {
         self.conversation.give_back(alloc);
     }
 
-    /// It takes a turn. Where it answered a request, it is to be looked at again once nothing is to go out.
+    /// It takes a turn. Where it answered a request, or has told its client to go on with the body, it is
+    /// to be looked at again once nothing is to go out.
     pub fn answer_next<K: Keeper>(&mut self, alloc: Global, service: &mut Service<K>) -> Turn
         ensures honest { K.is_honest service.new → K.is_honest service.old }
         ensures number { result.number ≡ self.old.number }
@@ -104,7 +105,8 @@ impl Connection {
         ensures lives { self.new.life ≡ self.old.life }
     {
         let step = self.conversation.answer_next(alloc, service);
-        self.stirred = matches!(step, Step::Answered) && self.conversation.outgoing().is_empty();
+        let goes_on = matches!(step, Step::Answered | Step::Interim);
+        self.stirred = goes_on && self.conversation.outgoing().is_empty();
         Turn {
             number: self.number,
             step,

@@ -1,22 +1,13 @@
-ghost use Rattle.std.specs.Prelude.{◌≡◌, ◌+◌, ◌<◌, ◌≤◌, [], true, false, length, drop, min, IfOk, IfSome, IfNone, vec_len};
-ghost use Rattle.std.specs.Bool.{MatchBool};
-ghost use Rattle.oci_types.specs.Text.{Text};
+ghost use Rattle.std.specs.Prelude.{◌≡◌, ◌+◌, ◌<◌, ◌≤◌, true, false, length, drop, min, IfOk, vec_len};
 
 use crate::exchange::Exchange;
-use crate::heading::{FoundHead, Heading, find_head};
-use crate::part::{Part, Taken, take_body};
+use crate::part::Part;
 use crate::phase::{Phase, Step, Wants};
-use crate::replying::reply_to;
 use crate::whole_connection::refuse;
-use httparse::spans::{EMPTY_HEADER_SPAN, HeaderSpan, RequestSpans};
+use httparse::spans::{EMPTY_HEADER_SPAN, HeaderSpan};
 use registry_http::buffer::Buffer;
-use registry_http::framing::Framing;
-use registry_http::head::{Parsed, parse_head};
 use registry_http::intake::LINES;
-use registry_http::reply_text::write_continue;
 use registry_http::{End, FramingRefusal};
-use registry_model::Keeper;
-use registry_service::Service;
 use std::alloc::{AllocError, Global};
 
 /// What has come of one connection and is not answered yet, and what is to go out on it (RFC 9112).
@@ -29,28 +20,25 @@ use std::alloc::{AllocError, Global};
 /// first `written` bytes are to go out, and a request whose reply it was took effect.
 #[derive(Drop)]
 pub struct Conversation {
-    buffer: Buffer,
+    pub(crate) buffer: Buffer,
     /// Room to find the fields of a head or a trailer in.
-    fields: Vec<HeaderSpan>,
-    phase: Phase,
+    pub(crate) fields: Vec<HeaderSpan>,
+    pub(crate) phase: Phase,
     /// The input has ended.
-    finished: bool,
+    pub(crate) finished: bool,
     /// What is to go out, behind what went out of it.
-    out: Vec<u8>,
+    pub(crate) out: Vec<u8>,
     gone: usize,
     /// What a log tells of the request in hand.
-    exchange: Exchange,
+    pub(crate) exchange: Exchange,
     ghost room: { vec_len fields ≡ 8192 },
     ghost within: { gone ≤ vec_len out },
 }
 
 impl Conversation {
     ghost use Rattle.registry_server.specs.Shown.{begun, with_finished, with_phase, with_going, with_none, listens, wants_of, coming_len, held_len};
-    ghost use Rattle.registry_http.specs.Reading.{Parses};
     ghost use Rattle.registry_server.specs.ConversationShowing.{shown};
-    ghost use Rattle.registry_server.specs.Headings.{BeginsAt};
-    ghost use Rattle.registry_server.specs.Holding.{Holds, HoldsAs, HoldsWhole};
-    ghost use Rattle.registry_server.specs.Stepping.{Acts, ActsAs, Refuses, Waited, Receives};
+    ghost use Rattle.registry_server.specs.Stepping.{Refuses, Receives};
 
     /// A conversation to which nothing has come. Room for 8,192 fields is all that it takes of memory.
     pub fn new(alloc: Global) -> Result<Conversation, AllocError>
@@ -93,7 +81,7 @@ impl Conversation {
     }
 
     /// Ends the conversation.
-    fn end(&mut self, end: End) -> Step
+    pub(crate) fn end(&mut self, end: End) -> Step
         ensures step { result ≡ Step.Ended end }
         ensures ends { shown self.new ≡ with_phase (shown self.old) (Phase.Ended end) }
     {
@@ -112,7 +100,7 @@ impl Conversation {
     }
 
     /// Refuses what has come, and lets it go: no further request is read.
-    fn refuse(&mut self, refusal: FramingRefusal) -> Step
+    pub(crate) fn refuse(&mut self, refusal: FramingRefusal) -> Step
         ensures { Refuses result refusal (shown self.old) (shown self.new) }
     {
         self.let_go();
@@ -226,175 +214,6 @@ impl Conversation {
         }
         if self.coming() == 0 {
             self.buffer = Buffer::new(alloc);
-        }
-    }
-
-    /// The request in hand is not whole: more bytes are missing, or the input ended there.
-    fn wait(&mut self, end: End) -> Step
-        ensures { Waited result end (shown self.old) (shown self.new) }
-    {
-        if !self.finished {
-            return Step::Waits;
-        }
-        self.end(end)
-    }
-
-    /// The reply stands in what is to go out.
-    fn close_if(&mut self, closing: bool)
-        ensures going { (shown self.new).going ≡ (shown self.old).going }
-        ensures finished { (shown self.new).finished ≡ (shown self.old).finished }
-        ensures fewer { coming_len (shown self.new) ≤ coming_len (shown self.old) }
-        ensures next { MatchBool closing ((shown self.new).phase ≡ Phase.Ended End.Closed)
-            (Holds (shown self.new) (shown self.old).unread []) }
-    {
-        self.buffer.forget();
-        if closing {
-            self.phase = Phase::Ended(End::Closed);
-        } else {
-            self.phase = Phase::Head;
-        }
-    }
-
-    /// Finds the head that what was taken begins with.
-    fn taken_head(&mut self) -> Option<RequestSpans>
-        ensures found { IfSome result (λ spans.
-            Parses (Parsed.Whole spans) (shown self.old).taken self.new.fields.items) }
-        ensures none { IfNone result ((b said : Text)
-            → HoldsWhole (shown self.old).taken (shown self.old).unread b said → ⊥) }
-        ensures same { shown self.new ≡ shown self.old }
-    {
-        let taken = self.buffer.before();
-        match parse_head(taken, &mut self.fields) {
-            Parsed::Whole(spans) => Some(spans),
-            Parsed::NotYet => None,
-            Parsed::Never => None,
-        }
-    }
-
-    /// Answers the request that was taken. Its head is found again where it stands, and so need not be
-    /// kept while its body comes.
-    fn reply<K: Keeper>(&mut self, alloc: Global, service: &mut Service<K>) -> Step
-        ensures honest { K.is_honest service.new → K.is_honest service.old }
-        ensures finished { (shown self.new).finished ≡ (shown self.old).finished }
-        ensures fewer { coming_len (shown self.new) ≤ coming_len (shown self.old) }
-        ensures acts { K.is_honest service.new → (b said : Text)
-            → HoldsWhole (shown self.old).taken (shown self.old).unread b said
-            → ActsAs result b said (shown self.old).going (K.state service.old) (K.state service.new)
-            (shown self.new) }
-    {
-        let Some(spans) = self.taken_head() else {
-            return self.refuse(FramingRefusal::UnreadableHead);
-        };
-        let taken = self.buffer.before();
-        self.exchange
-            .note_body(taken.len().saturating_sub(spans.len));
-        match reply_to(alloc, service, taken, &self.fields, &spans, &mut self.out) {
-            Ok(closing) => {
-                self.close_if(closing);
-                Step::Answered
-            }
-            Err(fault) => self.end(End::WriteFailed {
-                written: fault.written,
-            }),
-        }
-    }
-
-    /// Takes what has come of the body in hand, from this part on, and answers the request if it is whole.
-    fn go_on<K: Keeper>(&mut self, alloc: Global, service: &mut Service<K>, part: Part) -> Step
-        ensures honest { K.is_honest service.new → K.is_honest service.old }
-        ensures finished { (shown self.new).finished ≡ (shown self.old).finished }
-        ensures fewer { coming_len (shown self.new) ≤ coming_len (shown self.old) }
-        ensures acts { K.is_honest service.new → (b said : Text)
-            → HoldsAs (Phase.Body part) (shown self.old).taken (shown self.old).unread b said
-            → ActsAs result b said (shown self.old).going (K.state service.old) (K.state service.new)
-            (shown self.new) }
-    {
-        match take_body(&mut self.buffer, &mut self.fields, part) {
-            Taken::Whole => self.reply(alloc, service),
-            Taken::Missing(next) => {
-                self.phase = Phase::Body(next);
-                self.wait(End::Cut)
-            }
-            Taken::Refused(refusal) => self.refuse(refusal),
-        }
-    }
-
-    /// Takes a head off the unread bytes, and then what has come of the body behind it. A client that waits
-    /// for a 100 is told so first (RFC 9110, section 10.1.1).
-    fn take_head<K: Keeper>(
-        &mut self,
-        alloc: Global,
-        service: &mut Service<K>,
-        heading: Heading,
-    ) -> Step
-        requires { heading.len ≤ length (shown self.old).unread }
-        ensures honest { K.is_honest service.new → K.is_honest service.old }
-        ensures finished { (shown self.new).finished ≡ (shown self.old).finished }
-        ensures fewer { coming_len (shown self.new) ≤ coming_len (shown self.old) }
-        ensures acts { K.is_honest service.new → (b : Text)
-            → BeginsAt heading b → (shown self.old).taken ≡ [] → (shown self.old).unread ≡ b
-            → Acts result b [] (shown self.old) (K.state service.old) (K.state service.new)
-            (shown self.new) }
-    {
-        match write_continue(heading.awaits, &mut self.out) {
-            Ok(()) => {}
-            Err(fault) => return self.end(End::WriteFailed {
-                written: fault.written,
-            }),
-        }
-        self.exchange.note_head(self.buffer.behind());
-        self.buffer.pass(heading.len);
-        match heading.framing {
-            Framing::Length(count) => self.go_on(alloc, service, Part::Length(count)),
-            Framing::Chunked => self.go_on(alloc, service, Part::Line(0)),
-            Framing::Refused(refusal) => self.refuse(refusal),
-        }
-    }
-
-    /// Looks for the head of the next request.
-    fn begin<K: Keeper>(&mut self, alloc: Global, service: &mut Service<K>) -> Step
-        ensures honest { K.is_honest service.new → K.is_honest service.old }
-        ensures finished { (shown self.new).finished ≡ (shown self.old).finished }
-        ensures fewer { coming_len (shown self.new) ≤ coming_len (shown self.old) }
-        ensures acts { K.is_honest service.new → (shown self.old).phase ≡ Phase.Head → (b said : Text)
-            → Holds (shown self.old) b said
-            → Acts result b said (shown self.old) (K.state service.old) (K.state service.new)
-            (shown self.new) }
-    {
-        match find_head(self.buffer.behind(), &mut self.fields) {
-            FoundHead::Whole(heading) => self.take_head(alloc, service, heading),
-            FoundHead::NotYet => {
-                let unread = self.buffer.behind();
-                let none = unread.is_empty();
-                if none {
-                    self.wait(End::Closed)
-                } else {
-                    self.wait(End::Cut)
-                }
-            }
-            FoundHead::Never => {
-                self.exchange.forget();
-                self.refuse(FramingRefusal::UnreadableHead)
-            }
-        }
-    }
-
-    /// Takes the next turn: answers one request if one is whole, and else says that it waits for more
-    /// bytes, or how it ended (RFC 9112, section 9.3). Once it has ended it says so again.
-    pub fn answer_next<K: Keeper>(&mut self, alloc: Global, service: &mut Service<K>) -> Step
-        ensures honest { K.is_honest service.new → K.is_honest service.old }
-        ensures finished { (shown self.new).finished ≡ (shown self.old).finished }
-        ensures fewer { coming_len (shown self.new) ≤ coming_len (shown self.old) }
-        ensures over { (e : End) → (shown self.old).phase ≡ Phase.Ended e
-            → (result ≡ Step.Ended e) × (shown self.new ≡ shown self.old) × (service.new ≡ service.old) }
-        ensures acts { K.is_honest service.new → (b said : Text) → Holds (shown self.old) b said
-            → Acts result b said (shown self.old) (K.state service.old) (K.state service.new)
-            (shown self.new) }
-    {
-        match self.phase {
-            Phase::Head => self.begin(alloc, service),
-            Phase::Body(part) => self.go_on(alloc, service, part),
-            Phase::Ended(end) => Step::Ended(end),
         }
     }
 }

@@ -24,6 +24,7 @@ pub mod phase;
 pub mod receipt;
 pub mod refusal;
 pub mod replying;
+pub mod stepping;
 pub mod turn;
 pub mod whole_connection;
 

@@ -17,6 +17,9 @@ pub enum Phase {
 pub enum Step {
     /// One request was answered.
     Answered,
+    /// The head of a request was taken, and an interim response put out for which its client waits before it
+    /// sends the body (RFC 9110, section 15.2): the body takes another turn.
+    Interim,
     /// No request is whole: more bytes are missing.
     Waits,
     /// There is no further request.

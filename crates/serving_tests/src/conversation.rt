@@ -65,7 +65,7 @@ fn turn(rt: &impl Abort, alloc: Global, talk: &mut Talk) -> Step {
 fn turns(rt: &impl Abort, alloc: Global, talk: &mut Talk) -> Step {
     for _ in 0..10 {
         let step = turn(rt, alloc, talk);
-        if step != Step::Answered {
+        if !matches!(step, Step::Answered | Step::Interim) {
             return step;
         }
     }
@@ -186,9 +186,11 @@ const CONTINUE_AND_CREATED: &str = "HTTP/1.1 100 Continue\r\n\r\n\
       HTTP/1.1 201 Created\r\nContent-Length: 0\r\nDocker-Content-Digest: {digest}\r\n\
       Location: /v2/{name}/blobs/{digest}\r\n\r\n";
 
-/// A client that waits is told so once, before its body came.
-static WAITING: [Event; 11] = [
+/// A client that waits is told so once, before its body came, in a turn of its own.
+static WAITING: [Event; 13] = [
     Event::Hear(PUSH, "Expect: 100-continue\r\nContent-Length: 5\r\n\r\n"),
+    Event::Turn(Step::Interim),
+    Event::Went(CONTINUE),
     Event::Turn(Step::Waits),
     Event::Went(CONTINUE),
     Event::Turn(Step::Waits),
@@ -204,6 +206,23 @@ static WAITING: [Event; 11] = [
 #[test]
 fn continue_before_the_body(rt: HostRuntime) {
     all_happens(&rt, rt.alloc(), WAITING.as_slice());
+}
+
+/// Where the body came with the head, the 100 still goes out before the request is answered, and alone.
+static NOT_WAITING: [Event; 5] = [
+    Event::Hear(
+        PUSH,
+        "Expect: 100-continue\r\nContent-Length: 5\r\n\r\nhello",
+    ),
+    Event::Turn(Step::Interim),
+    Event::Went(CONTINUE),
+    Event::Answers("POST /v2/{name}/blobs/uploads/", 5),
+    Event::Went(CONTINUE_AND_CREATED),
+];
+
+#[test]
+fn continue_in_a_turn_of_its_own(rt: HostRuntime) {
+    all_happens(&rt, rt.alloc(), NOT_WAITING.as_slice());
 }
 
 const REFUSED: Step = Step::Ended(End::Refused(FramingRefusal::UnreadableChunk));

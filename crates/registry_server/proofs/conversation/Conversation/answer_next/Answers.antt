@@ -2,7 +2,6 @@ use Rattle.std.proofs.Common.{subst, sym, ◌∙◌}
 use Rattle.registry_server.specs.declared.phase.Phase.{Phase}
 use Rattle.registry_server.specs.Holding.{HoldsAs}
 use Rattle.registry_server.specs.ConversationShowing.{shown}
-use Rattle.registry_server.proofs.SteppingLemmas.{act}
 use Rattle.registry_server.proofs.conversation.Conversation.answer_next.Goals as goal
 
 pub returns-in-Body : goal.returns-in-Body
@@ -10,9 +9,9 @@ returns-in-Body g c = record {
   honest = c.go_on.ensures.honest;
   finished = c.go_on.ensures.finished;
   fewer = c.go_on.ensures.fewer;
+  leads = c.go_on.ensures.leads;
   over = λ e ended. absurd (let both = sym c.in-Body.is ∙ ended in cc);
   acts = λ honest b said x.
       let old = shown c.args.self.now in
-      act c.go_on.result b said old _ _ (shown c.go_on.new.self)
-      (c.go_on.ensures.acts honest b said (subst (λ (p : Phase). HoldsAs p old.taken old.unread b said) c.in-Body.is x));
+      c.go_on.ensures.acts honest b said (subst (λ (p : Phase). HoldsAs p old.taken old.unread b said) c.in-Body.is x);
 }

@@ -1,11 +1,11 @@
-use Rattle.std.proofs.Common.{inl, refl, subst, sym, le_trans}
+use Rattle.std.proofs.Common.{inl, refl, subst, sym, le_trans, arith}
 use Rattle.httparse.specs.Grammar.{print_request}
 use Rattle.oci_types.specs.Text.{Text}
 use Rattle.registry_http.specs.Framing.{framing}
 use Rattle.registry_http.specs.Expecting.{IsBefore}
 use Rattle.registry_server.specs.ConversationShowing.{shown}
 use Rattle.registry_server.proofs.HoldingLemmas.{cut_there}
-use Rattle.registry_server.proofs.SteppingLemmas.{refused, body_never, waited_cut, waited_same, none_left}
+use Rattle.registry_server.proofs.SteppingLemmas.{refused, body_never, waited_cut, waited_same, none_left, leads_from, leads_waited, leads_refused}
 use Rattle.registry_server.proofs.conversation.Conversation.go_on.Goals as goal
 
 pub returns-in-Whole : goal.returns-in-Whole
@@ -13,6 +13,7 @@ returns-in-Whole g c = record {
   honest = c.reply.ensures.honest;
   finished = c.reply.ensures.finished;
   fewer = le_trans c.reply.ensures.fewer c.take_body.ensures.fewer;
+  leads = leads_from c.reply.result (shown c.args.self.now) _ (shown c.reply.new.self) (omega (arith, c.take_body.ensures.fewer)) c.reply.ensures.leads;
   acts = λ honest b said x.
       c.reply.ensures.acts honest b said (record {
         head = x.0;
@@ -30,6 +31,7 @@ returns-in-Missing g c =
       honest = λ honest. honest;
       finished = same.0;
       fewer = le_trans same.1 c.take_body.ensures.fewer;
+      leads = leads_waited c.wait.result _ (shown c.args.self.now) _ (shown c.wait.new.self) c.wait.ensures refl (omega (arith, c.take_body.ensures.fewer));
       acts = λ honest b said x.
           let it = c.in-Missing.ensures.takes (framing x.0) (print_request x.0) x.1 x.4 in
           waited_cut c.wait.result b said _ (shown c.wait.new.self) _ c.wait.ensures (cut_there x.0 b x.1 x.2 it.1)
@@ -41,6 +43,7 @@ returns-in-Refused g c = record {
   honest = λ honest. honest;
   finished = c.refuse.ensures.finished;
   fewer = none_left (shown c.args.self.now) (shown c.refuse.new.self) c.refuse.ensures.none_held;
+  leads = leads_refused c.refuse.result _ (shown c.args.self.now) _ (shown c.refuse.new.self) c.refuse.ensures;
   acts = λ honest b said x.
       refused c.refuse.result c.in-Refused.refusal b said _ (shown c.refuse.new.self) _ c.refuse.ensures
       (body_never c.args.part _ _ b said c.in-Refused.refusal x (c.in-Refused.ensures.takes (framing x.0) (print_request x.0) x.1 x.4));

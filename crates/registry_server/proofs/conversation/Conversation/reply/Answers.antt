@@ -1,8 +1,9 @@
-use Rattle.std.proofs.Common.{◌≡◌, ◌≤◌, List, length, drop, sym, ap, ◌∙◌, subst, le_of_eq, le_trans, arith}
+use Rattle.std.proofs.Common.{◌≡◌, ◌<◌, ◌≤◌, List, length, drop, sym, ap, ◌∙◌, subst, le_of_eq, arith}
 use Rattle.oci_types.specs.Text.{Text}
 use Rattle.httparse.specs.declared.spans.HeaderSpan.{HeaderSpan}
 use Rattle.registry_http.specs.Spelling.{Item}
 use Rattle.registry_http.specs.Reading.{HeadIsRead}
+use Rattle.registry_http.proofs.HeadLemmas.{request_some}
 use Rattle.registry_server.specs.declared.phase.Step.TheVariants as step
 use Rattle.registry_server.specs.Headings.{IsTaken}
 use Rattle.registry_server.specs.Holding.{HoldsWhole}
@@ -10,7 +11,7 @@ use Rattle.registry_server.specs.Shown.{Shown, with_going, coming_len}
 use Rattle.registry_server.specs.ConversationShowing.{shown}
 use Rattle.registry_server.specs.Stepping.{ActsAs}
 use Rattle.registry_server.proofs.HoldingLemmas.{item_taken}
-use Rattle.registry_server.proofs.SteppingLemmas.{going_on, answered_first, replied_in_part, part_ends, none_left}
+use Rattle.registry_server.proofs.SteppingLemmas.{going_on, answered_first, replied_in_part, part_ends, none_left, leads_refused, leads_answered, leads_ended}
 use Rattle.registry_server.proofs.conversation.Conversation.reply.Goals as goal
 
 pub returns-in_default : goal.returns-in_default
@@ -18,6 +19,7 @@ returns-in_default g c = record {
   honest = λ honest. honest;
   finished = c.refuse.ensures.finished ∙ ap (λ (k : Shown). k.finished) c.taken_head.ensures.same;
   fewer = none_left (shown c.args.self.now) (shown c.refuse.new.self) c.refuse.ensures.none_held;
+  leads = leads_refused c.refuse.result _ (shown c.args.self.now) _ (shown c.refuse.new.self) c.refuse.ensures;
   acts = λ honest b said w. absurd (c.in_default.ensures.none b said w);
 }
 
@@ -25,7 +27,12 @@ pub returns-in-Ok : goal.returns-in-Ok
 returns-in-Ok g c = record {
   honest = c.reply_to.ensures.honest;
   finished = c.close_if.ensures.finished ∙ ap (λ (k : Shown). k.finished) c.taken_head.ensures.same;
-  fewer = le_trans c.close_if.ensures.fewer (le_of_eq (ap coming_len c.taken_head.ensures.same));
+  fewer = omega (arith, c.close_if.ensures.rest, ap coming_len c.taken_head.ensures.same);
+  leads =
+      let read = c.in-Some.ensures.found.1 in
+      leads_answered (shown c.args.self.now) (shown c.taken_head.new.self) (shown c.close_if.new.self) c.taken_head.ensures.same
+      (subst (λ (k : Shown). 0 < length k.taken) (sym c.taken_head.ensures.same) (omega (arith, read.within, read.len, request_some c.in-Some.ensures.found.0)))
+      c.close_if.ensures.rest;
   acts = λ honest b said w.
       let mid = c.taken_head.new.self in
       let same : shown mid ≡ shown c.args.self.now = c.taken_head.ensures.same in
@@ -48,6 +55,9 @@ returns-in-Err g c = record {
   honest = c.reply_to.ensures.honest;
   finished = ap (λ (k : Shown). k.finished) c.end.ensures.ends ∙ ap (λ (k : Shown). k.finished) c.taken_head.ensures.same;
   fewer = le_of_eq (ap coming_len c.end.ensures.ends ∙ ap coming_len c.taken_head.ensures.same);
+  leads =
+      leads_ended c.end.result _ (shown c.args.self.now) (with_going (shown c.taken_head.new.self) (drop c.taken_head.new.self.gone c.reply_to.new.out.items))
+      (shown c.end.new.self) c.end.ensures.step c.end.ensures.ends;
   acts = λ honest b said w.
       let mid = c.taken_head.new.self in
       let same : shown mid ≡ shown c.args.self.now = c.taken_head.ensures.same in

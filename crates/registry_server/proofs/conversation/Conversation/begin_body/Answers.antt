@@ -1,0 +1,57 @@
+use Rattle.std.proofs.Common.{◌≡◌, ◌≤◌, [], ◌++◌, length, drop, refl, sym, ap, subst, le_of_eq, arith}
+use Rattle.oci_types.specs.Text.{Text}
+use Rattle.registry_http.specs.Expecting.{IsBefore, continue_if}
+use Rattle.registry_server.specs.Shown.{Shown, with_going, coming_len, heads}
+use Rattle.registry_server.specs.ConversationShowing.{shown}
+use Rattle.registry_server.specs.Stepping.{Acts, continuing}
+use Rattle.registry_server.proofs.HoldingLemmas.{before_there}
+use Rattle.registry_server.proofs.SteppingLemmas.{going_on, part_ends, leads_ended}
+use Rattle.registry_server.proofs.conversation.Conversation.begin_body.Goals as goal
+
+pub returns-then-not-awaits : goal.returns-then-not-awaits
+returns-then-not-awaits g c = record {
+  honest = c.go_on.ensures.honest;
+  finished = c.go_on.ensures.finished;
+  fewer = c.go_on.ensures.fewer;
+  leads = c.go_on.ensures.leads;
+  acts = λ honest b x.
+      let none : continue_if c.args.awaits ≡ [] = ap continue_if c.if-not-awaits.true in
+      subst (λ (said : Text). Acts c.go_on.result b said (shown c.args.self.now) (g.K.Keeper.state c.args.service.now) (g.K.Keeper.state c.go_on.new.service)
+      (shown c.go_on.new.self)) none
+      (c.go_on.ensures.acts honest b (continue_if c.args.awaits) x);
+}
+
+pub returns-in-Ok : goal.returns-in-Ok
+returns-in-Ok g c = record {
+  honest = λ honest. honest;
+  finished = refl;
+  fewer = le_of_eq refl;
+  leads = omega (arith, ap heads c.requires);
+  acts = λ honest b x.
+      let old = c.args.self.now in
+      let within : old.gone ≤ length old.out.items = omega (arith, old.within, old.out.ok.0) in
+      record {
+        first = continue_if c.args.awaits;
+        unsaid = refl;
+        first_is = λ tail. subst (λ (y : Text). IsBefore (b ++ tail) y) (sym x.3) (before_there x.0 b x.1 tail x.2);
+        holds = x;
+        put = going_on old.gone old.out.items _ _ within c.in-Ok.ensures;
+        same = refl;
+      };
+}
+
+pub returns-in-Err : goal.returns-in-Err
+returns-in-Err g c = record {
+  honest = λ honest. honest;
+  finished = ap (λ (k : Shown). k.finished) c.end.ensures.ends;
+  fewer = le_of_eq (ap coming_len c.end.ensures.ends);
+  leads =
+      leads_ended c.end.result _ (shown c.args.self.now) (with_going (shown c.args.self.now) (drop c.args.self.now.gone c.write_continue.new.writer.items))
+      (shown c.end.new.self) c.end.ensures.step c.end.ensures.ends;
+  acts = λ honest b x.
+      let old = c.args.self.now in
+      let within : old.gone ≤ length old.out.items = omega (arith, old.within, old.out.ok.0) in
+      part_ends c.end.result _ b [] (shown old).going _ _ (with_going (shown old) (drop old.gone c.write_continue.new.writer.items)) _ c.end.ensures.step c.end.ensures.ends
+      (continuing (continue_if c.args.awaits) refl (λ tail. subst (λ (y : Text). IsBefore (b ++ tail) y) (sym x.3) (before_there x.0 b x.1 tail x.2))
+      c.in-Err.ensures.0 (going_on old.gone old.out.items _ _ within c.in-Err.ensures.1) refl);
+}
