@@ -7,10 +7,11 @@ ghost use Rattle.registry_http.specs.Chunks.{TrailerIsCut, TrailerIsRefused};
 ghost use Rattle.registry_http.specs.Taking.{PullsUntil, TakesOr, TakesBody};
 ghost use Rattle.registry_http.specs.Taking.{LineIsRead, ChunkIsRead, ChunksAreRead, TrailerIsRead};
 
+use crate::buffer::LINES;
 use crate::chunk::{FoundLine, Line, find_line};
 use crate::ending::{FramingRefusal, Stop};
 use crate::framing::Framing;
-use crate::intake::{Intake, LINES};
+use crate::intake::Intake;
 use crate::trailer::{FoundTrailer, find_trailer};
 use registry_model::LARGEST_BLOB;
 use std::io::Read;

@@ -1,4 +1,4 @@
-ghost use Rattle.std.specs.Prelude.{◌≡◌, ◌+◌, ◌<◌, ◌≤◌, ◌++◌, [], length, take, drop, slice_range, MatchResult, OnOk, vec_len};
+ghost use Rattle.std.specs.Prelude.{◌≡◌, ◌+◌, ◌<◌, ◌≤◌, ◌++◌, [], length, take, drop, slice_range, MatchResult, OnOk, OnErr, vec_len};
 ghost use Rattle.std.specs.Io.KnownBytes.{Consumes, IsAtEnd, Keeps};
 
 use crate::ending::{FramingRefusal, Stop};
@@ -8,6 +8,9 @@ use std::io::Read;
 
 /// The most bytes of one read.
 const MOST_READ: usize = 1_048_576;
+
+/// How many bytes are missing, for all that is known, of a head, a line or a trailer.
+pub const LINES: usize = 65536;
 
 /// How many bytes a read has room for, where so many are missing.
 const LEAST_READ: usize = 65536;
@@ -223,6 +226,7 @@ impl Buffer {
         ensures cases { PullsOr FillStops result
             (behind self.old) (behind self.new) (R.remaining reader.old) (R.remaining reader.new) }
         ensures few { OnOk result (length (behind self.new) ≤ length (behind self.old) + 1048576) }
+        ensures kept { OnErr result (behind self.new ≡ behind self.old) }
     {
         match read_at(&mut self.room, self.end, reader) {
             Ok(0) => Err(Stop::AtEnd),
@@ -242,6 +246,7 @@ impl Buffer {
         ensures cases { PullsOr FillStops result
             (behind self.old) (behind self.new) (R.remaining reader.old) (R.remaining reader.new) }
         ensures few { OnOk result (length (behind self.new) ≤ length (behind self.old) + 1048576) }
+        ensures kept { OnErr result (behind self.new ≡ behind self.old) }
     {
         match self.make_room(missing) {
             Ok(()) => self.read_from(reader),

@@ -1,6 +1,6 @@
 ghost use Rattle.std.specs.Prelude.{◌≡◌, ◌≤◌, ◌<◌, [], length, IfOk, OnOk, MatchResult, vec_len};
 
-use crate::buffer::Buffer;
+use crate::buffer::{Buffer, LINES};
 use crate::ending::{FramingRefusal, Stop};
 use crate::expecting::awaits;
 use crate::framing::{Framing, framing_of};
@@ -10,9 +10,6 @@ use crate::persistence::closes;
 use httparse::spans::{EMPTY_HEADER_SPAN, HeaderSpan, RequestSpans};
 use std::alloc::{AllocError, Global};
 use std::io::Read;
-
-/// How many bytes are missing, for all that is known, of a head, a line or a trailer.
-pub const LINES: usize = 65536;
 
 /// A head at the front of the buffer: where its parts are, and what follows from its fields.
 #[derive(Clone, Copy)]

@@ -22,7 +22,7 @@ pub struct Outgoing {
 }
 
 /// Writes the text, or says how many of its bytes were written.
-fn send<W: Write>(writer: &mut W, text: &[u8]) -> Result<(), usize>
+pub fn send<W: Write>(writer: &mut W, text: &[u8]) -> Result<(), usize>
     ensures { Sends result (W.contents writer.old) (W.contents writer.new) text.now }
 {
     let mut at = 0;

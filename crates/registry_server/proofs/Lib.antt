@@ -12,3 +12,4 @@ pub mod TurnLemmas
 pub mod CallLemmas
 pub mod RoomLemmas
 pub mod LifeLemmas
+pub mod ServingLemmas

@@ -33,7 +33,7 @@ use Rattle.registry_server.specs.Headings.{BeginsAt}
 use Rattle.registry_server.specs.declared.heading.Heading.{Heading}
 use Rattle.registry_server.specs.declared.part.Part.{Part}
 use Rattle.registry_server.specs.Holding.{HoldsAs, Holds, HoldsWhole}
-use Rattle.registry_server.specs.Stepping.{IsRefusedThere, AnswersFirst, PutsPart, replying, refusing, EndsAs, ActsAs, Acts, LeadsOn, Refuses, Receives, Waited}
+use Rattle.registry_server.specs.Stepping.{IsRefusedThere, AnswersFirst, PutsPart, replying, refusing, EndsAs, ActsAs, Acts, LeadsOn, Refuses, LacksMemory, Comes, Receives, Waited}
 use Rattle.registry_server.proofs.HoldingLemmas.{holds_on, before_there, refused_there, item_request, item_begins}
 
 -- ---- what is to go out grows
@@ -175,16 +175,19 @@ empty_from (x ∷ xs) e same is = absurd (grind (arith, nat_tests))
 pub some_from : (xs : Text) (e : Bool) → e ≡ (length xs == 0) → e ≡ false → xs ≡ [] → ⊥
 some_from xs e same is none = absurd (grind (arith, nat_tests, ap length none))
 
-grown : (p : Phase) (f : Bool) (g t t' u u' more : Text) → t' ≡ t → u' ≡ u ++ more
+pub grown : (p : Phase) (f : Bool) (g t t' u u' more : Text) → t' ≡ t → u' ≡ u ++ more
     → (record { phase = p; taken = t'; unread = u'; finished = f; going = g }) ≡ with_more (record { phase = p; taken = t; unread = u; finished = f; going = g }) more
 grown p f g t t' u u' more e d = λ i. record { phase = p; taken = e i; unread = d i; finished = f; going = g }
 
 with_two : (c : Shown) (a b : Text) → with_more (with_more c a) b ≡ with_more c (a ++ b)
 with_two c a b = ap (λ (u : Text). record c { unread = u }) (append_assoc c.unread a b)
 
+pub comes : (old new : Shown) (bytes : Text) → new ≡ with_more old bytes → Comes bytes old new
+comes old new bytes e =
+    (e, λ b said holds. subst (λ (k : Shown). Holds k (b ++ bytes) said) (sym e) (holds_on old.phase old.taken old.unread b said bytes holds))
+
 pub was_received : (old new : Shown) (bytes : Text) → new ≡ with_more old bytes → Receives bytes old new
-was_received old new bytes e =
-    inl (e, λ b said holds. subst (λ (k : Shown). Holds k (b ++ bytes) said) (sym e) (holds_on old.phase old.taken old.unread b said bytes holds))
+was_received old new bytes e = inl (comes old new bytes e)
 
 -- the last bytes stand behind those before
 pub all_received : (old : Shown) (p : Phase) (f : Bool) (g t t' u u' front left more left' bytes : Text) → bytes ≡ front ++ left
@@ -223,14 +226,20 @@ pub not_both : (a b : Bool) → a ≡ b → a ≡ true → b ≡ false → ⊥
 not_both a b same first second = cc
 
 -- for the bytes that came
+pub lacks_memory : (found : Step) (r : FramingRefusal) (old mid new : Shown) → r ≡ NoBufferMemory → mid.going ≡ old.going → mid.finished ≡ old.finished
+    → Refuses found r mid new → LacksMemory old new
+lacks_memory found r old mid new none going finished x = record {
+  end = x.end;
+  sends =
+      subst (λ (q : FramingRefusal). SendsRefusal x.end q (Some old.going) (Some new.going)) none
+      (subst (λ (y : Text). SendsRefusal x.end r (Some y) (Some new.going)) going x.sends);
+  ended = x.ended;
+  finished = x.finished ∙ finished;
+}
+
 pub lacked : (found : Step) (bytes : Text) (old mid new : Shown) → mid.going ≡ old.going → mid.finished ≡ old.finished → Refuses found NoBufferMemory mid new
     → Receives bytes old new
-lacked found bytes old mid new going finished r = inr (record {
-  end = r.end;
-  sends = subst (λ (x : Text). SendsRefusal r.end NoBufferMemory (Some x) (Some new.going)) going r.sends;
-  ended = r.ended;
-  finished = r.finished ∙ finished;
-})
+lacked found bytes old mid new going finished r = inr (lacks_memory found NoBufferMemory old mid new refl going finished r)
 
 pub part_ends : (found : Step) (n : ℕ) (b before going : Text) (s s' : State) (old new : Shown) → found ≡ step.Ended (WriteFailed n)
     → new ≡ with_phase old (phase.Ended (WriteFailed n)) → PutsPart n b before going s s' old.going → ActsAs found b before going s s' new

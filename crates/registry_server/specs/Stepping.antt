@@ -1,5 +1,6 @@
 -- What one turn of a conversation comes to.
-use Rattle.std.specs.Prelude.{◌≡◌, ℕ, ◌<◌, ◌≤◌, ◌⊎◌, true, false, [], ◌++◌, length, take, Some}
+use Rattle.std.specs.Prelude.{◌≡◌, ℕ, ◌<◌, ◌≤◌, ◌⊎◌, true, false, [], ◌++◌, length, take, Option, Some}
+use Rattle.std.specs.Io.KnownBytes.{Consumes, IsAtEnd}
 use Rattle.std.specs.Bool.{MatchBool}
 use Rattle.oci_types.specs.Text.{Text}
 use Rattle.registry_model.specs.Answer.{Answer}
@@ -18,7 +19,7 @@ use Rattle.registry_http.specs.declared.ending.End.TheVariants.{Closed, Cut, Ref
 use Rattle.registry_server.specs.declared.phase.Phase.TheVariants as phase
 use Rattle.registry_server.specs.declared.phase.Step.{Step}
 use Rattle.registry_server.specs.declared.phase.Step.TheVariants as step
-use Rattle.registry_server.specs.Shown.{Shown, listens, with_more, with_phase, coming_len, turns_left}
+use Rattle.registry_server.specs.Shown.{Shown, listens, with_more, with_finished, with_phase, coming_len, turns_left}
 use Rattle.registry_server.specs.Holding.{Holds}
 
 -- ---- where before was put out already, behind going, of the text of the request that b begins with
@@ -120,12 +121,21 @@ pub record LacksMemory (old new : Shown) : Type 0 where
   pub ended : new.phase ≡ phase.Ended end
   pub finished : new.finished ≡ old.finished
 
--- the bytes came behind those that are held, and nothing else is done; or no memory
+-- the bytes came behind those that are held, and nothing else is done
+abbrev pub Comes : Text → Shown → Shown → Type 0
+Comes bytes old new =
+    (new ≡ with_more old bytes)
+    × ((b said : Text) → Holds old b said → Holds new (b ++ bytes) said)
+
+-- the same; or no memory
 abbrev pub Receives : Text → Shown → Shown → Type 0
-Receives bytes old new =
-    ((new ≡ with_more old bytes)
-    × ((b said : Text) → Holds old b said → Holds new (b ++ bytes) said))
-    ⊎ LacksMemory old new
+Receives bytes old new = Comes bytes old new ⊎ LacksMemory old new
+
+-- bytes that the reader gave up came, or no memory; or it has none left
+abbrev pub Reads : Option Text → Option Text → Shown → Shown → Type 0
+Reads left left' old new =
+    (((bytes : Text) × Consumes left left' bytes × Comes bytes old new) ⊎ LacksMemory old new)
+    ⊎ (Consumes left left' [] × IsAtEnd left' × (new ≡ with_finished old))
 
 -- more bytes are waited for; or where none come any more that is the end
 abbrev pub Waited : Step → End → Shown → Shown → Type 0

@@ -1,14 +1,17 @@
-ghost use Rattle.std.specs.Prelude.{◌≡◌, ◌+◌, ◌<◌, ◌≤◌, true, false, length, drop, min, IfOk, vec_len};
+ghost use Rattle.std.specs.Prelude.{◌≡◌, ◌+◌, ◌<◌, ◌≤◌, [], true, false, length, drop, min, IfOk, MatchResult, vec_len};
+ghost use Rattle.std.specs.Io.KnownBytes.{Consumes};
 
 use crate::exchange::Exchange;
 use crate::part::Part;
 use crate::phase::{Phase, Step, Wants};
+use crate::receipt::ReadFault;
 use crate::whole_connection::refuse;
 use httparse::spans::{EMPTY_HEADER_SPAN, HeaderSpan};
-use registry_http::buffer::Buffer;
-use registry_http::intake::LINES;
+use registry_http::buffer::{Buffer, LINES};
+use registry_http::ending::Stop;
 use registry_http::{End, FramingRefusal};
 use std::alloc::{AllocError, Global};
+use std::io::Read;
 
 /// What has come of one connection and is not answered yet, and what is to go out on it (RFC 9112).
 ///
@@ -38,7 +41,7 @@ pub struct Conversation {
 impl Conversation {
     ghost use Rattle.registry_server.specs.Shown.{begun, with_finished, with_phase, with_going, with_none, listens, wants_of, coming_len, held_len};
     ghost use Rattle.registry_server.specs.ConversationShowing.{shown};
-    ghost use Rattle.registry_server.specs.Stepping.{Refuses, Receives};
+    ghost use Rattle.registry_server.specs.Stepping.{Refuses, Receives, Reads};
 
     /// A conversation to which nothing has come. Room for 8,192 fields is all that it takes of memory.
     pub fn new(alloc: Global) -> Result<Conversation, AllocError>
@@ -140,6 +143,31 @@ impl Conversation {
             }
         }
         let _ = self.refuse(FramingRefusal::NoBufferMemory);
+    }
+
+    /// Reads some bytes, at most 1,048,576, which then came; or finds that the input has ended. They are read to
+    /// where they are kept. Where memory for them is wanting, it ends with the refusal `NoBufferMemory`.
+    pub fn read_from<R: Read>(&mut self, reader: &mut R) -> Result<(), ReadFault>
+        requires { listens (shown self.old) ≡ true }
+        ensures cases { MatchResult result
+            (λ _. Reads (R.remaining reader.old) (R.remaining reader.new) (shown self.old) (shown self.new))
+            (λ _. Consumes (R.remaining reader.old) (R.remaining reader.new) []) }
+        ensures sized { coming_len (shown self.new) ≤ coming_len (shown self.old) + 1048576 }
+    {
+        let missing = self.missing();
+        match self.buffer.read_more(reader, missing) {
+            Ok(()) => Ok(()),
+            Err(Stop::Between) => Err(ReadFault),
+            Err(Stop::AtEnd) => {
+                self.finish();
+                Ok(())
+            }
+            Err(Stop::Broken) => Err(ReadFault),
+            Err(Stop::Refuse(refusal)) => {
+                let _ = self.refuse(refusal);
+                Ok(())
+            }
+        }
     }
 
     /// The input has ended. What has come is answered all the same.

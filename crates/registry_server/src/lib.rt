@@ -34,7 +34,7 @@ pub use connections::Connections;
 pub use conversation::Conversation;
 pub use exchange::Exchange;
 pub use phase::{Phase, Step, Wants};
-pub use receipt::Receipt;
+pub use receipt::{ReadFault, Receipt};
 pub use refusal::Refusal;
 pub use turn::Turn;
 pub use whole_connection::serve_connection;

@@ -8,3 +8,7 @@ pub enum Receipt {
     /// The connection is not open.
     NotOpen,
 }
+
+/// A read failed.
+#[derive(Clone, Copy, Debug, PartialEq, Eq)]
+pub struct ReadFault;

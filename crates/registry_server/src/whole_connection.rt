@@ -1,51 +1,22 @@
-ghost use Rattle.std.specs.Prelude.{◌≡◌, ◌≤◌, [], length, take};
-ghost use Rattle.registry_model.specs.Answer.{Answer};
-ghost use Rattle.registry_model.specs.Doing.{Does};
-ghost use Rattle.registry_http.specs.Asking.{ask_in};
-ghost use Rattle.registry_http.specs.Spelling.{Item};
-ghost use Rattle.registry_http.specs.Serving.{reply_for, Serves};
-ghost use Rattle.registry_http.specs.Sending.{SendsReply};
-ghost use Rattle.registry_http.specs.Intaking.{taken, unread};
-ghost use Rattle.registry_http.specs.Reading.{HeadFits, RequestIsReady};
-ghost use Rattle.registry_http.specs.Ending.{SendsRefusal, StopsWith};
+ghost use Rattle.std.specs.Prelude.{◌≡◌, [], OnOk};
+ghost use Rattle.registry_http.specs.Serving.{Serves};
+ghost use Rattle.registry_http.specs.Sending.{Sends};
+ghost use Rattle.registry_http.specs.Ending.{SendsRefusal};
+ghost use Rattle.registry_server.specs.Shown.{begun, with_going};
+ghost use Rattle.registry_server.specs.ConversationShowing.{shown};
 
-use crate::answering::answer;
-use registry_http::ending::Stop;
-use registry_http::intake::{Intake, Ready};
-use registry_http::reply_text::{write_continue, write_refusal};
-use registry_http::target::is_head;
-use registry_http::{End, FramingRefusal, WriteFault, write_reply};
+use crate::Conversation;
+use crate::phase::Step;
+use registry_http::outgoing::send;
+use registry_http::reply_text::write_refusal;
+use registry_http::{End, FramingRefusal};
 use registry_model::Keeper;
 use registry_service::Service;
 use std::alloc::Global;
 use std::io::{Read, Write};
 
-/// Answers the request that was taken, and writes the reply.
-fn reply_to<W: Write, K: Keeper>(
-    alloc: Global,
-    service: &mut Service<K>,
-    intake: &Intake,
-    ready: &Ready,
-    writer: &mut W,
-) -> Result<(), WriteFault>
-    requires order { ready.now.spans.len ≤ length (taken intake.now) }
-    requires room { ready.now.spans.headers ≤ length intake.now.headers.items }
-    requires fits { HeadFits ready.now.spans.len
-        (take ready.now.spans.headers intake.now.headers.items) ready.now.spans }
-    ensures honest { K.is_honest service.new → K.is_honest service.old }
-    ensures replies { K.is_honest service.new → (i : Item)
-        → RequestIsReady (taken intake.now) intake.now.headers.items ready.now i
-        → (a : Answer) × Does (K.state service.old) (ask_in i.head i.body) a (K.state service.new)
-        × SendsReply result (W.contents writer.old) (W.contents writer.new) (reply_for i a) }
-{
-    let spans = &ready.spans;
-    let taken = intake.buffer.before();
-    let head = &taken[..spans.len];
-    let fields = &intake.headers[..spans.headers];
-    let body = &taken[spans.len..];
-    let reply = answer(alloc, service, head, fields, spans, body);
-    write_reply(&reply, is_head(spans.method.of(head)), ready.closes, writer)
-}
+/// So many reads are made of one connection at most.
+const MOST_READS: u64 = 9_223_372_036_854_775_807;
 
 /// Writes a refusal.
 pub(crate) fn refuse<W: Write>(writer: &mut W, refusal: FramingRefusal) -> End
@@ -59,29 +30,33 @@ pub(crate) fn refuse<W: Write>(writer: &mut W, refusal: FramingRefusal) -> End
     }
 }
 
-/// Ends a connection on which there is no further request.
-fn finish<W: Write>(writer: &mut W, stop: Stop) -> End
-    ensures { StopsWith result stop (W.contents writer.old) (W.contents writer.new) }
+/// Writes what is to go out, or says how many bytes of it were written.
+fn send_out<W: Write>(conversation: &mut Conversation, writer: &mut W) -> Result<(), usize>
+    ensures sends { Sends result (W.contents writer.old) (W.contents writer.new)
+        (shown conversation.old).going }
+    ensures told { OnOk result (shown conversation.new ≡ with_going (shown conversation.old) []) }
 {
-    match stop {
-        Stop::Between => End::Closed,
-        Stop::AtEnd => End::Cut,
-        Stop::Broken => End::ReadFailed,
-        Stop::Refuse(refusal) => refuse(writer, refusal),
+    let text = conversation.outgoing();
+    let count = text.len();
+    match send(writer, text) {
+        Ok(()) => {
+            conversation.sent(count);
+            Ok(())
+        }
+        Err(written) => Err(written),
     }
 }
 
-/// Reads requests into the room of a connection that has come to nothing yet, answers them one after the
-/// other, and writes the replies, to its end.
+/// Has a conversation to which nothing came yet read from the reader, and writes what it puts out, to its
+/// end. What a turn put out is written before the next is taken.
 fn serve_requests<R: Read, W: Write, K: Keeper>(
     alloc: Global,
     service: &mut Service<K>,
-    intake: &mut Intake,
+    conversation: &mut Conversation,
     reader: &mut R,
     writer: &mut W,
 ) -> End
-    requires unread { unread intake.old ≡ [] }
-    requires taken { taken intake.old ≡ [] }
+    requires { shown conversation.old ≡ begun }
     ensures honest { K.is_honest service.new → K.is_honest service.old }
     ensures serves { K.is_honest service.new → Serves result (record {
       left = R.remaining reader.old;
@@ -92,30 +67,27 @@ fn serve_requests<R: Read, W: Write, K: Keeper>(
       state' = K.state service.new;
     }) }
 {
-    'requests: loop {
-        let ready = match intake.next_head(reader) {
-            Ok(ready) => ready,
-            Err(stop) => return finish(writer, stop),
-        };
-        match write_continue(ready.awaits, writer) {
+    let mut reads = MOST_READS;
+    'turns: loop {
+        let step = conversation.answer_next(alloc, service);
+        match send_out(conversation, writer) {
             Ok(()) => {}
-            Err(fault) => return End::WriteFailed {
-                written: fault.written,
-            },
+            Err(written) => return End::WriteFailed { written },
         }
-        match intake.read_body(reader, ready.spans.len, ready.framing) {
-            Ok(()) => {}
-            Err(stop) => return finish(writer, stop),
-        }
-        match reply_to(alloc, service, intake, &ready, writer) {
-            Ok(()) => {}
-            Err(fault) => return End::WriteFailed {
-                written: fault.written,
-            },
-        }
-        intake.discard();
-        if ready.closes {
-            return End::Closed;
+        match step {
+            Step::Answered => {}
+            Step::Interim => {}
+            Step::Ended(end) => return end,
+            Step::Waits => {
+                if reads == 0 {
+                    return End::ReadFailed;
+                }
+                reads -= 1;
+                match conversation.read_from(reader) {
+                    Ok(()) => {}
+                    Err(_) => return End::ReadFailed,
+                }
+            }
         }
     }
 }
@@ -129,7 +101,8 @@ fn serve_requests<R: Read, W: Write, K: Keeper>(
 /// is wanting, with the requests before answered. `ReadFailed` is the same for the bytes that came
 /// before the failed read, or before 9,223,372,036,854,775,807 reads. After `WriteFailed` all texts
 /// before went out whole, and of the text in hand exactly the first `written` bytes; a request
-/// whose reply was in hand took effect.
+/// whose reply was in hand took effect. A reply is put together in memory: where that is wanting it is
+/// a write that failed.
 pub fn serve_connection<R: Read, W: Write, K: Keeper>(
     alloc: Global,
     service: &mut Service<K>,
@@ -146,11 +119,11 @@ pub fn serve_connection<R: Read, W: Write, K: Keeper>(
       state' = K.state service.new;
     }) }
 {
-    match Intake::new(alloc) {
-        Ok(intake) => {
+    match Conversation::new(alloc) {
+        Ok(conversation) => {
             // Its room is let go in one place.
-            let mut intake = intake;
-            serve_requests(alloc, service, &mut intake, reader, writer)
+            let mut conversation = conversation;
+            serve_requests(alloc, service, &mut conversation, reader, writer)
         }
         Err(_) => refuse(writer, FramingRefusal::NoBufferMemory),
     }

@@ -1,93 +1,176 @@
-use Rattle.std.proofs.Common.{sym, refl, ◌∙◌, arith}
-use Rattle.registry_http.specs.Spelling.{Item}
-use Rattle.registry_http.proofs.RequestLemmas.{readies}
-use Rattle.registry_http.proofs.ConnectionProgress.{starts, came, headed, head_cut, head_serves, body_serves, answered, closed, reply_cut}
+use Rattle.std.proofs.Common.{refl, ap}
+use Rattle.std.proofs.KnownBytes.{Consumes-nil}
+use Rattle.registry_server.specs.declared.phase.Step.TheVariants as step
+use Rattle.registry_server.specs.ConversationShowing.{shown}
+use Rattle.registry_server.proofs.ServingLemmas.{at_first, went_on, broke_off, heard, not_heard}
 use Rattle.registry_server.proofs.whole_connection.serve_requests.Goals as goal
 
-pub requests-init : goal.requests-init
-requests-init g c = record { honest = λ h. h; taken = c.requires.taken; progress = λ h. rw c.requires.unread (starts _ _ _) }
-
-pub returns-in-Err : goal.returns-in-Err
-returns-in-Err g c = record {
-  honest = c.requests.invariant.honest;
-  serves = λ honest. head_serves _ _ (c.requests.invariant.progress honest) _ _ _ _ c.in-Err.ensures.cases c.finish.ensures;
-}
-
-pub returns-in-Err-write_continue : goal.returns-in-Err-write_continue
-returns-in-Err-write_continue g c = record {
-  honest = c.requests.invariant.honest;
-  serves = λ honest.
-      let sent = c.in-Err-write_continue.ensures in
-      head_cut _ _ _ _ _ _ _ _ _ c.in-Ok.ensures.cases.1 (c.requests.invariant.progress honest) sent.0 sent.1;
-}
-
-pub read_body-requires : goal.read_body-requires
-read_body-requires g c = record { within = c.in-Ok.ensures.cases.1.read.within; small = c.in-Ok.ensures.small }
-
-pub returns-in-Err-read_body : goal.returns-in-Err-read_body
-returns-in-Err-read_body g c = record {
-  honest = c.requests.invariant.honest;
-  serves = λ honest.
-      let head = c.in-Ok.ensures.cases in
-      let ends = rw head.1.framed at c.in-Err-read_body.ensures.cases in
-      body_serves _ _ _ _ head.1.read head.1.few _ (headed _ _ _ _ _ _ _ _ head.1 (c.requests.invariant.progress honest) c.in-Ok-write_continue.ensures)
-      _ _ _ _ ends c.finish-in-Err-read_body.ensures;
-}
-
-pub reply_to-requires : goal.reply_to-requires
-reply_to-requires g c =
-    let head = c.in-Ok.ensures.cases in
-    let body = rw (c.in-Ok.ensures.taken, c.requests.invariant.taken, head.1.framed) at c.in-Ok-read_body.ensures.cases in
-    let made = readies _ _ _ _ head.1.read head.1.few _ _ body.0 body.1 _ _ c.in-Ok.ready refl head.1.closes body.2 body.3 in
-    rw c.in-Ok-read_body.ensures.headers (record { order = made.0.order; room = made.0.room; fits = made.0.fits })
-
-pub returns-in-Err-reply_to : goal.returns-in-Err-reply_to
-returns-in-Err-reply_to g c =
-    let head = c.in-Ok.ensures.cases in
-    let body = rw (c.in-Ok.ensures.taken, c.requests.invariant.taken, head.1.framed) at c.in-Ok-read_body.ensures.cases in
-    let made = readies _ _ _ _ head.1.read head.1.few _ _ body.0 body.1 _ _ c.in-Ok.ready refl head.1.closes body.2 body.3 in
-    let item : Item = record { head = head.0; coded = body.0; body = body.1 } in
+pub turns-init : goal.turns-init
+turns-init g c =
     record {
-      honest = λ honest. c.requests.invariant.honest (c.reply_to.ensures.honest honest);
-      serves = λ honest.
-          let sent = c.in-Err-reply_to.ensures.replies honest item (rw c.in-Ok-read_body.ensures.headers made.0) in
-          let progress = headed _ _ _ _ _ _ _ _ head.1 (c.requests.invariant.progress (c.reply_to.ensures.honest honest)) c.in-Ok-write_continue.ensures in
-          reply_cut _ _ _ (came _ _ _ body.3.bytes _ progress body.3.came) item _ made.1 made.0.request refl sent.0 _ sent.1 _ _ sent.2.0 sent.2.1;
+      honest = λ h. h;
+      stands = λ h. at_first (shown c.args.conversation.now) (g.R.Read.remaining c.args.reader.now) (g.W.Write.contents c.args.writer.now) (g.K.Keeper.state c.args.service.now) c.requires;
     }
 
-pub returns-then-ready : goal.returns-then-ready
-returns-then-ready g c =
-    let head = c.in-Ok.ensures.cases in
-    let body = rw (c.in-Ok.ensures.taken, c.requests.invariant.taken, head.1.framed) at c.in-Ok-read_body.ensures.cases in
-    let made = readies _ _ _ _ head.1.read head.1.few _ _ body.0 body.1 _ _ c.in-Ok.ready refl head.1.closes body.2 body.3 in
-    let item : Item = record { head = head.0; coded = body.0; body = body.1 } in
+pub returns-in-Err-clause-serves : goal.returns-in-Err-clause-serves
+returns-in-Err-clause-serves g c =
+    λ honest.
+    broke_off c.answer_next-step.result (shown c.turns.conversation) (shown c.answer_next-step.new.self)
+    (record {
+      left = g.R.Read.remaining c.args.reader.now;
+      left' = g.R.Read.remaining c.turns.reader;
+      held = g.W.Write.contents c.args.writer.now;
+      held' = g.W.Write.contents c.turns.writer;
+      state = g.K.Keeper.state c.args.service.now;
+      state' = g.K.Keeper.state c.turns.service;
+    })
+    (g.K.Keeper.state c.answer_next-step.new.service) c.in-Err.written (g.W.Write.contents c.send_out.new.writer) (
+      λ e ended. let all = c.answer_next-step.ensures.over e ended in (all.0, all.1, ap (λ s. g.K.Keeper.state s) all.2),
+      c.answer_next-step.ensures.finished,
+      c.answer_next-step.ensures.acts honest,
+    )
+    (c.turns.invariant.stands (c.answer_next-step.ensures.honest honest)) c.in-Err.ensures.sends.0 c.in-Err.ensures.sends.1
+
+pub turns-preserved-in-Answered : goal.turns-preserved-in-Answered
+turns-preserved-in-Answered g c =
     record {
-      honest = λ honest. c.requests.invariant.honest (c.reply_to.ensures.honest honest);
-      serves = λ honest.
-          let sent = c.in-Ok-reply_to.ensures.replies honest item (rw c.in-Ok-read_body.ensures.headers made.0) in
-          let progress = headed _ _ _ _ _ _ _ _ head.1 (c.requests.invariant.progress (c.reply_to.ensures.honest honest)) c.in-Ok-write_continue.ensures in
-          closed _ _ _ (came _ _ _ body.3.bytes _ progress body.3.came) item _ made.1 made.0.request refl sent.0 _ sent.1 _ (sym made.0.closes ∙ c.if-ready.true) sent.2;
+      honest = λ h. c.turns.invariant.honest (c.answer_next-step.ensures.honest h);
+      stands = λ honest. went_on c.answer_next-step.result (step.Answered) (shown c.turns.conversation) (shown c.answer_next-step.new.self) (shown c.send_out.new.conversation)
+          (record {
+            left = g.R.Read.remaining c.args.reader.now;
+            left' = g.R.Read.remaining c.turns.reader;
+            held = g.W.Write.contents c.args.writer.now;
+            held' = g.W.Write.contents c.turns.writer;
+            state = g.K.Keeper.state c.args.service.now;
+            state' = g.K.Keeper.state c.turns.service;
+          })
+          (g.K.Keeper.state c.answer_next-step.new.service) (g.W.Write.contents c.send_out.new.writer) (
+            λ e ended. let all = c.answer_next-step.ensures.over e ended in (all.0, all.1, ap (λ s. g.K.Keeper.state s) all.2),
+            c.answer_next-step.ensures.finished,
+            c.answer_next-step.ensures.acts honest,
+          )
+          (c.turns.invariant.stands (c.answer_next-step.ensures.honest honest)) c.in-Answered.is c.in-Ok.ensures.sends c.in-Ok.ensures.told;
     }
 
-pub requests-preserved : goal.requests-preserved
-requests-preserved g c =
-    let head = c.in-Ok.ensures.cases in
-    let body = rw (c.in-Ok.ensures.taken, c.requests.invariant.taken, head.1.framed) at c.in-Ok-read_body.ensures.cases in
-    let made = readies _ _ _ _ head.1.read head.1.few _ _ body.0 body.1 _ _ c.in-Ok.ready refl head.1.closes body.2 body.3 in
-    let item : Item = record { head = head.0; coded = body.0; body = body.1 } in
+pub turns-preserved-in-Interim : goal.turns-preserved-in-Interim
+turns-preserved-in-Interim g c =
     record {
-      honest = λ h. c.requests.invariant.honest (c.reply_to.ensures.honest h);
-      taken = c.discard.ensures.taken;
-      progress = λ honest.
-          let sent = c.in-Ok-reply_to.ensures.replies honest item (rw c.in-Ok-read_body.ensures.headers made.0) in
-          let progress = headed _ _ _ _ _ _ _ _ head.1 (c.requests.invariant.progress (c.reply_to.ensures.honest honest)) c.in-Ok-write_continue.ensures in
-          rw c.discard.ensures.unread
-          (answered _ _ _ (came _ _ _ body.3.bytes _ progress body.3.came) item _ made.1 made.0.request refl sent.0 _ sent.1 _ (sym made.0.closes ∙ c.if-ready.false) sent.2);
+      honest = λ h. c.turns.invariant.honest (c.answer_next-step.ensures.honest h);
+      stands = λ honest. went_on c.answer_next-step.result (step.Interim) (shown c.turns.conversation) (shown c.answer_next-step.new.self) (shown c.send_out.new.conversation)
+          (record {
+            left = g.R.Read.remaining c.args.reader.now;
+            left' = g.R.Read.remaining c.turns.reader;
+            held = g.W.Write.contents c.args.writer.now;
+            held' = g.W.Write.contents c.turns.writer;
+            state = g.K.Keeper.state c.args.service.now;
+            state' = g.K.Keeper.state c.turns.service;
+          })
+          (g.K.Keeper.state c.answer_next-step.new.service) (g.W.Write.contents c.send_out.new.writer) (
+            λ e ended. let all = c.answer_next-step.ensures.over e ended in (all.0, all.1, ap (λ s. g.K.Keeper.state s) all.2),
+            c.answer_next-step.ensures.finished,
+            c.answer_next-step.ensures.acts honest,
+          )
+          (c.turns.invariant.stands (c.answer_next-step.ensures.honest honest)) c.in-Interim.is c.in-Ok.ensures.sends c.in-Ok.ensures.told;
     }
 
-pub requests-smaller : goal.requests-smaller
-requests-smaller g c =
-    let head = c.in-Ok.ensures.cases in
-    let body = rw (c.in-Ok.ensures.taken, c.requests.invariant.taken, head.1.framed) at c.in-Ok-read_body.ensures.cases in
-    let made = readies _ _ _ _ head.1.read head.1.few _ _ body.0 body.1 _ _ c.in-Ok.ready refl head.1.closes body.2 body.3 in
-    omega (arith, made.0.some, c.discard.ensures.weight, c.in-Ok.ensures.weight, c.in-Ok-read_body.ensures.weight)
+pub returns-in-Ended-clause-serves : goal.returns-in-Ended-clause-serves
+returns-in-Ended-clause-serves g c =
+    λ honest. went_on c.answer_next-step.result (step.Ended c.in-Ended.end) (shown c.turns.conversation) (shown c.answer_next-step.new.self) (shown c.send_out.new.conversation)
+    (record {
+      left = g.R.Read.remaining c.args.reader.now;
+      left' = g.R.Read.remaining c.turns.reader;
+      held = g.W.Write.contents c.args.writer.now;
+      held' = g.W.Write.contents c.turns.writer;
+      state = g.K.Keeper.state c.args.service.now;
+      state' = g.K.Keeper.state c.turns.service;
+    })
+    (g.K.Keeper.state c.answer_next-step.new.service) (g.W.Write.contents c.send_out.new.writer) (
+      λ e ended. let all = c.answer_next-step.ensures.over e ended in (all.0, all.1, ap (λ s. g.K.Keeper.state s) all.2),
+      c.answer_next-step.ensures.finished,
+      c.answer_next-step.ensures.acts honest,
+    )
+    (c.turns.invariant.stands (c.answer_next-step.ensures.honest honest)) c.in-Ended.is c.in-Ok.ensures.sends c.in-Ok.ensures.told
+
+pub returns-then-reads-eq0-clause-serves : goal.returns-then-reads-eq0-clause-serves
+returns-then-reads-eq0-clause-serves g c =
+    λ honest. not_heard (shown c.send_out.new.conversation) (shown c.send_out.new.conversation) (record {
+      left = g.R.Read.remaining c.args.reader.now;
+      left' = g.R.Read.remaining c.turns.reader;
+      held = g.W.Write.contents c.args.writer.now;
+      held' = g.W.Write.contents c.send_out.new.writer;
+      state = g.K.Keeper.state c.args.service.now;
+      state' = g.K.Keeper.state c.answer_next-step.new.service;
+    }) (g.R.Read.remaining c.turns.reader)
+    (went_on c.answer_next-step.result (step.Waits) (shown c.turns.conversation) (shown c.answer_next-step.new.self) (shown c.send_out.new.conversation)
+    (record {
+      left = g.R.Read.remaining c.args.reader.now;
+      left' = g.R.Read.remaining c.turns.reader;
+      held = g.W.Write.contents c.args.writer.now;
+      held' = g.W.Write.contents c.turns.writer;
+      state = g.K.Keeper.state c.args.service.now;
+      state' = g.K.Keeper.state c.turns.service;
+    })
+    (g.K.Keeper.state c.answer_next-step.new.service) (g.W.Write.contents c.send_out.new.writer) (
+      λ e ended. let all = c.answer_next-step.ensures.over e ended in (all.0, all.1, ap (λ s. g.K.Keeper.state s) all.2),
+      c.answer_next-step.ensures.finished,
+      c.answer_next-step.ensures.acts honest,
+    )
+    (c.turns.invariant.stands (c.answer_next-step.ensures.honest honest)) c.in-Waits.is c.in-Ok.ensures.sends c.in-Ok.ensures.told)
+    (Consumes-nil (g.R.Read.remaining c.turns.reader))
+
+pub turns-preserved : goal.turns-preserved
+turns-preserved g c =
+    record {
+      honest = λ h. c.turns.invariant.honest (c.answer_next-step.ensures.honest h);
+      stands = λ honest. heard (shown c.send_out.new.conversation) (shown c.read_from.new.self) (record {
+        left = g.R.Read.remaining c.args.reader.now;
+        left' = g.R.Read.remaining c.turns.reader;
+        held = g.W.Write.contents c.args.writer.now;
+        held' = g.W.Write.contents c.send_out.new.writer;
+        state = g.K.Keeper.state c.args.service.now;
+        state' = g.K.Keeper.state c.answer_next-step.new.service;
+      }) (g.R.Read.remaining c.read_from.new.reader)
+          (went_on c.answer_next-step.result (step.Waits) (shown c.turns.conversation) (shown c.answer_next-step.new.self) (shown c.send_out.new.conversation)
+          (record {
+            left = g.R.Read.remaining c.args.reader.now;
+            left' = g.R.Read.remaining c.turns.reader;
+            held = g.W.Write.contents c.args.writer.now;
+            held' = g.W.Write.contents c.turns.writer;
+            state = g.K.Keeper.state c.args.service.now;
+            state' = g.K.Keeper.state c.turns.service;
+          })
+          (g.K.Keeper.state c.answer_next-step.new.service) (g.W.Write.contents c.send_out.new.writer) (
+            λ e ended. let all = c.answer_next-step.ensures.over e ended in (all.0, all.1, ap (λ s. g.K.Keeper.state s) all.2),
+            c.answer_next-step.ensures.finished,
+            c.answer_next-step.ensures.acts honest,
+          )
+          (c.turns.invariant.stands (c.answer_next-step.ensures.honest honest)) c.in-Waits.is c.in-Ok.ensures.sends c.in-Ok.ensures.told)
+          c.in-Ok-read_from.ensures.cases;
+    }
+
+pub returns-in-Err-read_from-clause-serves : goal.returns-in-Err-read_from-clause-serves
+returns-in-Err-read_from-clause-serves g c =
+    λ honest. not_heard (shown c.send_out.new.conversation) (shown c.send_out.new.conversation) (record {
+      left = g.R.Read.remaining c.args.reader.now;
+      left' = g.R.Read.remaining c.turns.reader;
+      held = g.W.Write.contents c.args.writer.now;
+      held' = g.W.Write.contents c.send_out.new.writer;
+      state = g.K.Keeper.state c.args.service.now;
+      state' = g.K.Keeper.state c.answer_next-step.new.service;
+    }) (g.R.Read.remaining c.read_from.new.reader)
+    (went_on c.answer_next-step.result (step.Waits) (shown c.turns.conversation) (shown c.answer_next-step.new.self) (shown c.send_out.new.conversation)
+    (record {
+      left = g.R.Read.remaining c.args.reader.now;
+      left' = g.R.Read.remaining c.turns.reader;
+      held = g.W.Write.contents c.args.writer.now;
+      held' = g.W.Write.contents c.turns.writer;
+      state = g.K.Keeper.state c.args.service.now;
+      state' = g.K.Keeper.state c.turns.service;
+    })
+    (g.K.Keeper.state c.answer_next-step.new.service) (g.W.Write.contents c.send_out.new.writer) (
+      λ e ended. let all = c.answer_next-step.ensures.over e ended in (all.0, all.1, ap (λ s. g.K.Keeper.state s) all.2),
+      c.answer_next-step.ensures.finished,
+      c.answer_next-step.ensures.acts honest,
+    )
+    (c.turns.invariant.stands (c.answer_next-step.ensures.honest honest)) c.in-Waits.is c.in-Ok.ensures.sends c.in-Ok.ensures.told)
+    c.in-Err-read_from.ensures.cases

@@ -1,14 +1,14 @@
-use Rattle.std.proofs.Common.{◌≡◌, []}
-use Rattle.registry_http.specs.Intaking.{taken, unread, weight}
-use Rattle.registry_http.proofs.ConnectionProgress.{Progress}
+use Rattle.std.proofs.Common.{◌+◌, ◌*◌}
+use Rattle.registry_server.specs.Shown.{turns_left}
+use Rattle.registry_server.specs.ConversationShowing.{shown}
+use Rattle.registry_server.proofs.ServingLemmas.{Stands}
 use Rattle.registry_server.proofs.whole_connection.serve_requests.Given as goal
 
--- the requests so far are answered, and what is unread and what the reader has left follow them
-abbrev pub invariant-requests : goal.invariant-requests
-invariant-requests g l = record {
+-- what was put out went, and what came and what the reader has left follow it
+abbrev pub invariant-turns : goal.invariant-turns
+invariant-turns g l = record {
   honest : g.K.Keeper.is_honest l.service → g.K.Keeper.is_honest l.fn.service;
-  taken : taken l.intake ≡ [];
-  progress : g.K.Keeper.is_honest l.service → Progress (unread l.intake) [] (record {
+  stands : g.K.Keeper.is_honest l.service → Stands (shown l.conversation) (record {
     left = g.R.Read.remaining l.fn.reader;
     left' = g.R.Read.remaining l.reader;
     held = g.W.Write.contents l.fn.writer;
@@ -18,5 +18,5 @@ invariant-requests g l = record {
   });
 }
 
-abbrev pub decreases-requests : goal.decreases-requests
-decreases-requests g l = weight l.intake
+abbrev pub decreases-turns : goal.decreases-turns
+decreases-turns g l = l.reads * 4194304 + turns_left (shown l.conversation)

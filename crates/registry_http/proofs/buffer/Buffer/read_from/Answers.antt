@@ -54,3 +54,21 @@ returns-in-Ok-clause-few g c =
     let more = c.in-Ok.ensures.cases in
     le_trans (le_of_eq (ap (λ (x : List ℕ). length (slice_range x b.unread (b.end + c.in-Ok.n))) (with_items_is b.room room size)))
     (slice_few b.room.items room b.unread b.end c.in-Ok.n 1048576 within more.0 more.1)
+
+pub returns-in-Err-clause-kept : goal.returns-in-Err-clause-kept
+returns-in-Err-clause-kept g c =
+    let b = c.args.self.now in
+    let room = c.read_at.new.room in
+    let size : length room ≡ b.room.len = omega (arith, c.read_at.auto.room, ap length c.deref_mut.ensures.value, b.room.ok.0) in
+    let front = c.read_at.ensures.front ∙ ap (take b.end) c.deref_mut.ensures.value in
+    ap (λ (x : List ℕ). slice_range x b.unread b.end) (with_items_is b.room room size)
+    ∙ slice_kept b.room.items room b.end b.unread b.end front b.ordered (omega arith)
+
+pub returns-in-Ok-eq0-clause-kept : goal.returns-in-Ok-eq0-clause-kept
+returns-in-Ok-eq0-clause-kept g c =
+    let b = c.args.self.now in
+    let room = c.read_at.new.room in
+    let size : length room ≡ b.room.len = omega (arith, c.read_at.auto.room, ap length c.deref_mut.ensures.value, b.room.ok.0) in
+    let front = c.read_at.ensures.front ∙ ap (take b.end) c.deref_mut.ensures.value in
+    ap (λ (x : List ℕ). slice_range x b.unread b.end) (with_items_is b.room room size)
+    ∙ slice_kept b.room.items room b.end b.unread b.end front b.ordered (omega arith)
