@@ -1,53 +1,43 @@
 -- What a connection has done so far, and what follows at its end.
-use Rattle.std.proofs.Common.{◌≡◌, ℕ, ◌<◌, ◌≤◌, ◌⊎◌, inl, inr, List, [], ◌∷◌, ◌++◌, length, take, drop, Option, Some, None, true, false, refl, sym, ap, subst, ◌∙◌, append_assoc, append-nil}
+use Rattle.std.proofs.Common.{◌≡◌, ℕ, ◌<◌, ◌⊎◌, inl, inr, List, [], ◌∷◌, ◌++◌, length, take, Option, Some, None, true, false, refl, sym, ap, subst, ◌∙◌, append_assoc, append-nil}
 use Rattle.std.proofs.lemmas.List.Concat.{flat_map-append}
 use Rattle.std.specs.Io.KnownBytes.{Consumes, Appends, IsAtEnd}
 use Rattle.std.proofs.KnownBytes.{Consumes-nil, Consumes-trans, Appends-nil, Appends-trans}
 use Rattle.oci_types.specs.Text.{Text}
 use Rattle.registry_model.specs.Keeping.{State}
 use Rattle.std.specs.Bool.{MatchBool}
-use Rattle.httparse.specs.Grammar.{RequestHead}
-use Rattle.httparse.specs.declared.spans.HeaderSpan.{HeaderSpan}
-use Rattle.httparse.specs.declared.spans.RequestSpans.{RequestSpans}
 use Rattle.registry_model.specs.Answer.{Answer}
 use Rattle.registry_model.specs.Doing.{Does}
 use Rattle.registry_http.specs.Asking.{ask_in}
-use Rattle.registry_http.specs.Framing.{framing}
-use Rattle.registry_http.specs.Expecting.{continue_if, text_before, IsBefore}
-use Rattle.registry_http.specs.Spelling.{Item, IsRequest, IsRefused, IsCut, HeadIsCut, HeadIsUnreadable, BodyIsCut, BodyIsRefused, closes, print_item, Ends, Then, Spells, Front}
+use Rattle.registry_http.specs.Expecting.{text_before, IsBefore}
+use Rattle.registry_http.specs.Spelling.{Item, IsRequest, IsRefused, IsCut, closes, print_item, Ends, Then, Spells, Front}
 use Rattle.registry_http.specs.ReplyText.{refusal_text}
 use Rattle.registry_http.specs.Serving.{reply_for, Replies, Run, joined, end_text, Traffic, Leftover, Answers, StopsForMemory, InHand, replying, refusing, continuing, StopsAtWrite, StopsAtRead, Gave, Serves}
-use Rattle.registry_http.specs.Reading.{Pulls, HeadIsRead, HeadIsReady, HeadStops}
-use Rattle.registry_http.specs.declared.intake.Ready.{Ready}
-use Rattle.registry_http.specs.Taking.{EndsFrom}
-use Rattle.registry_http.proofs.RequestLemmas.{stands_before, cut_there, refused_there, before_empty, before_cut, before_unreadable}
-use Rattle.registry_http.specs.Ending.{SendsRefusal, StopsWith}
+use Rattle.registry_http.specs.Ending.{SendsRefusal}
 use Rattle.registry_http.specs.declared.ending.FramingRefusal.{FramingRefusal}
-use Rattle.registry_http.specs.declared.ending.FramingRefusal.TheVariants.{UnreadableHead, NoBufferMemory}
+use Rattle.registry_http.specs.declared.ending.FramingRefusal.TheVariants.{NoBufferMemory}
 use Rattle.registry_http.specs.declared.ending.End.{End}
 use Rattle.registry_http.specs.declared.ending.End.TheVariants.{Closed, Cut, Refused, ReadFailed, WriteFailed}
-use Rattle.registry_http.specs.declared.ending.Stop.{Stop}
-use Rattle.registry_http.specs.declared.ending.Stop.TheVariants.{Between, AtEnd, Broken, Refuse}
 
 -- ---- requests so far, and one more
 
-Front-more : (b : Text) (items : List Item) (rest : Text) (i : Item) (behind : Text) → Front b items rest → IsRequest i
+pub Front-more : (b : Text) (items : List Item) (rest : Text) (i : Item) (behind : Text) → Front b items rest → IsRequest i
     → rest ≡ print_item i ++ behind → closes i ≡ false → Front b (items ++ i ∷ []) behind
 Front-more b [] rest i behind f r e stays = (behind, r, f ∙ e, stays, refl)
 Front-more b (x ∷ items) rest i behind f r e stays =
     (f.0, f.1, f.2, f.3, Front-more f.0 items rest i behind f.4 r e stays)
 
-Front-on : (b : Text) (items : List Item) (rest more : Text) → Front b items rest → Front (b ++ more) items (rest ++ more)
+pub Front-on : (b : Text) (items : List Item) (rest more : Text) → Front b items rest → Front (b ++ more) items (rest ++ more)
 Front-on b [] rest more f = ap (λ x. x ++ more) f
 Front-on b (x ∷ items) rest more f =
     (f.0 ++ more, f.1, ap (λ y. y ++ more) f.2 ∙ append_assoc (print_item x) f.0 more, f.3, Front-on f.0 items rest more f.4)
 
-Front-spells : (b : Text) (items : List Item) (rest : Text) (e : End) → Front b items rest → Ends rest e → Spells b items e
+pub Front-spells : (b : Text) (items : List Item) (rest : Text) (e : End) → Front b items rest → Ends rest e → Spells b items e
 Front-spells b [] rest e f h = subst (λ x. Ends x e) (sym f) h
 Front-spells b (x ∷ items) rest e f h =
     (f.0, f.1, f.2, subst (λ c. Then c items e (Spells f.0 items e)) (sym f.3) (Front-spells f.0 items rest e f.4 h))
 
-Front-closes : (b : Text) (items : List Item) (rest : Text) (i : Item) (behind : Text) → Front b items rest → IsRequest i
+pub Front-closes : (b : Text) (items : List Item) (rest : Text) (i : Item) (behind : Text) → Front b items rest → IsRequest i
     → rest ≡ print_item i ++ behind → closes i ≡ true → Spells b (items ++ i ∷ []) Closed
 Front-closes b [] rest i behind f r e last =
     (behind, r, f ∙ e, subst (λ c. Then c [] Closed (Spells behind [] Closed)) (sym last) (refl, refl))
@@ -58,15 +48,15 @@ Front-closes b (x ∷ items) rest i behind f r e last = (
   subst (λ c. Then c (items ++ i ∷ []) Closed (Spells f.0 (items ++ i ∷ []) Closed)) (sym f.3) (Front-closes f.0 items rest i behind f.4 r e last),
 )
 
-Front-leftover : (b : Text) (items : List Item) (rest text : Text) → Front b items rest → IsBefore rest text → Leftover b items text
+pub Front-leftover : (b : Text) (items : List Item) (rest text : Text) → Front b items rest → IsBefore rest text → Leftover b items text
 Front-leftover b [] rest text f h = subst (λ x. IsBefore x text) (sym f) h
 Front-leftover b (x ∷ items) rest text f h =
     (f.0, f.2, subst (λ c. MatchBool c (text ≡ []) (Leftover f.0 items text)) (sym f.3) (Front-leftover f.0 items rest text f.4 h))
 
-abbrev nothing : Text
+abbrev pub nothing : Text
 nothing = []
 
-Front-none : (b : Text) (items : List Item) (rest : Text) (i : Item) (behind : Text) → Front b items rest → rest ≡ print_item i ++ behind → closes i ≡ true
+pub Front-none : (b : Text) (items : List Item) (rest : Text) (i : Item) (behind : Text) → Front b items rest → rest ≡ print_item i ++ behind → closes i ≡ true
     → Leftover b (items ++ i ∷ []) nothing
 Front-none b [] rest i behind f e last = (behind, f ∙ e, subst (λ c. MatchBool c (nothing ≡ nothing) (Leftover behind [] nothing)) (sym last) refl)
 Front-none b (x ∷ items) rest i behind f e last =
@@ -281,75 +271,3 @@ pub continue_cut : (b : Text) (t : Traffic) (p : Progress b [] t) (text : Text) 
     → n < length text → Appends t.held' w (take n text) → Serves (WriteFailed n) (record t { held' = w })
 continue_cut b t p text w n is short sent =
     stops b [] t p text n t.left' w t.state' (λ tail. continuing refl (is tail) p.run) short sent
-
--- ---- there is no further request
-
-unread_head : (b : Text) (r : FramingRefusal) → r ≡ UnreadableHead → HeadIsUnreadable b → IsRefused b r × IsBefore b []
-unread_head b r e bad = (inl (e, bad), before_unreadable b bad)
-
--- there is no further head
-pub head_serves : (b : Text) (t : Traffic) (p : Progress b [] t) (stop : Stop) (e : End) (l w : Option Text)
-    → HeadStops stop b t.left' l → StopsWith e stop t.held' w → Serves e (record t { left' = l; held' = w })
-head_serves b t p Between e l w n s =
-    subst (λ h. Serves e (record t { left' = l; held' = h })) (sym s.1)
-    (subst (λ f. Serves f (record t { left' = l })) (sym s.0)
-    (at_end (b ++ n.0.bytes) [] (record t { left' = l }) (came b [] t n.0.bytes l p n.0.taken) Closed n.1 n.0.here (before_empty _ n.0.here) refl))
-head_serves b t p AtEnd e l w n s =
-    subst (λ h. Serves e (record t { left' = l; held' = h })) (sym s.1)
-    (subst (λ f. Serves f (record t { left' = l })) (sym s.0)
-    (at_end (b ++ n.0.bytes) [] (record t { left' = l }) (came b [] t n.0.bytes l p n.0.taken) Cut n.1 (inl n.0.here) (before_cut _ n.0.here) refl))
-head_serves b t p Broken e l w n s =
-    subst (λ h. Serves e (record t { left' = l; held' = h })) (sym s.1)
-    (subst (λ f. Serves f (record t { left' = l })) (sym s.0) (by_here n.here))
-  where
-    now : Progress (b ++ n.bytes) [] (record t { left' = l })
-    now = came b [] t n.bytes l p n.taken
-
-    by_here : (b ++ n.bytes ≡ []) ⊎ HeadIsCut (b ++ n.bytes) → Serves ReadFailed (record t { left' = l })
-    by_here (inl h) = broken (b ++ n.bytes) [] (record t { left' = l }) now (inl h) (before_empty _ h)
-    by_here (inr h) = broken (b ++ n.bytes) [] (record t { left' = l }) now (inr (inl h)) (before_cut _ h)
-head_serves b t p (Refuse r) e l w n s = elim n [
-  | inl none ↦ memory_serves b [] t p e r l w (λ tail. inl refl) none s
-  | inr bad ↦ refuse_serves (b ++ bad.1.bytes) [] (record t { left' = l }) (came b [] t bad.1.bytes l p bad.1.taken) e r w
-      (λ tail. unread_head ((b ++ bad.1.bytes) ++ tail) r bad.0 (bad.1.here tail)) s
-]
-
--- the body behind a head is not whole, or refused
-module _ (b : Text) (headers : List HeaderSpan) (spans : RequestSpans) (h : RequestHead) (read : HeadIsRead b headers spans h) (few : spans.headers ≤ 64)
-    (t : Traffic) (p : Progress b (text_before h) t) where
-  stands : (bytes tail : Text) → IsBefore ((b ++ bytes) ++ tail) (text_before h)
-  stands bytes tail = subst (λ x. IsBefore x (text_before h)) (sym (append_assoc b bytes tail)) (stands_before b headers spans h read few (bytes ++ tail))
-
-  pub body_serves : (stop : Stop) (e : End) (l w : Option Text) → EndsFrom (BodyIsCut (framing h)) (BodyIsRefused (framing h)) stop (drop spans.len b) t.left' l
-      → StopsWith e stop t.held' w → Serves e (record t { left' = l; held' = w })
-  body_serves Between e l w n s = absurd n
-  body_serves AtEnd e l w n s =
-      subst (λ k. Serves e (record t { left' = l; held' = k })) (sym s.1)
-      (subst (λ f. Serves f (record t { left' = l })) (sym s.0)
-      (at_end (b ++ n.0.bytes) (text_before h) (record t { left' = l }) (came b (text_before h) t n.0.bytes l p n.0.taken) Cut n.1
-      (cut_there b headers spans h read few n.0.bytes n.0.here) (stands_before b headers spans h read few n.0.bytes) refl))
-  body_serves Broken e l w n s =
-      subst (λ k. Serves e (record t { left' = l; held' = k })) (sym s.1)
-      (subst (λ f. Serves f (record t { left' = l })) (sym s.0)
-      (broken (b ++ n.bytes) (text_before h) (record t { left' = l }) (came b (text_before h) t n.bytes l p n.taken)
-      (inr (cut_there b headers spans h read few n.bytes n.here)) (stands_before b headers spans h read few n.bytes)))
-  body_serves (Refuse r) e l w n s = elim n [
-    | inl none ↦ memory_serves b (text_before h) t p e r l w (λ tail. inr (stands_before b headers spans h read few tail)) none s
-    | inr bad ↦ refuse_serves (b ++ bad.bytes) (text_before h) (record t { left' = l }) (came b (text_before h) t bad.bytes l p bad.taken) e r w
-        (λ tail. (refused_there b headers spans h read few bad.bytes tail r (bad.here tail), stands bad.bytes tail)) s
-  ]
-
--- a head came, and what stands before its body went out
-pub pulled : (b b' before : Text) (t : Traffic) (l : Option Text) → Pulls b b' t.left' l → Progress b before t → Progress b' before (record t { left' = l })
-pulled b b' before t l q p = subst (λ x. Progress x before (record t { left' = l })) (sym q.grown) (came b before t q.bytes l p q.taken)
-
-pub headed : (b b' : Text) (t : Traffic) (l w : Option Text) (headers : List HeaderSpan) (ready : Ready) (h : RequestHead) → HeadIsReady b b' t.left' l headers ready h
-    → Progress b [] t → Appends t.held' w (continue_if ready.awaits) → Progress b' (text_before h) (record t { left' = l; held' = w })
-headed b b' t l w headers ready h x p sent =
-    continued b' (record t { left' = l }) (text_before h) w (pulled b b' [] t l x.pulls p) (subst (Appends t.held' w) (ap continue_if x.awaits) sent)
-
-pub head_cut : (b b' : Text) (t : Traffic) (l w : Option Text) (headers : List HeaderSpan) (ready : Ready) (h : RequestHead) (n : ℕ) → HeadIsReady b b' t.left' l headers ready h
-    → Progress b [] t → n < length (continue_if ready.awaits) → Appends t.held' w (take n (continue_if ready.awaits)) → Serves (WriteFailed n) (record t { left' = l; held' = w })
-head_cut b b' t l w headers ready h n x p short sent =
-    continue_cut b' (record t { left' = l }) (pulled b b' [] t l x.pulls p) (continue_if ready.awaits) w n
-    (λ tail. subst (λ y. IsBefore (b' ++ tail) y) (sym (ap continue_if x.awaits)) (stands_before b' headers ready.spans h x.read x.few tail)) short sent

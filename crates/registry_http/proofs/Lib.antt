@@ -1,17 +1,13 @@
 pub mod FieldLemmas
 pub mod HeadLemmas
-pub mod ReadingLemmas
 pub mod RequestLemmas
 pub mod TextPlaces
 pub mod QueryLemmas
 pub mod SendingLemmas
 pub mod ConnectionProgress
 pub mod SpellingUniqueness
-pub mod TakingLemmas
 pub mod ChunkReading
-pub mod ChunkSequences
 pub mod TrailerLemmas
-pub mod BodyLemmas
 pub mod BodyUniqueness
 pub mod ChunkEnds
 pub mod SomeHead

@@ -1,18 +1,15 @@
 -- Trailers at the front of the unread bytes, whatever bytes follow.
-use Rattle.std.proofs.Common.{◌≡◌, ℕ, ◌<◌, ◌≤◌, ◌≢◌, inl, inr, List, [], ◌++◌, length, take, drop, Option, refl, sym, ap, ◌∙◌, subst, append_assoc, append-nil, arith, length-append, length-take}
-use Rattle.std.proofs.lemmas.List.{take-append-le, take-append-drop, length-map, take_at}
+use Rattle.std.proofs.Common.{◌≡◌, ℕ, ◌<◌, ◌≤◌, ◌≢◌, inl, inr, List, [], ◌++◌, length, take, drop, ap, append_assoc, arith, length-append, length-take}
+use Rattle.std.proofs.lemmas.List.{take-append-le, take-append-drop, length-map}
 use Rattle.std.specs.List.{flat_map}
-use Rattle.httparse.specs.Grammar.{Field, LineEnd, lf, print_end, print_field, print_section, ReadsSection, HasNoSection, NeverHasSection, MayBecomeSection, print_chunk_line}
+use Rattle.httparse.specs.Grammar.{Field, LineEnd, lf, print_end, print_field, print_section, ReadsSection, HasNoSection, NeverHasSection, MayBecomeSection}
 use Rattle.httparse.specs.Spans.{SectionExceeds, IsSectionWithin, IsSectionAt, header_bytes, name_and_value}
 use Rattle.httparse.specs.declared.spans.HeaderSpan.{HeaderSpan}
 use Rattle.httparse.proofs.GrammarLemmas.{ReadsSection-append}
 use Rattle.oci_types.specs.Text.{Text}
-use Rattle.registry_http.specs.declared.ending.Stop.{Stop}
-use Rattle.registry_http.specs.Reading.{Pulls}
-use Rattle.registry_http.specs.Chunks.{BeginsWithTrailer, HoldsNoTrailer, TrailerIsCut, TrailerIsRefused, print_chunks, data_of, ChunkedBody, IsChunkedBody, print_body, BehindChunks, BehindLast, ChunkIsCut, ChunkIsRefused, ChunksAreCut, ChunksAreRefused}
-use Rattle.registry_http.specs.Taking.{Takes, EndsFrom, TrailerIsRead, ChunksAreRead}
+use Rattle.registry_http.specs.Chunks.{BeginsWithTrailer, HoldsNoTrailer, TrailerIsCut}
+use Rattle.registry_http.specs.Taking.{TrailerIsRead}
 use Rattle.registry_http.proofs.HeadLemmas.{take_whole, take_on, fields_long}
-use Rattle.registry_http.proofs.TakingLemmas.{nothing_taken, takes-on, skipped, ends_behind, ends_as}
 use Rattle.registry_http.proofs.ChunkReading.{drop_front}
 
 -- so few bytes do not begin with so many fields
@@ -78,47 +75,3 @@ module _ (b : Text) (headers : List HeaderSpan) (len count : ℕ) (fields : List
     record { reads = ReadsSection-append b fields last (drop len b) tail begins.reads; short = begins.short },
     omega (arith, fields_count),
   )
-
-pub trailer_fits : (b : Text) (len : ℕ) → TrailerIsRead b len → len ≤ length b
-trailer_fits b len t =
-    let size = ap length t.begins.reads.1 in
-    omega (arith, length-append (print_section t.fields t.last) (drop len b), t.len_is)
-
--- ---- the whole body
-
-pub chunks_end : (stop : Stop) (a : Text) (l l' : Option Text)
-    → EndsFrom (BehindChunks ChunkIsCut) (λ y r. BehindChunks (λ total rest. ChunkIsRefused total rest r) y) stop a l l'
-    → EndsFrom ChunksAreCut ChunksAreRefused stop a l l'
-chunks_end stop a l l' h =
-    ends_as stop a l l' (BehindChunks ChunkIsCut) ChunksAreCut (λ y r. BehindChunks (λ total rest. ChunkIsRefused total rest r) y) ChunksAreRefused
-    (λ y cut. inl cut) (λ y r bad. inl bad) h
-
-behind_last : (f a g b : Text) (l l' : Option Text) (p : ChunksAreRead f a g b l l') (P : Text → Type 0) (y : Text) → P y
-    → BehindLast P ((print_chunks p.chunks ++ print_chunk_line p.last) ++ y)
-behind_last f a g b l l' p P y h =
-    record { chunks = p.chunks; zero = p.last; rest = y; whole = refl; each = p.each; within = p.within; is_last = p.is_last; here = h }
-
-pub trailer_ends : (stop : Stop) (f a g b : Text) (l l' l'' : Option Text) → ChunksAreRead f a g b l l'
-    → EndsFrom TrailerIsCut TrailerIsRefused stop b l' l'' → EndsFrom ChunksAreCut ChunksAreRefused stop a l l''
-trailer_ends stop f a g b l l' l'' p h =
-    ends_behind stop f a g b l l' l'' (print_chunks p.chunks ++ print_chunk_line p.last) (data_of p.chunks) TrailerIsCut ChunksAreCut TrailerIsRefused ChunksAreRefused p.takes
-    (λ y cut. inr (behind_last f a g b l l' p TrailerIsCut y cut))
-    (λ y r bad. inr (behind_last f a g b l l' p (λ rest. TrailerIsRefused rest r) y bad)) h
-
-pub chunked_read : (len : ℕ) (f a g b h c k d : Text) (l l' l'' : Option Text) → ChunksAreRead f a g b l l' → h ≡ g → Pulls b c l' l'' → TrailerIsRead c len
-    → k ≡ h → d ≡ drop len c
-    → (coded : Text) × (body : Text) × ((x : ChunkedBody) × IsChunkedBody x × (coded ≡ print_body x) × (body ≡ data_of x.chunks)) × Takes f a k d l l'' coded body
-chunked_read len f a g b h c k d l l' l'' p same q t kept rest =
-    let carried = data_of p.chunks in
-    let before = print_chunks p.chunks ++ print_chunk_line p.last in
-    let section = print_section t.fields t.last in
-    let text : take len c ≡ section = ap (take len) t.begins.reads.1 ∙ take_at section (drop len c) len (sym t.len_is) in
-    let both = takes-on g b h c k d l' l'' l'' [] [] (take len c) [] (nothing_taken g b h c l' l'' same q) (skipped len h c k d l'' kept rest) in
-    let trailer = subst (λ (x : Text). Takes g b k d l' l'' x []) text both in
-    let all = takes-on f a g b k d l l' l'' before carried section [] p.takes trailer in
-    let body : ChunkedBody = record { chunks = p.chunks; zero = p.last; fields = t.fields; last = t.last } in (
-      before ++ section,
-      carried,
-      (body, record { each = p.each; within = p.within; zero = p.is_last; fields = t.begins.reads.0; few = t.few; short = t.begins.short }, refl, refl),
-      subst (λ (x : Text). Takes f a k d l l'' (before ++ section) x) (append-nil carried) all,
-    )

@@ -6,8 +6,6 @@ use Rattle.registry_http.specs.ReplyText.{refusal_text}
 use Rattle.registry_http.specs.declared.ending.FramingRefusal.{FramingRefusal}
 use Rattle.registry_http.specs.declared.ending.End.{End}
 use Rattle.registry_http.specs.declared.ending.End.TheVariants.{Closed, Cut, Refused, ReadFailed, WriteFailed}
-use Rattle.registry_http.specs.declared.ending.Stop.{Stop}
-use Rattle.registry_http.specs.declared.ending.Stop.TheVariants.{Between, AtEnd, Broken, Refuse}
 
 -- a refusal was sent, or so many of its first bytes
 abbrev pub SendsRefusal : End → FramingRefusal → Option Text → Option Text → Type 0
@@ -17,9 +15,3 @@ SendsRefusal (Refused s) r held held' = (s ≡ r) × Appends held held' (refusal
 SendsRefusal ReadFailed r held held' = ⊥
 SendsRefusal (WriteFailed n) r held held' =
     (n < length (refusal_text r)) × Appends held held' (take n (refusal_text r))
-
-abbrev pub StopsWith : End → Stop → Option Text → Option Text → Type 0
-StopsWith e Between held held' = (e ≡ Closed) × (held' ≡ held)
-StopsWith e AtEnd held held' = (e ≡ Cut) × (held' ≡ held)
-StopsWith e Broken held held' = (e ≡ ReadFailed) × (held' ≡ held)
-StopsWith e (Refuse r) held held' = SendsRefusal e r held held'

@@ -16,4 +16,3 @@ pub mod Ending
 pub mod Taking
 pub mod Privacy
 pub mod Buffering
-pub mod Intaking

@@ -1,22 +1,18 @@
 -- What the buffer takes from the reader, and what it then begins with.
-use Rattle.std.specs.Prelude.{◌≡◌, ℕ, ◌<◌, ◌≤◌, ◌⊎◌, List, [], ◌++◌, length, take, drop, map, All, Option, Result, MatchResult}
+use Rattle.std.specs.Prelude.{◌≡◌, ℕ, ◌<◌, ◌≤◌, List, ◌++◌, length, take, drop, map, All, Option, Result, MatchResult}
 use Rattle.std.specs.Io.KnownBytes.{Consumes, IsAtEnd}
 use Rattle.httparse.specs.Grammar.{RequestHead, print_request, IsRequestHead, HasNoRequest, MayBecomeRequest}
 use Rattle.httparse.specs.Spans.{span_bytes, IsWithin, IsHeaderWithin, header_bytes, name_and_value}
 use Rattle.httparse.specs.declared.spans.HeaderSpan.{HeaderSpan}
 use Rattle.httparse.specs.declared.spans.RequestSpans.{RequestSpans}
 use Rattle.oci_types.specs.Text.{Text}
-use Rattle.registry_http.specs.Limits.{longest_head, most_fields}
-use Rattle.registry_http.specs.Fields.{fields_of, closes_by}
-use Rattle.registry_http.specs.Framing.{framing}
-use Rattle.registry_http.specs.Spelling.{Item, IsRequest, closes, HoldsNoHead, HeadIsCut, HeadIsUnreadable}
-use Rattle.registry_http.specs.Expecting.{awaits_by}
-use Rattle.registry_http.specs.declared.ending.FramingRefusal.TheVariants.{UnreadableHead, NoBufferMemory}
+use Rattle.registry_http.specs.Limits.{longest_head}
+use Rattle.registry_http.specs.Spelling.{HoldsNoHead}
+use Rattle.registry_http.specs.declared.ending.FramingRefusal.TheVariants.{NoBufferMemory}
 use Rattle.registry_http.specs.declared.ending.Stop.{Stop}
-use Rattle.registry_http.specs.declared.ending.Stop.TheVariants.{Between, AtEnd, Broken, Refuse}
+use Rattle.registry_http.specs.declared.ending.Stop.TheVariants.{AtEnd, Broken, Refuse}
 use Rattle.registry_http.specs.declared.head.Parsed.{Parsed}
 use Rattle.registry_http.specs.declared.head.Parsed.TheVariants.{Whole, NotYet, Never}
-use Rattle.registry_http.specs.declared.intake.Ready.{Ready}
 
 -- ---- the parts of a head
 
@@ -70,7 +66,6 @@ pub record Leaves (old : Text) (left left' : Option Text) (P : Text → Type 0) 
 
 -- why nothing more is read inside a request: at the end of the bytes P holds of them
 abbrev pub StopsInside : (Text → Type 0) → Stop → Text → Option Text → Option Text → Type 0
-StopsInside P Between old left left' = ⊥
 StopsInside P AtEnd old left left' = Leaves old left left' P × IsAtEnd left'
 StopsInside P Broken old left left' = Leaves old left left' P
 StopsInside P (Refuse r) old left left' = r ≡ NoBufferMemory
@@ -79,42 +74,8 @@ StopsInside P (Refuse r) old left left' = r ≡ NoBufferMemory
 abbrev pub FillStops : Stop → Text → Option Text → Option Text → Type 0
 FillStops stop old left left' = StopsInside (λ b. b ≡ old) stop old left left'
 
--- why there are not so many bytes
-abbrev pub UntilStops : ℕ → Stop → Text → Option Text → Option Text → Type 0
-UntilStops need stop old left left' = StopsInside (λ b. length b < need) stop old left left'
-
 -- bytes came; or why not: what the stop says of the bytes that were unread and those that the reader had left
 abbrev pub PullsOr : {A : Type 0} → (Stop → Text → Option Text → Option Text → Type 0)
     → Result A Stop → Text → Text → Option Text → Option Text → Type 0
 PullsOr StopsBy r old new left left' =
     MatchResult r (λ _. Pulls old new left left') (λ stop. StopsBy stop old left left')
-
--- why there is no further head; one that is refused is, whatever bytes follow
-abbrev pub HeadStops : Stop → Text → Option Text → Option Text → Type 0
-HeadStops Between old left left' = Leaves old left left' (λ b. b ≡ []) × IsAtEnd left'
-HeadStops AtEnd old left left' = Leaves old left left' HeadIsCut × IsAtEnd left'
-HeadStops Broken old left left' = Leaves old left left' (λ b. (b ≡ []) ⊎ HeadIsCut b)
-HeadStops (Refuse r) old left left' =
-    (r ≡ NoBufferMemory)
-    ⊎ ((r ≡ UnreadableHead) × Leaves old left left' (λ b. (tail : Text) → HeadIsUnreadable (b ++ tail)))
-
--- the buffer begins with the head h, which is framed so
-pub record HeadIsReady (old new : Text) (left left' : Option Text) (headers : List HeaderSpan)
-    (ready : Ready) (h : RequestHead) : Type 0 where
-  pub pulls : Pulls old new left left'
-  pub read : HeadIsRead new headers ready.spans h
-  pub few : ready.spans.headers ≤ most_fields
-  pub framed : ready.framing ≡ framing h
-  pub closes : ready.closes ≡ closes_by h.minor (fields_of h)
-  pub awaits : ready.awaits ≡ awaits_by h.minor (fields_of h) (framing h)
-
--- the request i was taken off the unread bytes: its head and what its body carries are these
-pub record RequestIsReady (taken : Text) (headers : List HeaderSpan) (ready : Ready) (i : Item) : Type 0 where
-  pub request : IsRequest i
-  pub order : ready.spans.len ≤ length taken
-  pub some : 0 < ready.spans.len
-  pub room : ready.spans.headers ≤ length headers
-  pub fits : HeadFits ready.spans.len (take ready.spans.headers headers) ready.spans
-  pub at : IsHeadAt (take ready.spans.len taken) (take ready.spans.headers headers) ready.spans i.head
-  pub body : drop ready.spans.len taken ≡ i.body
-  pub closes : ready.closes ≡ closes i

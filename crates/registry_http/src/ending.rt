@@ -1,5 +1,5 @@
 ghost use Rattle.std.specs.Prelude.{◌≡◌};
-ghost use Rattle.registry_http.specs.Refusals.{refusal_code, stop_at_head};
+ghost use Rattle.registry_http.specs.Refusals.{refusal_code};
 
 /// Why a request is refused before it is answered; the connection is closed after it (RFC 9112,
 /// sections 2.2, 3.2 and 6.3; the limits are the profile's).
@@ -62,28 +62,13 @@ pub enum End {
     WriteFailed { written: usize },
 }
 
-/// Why there is no further request.
+/// Why a read gave no bytes.
 #[derive(Clone, Copy)]
 pub enum Stop {
-    /// The input ended between two requests.
-    Between,
-    /// The input ended inside what was read.
+    /// The input has ended.
     AtEnd,
-    /// A read failed, or the bound of reads was met.
+    /// It failed.
     Broken,
+    /// It was not made.
     Refuse(FramingRefusal),
-}
-
-impl Stop {
-    /// The same where a head was read, of which nothing had come if the buffer is empty.
-    pub fn at_head(self, is_empty: bool) -> Stop
-        ensures { result ≡ stop_at_head self is_empty }
-    {
-        match self {
-            Stop::AtEnd => { if is_empty { Stop::Between } else { Stop::AtEnd } }
-            Stop::Between => Stop::Between,
-            Stop::Broken => Stop::Broken,
-            Stop::Refuse(refusal) => Stop::Refuse(refusal),
-        }
-    }
 }

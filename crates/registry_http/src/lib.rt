@@ -1,11 +1,11 @@
 //! The bytes of HTTP/1.1 connections: heads, framing, targets, fields and the texts of replies. It knows
 //! of no service, and so is proved beside those that answer.
 //!
-//! The crates above rely on `Intake`, which takes whole requests off the bytes that a reader gives, on
-//! `write_reply`, and on `spelling_is_unique`: bytes spell one list of requests.
+//! The crates above rely on `Buffer`, which holds the bytes of a connection, on `parse_head`, `find_line` and
+//! `find_trailer`, which say what these begin with, on `write_reply`, and on `spelling_is_unique`: bytes spell
+//! one list of requests.
 #![tactic(auto)]
 
-pub mod body;
 pub mod buffer;
 pub mod chunk;
 pub mod ending;
@@ -13,7 +13,6 @@ pub mod expecting;
 pub mod fields;
 pub mod framing;
 pub mod head;
-pub mod intake;
 pub mod limits;
 pub mod outgoing;
 pub mod persistence;

@@ -1,62 +1,21 @@
 -- What was done on one connection so far, and what follows at its end.
 use Rattle.std.proofs.Common.{◌≡◌, ℕ, ◌<◌, ◌⊎◌, inr, List, [], ◌∷◌, ◌++◌, length, take, map, true, false, refl, sym, ap, subst, ◌∙◌, append_assoc, append-nil}
-use Rattle.std.specs.Bool.{MatchBool}
 use Rattle.std.proofs.lemmas.List.{map-append}
 use Rattle.std.proofs.lemmas.List.Concat.{flat_map-append}
 use Rattle.oci_types.specs.Text.{Text}
 use Rattle.registry_model.specs.Answer.{Answer}
 use Rattle.registry_http.specs.Expecting.{text_before, IsBefore}
-use Rattle.registry_http.specs.Spelling.{Item, IsRequest, IsRefused, closes, print_item, Ends, Then, Spells, Front}
+use Rattle.registry_http.specs.Spelling.{Item, IsRequest, IsRefused, closes, print_item, Ends, Spells, Front}
 use Rattle.registry_http.specs.ReplyText.{refusal_text}
 use Rattle.registry_http.specs.Serving.{reply_for, text_for, joined, end_text, Leftover}
 use Rattle.registry_http.specs.declared.ending.FramingRefusal.{FramingRefusal}
 use Rattle.registry_http.specs.declared.ending.FramingRefusal.TheVariants.{NoBufferMemory}
 use Rattle.registry_http.specs.declared.ending.End.{End}
 use Rattle.registry_http.specs.declared.ending.End.TheVariants.{Closed, Refused}
+use Rattle.registry_http.proofs.ConnectionProgress.{Front-more, Front-on, Front-spells, Front-closes, Front-leftover, Front-none, nothing}
 use Rattle.registry_server.specs.Accounts.{Replied, items_of, texts_of, Answers, InHand, StopsAtWrite, EndsSo}
 
 -- ---- requests so far, and one more
-
-Front-more : (b : Text) (items : List Item) (rest : Text) (i : Item) (behind : Text) → Front b items rest → IsRequest i
-    → rest ≡ print_item i ++ behind → closes i ≡ false → Front b (items ++ i ∷ []) behind
-Front-more b [] rest i behind f r e stays = (behind, r, f ∙ e, stays, refl)
-Front-more b (x ∷ items) rest i behind f r e stays =
-    (f.0, f.1, f.2, f.3, Front-more f.0 items rest i behind f.4 r e stays)
-
-Front-on : (b : Text) (items : List Item) (rest more : Text) → Front b items rest → Front (b ++ more) items (rest ++ more)
-Front-on b [] rest more f = ap (λ x. x ++ more) f
-Front-on b (x ∷ items) rest more f =
-    (f.0 ++ more, f.1, ap (λ y. y ++ more) f.2 ∙ append_assoc (print_item x) f.0 more, f.3, Front-on f.0 items rest more f.4)
-
-Front-spells : (b : Text) (items : List Item) (rest : Text) (e : End) → Front b items rest → Ends rest e → Spells b items e
-Front-spells b [] rest e f h = subst (λ x. Ends x e) (sym f) h
-Front-spells b (x ∷ items) rest e f h =
-    (f.0, f.1, f.2, subst (λ c. Then c items e (Spells f.0 items e)) (sym f.3) (Front-spells f.0 items rest e f.4 h))
-
-Front-closes : (b : Text) (items : List Item) (rest : Text) (i : Item) (behind : Text) → Front b items rest → IsRequest i
-    → rest ≡ print_item i ++ behind → closes i ≡ true → Spells b (items ++ i ∷ []) Closed
-Front-closes b [] rest i behind f r e last =
-    (behind, r, f ∙ e, subst (λ c. Then c [] Closed (Spells behind [] Closed)) (sym last) (refl, refl))
-Front-closes b (x ∷ items) rest i behind f r e last = (
-  f.0,
-  f.1,
-  f.2,
-  subst (λ c. Then c (items ++ i ∷ []) Closed (Spells f.0 (items ++ i ∷ []) Closed)) (sym f.3) (Front-closes f.0 items rest i behind f.4 r e last),
-)
-
-Front-leftover : (b : Text) (items : List Item) (rest text : Text) → Front b items rest → IsBefore rest text → Leftover b items text
-Front-leftover b [] rest text f h = subst (λ x. IsBefore x text) (sym f) h
-Front-leftover b (x ∷ items) rest text f h =
-    (f.0, f.2, subst (λ c. MatchBool c (text ≡ []) (Leftover f.0 items text)) (sym f.3) (Front-leftover f.0 items rest text f.4 h))
-
-abbrev nothing : Text
-nothing = []
-
-Front-none : (b : Text) (items : List Item) (rest : Text) (i : Item) (behind : Text) → Front b items rest → rest ≡ print_item i ++ behind → closes i ≡ true
-    → Leftover b (items ++ i ∷ []) nothing
-Front-none b [] rest i behind f e last = (behind, f ∙ e, subst (λ c. MatchBool c (nothing ≡ nothing) (Leftover behind [] nothing)) (sym last) refl)
-Front-none b (x ∷ items) rest i behind f e last =
-    (f.0, f.2, subst (λ c. MatchBool c (nothing ≡ nothing) (Leftover f.0 (items ++ i ∷ []) nothing)) (sym f.3) (Front-none f.0 items rest i behind f.4 e last))
 
 texts-more : (rs : List Replied) (r : Replied) → texts_of (rs ++ r ∷ []) ≡ texts_of rs ++ text_for r.item r.answer
 texts-more rs r =

@@ -20,9 +20,9 @@ use Rattle.registry_server.specs.declared.phase.Phase.{Phase}
 use Rattle.registry_server.specs.declared.phase.Phase.TheVariants.{Head, Body, Ended}
 use Rattle.registry_server.specs.declared.phase.Step.{Step}
 use Rattle.registry_server.specs.declared.phase.Step.TheVariants as step
-use Rattle.registry_server.specs.Shown.{Shown, begun, with_more, with_finished, with_going, coming_len, turns_left}
+use Rattle.registry_server.specs.Shown.{Shown, begun, with_finished, with_going}
 use Rattle.registry_server.specs.Holding.{HoldsAs, Holds}
-use Rattle.registry_server.specs.Stepping.{AnswersFirst, WaitsForMore, PutsInterim, PutsPart, replying, refusing, continuing, EndsAs, ActsAs, Comes, LacksMemory, Reads}
+use Rattle.registry_server.specs.Stepping.{AnswersFirst, WaitsForMore, PutsInterim, PutsPart, replying, refusing, continuing, EndsAs, ActsAs, Comes, Reads}
 use Rattle.registry_server.specs.ConversationEvents.{acted, Happens}
 use Rattle.registry_server.proofs.HoldingLemmas.{said_there}
 

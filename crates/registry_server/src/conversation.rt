@@ -157,7 +157,6 @@ impl Conversation {
         let missing = self.missing();
         match self.buffer.read_more(reader, missing) {
             Ok(()) => Ok(()),
-            Err(Stop::Between) => Err(ReadFault),
             Err(Stop::AtEnd) => {
                 self.finish();
                 Ok(())

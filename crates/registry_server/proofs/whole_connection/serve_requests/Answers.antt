@@ -1,4 +1,4 @@
-use Rattle.std.proofs.Common.{refl, ap}
+use Rattle.std.proofs.Common.{ap}
 use Rattle.std.proofs.KnownBytes.{Consumes-nil}
 use Rattle.registry_server.specs.declared.phase.Step.TheVariants as step
 use Rattle.registry_server.specs.ConversationShowing.{shown}
