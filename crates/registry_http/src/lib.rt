@@ -1,9 +1,9 @@
 //! The bytes of HTTP/1.1 connections: heads, framing, targets, fields and the texts of replies. It knows
 //! of no service, and so is proved beside those that answer.
 //!
-//! The crates above rely on `Buffer`, which holds the bytes of a connection, on `parse_head`, `find_line` and
-//! `find_trailer`, which say what these begin with, on `write_reply`, and on `spelling_is_unique`: bytes spell
-//! one list of requests.
+//! The crates above rely on `Buffer`, which holds the bytes of a connection, on `parse_head`, `find_line`
+//! and `find_trailer`, which say what these begin with, on `write_reply`, and on `spelling_is_unique`:
+//! bytes spell one list of requests.
 #![tactic(auto)]
 
 pub mod buffer;

@@ -145,8 +145,9 @@ impl Conversation {
         let _ = self.refuse(FramingRefusal::NoBufferMemory);
     }
 
-    /// Reads some bytes, at most 1,048,576, which then came; or finds that the input has ended. They are read to
-    /// where they are kept. Where memory for them is wanting, it ends with the refusal `NoBufferMemory`.
+    /// Reads some bytes, at most 1,048,576, which then came; or finds that the input has ended. They are
+    /// read to where they are kept. Where memory for them is wanting, it ends with the refusal
+    /// `NoBufferMemory`.
     pub fn read_from<R: Read>(&mut self, reader: &mut R) -> Result<(), ReadFault>
         requires { listens (shown self.old) ≡ true }
         ensures cases { MatchResult result

@@ -212,7 +212,8 @@ impl Conversation {
 
     /// Takes the next turn: answers one request if one is whole, and else says that it waits for more
     /// bytes, or how it ended (RFC 9112, section 9.3). Once it has ended it says so again. Where a client
-    /// waits for a 100 that alone is put out, and the body takes the next turn: so no turn puts out two texts.
+    /// waits for a 100, that alone is put out, and the body takes the next turn: no turn puts out two
+    /// texts.
     pub fn answer_next<K: Keeper>(&mut self, alloc: Global, service: &mut Service<K>) -> Step
         ensures honest { K.is_honest service.new → K.is_honest service.old }
         ensures finished { (shown self.new).finished ≡ (shown self.old).finished }
