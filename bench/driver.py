@@ -44,6 +44,35 @@ def reply_size(port, text):
         return size + len(field) + length
 
 
+def burst(port, text, size, count):
+    """The seconds from when so many connections come at once until the last of them has had its reply."""
+    with ExitStack() as stack, select.epoll() as poll:
+        by_number, left, begun = {}, {}, time.perf_counter()
+        for _ in range(count):
+            sock = stack.enter_context(socket.socket())
+            sock.setblocking(False)
+            sock.connect_ex(("127.0.0.1", port))
+            by_number[sock.fileno()], left[sock.fileno()] = sock, size
+            poll.register(sock.fileno(), select.EPOLLOUT)
+        while left:
+            said = poll.poll(SECONDS)
+            if not said:
+                raise RuntimeError(f"{len(left)} of {count} connections have no reply")
+            for number, event in said:
+                if event & select.EPOLLOUT:
+                    by_number[number].sendall(text)
+                    poll.modify(number, select.EPOLLIN)
+                    continue
+                found = len(by_number[number].recv(READ))
+                if not found:
+                    raise RuntimeError("a server ended a connection")
+                left[number] -= found
+                if not left[number]:
+                    del left[number]
+                    poll.unregister(number)
+        return time.perf_counter() - begun
+
+
 def ask_on_one(sock, text, size, end):
     done = 0
     while time.perf_counter() < end:

@@ -10,10 +10,11 @@ import subprocess
 import sys
 import tempfile
 import time
-from contextlib import contextmanager
+from contextlib import ExitStack, contextmanager
 
 import filling
 from cases import MEDIA, Manifest, manifest_of
+from driver import connect, reply_size, take as take_reply
 from laws import FLAT, LINEAR, Cost, Row, expected
 from servers import IMAGES, KIB, LIB, MANY, REPO, Blob, Firkhen, copy_database, new_database
 
@@ -41,6 +42,9 @@ AFTER_DELETE = Row("DELETE of a blob and a push", "blobs beside them", BLOBS, FL
 AFTER_QUOTA = Row("quota --orders and a push", "blobs beside it", BLOBS, FLAT)
 DELETE_WITH_TAGS = Row("DELETE of a manifest", "tags that name it", (100, 1_000, 10_000), LINEAR)
 REFERRERS = {it: Row(f"{it} of referrers of 1 KiB", "referrers", (10, 100, 1_000), LINEAR) for it in ("GET", "HEAD")}
+RESTING = (10, 100, 1_000)
+GET_BESIDE = Row("GET of a manifest", "connections that rest beside", RESTING, FLAT)
+MEMORY_BESIDE = Row("memory with them", "connections that rest beside", RESTING, LINEAR, of_memory=True)
 WIDE_REFERRERS = {it: Row(f"{it} of referrers of 1 MB", "referrers", (WIDE,)) for it in ("GET", "HEAD")}
 
 
@@ -55,14 +59,14 @@ class Growing:
         new_database(self.executable, self.new)
 
     @contextmanager
-    def server(self, fill=lambda rows: None):
+    def server(self, fill=lambda rows: None, words=()):
         """A server over a file of its own, into which something is filled."""
         with tempfile.TemporaryDirectory(dir=self.room) as room:
             path = os.path.join(room, "filled.db")
             copy_database(self.new, path)
             with filling.filling(path) as rows:
                 fill(rows)
-            peer = Firkhen(self.name, self.executable, path, room, takes_orders=True)
+            peer = Firkhen(self.name, self.executable, path, room, takes_orders=True, words=words)
             try:
                 yield peer
             finally:
@@ -293,6 +297,26 @@ def referrers(growing):
             take(row, method, WIDE, peer)
 
 
+def resting(growing):
+    """Beside one connection others that have each had a reply, and say nothing more."""
+    (blob,), path, fields = growing.fresh(), f"/v2/{IMAGES}/manifests/v1", {"Accept": MEDIA}
+    with growing.server(words=("--at-once", str(RESTING[-1] + 2))) as peer, ExitStack() as stack:
+        peer.push(blob, IMAGES)
+        peer.request("PUT", path, manifest_of(blob, "small"), {"Content-Type": MEDIA})
+        text, held = peer.head("GET", path, fields=fields), 0
+        length = reply_size(peer.port, text)
+        for size in RESTING:
+            for _ in range(size - held):
+                sock = stack.enter_context(connect(peer.port))
+                sock.sendall(text)
+                take_reply(sock, length)
+            held = size
+            growing.take(GET_BESIDE, size, peer, lambda _: peer.request("GET", path, fields=fields))
+            memory = peer.memory()
+            if memory:
+                growing.costs.setdefault(MEMORY_BESIDE, {})[size] = Cost(memory=memory)
+
+
 def fills_as_made(growing):
     """Whether filling makes of a new file what orders and pushes make of it."""
     (blob,), fields = growing.fresh(), {"Content-Type": MEDIA}
@@ -349,7 +373,7 @@ def part_of(stage):
     return part
 
 
-STAGES = (repositories, links, tags, listed_blobs, pushes, deletions, referrers)
+STAGES = (repositories, links, tags, listed_blobs, pushes, deletions, referrers, resting)
 GROWTH = (beginning, *map(part_of, STAGES))
 
 

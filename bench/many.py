@@ -4,11 +4,22 @@ import time
 from contextlib import ExitStack
 
 from cases import MEDIA, manifest_of
-from driver import FORKED, SECONDS, against_a_trivial_server, ask_when_due, connect, replies_a_second, reply_size, take
+from driver import (
+    FORKED,
+    SECONDS,
+    against_a_trivial_server,
+    ask_when_due,
+    burst,
+    connect,
+    replies_a_second,
+    reply_size,
+    take,
+)
 from servers import IMAGES, KIB, MIB
 
 AT_ONCE = (1, 8, 64, 256)
 IDLE = 256
+BURST = 250
 # a round of one connection is in so many parts
 PARTS = 4
 # so many clients push so many blobs each, and beside them a GET is due each few seconds
@@ -108,6 +119,8 @@ def many(cases):
         ]
         cases.keep(row(count), 1 / max(rates), peer.peak())
     if together:
+        took = min(burst(peer.port, text, size, BURST) for _ in range(plan.rounds))
+        cases.keep(f"{BURST} connections that come at once", took)
         beside_pushes(cases, text, size)
 
 

@@ -165,8 +165,8 @@ def service_environment():
 class Firkhen(Peer):
     fields = {"Authorization": "Bearer t1"}
 
-    def __init__(self, name, executable, new, room, takes_orders=False):
-        self.name, self.executable, self.sock = name, executable, None
+    def __init__(self, name, executable, new, room, takes_orders=False, words=()):
+        self.name, self.executable, self.words, self.sock = name, executable, words, None
         self.store = os.path.join(room, "registry.db")
         # (a path from here, since that of a socket has at most 103 bytes)
         self.orders = os.path.relpath(os.path.join(room, "orders")) if takes_orders else None
@@ -176,7 +176,7 @@ class Firkhen(Peer):
     def serve(self):
         self.port = free_port()
         words = [self.executable, "serve", "--db", self.store, "--listen", f"127.0.0.1:{self.port}"]
-        words += ["--orders", self.orders] if self.orders else []
+        words += [*(["--orders", self.orders] if self.orders else []), *self.words]
         start = time.perf_counter()
         self.process = subprocess.Popen(words, stdout=subprocess.PIPE, env=service_environment())
         self.process.stdout.readline()
