@@ -3,7 +3,7 @@
 use crate::requests::Request;
 use anyhow::{Result, bail};
 use registry_model::Keeper;
-use registry_server::{Conversation, Step, serve_connection};
+use registry_server::{Conversation, FieldRoom, Step, serve_connection};
 use registry_service::Service;
 use std::alloc::Global;
 use std::io;
@@ -92,16 +92,17 @@ fn conversed<K: Keeper>(
     mut left: &[u8],
     size: usize,
 ) -> Result<Answer> {
-    let mut conversation = Conversation::new(alloc)?;
+    let mut conversation = Conversation::new(alloc);
+    let mut room = FieldRoom::new(alloc)?;
     let mut bytes = Vec::new(alloc);
     for _ in 0..MOST_PIECES {
         let (now, later) = left.split_at(size.min(left.len()));
         conversation.receive(now);
-        let _ = turns(alloc, registry, &mut conversation, &mut bytes)?;
+        let _ = turns(alloc, registry, &mut conversation, &mut room, &mut bytes)?;
         left = later;
     }
     conversation.finish();
-    match turns(alloc, registry, &mut conversation, &mut bytes)? {
+    match turns(alloc, registry, &mut conversation, &mut room, &mut bytes)? {
         Step::Ended(end) => {
             let end = format!(in alloc; "{end:?}")?;
             Ok(Answer { bytes, end })
@@ -115,10 +116,11 @@ fn turns<K: Keeper>(
     alloc: Global,
     registry: &mut Service<K>,
     conversation: &mut Conversation,
+    room: &mut FieldRoom,
     bytes: &mut Vec<u8>,
 ) -> Result<Step> {
     for _ in 0..MOST_TURNS {
-        let step = conversation.answer_next(alloc, registry);
+        let step = conversation.answer_next(alloc, registry, room);
         let count = conversation.outgoing().len();
         bytes.extend_from_slice(conversation.outgoing())?;
         conversation.sent(count);

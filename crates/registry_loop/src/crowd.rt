@@ -202,7 +202,7 @@ impl<'a, T: Clock, E: Write> Gathering for Crowd<'a, T, E> {
         service: &mut Service<K>,
         at_once: usize,
     ) -> io::Result<bool> {
-        let mut connections = Connections::new(alloc, bounds_for(at_once, self.limits.buffer));
+        let mut connections = Connections::new(alloc, bounds_for(at_once, self.limits.buffer))?;
         self.serve_rounds(alloc, &mut connections, service, at_once)
     }
 }

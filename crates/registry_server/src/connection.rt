@@ -7,7 +7,7 @@ ghost use Rattle.registry_server.specs.declared.connection.Connection.{Connectio
 use crate::bounds::SHARE;
 use crate::life::Life;
 use crate::turn::Turn;
-use crate::{Conversation, Step};
+use crate::{Conversation, FieldRoom, Step};
 use registry_model::Keeper;
 use registry_service::Service;
 use std::alloc::Global;
@@ -95,7 +95,12 @@ impl Connection {
 
     /// It takes a turn. Where it answered a request, or has told its client to go on with the body, it is
     /// to be looked at again once nothing is to go out.
-    pub fn answer_next<K: Keeper>(&mut self, alloc: Global, service: &mut Service<K>) -> Turn
+    pub fn answer_next<K: Keeper>(
+        &mut self,
+        alloc: Global,
+        service: &mut Service<K>,
+        fields: &mut FieldRoom,
+    ) -> Turn
         ensures honest { K.is_honest service.new → K.is_honest service.old }
         ensures number { result.number ≡ self.old.number }
         ensures acts { Becomes (λ c c'. K.is_honest service.new
@@ -104,7 +109,7 @@ impl Connection {
         ensures fewer { coming_len (shown self.new.conversation) ≤ coming_len (shown self.old.conversation) }
         ensures lives { self.new.life ≡ self.old.life }
     {
-        let step = self.conversation.answer_next(alloc, service);
+        let step = self.conversation.answer_next(alloc, service, fields);
         let goes_on = matches!(step, Step::Answered | Step::Interim);
         self.stirred = goes_on && self.conversation.outgoing().is_empty();
         Turn {

@@ -9,10 +9,10 @@ use crate::life::Life;
 use crate::receipt::Receipt;
 use crate::refusal::Refusal;
 use crate::turn::Turn;
-use crate::{Conversation, Exchange, Wants};
+use crate::{Conversation, Exchange, FieldRoom, Wants};
 use registry_model::Keeper;
 use registry_service::Service;
-use std::alloc::Global;
+use std::alloc::{AllocError, Global};
 
 /// The conversations of many connections, each under a number of its own.
 ///
@@ -27,6 +27,8 @@ pub struct Connections {
     bounds: Bounds,
     /// The time that was handed in last, in milliseconds.
     time: u64,
+    /// What all of them find header fields in, one turn after the other.
+    fields: FieldRoom,
     ghost numbered: { are_numbered next (slots_of connections.items) ≡ true },
     ghost within: { IsWithin bounds (slots_of connections.items) },
 }
@@ -38,6 +40,7 @@ impl Drop for Connections {
             next: _,
             bounds: _,
             time: _,
+            fields: _,
         } = self;
     }
 }
@@ -52,17 +55,19 @@ impl Connections {
     ghost use Rattle.registry_server.specs.Lives.{alive_at, moved_by, sent_by, life_of, silence_of};
     ghost use Rattle.registry_server.specs.Lives.{LivesBut, LivesAt, LivesOn, LivesThrough, NoneSilent, IsSilent};
 
-    /// No connection; they may take so much together. The time is 0.
-    pub fn new(alloc: Global, bounds: Bounds) -> Connections
-        ensures none { connected result ≡ none bounds }
-        ensures time { result.time ≡ 0 }
+    /// No connection; they may take so much together. The time is 0. It fails only for want of memory.
+    pub fn new(alloc: Global, bounds: Bounds) -> Result<Connections, AllocError>
+        ensures none { IfOk result (λ connections. connected connections ≡ none bounds) }
+        ensures time { IfOk result (λ connections. connections.time ≡ 0) }
     {
-        Connections {
+        let fields = FieldRoom::new(alloc)?;
+        Ok(Connections {
             connections: Vec::new(alloc),
             next: 0,
             bounds,
             time: 0,
-        }
+            fields,
+        })
     }
 
     /// It is this time, in milliseconds from whenever.
@@ -90,13 +95,10 @@ impl Connections {
         if self.next == u64::MAX {
             return Err(Refusal::NoNumber);
         }
-        let Ok(conversation) = Conversation::new(alloc) else {
-            return Err(Refusal::Memory);
-        };
         let number = self.next;
         let connection = Connection {
             number,
-            conversation,
+            conversation: Conversation::new(alloc),
             stirred: false,
             life: Life::at(self.time),
         };
@@ -321,7 +323,7 @@ impl Connections {
             return None;
         }
         let at = find_stirred(&self.connections)?;
-        let turn = self.connections[at].answer_next(alloc, service);
+        let turn = self.connections[at].answer_next(alloc, service, &mut self.fields);
         to_back(&mut self.connections, at);
         Some(turn)
     }

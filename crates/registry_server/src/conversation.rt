@@ -1,4 +1,4 @@
-ghost use Rattle.std.specs.Prelude.{◌≡◌, ◌+◌, ◌<◌, ◌≤◌, [], true, false, length, drop, min, IfOk, MatchResult, vec_len};
+ghost use Rattle.std.specs.Prelude.{◌≡◌, ◌+◌, ◌<◌, ◌≤◌, [], true, false, length, drop, min, MatchResult, vec_len};
 ghost use Rattle.std.specs.Io.KnownBytes.{Consumes};
 
 use crate::exchange::Exchange;
@@ -6,11 +6,10 @@ use crate::part::Part;
 use crate::phase::{Phase, Step, Wants};
 use crate::receipt::ReadFault;
 use crate::whole_connection::refuse;
-use httparse::spans::{EMPTY_HEADER_SPAN, HeaderSpan};
 use registry_http::buffer::{Buffer, LINES};
 use registry_http::ending::Stop;
 use registry_http::{End, FramingRefusal};
-use std::alloc::{AllocError, Global};
+use std::alloc::Global;
 use std::io::Read;
 
 /// What has come of one connection and is not answered yet, and what is to go out on it (RFC 9112).
@@ -24,8 +23,6 @@ use std::io::Read;
 #[derive(Drop)]
 pub struct Conversation {
     pub(crate) buffer: Buffer,
-    /// Room to find the fields of a head or a trailer in.
-    pub(crate) fields: Vec<HeaderSpan>,
     pub(crate) phase: Phase,
     /// The input has ended.
     pub(crate) finished: bool,
@@ -34,7 +31,6 @@ pub struct Conversation {
     gone: usize,
     /// What a log tells of the request in hand.
     pub(crate) exchange: Exchange,
-    ghost room: { vec_len fields ≡ 8192 },
     ghost within: { gone ≤ vec_len out },
 }
 
@@ -43,20 +39,18 @@ impl Conversation {
     ghost use Rattle.registry_server.specs.ConversationShowing.{shown};
     ghost use Rattle.registry_server.specs.Stepping.{Refuses, Receives, Reads};
 
-    /// A conversation to which nothing has come. Room for 8,192 fields is all that it takes of memory.
-    pub fn new(alloc: Global) -> Result<Conversation, AllocError>
-        ensures { IfOk result (λ c. shown c ≡ begun) }
+    /// A conversation to which nothing has come. It takes no memory before something does.
+    pub fn new(alloc: Global) -> Conversation
+        ensures { shown result ≡ begun }
     {
-        let fields = vec![in alloc; EMPTY_HEADER_SPAN; 8192]?;
-        Ok(Conversation {
+        Conversation {
             buffer: Buffer::new(alloc),
-            fields,
             phase: Phase::Head,
             finished: false,
             out: Vec::new(alloc),
             gone: 0,
             exchange: Exchange::new(alloc),
-        })
+        }
     }
 
     /// Whether bytes that come are kept: the input goes on, and there may be a further request.

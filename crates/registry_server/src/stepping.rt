@@ -5,11 +5,11 @@ ghost use Rattle.std.specs.Bool.{MatchBool};
 ghost use Rattle.oci_types.specs.Text.{Text};
 ghost use Rattle.registry_http.specs.Expecting.{continue_if};
 
-use crate::Conversation;
 use crate::heading::{FoundHead, Heading, find_head};
 use crate::part::{Part, Taken, take_body};
 use crate::phase::{Phase, Step};
 use crate::replying::reply_to;
+use crate::{Conversation, FieldRoom};
 use httparse::spans::RequestSpans;
 use registry_http::framing::Framing;
 use registry_http::head::{Parsed, parse_head};
@@ -54,15 +54,14 @@ impl Conversation {
     }
 
     /// Finds the head that what was taken begins with.
-    fn taken_head(&mut self) -> Option<RequestSpans>
+    fn taken_head(&self, room: &mut FieldRoom) -> Option<RequestSpans>
         ensures found { IfSome result (λ spans.
-            Parses (Parsed.Whole spans) (shown self.old).taken self.new.fields.items) }
+            Parses (Parsed.Whole spans) (shown self.now).taken room.new.spans.items) }
         ensures none { IfNone result ((b said : Text)
-            → HoldsWhole (shown self.old).taken (shown self.old).unread b said → ⊥) }
-        ensures same { shown self.new ≡ shown self.old }
+            → HoldsWhole (shown self.now).taken (shown self.now).unread b said → ⊥) }
     {
         let taken = self.buffer.before();
-        match parse_head(taken, &mut self.fields) {
+        match parse_head(taken, &mut room.spans) {
             Parsed::Whole(spans) => Some(spans),
             Parsed::NotYet => None,
             Parsed::Never => None,
@@ -71,7 +70,12 @@ impl Conversation {
 
     /// Answers the request that was taken. Its head is found again where it stands, and so need not be
     /// kept while its body comes.
-    fn reply<K: Keeper>(&mut self, alloc: Global, service: &mut Service<K>) -> Step
+    fn reply<K: Keeper>(
+        &mut self,
+        alloc: Global,
+        service: &mut Service<K>,
+        room: &mut FieldRoom,
+    ) -> Step
         ensures honest { K.is_honest service.new → K.is_honest service.old }
         ensures finished { (shown self.new).finished ≡ (shown self.old).finished }
         ensures fewer { coming_len (shown self.new) ≤ coming_len (shown self.old) }
@@ -81,13 +85,13 @@ impl Conversation {
             → Acts result b said (shown self.old) (K.state service.old) (K.state service.new)
             (shown self.new) }
     {
-        let Some(spans) = self.taken_head() else {
+        let Some(spans) = self.taken_head(room) else {
             return self.refuse(FramingRefusal::UnreadableHead);
         };
         let taken = self.buffer.before();
         self.exchange
             .note_body(taken.len().saturating_sub(spans.len));
-        match reply_to(alloc, service, taken, &self.fields, &spans, &mut self.out) {
+        match reply_to(alloc, service, taken, &room.spans, &spans, &mut self.out) {
             Ok(closing) => {
                 self.close_if(closing);
                 Step::Answered
@@ -99,7 +103,13 @@ impl Conversation {
     }
 
     /// Takes what has come of the body in hand, from this part on, and answers the request if it is whole.
-    fn go_on<K: Keeper>(&mut self, alloc: Global, service: &mut Service<K>, part: Part) -> Step
+    fn go_on<K: Keeper>(
+        &mut self,
+        alloc: Global,
+        service: &mut Service<K>,
+        room: &mut FieldRoom,
+        part: Part,
+    ) -> Step
         ensures honest { K.is_honest service.new → K.is_honest service.old }
         ensures finished { (shown self.new).finished ≡ (shown self.old).finished }
         ensures fewer { coming_len (shown self.new) ≤ coming_len (shown self.old) }
@@ -109,8 +119,8 @@ impl Conversation {
             → Acts result b said (shown self.old) (K.state service.old) (K.state service.new)
             (shown self.new) }
     {
-        match take_body(&mut self.buffer, &mut self.fields, part) {
-            Taken::Whole => self.reply(alloc, service),
+        match take_body(&mut self.buffer, &mut room.spans, part) {
+            Taken::Whole => self.reply(alloc, service, room),
             Taken::Missing(next) => {
                 self.phase = Phase::Body(next);
                 self.wait(End::Cut)
@@ -125,6 +135,7 @@ impl Conversation {
         &mut self,
         alloc: Global,
         service: &mut Service<K>,
+        room: &mut FieldRoom,
         awaits: bool,
         part: Part,
     ) -> Step
@@ -139,7 +150,7 @@ impl Conversation {
             (shown self.new) }
     {
         if !awaits {
-            return self.go_on(alloc, service, part);
+            return self.go_on(alloc, service, room, part);
         }
         match write_continue(awaits, &mut self.out) {
             Ok(()) => {
@@ -157,6 +168,7 @@ impl Conversation {
         &mut self,
         alloc: Global,
         service: &mut Service<K>,
+        room: &mut FieldRoom,
         heading: Heading,
     ) -> Step
         requires within { heading.len ≤ length (shown self.old).unread }
@@ -174,15 +186,22 @@ impl Conversation {
         self.buffer.pass(heading.len);
         match heading.framing {
             Framing::Length(count) => {
-                self.begin_body(alloc, service, heading.awaits, Part::Length(count))
+                self.begin_body(alloc, service, room, heading.awaits, Part::Length(count))
             }
-            Framing::Chunked => self.begin_body(alloc, service, heading.awaits, Part::Line(0)),
+            Framing::Chunked => {
+                self.begin_body(alloc, service, room, heading.awaits, Part::Line(0))
+            }
             Framing::Refused(refusal) => self.refuse(refusal),
         }
     }
 
     /// Looks for the head of the next request.
-    fn begin<K: Keeper>(&mut self, alloc: Global, service: &mut Service<K>) -> Step
+    fn begin<K: Keeper>(
+        &mut self,
+        alloc: Global,
+        service: &mut Service<K>,
+        room: &mut FieldRoom,
+    ) -> Step
         requires { (shown self.old).phase ≡ Phase.Head }
         ensures honest { K.is_honest service.new → K.is_honest service.old }
         ensures finished { (shown self.new).finished ≡ (shown self.old).finished }
@@ -192,8 +211,8 @@ impl Conversation {
             → Acts result b said (shown self.old) (K.state service.old) (K.state service.new)
             (shown self.new) }
     {
-        match find_head(self.buffer.behind(), &mut self.fields) {
-            FoundHead::Whole(heading) => self.take_head(alloc, service, heading),
+        match find_head(self.buffer.behind(), &mut room.spans) {
+            FoundHead::Whole(heading) => self.take_head(alloc, service, room, heading),
             FoundHead::NotYet => {
                 let unread = self.buffer.behind();
                 let none = unread.is_empty();
@@ -214,7 +233,12 @@ impl Conversation {
     /// bytes, or how it ended (RFC 9112, section 9.3). Once it has ended it says so again. Where a client
     /// waits for a 100, that alone is put out, and the body takes the next turn: no turn puts out two
     /// texts.
-    pub fn answer_next<K: Keeper>(&mut self, alloc: Global, service: &mut Service<K>) -> Step
+    pub fn answer_next<K: Keeper>(
+        &mut self,
+        alloc: Global,
+        service: &mut Service<K>,
+        room: &mut FieldRoom,
+    ) -> Step
         ensures honest { K.is_honest service.new → K.is_honest service.old }
         ensures finished { (shown self.new).finished ≡ (shown self.old).finished }
         ensures fewer { coming_len (shown self.new) ≤ coming_len (shown self.old) }
@@ -226,8 +250,8 @@ impl Conversation {
             (shown self.new) }
     {
         match self.phase {
-            Phase::Head => self.begin(alloc, service),
-            Phase::Body(part) => self.go_on(alloc, service, part),
+            Phase::Head => self.begin(alloc, service, room),
+            Phase::Body(part) => self.go_on(alloc, service, room, part),
             Phase::Ended(end) => Step::Ended(end),
         }
     }

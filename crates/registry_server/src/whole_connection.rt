@@ -5,8 +5,8 @@ ghost use Rattle.registry_http.specs.Ending.{SendsRefusal};
 ghost use Rattle.registry_server.specs.Shown.{begun, with_going};
 ghost use Rattle.registry_server.specs.ConversationShowing.{shown};
 
-use crate::Conversation;
 use crate::phase::Step;
+use crate::{Conversation, FieldRoom};
 use registry_http::outgoing::send;
 use registry_http::reply_text::write_refusal;
 use registry_http::{End, FramingRefusal};
@@ -53,6 +53,7 @@ fn serve_requests<R: Read, W: Write, K: Keeper>(
     alloc: Global,
     service: &mut Service<K>,
     conversation: &mut Conversation,
+    room: &mut FieldRoom,
     reader: &mut R,
     writer: &mut W,
 ) -> End
@@ -69,7 +70,7 @@ fn serve_requests<R: Read, W: Write, K: Keeper>(
 {
     let mut reads = MOST_READS;
     'turns: loop {
-        let step = conversation.answer_next(alloc, service);
+        let step = conversation.answer_next(alloc, service, room);
         match send_out(conversation, writer) {
             Ok(()) => {}
             Err(written) => return End::WriteFailed { written },
@@ -119,11 +120,12 @@ pub fn serve_connection<R: Read, W: Write, K: Keeper>(
       state' = K.state service.new;
     }) }
 {
-    match Conversation::new(alloc) {
-        Ok(conversation) => {
-            // Its room is let go in one place.
-            let mut conversation = conversation;
-            serve_requests(alloc, service, &mut conversation, reader, writer)
+    match FieldRoom::new(alloc) {
+        Ok(room) => {
+            // Both are let go in one place.
+            let mut room = room;
+            let mut conversation = Conversation::new(alloc);
+            serve_requests(alloc, service, &mut conversation, &mut room, reader, writer)
         }
         Err(_) => refuse(writer, FramingRefusal::NoBufferMemory),
     }

@@ -6,7 +6,7 @@ use crate::texts::{
     BAD_REQUEST, CONTINUE, HELLO, IN_CHUNKS, PUSH, THREE_REPLIES, THREE_REQUESTS, filled,
 };
 use registry_http::{End, FramingRefusal};
-use registry_server::{Conversation, Step, Wants};
+use registry_server::{Conversation, FieldRoom, Step, Wants};
 use std::alloc::Global;
 use std::process::Abort;
 
@@ -16,6 +16,7 @@ const BY_LENGTH: &str = "Content-Length: 5\r\n\r\nhello";
 /// A conversation, the registry that it is had with, and what went out of it.
 struct Talk {
     conversation: Conversation,
+    room: FieldRoom,
     registry: Registry,
     output: Vec<u8>,
 }
@@ -24,6 +25,7 @@ impl Drop for Talk {
     fn drop(self) {
         let Talk {
             conversation: _,
+            room: _,
             registry: _,
             output: _,
         } = self;
@@ -32,7 +34,8 @@ impl Drop for Talk {
 
 fn new_talk(rt: &impl Abort, alloc: Global) -> Talk {
     Talk {
-        conversation: Conversation::new(alloc).expect(rt, "memory"),
+        conversation: Conversation::new(alloc),
+        room: FieldRoom::new(alloc).expect(rt, "memory"),
         registry: setting(rt, alloc),
         output: Vec::new(alloc),
     }
@@ -40,7 +43,8 @@ fn new_talk(rt: &impl Abort, alloc: Global) -> Talk {
 
 /// A turn, after which nothing goes out.
 fn step(alloc: Global, talk: &mut Talk) -> Step {
-    talk.conversation.answer_next(alloc, &mut talk.registry)
+    talk.conversation
+        .answer_next(alloc, &mut talk.registry, &mut talk.room)
 }
 
 /// Some bytes go out, if there are so many.

@@ -123,7 +123,7 @@ fn all_come(rt: &impl Abort, alloc: Global, play: &mut Play) -> Vec<Client> {
 /// Eight connections, which are cut and interleaved by this seed: all that comes is answered as if each were
 /// alone, and goes out.
 fn are_interleaved(rt: &impl Abort, alloc: Global, mut seed: u64) {
-    let mut play = new_play(alloc, empty(alloc), 8, 1_000_000);
+    let mut play = new_play(rt, alloc, empty(alloc), 8, 1_000_000);
     let mut clients = all_come(rt, alloc, &mut play);
     for _ in 0..400 {
         happen(rt, alloc, &mut play, clients.as_mut_slice(), &mut seed);

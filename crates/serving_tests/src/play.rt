@@ -68,14 +68,20 @@ pub enum Sight {
 
 /// So many connections at once, no room for requests but their shares and one that is largest, and so much
 /// for replies.
-pub fn new_play(alloc: Global, registry: Registry, at_once: usize, going: usize) -> Play {
+pub fn new_play(
+    rt: &impl Abort,
+    alloc: Global,
+    registry: Registry,
+    at_once: usize,
+    going: usize,
+) -> Play {
     let bounds = Bounds {
         at_once,
         coming: 0,
         going,
     };
     Play {
-        connections: Connections::new(alloc, bounds),
+        connections: Connections::new(alloc, bounds).expect(rt, "memory"),
         registry,
     }
 }
@@ -144,6 +150,6 @@ pub fn go_on(rt: &impl Abort, alloc: Global, play: &mut Play, acts: &[Act]) {
 
 /// The same, from no connections and an empty registry on.
 pub fn all_happens(rt: &impl Abort, alloc: Global, at_once: usize, going: usize, acts: &[Act]) {
-    let mut play = new_play(alloc, empty(alloc), at_once, going);
+    let mut play = new_play(rt, alloc, empty(alloc), at_once, going);
     go_on(rt, alloc, &mut play, acts);
 }

@@ -72,7 +72,7 @@ fn hears_byte(rt: &impl Abort, alloc: Global, play: &mut Play, time: u64, byte: 
 #[test]
 fn a_byte_a_second_is_silence(rt: HostRuntime) {
     let alloc = rt.alloc();
-    let mut play = new_play(alloc, empty(alloc), 2, 1_000_000);
+    let mut play = new_play(&rt, alloc, empty(alloc), 2, 1_000_000);
     go_on(&rt, alloc, &mut play, BOTH_COME.as_slice());
     let mut time = BEGIN;
     for byte in LARGE_HEAD.chunks(1) {

@@ -13,11 +13,11 @@ use Rattle.registry_server.proofs.connections.Connections.open.Goals as goal
 
 pub invariant_of-self-2 : goal.invariant_of-self-2
 invariant_of-self-2 c = record {
-  numbered = came_numbers c.args.self.now.connections.items c.push.new.self.items _ c.args.self.now.next c.in-Ok-push.ensures.items
-      (λ i. record { number = c.args.self.now.next; conversation = c.in-Ok.ensures i; stirred = false }) c.args.self.now.numbered;
+  numbered = came_numbers c.args.self.now.connections.items c.push.new.self.items _ c.args.self.now.next c.in-Ok.ensures.items
+      (λ i. record { number = c.args.self.now.next; conversation = c.new.ensures i; stirred = false }) c.args.self.now.numbered;
   within = subst (IsWithin c.args.self.now.bounds)
-      (sym (came_slots c.args.self.now.connections.items c.push.new.self.items _ c.args.self.now.next c.in-Ok-push.ensures.items
-      (λ i. record { number = c.args.self.now.next; conversation = c.in-Ok.ensures i; stirred = false })))
+      (sym (came_slots c.args.self.now.connections.items c.push.new.self.items _ c.args.self.now.next c.in-Ok.ensures.items
+      (λ i. record { number = c.args.self.now.next; conversation = c.new.ensures i; stirred = false })))
       (one_comes c.args.self.now.bounds (slots_of c.args.self.now.connections.items) (record { number = c.args.self.now.next; conversation = begun; stirred = false })
       (omega (arith, c.len.ensures, c.if-len-self.false, length-map c.args.self.now.connections.items slot_of)) refl c.args.self.now.within);
 }
@@ -26,9 +26,9 @@ pub returns : goal.returns
 returns c =
     let u = c.args.self.now in
     let items = u.connections.items in
-    let but = came_life u.next items c.push.new.self.items _ c.in-Ok-push.ensures.items refl (opened u.next (slots_of items) u.numbered) in
-    let came = opens u.bounds u.next items c.push.new.self.items _ (omega (arith, c.len.ensures, c.if-len-self.false)) u.numbered c.in-Ok-push.ensures.items
-    (λ i. record { number = u.next; conversation = c.in-Ok.ensures i; stirred = false }) in
+    let but = came_life u.next items c.push.new.self.items _ c.in-Ok.ensures.items refl (opened u.next (slots_of items) u.numbered) in
+    let came = opens u.bounds u.next items c.push.new.self.items _ (omega (arith, c.len.ensures, c.if-len-self.false)) u.numbered c.in-Ok.ensures.items
+    (λ i. record { number = u.next; conversation = c.new.ensures i; stirred = false }) in
     record {
       opens = came;
       begins = record { time = refl; is = but.is ∙ ap (λ (l : Life). Some l) c.at.ensures; others = but.others };

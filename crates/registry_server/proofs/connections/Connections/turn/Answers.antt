@@ -10,8 +10,8 @@ use Rattle.registry_server.proofs.LifeLemmas.{turned_lives}
 use Rattle.registry_server.proofs.CallLemmas.{leads_none, of_turn}
 use Rattle.registry_server.proofs.connections.Connections.turn.Goals as goal
 
-pub invariant_of-self : goal.invariant_of-self
-invariant_of-self g c =
+pub invariant_of-self-2 : goal.invariant_of-self-2
+invariant_of-self-2 g c =
     let items = c.args.self.now.connections.items in
     let f = stirred_on c.in_ok-at.at c.deref.result.now items c.deref.ensures.value c.in_ok-at.ensures.found in
     let y = c.answer_next-turn.new.self in

@@ -1,4 +1,4 @@
-use Rattle.std.proofs.Common.{◌≡◌, ◌<◌, ◌≤◌, List, length, drop, sym, ap, ◌∙◌, subst, le_of_eq, arith}
+use Rattle.std.proofs.Common.{◌≡◌, ◌<◌, ◌≤◌, List, length, drop, refl, sym, ap, ◌∙◌, subst, le_of_eq, arith}
 use Rattle.oci_types.specs.Text.{Text}
 use Rattle.httparse.specs.declared.spans.HeaderSpan.{HeaderSpan}
 use Rattle.registry_http.specs.Spelling.{Item}
@@ -17,7 +17,7 @@ use Rattle.registry_server.proofs.conversation.Conversation.reply.Goals as goal
 pub returns-in_default : goal.returns-in_default
 returns-in_default g c = record {
   honest = λ honest. honest;
-  finished = c.refuse.ensures.finished ∙ ap (λ (k : Shown). k.finished) c.taken_head.ensures.same;
+  finished = c.refuse.ensures.finished;
   fewer = none_left (shown c.args.self.now) (shown c.refuse.new.self) c.refuse.ensures.none_held;
   leads = leads_refused c.refuse.result _ (shown c.args.self.now) _ (shown c.refuse.new.self) c.refuse.ensures;
   acts = λ honest b said w. absurd (c.in_default.ensures.none b said w);
@@ -26,52 +26,48 @@ returns-in_default g c = record {
 pub returns-in-Ok : goal.returns-in-Ok
 returns-in-Ok g c = record {
   honest = c.reply_to.ensures.honest;
-  finished = c.close_if.ensures.finished ∙ ap (λ (k : Shown). k.finished) c.taken_head.ensures.same;
-  fewer = omega (arith, c.close_if.ensures.rest, ap coming_len c.taken_head.ensures.same);
+  finished = c.close_if.ensures.finished;
+  fewer = omega (arith, c.close_if.ensures.rest);
   leads =
       let read = c.in-Some.ensures.found.1 in
-      leads_answered (shown c.args.self.now) (shown c.taken_head.new.self) (shown c.close_if.new.self) c.taken_head.ensures.same
-      (subst (λ (k : Shown). 0 < length k.taken) (sym c.taken_head.ensures.same) (omega (arith, read.within, read.len, request_some c.in-Some.ensures.found.0)))
+      leads_answered (shown c.args.self.now) (shown c.args.self.now) (shown c.close_if.new.self) refl
+      (omega (arith, read.within, read.len, request_some c.in-Some.ensures.found.0))
       c.close_if.ensures.rest;
   acts = λ honest b said w.
-      let mid = c.taken_head.new.self in
-      let same : shown mid ≡ shown c.args.self.now = c.taken_head.ensures.same in
+      let mid = c.args.self.now in
       let found = c.in-Some.ensures.found in
-      let v = subst (λ (k : Shown). HoldsWhole k.taken k.unread b said) (sym same) w in
+      let v = w in
       let i : Item = record { head = v.head; coded = v.body.coded; body = v.body.body } in
-      let read = subst (λ (k : Shown). HeadIsRead k.taken mid.fields.items c.in-Some.spans found.0) (sym same) found.1 in
+      let read = found.1 in
       let there = subst (λ (y : List HeaderSpan). IsTaken c.before-taken.result.now y c.in-Some.spans i) (sym c.deref.ensures.value)
-      (subst (λ (x : Text). IsTaken x mid.fields.items c.in-Some.spans i) (sym c.before-taken.ensures)
-      (item_taken (shown mid).taken (shown mid).unread b said v mid.fields.items c.in-Some.spans found.0 read)) in
+      (subst (λ (x : Text). IsTaken x c.taken_head.new.room.spans.items c.in-Some.spans i) (sym c.before-taken.ensures)
+      (item_taken (shown mid).taken (shown mid).unread b said v c.taken_head.new.room.spans.items c.in-Some.spans found.0 read)) in
       let sent = c.in-Ok.ensures.replies honest i there in
       let within : mid.gone ≤ length mid.out.items = omega (arith, mid.within, mid.out.ok.0) in
-      subst (λ (k : Shown). ActsAs step.Answered b said k.going (g.K.Keeper.state c.args.service.now) (g.K.Keeper.state c.reply_to.new.service) (shown c.close_if.new.self)) same
-      (answered_first _ _ (shown mid).going b said v sent.0 _ _ c.in-Ok.closing (shown c.close_if.new.self) sent.1
-      (c.close_if.ensures.going ∙ going_on mid.gone mid.out.items _ _ within sent.2) (c.in-Ok.ensures.closing i there) c.close_if.ensures.next);
+      answered_first _ _ (shown mid).going b said v sent.0 _ _ c.in-Ok.closing (shown c.close_if.new.self) sent.1
+      (c.close_if.ensures.going ∙ going_on mid.gone mid.out.items _ _ within sent.2) (c.in-Ok.ensures.closing i there) c.close_if.ensures.next;
 }
 
 pub returns-in-Err : goal.returns-in-Err
 returns-in-Err g c = record {
   honest = c.reply_to.ensures.honest;
-  finished = ap (λ (k : Shown). k.finished) c.end.ensures.ends ∙ ap (λ (k : Shown). k.finished) c.taken_head.ensures.same;
-  fewer = le_of_eq (ap coming_len c.end.ensures.ends ∙ ap coming_len c.taken_head.ensures.same);
+  finished = ap (λ (k : Shown). k.finished) c.end.ensures.ends;
+  fewer = le_of_eq (ap coming_len c.end.ensures.ends);
   leads =
-      leads_ended c.end.result _ (shown c.args.self.now) (with_going (shown c.taken_head.new.self) (drop c.taken_head.new.self.gone c.reply_to.new.out.items))
+      leads_ended c.end.result _ (shown c.args.self.now) (with_going (shown c.args.self.now) (drop c.args.self.now.gone c.reply_to.new.out.items))
       (shown c.end.new.self) c.end.ensures.step c.end.ensures.ends;
   acts = λ honest b said w.
-      let mid = c.taken_head.new.self in
-      let same : shown mid ≡ shown c.args.self.now = c.taken_head.ensures.same in
+      let mid = c.args.self.now in
       let found = c.in-Some.ensures.found in
-      let v = subst (λ (k : Shown). HoldsWhole k.taken k.unread b said) (sym same) w in
+      let v = w in
       let i : Item = record { head = v.head; coded = v.body.coded; body = v.body.body } in
-      let read = subst (λ (k : Shown). HeadIsRead k.taken mid.fields.items c.in-Some.spans found.0) (sym same) found.1 in
+      let read = found.1 in
       let there = subst (λ (y : List HeaderSpan). IsTaken c.before-taken.result.now y c.in-Some.spans i) (sym c.deref.ensures.value)
-      (subst (λ (x : Text). IsTaken x mid.fields.items c.in-Some.spans i) (sym c.before-taken.ensures)
-      (item_taken (shown mid).taken (shown mid).unread b said v mid.fields.items c.in-Some.spans found.0 read)) in
+      (subst (λ (x : Text). IsTaken x c.taken_head.new.room.spans.items c.in-Some.spans i) (sym c.before-taken.ensures)
+      (item_taken (shown mid).taken (shown mid).unread b said v c.taken_head.new.room.spans.items c.in-Some.spans found.0 read)) in
       let sent = c.in-Err.ensures.replies honest i there in
       let within : mid.gone ≤ length mid.out.items = omega (arith, mid.within, mid.out.ok.0) in
-      subst (λ (k : Shown). ActsAs c.end.result b said k.going (g.K.Keeper.state c.args.service.now) (g.K.Keeper.state c.reply_to.new.service) (shown c.end.new.self)) same
-      (part_ends c.end.result _ b said (shown mid).going _ _ (with_going (shown mid) (drop mid.gone c.reply_to.new.out.items)) _ c.end.ensures.step c.end.ensures.ends
+      part_ends c.end.result _ b said (shown mid).going _ _ (with_going (shown mid) (drop mid.gone c.reply_to.new.out.items)) _ c.end.ensures.step c.end.ensures.ends
       (replied_in_part _ _ (shown mid).going b said v _ sent.0 _ _ _ sent.1 sent.2.0
-      (going_on mid.gone mid.out.items _ _ within sent.2.1)));
+      (going_on mid.gone mid.out.items _ _ within sent.2.1));
 }

@@ -1,4 +1,4 @@
-use Rattle.std.proofs.Common.{◌++◌, refl, subst}
+use Rattle.std.proofs.Common.{◌++◌, subst}
 use Rattle.httparse.specs.Grammar.{HasNoRequest}
 use Rattle.oci_types.specs.Text.{Text}
 use Rattle.registry_http.specs.Spelling.{HoldsNoHead}
@@ -9,12 +9,10 @@ pub returns-in-NotYet : goal.returns-in-NotYet
 returns-in-NotYet c = record {
   found = tt;
   none = λ b said w. not_without_head _ _ b said w (subst HasNoRequest c.before-taken.ensures c.in-NotYet.ensures.1);
-  same = refl;
 }
 
 pub returns-in-Never : goal.returns-in-Never
 returns-in-Never c = record {
   found = tt;
   none = λ b said w. not_hopeless _ _ b said w (λ tail. subst (λ (x : Text). HoldsNoHead (x ++ tail)) c.before-taken.ensures (c.in-Never.ensures tail));
-  same = refl;
 }
