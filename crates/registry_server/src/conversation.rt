@@ -1,4 +1,4 @@
-ghost use Rattle.std.specs.Prelude.{◌≡◌, ◌+◌, ◌<◌, ◌≤◌, [], true, false, length, drop, min, MatchResult, vec_len};
+ghost use Rattle.std.specs.Prelude.{◌≡◌, ◌+◌, ◌<◌, ◌≤◌, [], true, false, length, drop, min, IfOk, MatchResult, vec_len};
 ghost use Rattle.std.specs.Io.KnownBytes.{Consumes};
 
 use crate::exchange::Exchange;
@@ -9,7 +9,7 @@ use crate::whole_connection::refuse;
 use registry_http::buffer::{Buffer, LINES};
 use registry_http::ending::Stop;
 use registry_http::{End, FramingRefusal};
-use std::alloc::Global;
+use std::alloc::{AllocError, Global};
 use std::io::Read;
 
 /// What has come of one connection and is not answered yet, and what is to go out on it (RFC 9112).
@@ -51,6 +51,21 @@ impl Conversation {
             gone: 0,
             exchange: Exchange::new(alloc),
         }
+    }
+
+    /// The same, with room for so many bytes that are to go out: replies that fit in take no memory then.
+    pub(crate) fn with_room(alloc: Global, size: usize) -> Result<Conversation, AllocError>
+        ensures { IfOk result (λ c. shown c ≡ begun) }
+    {
+        let out = Vec::with_capacity(alloc, size)?;
+        Ok(Conversation {
+            buffer: Buffer::new(alloc),
+            phase: Phase::Head,
+            finished: false,
+            out,
+            gone: 0,
+            exchange: Exchange::new(alloc),
+        })
     }
 
     /// Whether bytes that come are kept: the input goes on, and there may be a further request.

@@ -1,4 +1,4 @@
-ghost use Rattle.std.specs.Prelude.{◌≡◌, [], OnOk};
+ghost use Rattle.std.specs.Prelude.{◌≡◌, [], IfOk, OnOk};
 ghost use Rattle.registry_http.specs.Serving.{Serves};
 ghost use Rattle.registry_http.specs.Sending.{Sends};
 ghost use Rattle.registry_http.specs.Ending.{SendsRefusal};
@@ -12,8 +12,11 @@ use registry_http::reply_text::write_refusal;
 use registry_http::{End, FramingRefusal};
 use registry_model::Keeper;
 use registry_service::Service;
-use std::alloc::Global;
+use std::alloc::{AllocError, Global};
 use std::io::{Read, Write};
+
+/// Room for most replies, so that to put them together takes no memory.
+const REPLY: usize = 65_536;
 
 /// So many reads are made of one connection at most.
 const MOST_READS: u64 = 9_223_372_036_854_775_807;
@@ -93,6 +96,15 @@ fn serve_requests<R: Read, W: Write, K: Keeper>(
     }
 }
 
+/// Room to find header fields in, and a conversation to which nothing came.
+fn rooms(alloc: Global) -> Result<(FieldRoom, Conversation), AllocError>
+    ensures { IfOk result (λ rooms. shown rooms.1 ≡ begun) }
+{
+    let room = FieldRoom::new(alloc)?;
+    let conversation = Conversation::with_room(alloc, REPLY)?;
+    Ok((room, conversation))
+}
+
 /// Serves one connection to its end: reads requests, answers them one after the other, and writes
 /// the replies (RFC 9112; OCI Distribution Specification 1.1).
 ///
@@ -102,8 +114,8 @@ fn serve_requests<R: Read, W: Write, K: Keeper>(
 /// is wanting, with the requests before answered. `ReadFailed` is the same for the bytes that came
 /// before the failed read, or before 9,223,372,036,854,775,807 reads. After `WriteFailed` all texts
 /// before went out whole, and of the text in hand exactly the first `written` bytes; a request
-/// whose reply was in hand took effect. A reply is put together in memory: where that is wanting it is
-/// a write that failed.
+/// whose reply was in hand took effect. A reply is put together in memory, for which room is made at the
+/// beginning: where it is longer than 65,536 bytes, and memory is wanting, it is a write that failed.
 pub fn serve_connection<R: Read, W: Write, K: Keeper>(
     alloc: Global,
     service: &mut Service<K>,
@@ -120,11 +132,11 @@ pub fn serve_connection<R: Read, W: Write, K: Keeper>(
       state' = K.state service.new;
     }) }
 {
-    match FieldRoom::new(alloc) {
-        Ok(room) => {
+    match rooms(alloc) {
+        Ok((room, conversation)) => {
             // Both are let go in one place.
             let mut room = room;
-            let mut conversation = Conversation::new(alloc);
+            let mut conversation = conversation;
             serve_requests(alloc, service, &mut conversation, &mut room, reader, writer)
         }
         Err(_) => refuse(writer, FramingRefusal::NoBufferMemory),
