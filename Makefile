@@ -25,7 +25,7 @@ help:
 	@echo 'make check-rows      the worked examples by the program itself, over a file (after make test; 10 s)'
 	@echo 'make check-words     command lines, and what they say, end with and leave in files (after make test; 1 min)'
 	@echo 'make check-hostile   refuses each growth of memory, stops the disk at each write, kills servers, gives orders'
-	@echo '                     beside requests (after make test; 10 min)'
+	@echo '                     beside requests (after make test; 13 min)'
 	@echo 'make check-clients   curl, skopeo and ctr straight, and with buildah, podman and oras-go through nginx, those'
 	@echo '                     that are installed (deploy/install-clients.sh installs them; 3 min); ONLY=straight'
 	@echo 'make check-docs      the commands of the tutorial and other pages, and what they print (10 s)'

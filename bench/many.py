@@ -4,6 +4,7 @@ import time
 from contextlib import ExitStack
 
 from cases import MEDIA, manifest_of
+from crowding import crowd
 from driver import (
     FORKED,
     SECONDS,
@@ -20,6 +21,8 @@ from servers import IMAGES, KIB, MIB
 AT_ONCE = (1, 8, 64, 256)
 IDLE = 256
 BURST = 250
+# more clients than there are places, and how long it is waited for the replies
+CROWD, PLACES, LONGEST = 600, 256, 12
 # a round of one connection is in so many parts
 PARTS = 4
 # so many clients push so many blobs each, and beside them a GET is due each few seconds
@@ -99,6 +102,14 @@ def beside_pushes(cases, text, size):
     cases.keep("a push of 64 MiB beside them", seconds / (CLIENTS * PUSHES))
 
 
+def crowd_in(cases, text, size):
+    """600 clients on 256 places; where some have no reply at all, the time is how long they waited."""
+    name = f"{CROWD} clients on {PLACES} places"
+    took, none = crowd(cases.peer.port, text, size, CROWD, LONGEST)
+    cases.keep(name, took)
+    cases.plan.notes.append(f"{cases.peer.name}: {name}: {none} had no reply in {took:.1f} s")
+
+
 def many(cases):
     peer, plan = cases.peer, cases.plan
     text = small_get(cases)
@@ -121,6 +132,7 @@ def many(cases):
     if together:
         took = min(burst(peer.port, text, size, BURST) for _ in range(plan.rounds))
         cases.keep(f"{BURST} connections that come at once", took)
+        crowd_in(cases, text, size)
         beside_pushes(cases, text, size)
 
 

@@ -1,8 +1,9 @@
-"""Memory that is refused, a disk that stops, a server that is killed, a client that opens all it can, many at once, and
-orders beside them.
+"""Memory that is refused, a disk that stops, a server that is killed, a client that opens all it can, many at once,
+orders beside them, strangers who hold what they can, and links, logs and descriptors that are short.
 
-    python3 -m hostile memory|disk|kill|open|many|orders [--kills N]    in check/: one of the six, or all where none is
-                                                                        named
+    python3 -m hostile [memory|disk|kill|open|many|orders|strangers|door|links|log|descriptors ..] [--kills N]
+
+in check/: these parts, or all where none is named.
 
 The executables are the proved ones that `make build` and `make test` leave. refusing.rs, a library that is
 loaded before a program, lets one growth of memory fail, or the disk stop at one write; `rustc` compiles it.
@@ -12,7 +13,8 @@ Nothing is installed. The status is 1 where something is wrong, and 3 where this
 up to a run that meets no refusal: each answer is the row's, or says that memory was wanting and is then
 the row's when it is asked for again. Then each order of the administrator's over a file, and a file of schema 1
 that is taken over: it is done, or says `registry: out of memory`, changes nothing, and is done when it is given
-again. A server over a socket answers 503 and goes on.
+again. A server over a socket answers 503 and goes on; a reply that it has no memory for is 503, and never a 200
+without its body.
 *disk*: each kind of write, over a file whose disk stops at the Nth write or sync, for every N up to a run
 without a stop. What is found afterwards is the world before the write or the one after it, and the one
 after it where the write was answered so. Then a service answers 500 and the program ends with status 3.
@@ -33,6 +35,13 @@ server that is killed amid orders all that were done are there, and the next one
 orders, or give them, is told why. `--log` says each request on a line, without its token and its query; without it
 what fails is said alone, and why. A server that is asked to stop, by an order or by the end of standard input, lets go
 who has nothing in hand, answers who has, and ends with status 0 and one file that holds all.
+*strangers*: some without a token who fill the room for requests, or every place, and say nothing more: who asks beside
+them waits some seconds. Who has a known token is borne longer; nobody goes for a silence that was the server's.
+*door*: 600 clients on 256 places, each of which asks again and again on a connection that it keeps: none is left
+without a reply, and no push among them is lost.
+*links*: replies over a link that stalls are whole when it goes on in time, and else cut off, which is said.
+*log*: where nobody reads standard error requests go on; lines are short and few, and those left out are counted.
+*descriptors*: where the system gives fewer than there are places, who rests gives way, and a line says so.
 """
 import concurrent.futures
 import os
@@ -43,24 +52,31 @@ import tempfile
 from executables import EXAMPLES, REGISTRY
 from hostile.crashes import crash_in_writes
 from hostile.crowd import serve_many
+from hostile.descriptors import run_short
 from hostile.disk import fail_once_on_sockets, stop_in_writes
+from hostile.door import knock
 from hostile.handing import hand_over
 from hostile.kills import kill_servers
 from hostile.memory import refuse_in_orders, refuse_in_rows, refuse_on_sockets
 from hostile.migration import look_beside_a_new_file, refuse_in_migration, stop_in_migration
 from hostile.ordering import give_orders
 from hostile.refusing import Refusing
+from hostile.replies import refuse_in_replies
 from hostile.said import wrong
 from hostile.sessions import open_sessions
+from hostile.slow_links import look_at_slow_links
 from hostile.stopping import stop_servers
+from hostile.strangers import look_at_strangers
+from hostile.unread_log import look_at_logs
 
 # the status where a machine lacks what this needs
 CANNOT_RUN = 3
 
+PARTS = ["memory", "disk", "kill", "open", "many", "orders", "strangers", "door", "links", "log", "descriptors"]
+
 
 def main():
-    parts = ["memory", "disk", "kill", "open", "many", "orders"]
-    words = [it for it in sys.argv[1:] if it in parts] or parts
+    words = [it for it in sys.argv[1:] if it in PARTS] or PARTS
     kills = int(sys.argv[sys.argv.index("--kills") + 1]) if "--kills" in sys.argv else 20
     needed = [REGISTRY] + [EXAMPLES] * ("memory" in words)
     lacking = [it for it in needed if not os.path.exists(it)]
@@ -80,6 +96,7 @@ def main():
                 refuse_in_orders(refusing, room, pool)
                 refuse_in_migration(refusing, room, pool)
             refuse_on_sockets(refusing, room)
+            refuse_in_replies(refusing, room)
         if "disk" in words:
             stop_in_writes(refusing, room)
             fail_once_on_sockets(refusing, room)
@@ -96,6 +113,16 @@ def main():
         if "orders" in words:
             give_orders(refusing, room)
             stop_servers(room)
+        if "strangers" in words:
+            look_at_strangers(room)
+        if "door" in words:
+            knock(room)
+        if "links" in words:
+            look_at_slow_links(refusing, room)
+        if "log" in words:
+            look_at_logs(room)
+        if "descriptors" in words:
+            run_short(room)
     print(f"{len(wrong)} wrong" if wrong else "nothing was lost, and nothing answered wrongly")
     return 1 if wrong else 0
 

@@ -15,9 +15,8 @@ from hostile.telling import tell_failures, tell_requests
 from hostile.worlds import copied, world
 from hostile.writes import ORDERS, order, push, request
 
-# the server has so many callers at once, and lets go who says nothing for so many seconds
-AT_ONCE, PATIENCE = 16, 10
-SILENT = 40
+# more callers than the server has at once; the one of them that has been silent longest gives way to another
+SILENT, SOON = 40, 5
 NOT_READ = b"2\nregistry: invalid options\n"
 
 # Lines that no order has.
@@ -275,9 +274,9 @@ def hold_up(server, at):
         began = time.monotonic()
         found = ordered(at, "usage")
         seconds = time.monotonic() - began
-        let_go = found[0] == 0 and seconds < (SILENT / AT_ONCE + 1) * PATIENCE
-        say(let_go, f"and so is an order, when they have been let go: {seconds:.0f} s", [] if let_go else [found])
-        is_told(all_of(callers[0]), b"", "half a line is let go without a word")
+        is_soon = found[0] == 0 and seconds < SOON
+        say(is_soon, f"and so is an order, in {seconds:.1f} s", [] if is_soon else [found])
+        is_told(all_of(callers[0]), b"", "half a line gives way without a word")
 
 
 # ---- kills

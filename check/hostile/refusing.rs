@@ -6,7 +6,8 @@
 //! descriptor of `TELL_COUNTS`. What is done to files goes to the descriptor of `LOG_WRITES`, a record each: its
 //! kind (`W` for a write, `T` for a new length, `S` for a sync, `A` for an answer on standard output), seven
 //! bytes of nothing, then the file's inode number, the place and the count of bytes, as 64-bit numbers, and the
-//! bytes that are written.
+//! bytes that are written. `SLOW_GROWTH` is the descriptor of a pipe that is not waited for: where a byte is there
+//! to be read, the next growth by a mebibyte or more takes as many seconds as it says.
 #![no_std]
 
 use core::ffi::{c_char, c_int, c_void};
@@ -14,6 +15,7 @@ use core::ptr;
 use core::sync::atomic::{AtomicU64, Ordering::Relaxed};
 
 const EIO: c_int = 5;
+const LARGE: usize = 1 << 20;
 
 static GROWTHS: AtomicU64 = AtomicU64::new(0);
 static REFUSED: AtomicU64 = AtomicU64::new(0);
@@ -22,6 +24,7 @@ static STOPPED: AtomicU64 = AtomicU64::new(u64::MAX);
 static FAILED: AtomicU64 = AtomicU64::new(0);
 static TELL: AtomicU64 = AtomicU64::new(0);
 static LOG: AtomicU64 = AtomicU64::new(0);
+static SLOW: AtomicU64 = AtomicU64::new(0);
 
 extern "C" {
     fn __libc_malloc(size: usize) -> *mut c_void;
@@ -56,6 +59,7 @@ extern "C" fn begin() {
         FAILED.store(number(c"FAIL_WRITE").unwrap_or(0), Relaxed);
         TELL.store(number(c"TELL_COUNTS").unwrap_or(0), Relaxed);
         LOG.store(number(c"LOG_WRITES").unwrap_or(0), Relaxed);
+        SLOW.store(number(c"SLOW_GROWTH").unwrap_or(0), Relaxed);
     }
 }
 
@@ -102,18 +106,29 @@ static BEGIN: extern "C" fn() = begin;
 #[link_section = ".fini_array"]
 static END: extern "C" fn() = end;
 
-fn grows() -> bool {
+/// Takes as many seconds as the pipe says, if it says any.
+unsafe fn wait_if_told(size: usize) {
+    let pipe = SLOW.load(Relaxed) as c_int;
+    let mut seconds = 0_u8;
+    if pipe != 0 && size >= LARGE && syscall(SYS_READ, pipe, &raw mut seconds, 1_usize) == 1 {
+        let time = [i64::from(seconds), 0];
+        syscall(SYS_NANOSLEEP, time.as_ptr(), ptr::null::<i64>());
+    }
+}
+
+unsafe fn grows(size: usize) -> bool {
+    wait_if_told(size);
     GROWTHS.fetch_add(1, Relaxed) + 1 != REFUSED.load(Relaxed)
 }
 
 #[no_mangle]
 pub unsafe extern "C" fn malloc(size: usize) -> *mut c_void {
-    if grows() { __libc_malloc(size) } else { ptr::null_mut() }
+    if grows(size) { __libc_malloc(size) } else { ptr::null_mut() }
 }
 
 #[no_mangle]
 pub unsafe extern "C" fn realloc(old: *mut c_void, size: usize) -> *mut c_void {
-    if grows() { __libc_realloc(old, size) } else { ptr::null_mut() }
+    if grows(size) { __libc_realloc(old, size) } else { ptr::null_mut() }
 }
 
 /// Whether the disk still writes; where not, the error is that of a broken one.
@@ -142,9 +157,11 @@ unsafe fn note(kind: u8, file: c_int, place: i64, bytes: *const c_void, count: u
     }
 }
 
+const SYS_READ: i64 = 0;
 const SYS_WRITE: i64 = 1;
 const SYS_FSTAT: i64 = 5;
 const SYS_PWRITE64: i64 = 18;
+const SYS_NANOSLEEP: i64 = 35;
 const SYS_FSYNC: i64 = 74;
 const SYS_FDATASYNC: i64 = 75;
 const SYS_FTRUNCATE: i64 = 77;

@@ -50,25 +50,34 @@ def answer(connection, text):
         return None
 
 
-def pushes_on_sockets(refusing, db, growth=0, write=0, said=subprocess.DEVNULL):
-    """The statuses of two pushes on connections of their own, with this growth refused or this write failing, and
+def asked_on_sockets(refusing, db, asks, growth=0, write=0, said=subprocess.DEVNULL):
+    """What each of these calls finds on a connection of its own, with this growth refused or this write failing, and
     the numbers of growths and of writes. What the server says of it goes to `said`."""
     told, tell = os.pipe()
     numbers = {"REFUSE_GROWTH": str(growth), "FAIL_WRITE": str(write), "TELL_COUNTS": str(tell)}
     env = {"LD_PRELOAD": refusing.library, **numbers}
     try:
-        server, statuses = Server(db, "--connections", "2", env=env, pass_fds=[tell], stderr=said), []
+        server, found = Server(db, "--connections", str(len(asks)), env=env, pass_fds=[tell], stderr=said), []
     except OSError:
         os.close(told)
         raise
     finally:
         os.close(tell)
-    for _ in range(2):
+    for ask in asks:
         with server.connect() as connection:
-            reply = answer(connection, push(ABC))
-            statuses.append(reply and reply[0])
+            found.append(ask(connection))
     server.process.wait(SECONDS)
     server.kill()
     with os.fdopen(told, "rb") as it:
         counts = re.match(rb"growths=(\d+) writes=(\d+)", it.read())
-    return statuses, int(counts[1]), int(counts[2])
+    return found, int(counts[1]), int(counts[2])
+
+
+def status_of_push(connection):
+    reply = answer(connection, push(ABC))
+    return reply and reply[0]
+
+
+def pushes_on_sockets(refusing, db, **how):
+    """The statuses of two pushes on connections of their own, likewise."""
+    return asked_on_sockets(refusing, db, [status_of_push] * 2, **how)

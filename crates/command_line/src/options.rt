@@ -133,7 +133,7 @@ pub const SERVE: &[SubOption<'static>] = &[
             most: 65_536,
             default: "256",
         },
-        help: "Serve so many at once; 1: one after the other",
+        help: "Serve so many at once",
     },
     SubOption {
         word: "buffer",

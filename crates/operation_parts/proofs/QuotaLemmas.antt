@@ -1,81 +1,23 @@
 -- What a change adds to the bytes that a repository uses, and takes from them.
-use Rattle.std.proofs.Common.{◌≡◌, ◌∙◌, ℕ, ◌+◌, ◌-◌, ◌<◌, List, [], ◌∷◌, ◌++◌, map, length, Bool, true, false, cond, ◌&&◌, None, Some, refl, sym, ap, arith, length-append}
-use Rattle.std.specs.Prelude.{Option, is_some, nat_lt, sum_by}
+use Rattle.std.proofs.Common.{◌≡◌, ◌∙◌, ℕ, ◌+◌, ◌-◌, ◌<◌, ◌++◌, length, Bool, true, false, cond, ◌&&◌, None, Some, refl, sym, ap, arith, length-append}
+use Rattle.std.specs.Prelude.{Option, option_map, is_some, is_none, nat_lt}
 use Rattle.std.specs.Option.{option_map_or}
-use Rattle.std.specs.declared.cmp.Ordering.{Ordering}
-use Rattle.std.specs.declared.cmp.Ordering.TheVariants.{Less, Equal, Greater}
-use Rattle.std.specs.Ordering.{eq_by_cmp, is_eq}
-use Rattle.std.specs.Cmp.{IsTotalOrder, nat_cmp_total, Equal-is}
-use Rattle.std.specs.FinMap.{FinMap, find, entries, values, get, insert, remove, get-entries, entries-insert, get-insert, get-remove, same_map, IsAntisymmetric, nat_cmp-IsAntisymmetric}
-use Rattle.std.specs.FinMap.Entries.{put, by_order}
-use Rattle.std.proofs.lemmas.Cmp.{nat_list_cmp_total, tied_itself}
-use Rattle.std.proofs.lemmas.List.Sums.{sum_by-cons}
+use Rattle.std.specs.Cmp.{nat_cmp_total}
+use Rattle.std.specs.FinMap.{get, insert, remove, nat_cmp-IsAntisymmetric}
 use Rattle.std.proofs.lemmas.Bool.Decides.{nat_tests}
 use Rattle.oci_types.specs.Text.{Text}
-use Rattle.registry_model.specs.World.{Repo, text_cmp}
+use Rattle.registry_model.specs.World.{Repo, World, repo_at}
 use Rattle.registry_model.specs.declared.quota.Usage.{Usage}
 use Rattle.registry_model.specs.Usage.{used, goes_over, usage_of, in_64_bits}
 use Rattle.registry_model.specs.Lookups.{no_usage}
 use Rattle.registry_model.specs.Blobs.{with_blob}
 use Rattle.registry_model.specs.Sessions.{appended, finished}
 use Rattle.registry_model.specs.Manifests.{with_bytes, with_tag, with_manifest}
-use Rattle.operation_parts.specs.Quota.{grows_over, new_length}
-
--- ---- the sum over a map's values
-
-module _ {K X : Type 0} (R : K → K → Ordering) (f : X → ℕ) where
-  sum_put : (k : K) (v : X) (es : List (K × X)) → find R k es ≡ None → sum_by f (map (λ e. e.1) (put R k v es)) ≡ sum_by f (map (λ e. e.1) es) + f v
-  sum_put k v [] none = refl
-  sum_put k v (e ∷ es) none =
-      elim (R k e.0) as (λ o. R k e.0 ≡ o → sum_by f (map (λ e. e.1) (by_order o ((k, v) ∷ e ∷ es) ((e.0, v) ∷ es) (e ∷ put R k v es))) ≡ sum_by f (map (λ e. e.1) (e ∷ es)) + f v) [
-        | Less ↦ λ p. omega (arith, sum_by-cons f v (map (λ e. e.1) (e ∷ es)))
-        | Equal ↦ λ p. let h : ◌≡◌ {A = Option X} (Some e.1) None = ap (λ o. cond (is_eq o) (Some e.1) (find R k es)) (sym p) ∙ none in absurd (cc)
-        | Greater ↦ λ p.
-            let h = sum_put k v es (ap (λ o. cond (is_eq o) (Some e.1) (find R k es)) (sym p) ∙ none) in
-            omega (arith, h, sum_by-cons f e.1 (map (λ e. e.1) (put R k v es)), sum_by-cons f e.1 (map (λ e. e.1) es))
-      ] refl
-
-module _ {K X : Type 0} {R : K → K → Ordering} (o : IsTotalOrder R) (f : X → ℕ) where
-  -- a key that is new adds its value
-  pub sum_new : (m : FinMap R X) (k : K) (v : X) → get m k ≡ None → sum_by f (values (insert m k v)) ≡ sum_by f (values m) + f v
-  sum_new m k v none = ap (λ es. sum_by f (map (λ e. e.1) es)) (entries-insert o m k v) ∙ sum_put R f k v (entries m) (sym (get-entries m k) ∙ none)
-
-  module _ (same : IsAntisymmetric R) (m : FinMap R X) (k : K) where
-    twice : (v : X) (b : Bool) (x : Option X) → cond b (Some v) (cond b None x) ≡ cond b (Some v) x
-    twice v true x = refl
-    twice v false x = refl
-
-    -- to insert a key is to insert it where it was removed
-    anew : (v : X) → insert (remove m k) k v ≡ insert m k v
-    anew v = same_map o same _ _ (λ q.
-        get-insert o (remove m k) k v q ∙ ap (cond (eq_by_cmp R q k) (Some v)) (get-remove o m k q) ∙ twice v (eq_by_cmp R q k) (get m q) ∙ sym (get-insert o m k v q))
-
-    -- to insert what is there changes nothing
-    stays : (u : X) → get m k ≡ Some u → insert m k u ≡ m
-    stays u there = same_map o same _ _ (λ q. get-insert o m k u q ∙ step q (eq_by_cmp R q k) refl)
-      where
-        step : (q : K) (b : Bool) → eq_by_cmp R q k ≡ b → cond b (Some u) (get m q) ≡ get m q
-        step q true e = sym (ap (get m) (same q k ((Equal-is _).0 e)) ∙ there)
-        step q false e = refl
-
-    removed : get (remove m k) k ≡ None
-    removed = get-remove o m k k ∙ ap (λ r. cond (is_eq r) None (get m k)) (tied_itself o k)
-
-    sum_anew : (v : X) → sum_by f (values (insert m k v)) ≡ sum_by f (values (remove m k)) + f v
-    sum_anew v = ap (λ n. sum_by f (values n)) (sym (anew v)) ∙ sum_new (remove m k) k v removed
-
-    -- a key that is removed takes its value away
-    pub sum_gone : (u : X) → get m k ≡ Some u → sum_by f (values (remove m k)) + f u ≡ sum_by f (values m)
-    sum_gone u there = sym (sum_anew u) ∙ ap (λ n. sum_by f (values n)) (stays u there)
-
-    -- a key that is there takes its old value away and adds the new one
-    pub sum_over : (u v : X) → get m k ≡ Some u → sum_by f (values (insert m k v)) + f u ≡ sum_by f (values m) + f v
-    sum_over u v there = omega (arith, sum_anew v, sum_gone u there)
+use Rattle.registry_model.proofs.MapSums.{sum_new, sum_gone, sum_over}
+use Rattle.registry_model.proofs.TextOrder.{text_total}
+use Rattle.operation_parts.specs.Quota.{grows_over, grows_over_at, new_length}
 
 -- ---- the bytes that a changed repository uses
-
-text_total : IsTotalOrder text_cmp
-text_total = nat_list_cmp_total
 
 pub used_new_blob : (r : Repo) (digest bytes : Text) → get r.blobs digest ≡ None → used (with_blob r digest bytes) ≡ used r + length bytes
 used_new_blob r digest bytes none =
@@ -129,6 +71,20 @@ pub told_over : (o : Option Repo) (u : Usage) (added gone : ℕ) (b : Bool) → 
 told_over None u added gone b is more says = says 0 (ap (λ x. x.used) is) ∙ ap (λ x. nat_lt x.quota (0 + (added - gone))) is ∙ grind (arith, nat_tests)
 told_over (Some r) u added gone b is more says =
     by_room b r.quota (used r) added gone more (says (used r) (ap (λ x. x.used) is) ∙ ap (λ x. nat_lt x.quota (used r + (added - gone))) is)
+
+-- what is there adds nothing, and what would not go over is not asked for
+nothing_over : (o : Option Repo) (gone : ℕ) → option_map_or (λ r. grows_over r 0 gone) o (nat_lt gone 0) ≡ false
+nothing_over None gone = grind (arith, nat_tests)
+nothing_over (Some r) gone = grind (arith, nat_tests)
+
+pub over_if_there : {A : Type 0} (w : World) (name : Text) (there : Option Text) (show : Text → A) (found : Option A) (size gone : ℕ) → found ≡ option_map show there → true ≡ grows_over_at w name size gone
+    → is_none found ≡ grows_over_at w name (new_length there size) gone
+over_if_there w name None show found size gone e over = ap is_none e ∙ over
+over_if_there w name (Some bytes) show found size gone e over = ap is_none e ∙ sym (nothing_over (repo_at w name) gone)
+
+pub within_if_there : (w : World) (name : Text) (there : Option Text) (size gone : ℕ) → false ≡ grows_over_at w name size gone → false ≡ grows_over_at w name (new_length there size) gone
+within_if_there w name None size gone within = within
+within_if_there w name (Some bytes) size gone within = sym (nothing_over (repo_at w name) gone)
 
 -- a whole push, or a mount
 pub push_over : (r : Repo) (digest bytes : Text) → goes_over r (with_blob r digest bytes) ≡ grows_over r (new_length (get r.blobs digest) (length bytes)) 0

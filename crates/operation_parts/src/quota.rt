@@ -42,7 +42,8 @@ pub fn goes_over<K: Keeper>(
 }
 
 /// Whether a blob of `length` bytes under the digest, in the place of `gone` bytes of a session that
-/// ends, goes over the repository's quota. A digest that is there adds nothing.
+/// ends, goes over the repository's quota. A digest that is there adds nothing; whether it is there is
+/// asked only where so many bytes would go over.
 pub fn blob_goes_over<K: Keeper>(
     keeper: &mut K,
     name: &RepoName,
@@ -56,14 +57,14 @@ pub fn blob_goes_over<K: Keeper>(
     ensures spends { Spends result (K.state keeper.old) (K.state keeper.new) }
     ensures honest { K.is_honest keeper.new → K.is_honest keeper.old }
 {
-    match keeper.blob_size(name, digest)? {
-        Some(_) => goes_over(keeper, name, 0, gone),
-        None => goes_over(keeper, name, length, gone),
+    if !goes_over(keeper, name, length, gone)? {
+        return Ok(false);
     }
+    Ok(keeper.blob_size(name, digest)?.is_none())
 }
 
 /// Whether a manifest of `length` bytes under the digest goes over the repository's quota. A digest
-/// that is there adds nothing.
+/// that is there adds nothing; whether it is there is asked only where so many bytes would go over.
 pub fn manifest_goes_over<K: Keeper>(
     keeper: &mut K,
     name: &RepoName,
@@ -76,8 +77,8 @@ pub fn manifest_goes_over<K: Keeper>(
     ensures spends { Spends result (K.state keeper.old) (K.state keeper.new) }
     ensures honest { K.is_honest keeper.new → K.is_honest keeper.old }
 {
-    match keeper.manifest_size(name, digest)? {
-        Some(_) => goes_over(keeper, name, 0, 0),
-        None => goes_over(keeper, name, length, 0),
+    if !goes_over(keeper, name, length, 0)? {
+        return Ok(false);
     }
+    Ok(keeper.manifest_size(name, digest)?.is_none())
 }

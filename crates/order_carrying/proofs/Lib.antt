@@ -1,4 +1,3 @@
-pub mod CallingLemmas
 pub mod FailedReads
 pub mod ListLemmas
 pub mod NamingLemmas

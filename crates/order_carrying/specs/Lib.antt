@@ -1,5 +1,3 @@
-pub mod Calling
-pub mod Calls
 pub mod Lists
 pub mod Grants
 pub mod Listed

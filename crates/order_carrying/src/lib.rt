@@ -8,8 +8,6 @@
 #![tactic(auto)]
 
 pub mod answering;
-pub mod caller;
-pub mod callers;
 pub mod carrying;
 mod grants;
 pub mod laws;
@@ -18,6 +16,5 @@ mod naming;
 mod reading;
 
 pub use answering::answer_line;
-pub use callers::Callers;
 pub use carrying::{Ended, carry_out, carry_over};
 pub use lists::list_text;

@@ -1,3 +1,2 @@
-pub mod Together
 pub mod Running
 pub mod Databases

@@ -12,17 +12,17 @@ use Rattle.registry_orders.specs.Tasks.{IsTask}
 use Rattle.registry_orders.specs.Reading.{fit}
 use Rattle.registry_orders.specs.Outputs.{Output, IsSilent}
 use Rattle.registry_server.specs.Accepting.{Streams}
+use Rattle.registry_loop.specs.Together.{ServesTogether}
 use Rattle.registry_tasks.specs.Program.{IsUntouched, GivesUp, ServesMemory, Tells}
 use Rattle.registry_tasks.specs.Sockets.{ServesAddress}
 use Rattle.registry_tasks.specs.Sending.{IsSent}
 use Rattle.registry_tasks.specs.Opened.{Opened, output_of, RunsAt, RunsTokenOrder, LacksTokenOf, RunsCheck, RunsStored, EndsMigration}
-use Rattle.registry_cli.specs.Together.{serves_within}
 
 -- connections over sockets, over a registry that is opened
 abbrev pub RunsServer : Limits → Opened → ℕ → Output → Type 0
 RunsServer limits over status o =
     (result : Result (Unit {0}) Failure) × (status ≡ status_if result)
-    × ServesAddress (serves_within limits) over result o
+    × ServesAddress (ServesTogether limits.at_once) over result o
 
 -- what a task comes to: a registry over memory that is set up so is served; or the one at the path is, by one
 -- connection or over sockets, or is taken over, or is looked at for what is wrong; or an order is carried out

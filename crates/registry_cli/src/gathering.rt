@@ -6,9 +6,9 @@ ghost use Rattle.registry_tasks.specs.Sockets.{ServesAddress};
 ghost use Rattle.registry_loop.specs.Together.{ServesTogether};
 ghost use Rattle.registry_orders.specs.Failures.{IsOfServing};
 
-use registry_checking::Opener;
 use registry_loop::Gathering;
 use registry_model::Keeper;
+use registry_opening::Opener;
 use registry_orders::Failure;
 use registry_service::Service;
 use registry_tasks::sockets::{announce, resume};

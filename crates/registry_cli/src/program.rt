@@ -3,14 +3,14 @@ ghost use Rattle.registry_tasks.specs.Stored.{Over, OverAt};
 ghost use Rattle.registry_tasks.specs.Sockets.{ServesAddress};
 ghost use Rattle.registry_tasks.specs.Program.{streams};
 ghost use Rattle.registry_loop.specs.Together.{ServesTogether};
-ghost use Rattle.registry_cli.specs.Together.{serves_within};
 ghost use Rattle.registry_cli.specs.Running.{RunsServer, RunsWords, IsSparedFor, EndsTask, IsSparedBy};
 ghost use Rattle.registry_orders.specs.Outputs.{output};
 
 use crate::gathering::serve_together;
-use registry_checking::Opener;
-use registry_loop::{Crowd, Doors, Log};
+use registry_checking::Watch;
+use registry_loop::{Crowd, Doors};
 use registry_model::Keeper;
+use registry_opening::Opener;
 use registry_orders::cause::say_at;
 use registry_orders::failure::say;
 use registry_orders::line::read_words;
@@ -19,17 +19,20 @@ use registry_orders::{Beside, Failure, Limits, Task};
 use registry_tasks::listening::{Listeners, introduce, listen};
 use registry_tasks::order_socket::stop_orders;
 use registry_tasks::{
-    run_check, run_migration, run_order_at, run_stored, run_token_order, send_stop, serve,
-    serve_memory, tell,
+    run_check, run_migration, run_order_at, run_stored, run_token_order, send_stop, serve_memory,
+    tell,
 };
+use request_log::{Log, Outlet};
 use std::alloc::Global;
 use std::convert::AsStr;
 use std::io;
 use std::io::{Read, Write};
 use std::os::fd::RawFd;
 
-/// The descriptor of standard input.
+/// The descriptors of standard input and of standard error.
 const STANDARD_INPUT: RawFd = 0;
+
+const STANDARD_ERROR: RawFd = 2;
 
 /// What `registry serve` was told but for its registry.
 #[derive(Clone, Copy)]
@@ -60,7 +63,8 @@ fn serve_many<K: Keeper, O: Opener<K>, W: Write, E: Write>(
 {
     let (limits, connections) = (serving.limits, serving.connections);
     let at_once = limits.at_once as usize;
-    let log = Log::new(err, serving.beside.log);
+    let outlet = Outlet::over(alloc, rt, err, STANDARD_ERROR);
+    let log = Log::new(outlet, serving.beside.log);
     let doors = Doors {
         listener: listeners.connections,
         orders: listeners.orders,
@@ -78,38 +82,6 @@ fn serve_many<K: Keeper, O: Opener<K>, W: Write, E: Write>(
     }
 }
 
-/// Serves so many connections that are taken at a listener, one after the other or together.
-fn serve_taken<K: Keeper, O: Opener<K>, W: Write, E: Write>(
-    rt: &HostRuntime,
-    alloc: Global,
-    opener: &O,
-    path: &str,
-    kept: K,
-    listeners: Listeners,
-    serving: Serving,
-    out: &mut W,
-    err: &mut E,
-) -> Result<(), Failure>
-    requires opened { K.is_honest kept → O.opens opener.now path.now (K.state kept) }
-    ensures { ServesAddress (serves_within serving.entry.limits)
-        (Over K.is_honest K.state (O.opens opener.now path.now))
-        result (output (W.contents out.old) (W.contents out.new)) }
-{
-    if serving.limits.at_once == 1 {
-        let mut listener = listeners.connections;
-        return serve(
-            alloc,
-            opener,
-            path,
-            kept,
-            &mut listener,
-            serving.connections,
-            out,
-        );
-    }
-    serve_many(rt, alloc, opener, path, kept, listeners, serving, out, err)
-}
-
 /// Says what is served, and serves so many connections that are taken there.
 fn serve_bound<K: Keeper, O: Opener<K>, W: Write, E: Write>(
     rt: &HostRuntime,
@@ -122,14 +94,14 @@ fn serve_bound<K: Keeper, O: Opener<K>, W: Write, E: Write>(
     err: &mut E,
 ) -> Result<(), Failure>
     requires opened { K.is_honest kept → O.opens opener.now path.now (K.state kept) }
-    ensures { ServesAddress (serves_within serving.entry.limits)
+    ensures { ServesAddress (ServesTogether serving.entry.limits.at_once)
         (Over K.is_honest K.state (O.opens opener.now path.now))
         result (output (W.contents out.old) (W.contents out.new)) }
 {
     let alloc = rt.alloc();
     let mut kept = kept;
     match introduce(alloc, &mut kept, &listeners.connections, path, err) {
-        Ok(()) => serve_taken(rt, alloc, opener, path, kept, listeners, serving, out, err),
+        Ok(()) => serve_many(rt, alloc, opener, path, kept, listeners, serving, out, err),
         Err(failure) => {
             opener.close(kept);
             Err(failure)
@@ -174,7 +146,7 @@ fn run_server<K: Keeper, O: Opener<K>, W: Write, E: Write>(
 
 /// Does a task, and gives the exit status. With status 1 or 2 nothing was read or written, but for the line
 /// of standard input that the task takes for a token.
-fn run_task<K: Keeper, O: Opener<K>, R: Read, W: Write, E: Write>(
+fn run_task<K: Keeper, O: Opener<K> + Watch, R: Read, W: Write, E: Write>(
     rt: &HostRuntime,
     opener: &O,
     task: Task,
@@ -228,7 +200,7 @@ fn run_task<K: Keeper, O: Opener<K>, R: Read, W: Write, E: Write>(
 /// with the words is told before a database is opened or a server asked. With status 1 or 2 nothing was read
 /// or written, but for the line of standard input that the words take for a token. An order that is sent has
 /// the status and the text that the server answers.
-pub fn run_words<K: Keeper, O: Opener<K>, S: AsStr, R: Read, W: Write, E: Write>(
+pub fn run_words<K: Keeper, O: Opener<K> + Watch, S: AsStr, R: Read, W: Write, E: Write>(
     rt: &HostRuntime,
     opener: &O,
     words: &[S],

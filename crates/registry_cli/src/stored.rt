@@ -8,7 +8,8 @@ ghost use Rattle.registry_cli.specs.Running.{RunsWords, IsSparedFor};
 ghost use Rattle.registry_store.specs.Kept.{IsHonest, shown};
 
 use crate::program::run_words;
-use registry_checking::Opener;
+use registry_checking::Watch;
+use registry_opening::Opener;
 use registry_store::Store;
 use sqlite::{Alter, FileStore};
 use sqlite_disk::Disk;
@@ -16,7 +17,7 @@ use std::convert::AsStr;
 use std::io::{Read, Write};
 
 /// `run_words` over the tables of databases.
-fn run_over<S: Alter, O: Opener<Store<S>>, T: AsStr, R: Read, W: Write, E: Write>(
+fn run_over<S: Alter, O: Opener<Store<S>> + Watch, T: AsStr, R: Read, W: Write, E: Write>(
     rt: &HostRuntime,
     opener: &O,
     words: &[T],
@@ -39,14 +40,14 @@ fn run_over<S: Alter, O: Opener<Store<S>>, T: AsStr, R: Read, W: Write, E: Write
 
 /// Does what the words behind the program's name say, over databases in files, with these ends for standard
 /// input, output and error; gives the exit status, as `run_words` does.
-pub fn run_in_files<D: Disk, O: Opener<Store<FileStore<D>>>, T: AsStr, R: Read, W: Write, E: Write>(
-    rt: &HostRuntime,
-    opener: &O,
-    words: &[T],
-    reader: &mut R,
-    out: &mut W,
-    err: &mut E,
-) -> u8
+pub fn run_in_files<
+    D: Disk,
+    O: Opener<Store<FileStore<D>>> + Watch,
+    T: AsStr,
+    R: Read,
+    W: Write,
+    E: Write,
+>(rt: &HostRuntime, opener: &O, words: &[T], reader: &mut R, out: &mut W, err: &mut E) -> u8
     ensures runs { RunsWords
         (OverAt (IsHonest (over_files {g = D.Disk}) true) (shown (over_files {g = D.Disk}))
         (O.opens opener.now))

@@ -121,8 +121,10 @@ fn turns<K: Keeper>(
 ) -> Result<Step> {
     for _ in 0..MOST_TURNS {
         let step = conversation.answer_next(alloc, registry, room);
-        let count = conversation.outgoing().len();
-        bytes.extend_from_slice(conversation.outgoing())?;
+        let going = conversation.outgoing();
+        bytes.extend_from_slice(going.head)?;
+        bytes.extend_from_slice(going.body)?;
+        let count = going.len();
         conversation.sent(count);
         if !matches!(step, Step::Answered | Step::Interim) {
             return Ok(step);

@@ -1,5 +1,5 @@
 -- Where bytes lie in the room of a buffer.
-use Rattle.std.proofs.Common.{◌≡◌, ℕ, ◌+◌, ◌-◌, ◌≤◌, zero, suc, [], ◌∷◌, ◌++◌, length, take, drop, slice_range, refl, sym, ap, ◌∙◌, arith, length-append, length-take, length-drop}
+use Rattle.std.proofs.Common.{◌≡◌, ℕ, ◌+◌, ◌-◌, ◌≤◌, ◌<◌, zero, suc, [], ◌∷◌, ◌++◌, length, take, drop, slice_range, refl, sym, ap, ◌∙◌, arith, length-append, length-take, length-drop}
 use Rattle.std.proofs.lemmas.List.{drop-take, drop-drop, drop-append-le, take_at, drop_at}
 use Rattle.std.proofs.Math.Seq.{take-add}
 use Rattle.oci_types.specs.Text.{Text}
@@ -36,6 +36,10 @@ slice_take xs u e n le = take_take n (e - u) (drop u xs) le
 -- the first n bytes of a part
 pub slice_len : (xs : Text) (i j : ℕ) → j ≤ length xs → length (slice_range xs i j) ≡ j - i
 slice_len xs i j within = omega (arith, length-take (j - i) (drop i xs), length-drop i xs)
+
+-- a part of some bytes
+pub some_read : (xs : Text) (e n : ℕ) → e + n ≤ length xs → 0 < n → 0 < length (slice_range xs e (e + n))
+some_read xs e n within some = omega (arith, some, slice_len xs e (e + n) within)
 
 -- a part to whose end n bytes came
 pub slice_few : (xs ys : Text) (u e n most : ℕ) → e ≤ length xs → e + n ≤ length ys → n ≤ most

@@ -14,3 +14,4 @@ pub mod SomeHead
 pub mod EndUniqueness
 pub mod PrivacyLemmas
 pub mod BufferLemmas
+pub mod FixedTexts

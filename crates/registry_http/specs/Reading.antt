@@ -52,9 +52,10 @@ Parses Never buffer headers = (tail : Text) → HoldsNoHead (buffer ++ tail)
 
 -- ---- reading
 
--- the buffer grew by bytes that the reader gave up
+-- the buffer grew by bytes that the reader gave up, by one at least
 pub record Pulls (old new : Text) (left left' : Option Text) : Type 0 where
   pub bytes : Text
+  pub some : 0 < length bytes
   pub grown : new ≡ old ++ bytes
   pub taken : Consumes left left' bytes
 

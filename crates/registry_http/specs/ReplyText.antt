@@ -40,9 +40,9 @@ sent_text (unsent n) = []
 abbrev pub body_text : Bool → Content → Text
 body_text head body = if head then [] else sent_text body
 
--- a status line, and what follows it
-abbrev pub reply_after : Text → Bool → Bool → Answer → Text
-reply_after line head close a =
+-- a status line, the fields that follow it, and the empty line
+abbrev pub head_after : Text → Bool → Answer → Text
+head_after line close a =
     line
     ++ length_field (code_of a.status) (length_of a.body)
     ++ field_if (codes "Content-Type") a.content_type
@@ -56,10 +56,13 @@ reply_after line head close a =
     ++ field_if (codes "WWW-Authenticate") a.challenge
     ++ close_field close
     ++ crlf
-    ++ body_text head a.body
+
+-- what stands before the body of a reply
+abbrev pub head_text : Bool → Answer → Text
+head_text close a = head_after (status_line (code_of a.status)) close a
 
 abbrev pub reply_text : Bool → Bool → Answer → Text
-reply_text head close a = reply_after (status_line (code_of a.status)) head close a
+reply_text head close a = head_text close a ++ body_text head a.body
 
 -- the text of a framing refusal
 abbrev pub refusal_text : FramingRefusal → Text

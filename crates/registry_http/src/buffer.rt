@@ -15,6 +15,18 @@ pub const LINES: usize = 65536;
 /// How many bytes a read has room for, where so many are missing.
 const LEAST_READ: usize = 65536;
 
+/// How many bytes a read has room for at least: as many as are missing, or 65,536.
+fn least_for(missing: usize) -> usize
+    requires { 0 < missing }
+    ensures { 0 < result }
+{
+    if missing < LEAST_READ {
+        missing
+    } else {
+        LEAST_READ
+    }
+}
+
 /// The bytes of a connection around a place: those before it belong to the request in hand, those
 /// behind it were read and not taken apart yet.
 ///
@@ -36,17 +48,15 @@ pub struct Buffer {
     ghost within: { end ≤ vec_len room },
 }
 
-/// How many bytes to make room for, where so many are kept and so many are missing: as many as are
-/// kept, but no more than are missing, and at least 65,536.
+/// How many bytes to make room for, where so many are kept and so many are missing: as many as are kept, and
+/// at least 65,536, but no more than are missing.
 fn growth(kept: usize, missing: usize) -> usize
-    ensures { 65536 ≤ result }
+    requires { 0 < missing }
+    ensures { 0 < result }
 {
+    let least = least_for(missing);
     let wanted = if kept < missing { kept } else { missing };
-    if wanted < LEAST_READ {
-        LEAST_READ
-    } else {
-        wanted
-    }
+    if wanted < least { least } else { wanted }
 }
 
 /// Moves bytes down within the room.
@@ -203,11 +213,7 @@ impl Buffer {
         ensures behind { behind self.new ≡ behind self.old }
         ensures room { OnOk result (0 < spare self.new) }
     {
-        let least = if missing < LEAST_READ {
-            missing
-        } else {
-            LEAST_READ
-        };
+        let least = least_for(missing);
         if least <= self.spare() {
             return Ok(());
         }
@@ -238,8 +244,9 @@ impl Buffer {
         }
     }
 
-    /// Reads some bytes behind the others, at most 1,048,576, where at least so many are missing.
-    /// Room is made for as many as came already, if so many are missing, and for 65,536.
+    /// Reads some bytes behind the others, at least one and at most 1,048,576, where at least so many are
+    /// missing.
+    /// Room is made for as many as came already, and for 65,536, but for no more than are missing.
     pub fn read_more<R: Read>(&mut self, reader: &mut R, missing: usize) -> Result<(), Stop>
         requires { 0 < missing }
         ensures before { before self.new ≡ before self.old }

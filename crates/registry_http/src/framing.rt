@@ -7,7 +7,7 @@ ghost use Rattle.registry_http.specs.Framing.{framing_by, body_in, length_of, le
 use crate::ending::FramingRefusal;
 use crate::fields::{same_name, values_of};
 use httparse::spans::HeaderSpan;
-use registry_model::LARGEST_BLOB;
+use registry_model::{LARGEST_BLOB, number};
 
 /// How a request's body is framed.
 #[derive(Clone, Copy)]
@@ -25,20 +25,10 @@ fn length_by(digits: &[u8]) -> Framing
     ensures value { result ≡ length_of digits.now }
     ensures small { IsSmall result }
 {
-    if digits.is_empty() || digits.len() > 19 {
-        return Framing::Refused(FramingRefusal::InvalidContentLength);
-    }
-    let mut length: u64 = 0;
-    for digit in digits {
-        if !digit.is_ascii_digit() {
-            return Framing::Refused(FramingRefusal::InvalidContentLength);
-        }
-        length = length * 10 + u64::from(*digit - b'0');
-    }
-    if length <= LARGEST_BLOB {
-        Framing::Length(length as usize)
-    } else {
-        Framing::Refused(FramingRefusal::LengthTooLarge)
+    match number(digits) {
+        Some(length) if length <= LARGEST_BLOB => Framing::Length(length as usize),
+        Some(_) => Framing::Refused(FramingRefusal::LengthTooLarge),
+        None => Framing::Refused(FramingRefusal::InvalidContentLength),
     }
 }
 

@@ -2,7 +2,7 @@
 //! of no service, and so is proved beside those that answer.
 //!
 //! The crates above rely on `Buffer`, which holds the bytes of a connection, on `parse_head`, `find_line`
-//! and `find_trailer`, which say what these begin with, on `write_reply`, and on `spelling_is_unique`:
+//! and `find_trailer`, which say what these begin with, on `write_head`, and on `spelling_is_unique`:
 //! bytes spell one list of requests.
 #![tactic(auto)]
 
@@ -11,6 +11,7 @@ pub mod chunk;
 pub mod ending;
 pub mod expecting;
 pub mod fields;
+pub mod fixed_text;
 pub mod framing;
 pub mod head;
 pub mod limits;
@@ -26,5 +27,5 @@ pub mod trailer;
 
 pub use ending::{End, FramingRefusal};
 pub use outgoing::WriteFault;
-pub use reply_text::write_reply;
+pub use reply_text::write_head;
 pub use spelling::spelling_is_unique;

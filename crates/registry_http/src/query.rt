@@ -1,8 +1,9 @@
-ghost use Rattle.std.specs.Prelude.{◌≡◌, IfOk, bytes_eq};
+ghost use Rattle.std.specs.Prelude.{◌≡◌, List, ◌∷◌, IfOk, OnOk, bytes_eq};
 ghost use Rattle.std.specs.Cow.{cow_str_bytes};
 ghost use Rattle.registry_model.specs.Ask.{text_in, keys_of};
-ghost use Rattle.registry_http.specs.Asking.{value_at, keys_in};
-ghost use Rattle.registry_http.specs.Decoding.{cow_text, keys_shown};
+ghost use Rattle.oci_types.specs.Text.{Text};
+ghost use Rattle.registry_http.specs.Asking.{decoded, value_among, keys_in};
+ghost use Rattle.registry_http.specs.Decoding.{cow_text, keys_shown, no_keys, or_else, keys_behind};
 
 use form_urlencoded::{decode, raw_pairs};
 use registry_model::Query;
@@ -60,53 +61,81 @@ pub fn text_if<'a>(text: &'a Option<CowStr<'_, Global>>) -> Option<&'a str>
     }
 }
 
-/// The value of the first pair of a key, decoded; bytes that are not UTF-8 become U+FFFD.
-fn value_of<'a>(
+/// What is kept; or, where nothing is and the name is the key, this value, decoded: bytes that are not UTF-8
+/// become U+FFFD.
+fn keep<'a>(
     alloc: Global,
-    query: &'a [u8],
+    kept: Option<CowStr<'a, Global>>,
     key: &str,
+    name: &CowStr<'_, Global>,
+    value: &'a [u8],
 ) -> Result<Option<CowStr<'a, Global>>, AllocError>
-    ensures { IfOk result (λ value. cow_text value ≡ value_at key.now query.now) }
+    ensures { (raw : Text) (others : List (Text × Text)) → cow_str_bytes name.now ≡ decoded raw
+        → IfOk result (λ now. or_else (cow_text kept.entry) (value_among key.now ((raw, value.now) ∷ others))
+        ≡ or_else (cow_text now) (value_among key.now others)) }
 {
-    for (name, value) in raw_pairs(query) {
-        let name = decode(alloc, name)?;
-        if is_key(&name, key) {
-            return Ok(Some(decode(alloc, value)?));
+    match kept {
+        Some(kept) => Ok(Some(kept)),
+        None => {
+            if !is_key(name, key) {
+                return Ok(None);
+            }
+            Ok(Some(decode(alloc, value)?))
         }
     }
-    Ok(None)
-}
-
-/// The values of two keys.
-fn values_of<'a>(
-    alloc: Global,
-    query: &'a [u8],
-    one: &str,
-    other: &str,
-) -> Result<(Option<CowStr<'a, Global>>, Option<CowStr<'a, Global>>), AllocError>
-    ensures { IfOk result (λ values. (cow_text values.0 ≡ value_at one.now query.now)
-        × (cow_text values.1 ≡ value_at other.now query.now)) }
-{
-    let one = value_of(alloc, query, one)?;
-    Ok((one, value_of(alloc, query, other)?))
 }
 
 impl<'a> Values<'a> {
-    /// Reads a query: of each key the first pair counts.
+    /// None.
+    fn none() -> Values<'a>
+        ensures { keys_shown result ≡ no_keys }
+    {
+        Values {
+            digest: None,
+            mount: None,
+            from: None,
+            n: None,
+            last: None,
+            artifact_type: None,
+        }
+    }
+
+    /// Takes, of the keys of which there is none yet, the value of a pair.
+    fn add(
+        &mut self,
+        alloc: Global,
+        name: &CowStr<'_, Global>,
+        value: &'a [u8],
+    ) -> Result<(), AllocError>
+        ensures { (raw : Text) (others : List (Text × Text)) → cow_str_bytes name.now ≡ decoded raw
+            → OnOk result (keys_behind (keys_shown self.old) ((raw, value.now) ∷ others)
+            ≡ keys_behind (keys_shown self.new) others) }
+    {
+        self.digest = keep(alloc, self.digest.take(), "digest", name, value)?;
+        self.mount = keep(alloc, self.mount.take(), "mount", name, value)?;
+        self.from = keep(alloc, self.from.take(), "from", name, value)?;
+        self.n = keep(alloc, self.n.take(), "n", name, value)?;
+        self.last = keep(alloc, self.last.take(), "last", name, value)?;
+        self.artifact_type = keep(
+            alloc,
+            self.artifact_type.take(),
+            "artifactType",
+            name,
+            value,
+        )?;
+        Ok(())
+    }
+
+    /// Reads a query, each pair of it once: of each key the first counts.
     pub fn of(alloc: Global, query: &'a [u8]) -> Result<Values<'a>, AllocError>
         ensures { IfOk result (λ values. keys_shown values ≡ keys_in query.now) }
     {
-        let (digest, mount) = values_of(alloc, query, "digest", "mount")?;
-        let (from, n) = values_of(alloc, query, "from", "n")?;
-        let (last, artifact_type) = values_of(alloc, query, "last", "artifactType")?;
-        Ok(Values {
-            digest,
-            mount,
-            from,
-            n,
-            last,
-            artifact_type,
-        })
+        let mut values = Values::none();
+        for (name, value) in raw_pairs(query) {
+            let name = decode(alloc, name)?;
+            values.add(alloc, &name, value)?;
+        }
+        Ok(values)
     }
 
     /// The values, for a request.

@@ -3,17 +3,16 @@ ghost use Rattle.registry_model.specs.Heads.{is_sent};
 ghost use Rattle.http.specs.StatusCode.{IsStatusCode, reason_phrase};
 ghost use Rattle.registry_model.specs.Answer.{answer_of, content_of, code_of, owned};
 ghost use Rattle.registry_model.specs.Ask.{text_in};
-ghost use Rattle.registry_http.specs.ReplyText.{status_line, field, field_if, length_of, length_field, close_field, sent_text, body_text, reply_text, refusal_text};
-ghost use Rattle.registry_http.specs.Expecting.{continue_if};
+ghost use Rattle.registry_http.specs.ReplyText.{status_line, field, field_if, length_of, length_field, close_field, sent_text, body_text, head_text};
 ghost use Rattle.registry_http.specs.Sending.{GoesOn, SendsReply};
 
-use crate::ending::FramingRefusal;
 use crate::outgoing::{Outgoing, WriteFault};
 use http::StatusCode;
 use itoa::Buffer;
 use oci_types::Digest;
 use registry_model::{Body, Reply, Status};
 use std::io::Write;
+use std::mem;
 
 /// The reason phrase of a status code, empty where it has none.
 fn reason(status: StatusCode) -> &'static str
@@ -103,30 +102,10 @@ impl Outgoing {
             self.put(writer, b"Connection: close\r\n");
         }
     }
-
-    /// Goes on with the text that a client waits for before it sends the body.
-    fn put_continue<W: Write>(&mut self, writer: &mut W, awaits: bool)
-        ensures { GoesOn self.old self.new (W.contents writer.old) (W.contents writer.new)
-            (continue_if awaits) }
-    {
-        if awaits {
-            self.put(writer, b"HTTP/1.1 100 Continue\r\n\r\n");
-        }
-    }
-
-    /// Goes on with the body, which a reply to HEAD leaves out.
-    fn put_body<W: Write>(&mut self, writer: &mut W, head: bool, body: &Body)
-        ensures { GoesOn self.old self.new (W.contents writer.old) (W.contents writer.new)
-            (body_text head (content_of body.now)) }
-    {
-        if !head {
-            self.put(writer, body_bytes(body));
-        }
-    }
 }
 
 /// The bytes that are sent of a body.
-fn body_bytes(body: &Body) -> &[u8]
+pub fn body_bytes(body: &Body) -> &[u8]
     ensures { result.now ≡ sent_text (content_of body.now) }
 {
     match body {
@@ -147,21 +126,13 @@ fn body_length(body: &Body) -> u64
     }
 }
 
-/// Writes a reply (RFC 9112, sections 2.1 and 4): the status line, the fields in the profile's
-/// order, an empty line and the body. With `head` the body is left out (RFC 9110, section 9.3.2),
-/// with `close` the reply says that the connection is closed after it. A reply that has the length of
-/// its body alone is one to HEAD.
+/// Writes the head of a reply (RFC 9112, sections 2.1 and 4): the status line, the fields in the profile's
+/// order and an empty line. With `close` it says that the connection is closed after the reply.
 ///
 /// Takes no memory. Fails only where the writer does, and says how many bytes were written before.
-pub fn write_reply<W: Write>(
-    reply: &Reply,
-    head: bool,
-    close: bool,
-    writer: &mut W,
-) -> Result<(), WriteFault>
-    requires whole { head ≡ false → is_sent (answer_of reply.now).body ≡ true }
+pub fn write_head<W: Write>(reply: &Reply, close: bool, writer: &mut W) -> Result<(), WriteFault>
     ensures { SendsReply result (W.contents writer.old) (W.contents writer.new)
-        (reply_text head close (answer_of reply.now)) }
+        (head_text close (answer_of reply.now)) }
 {
     let mut out = Outgoing::new();
     out.put_status(writer, reply.status.code());
@@ -177,25 +148,19 @@ pub fn write_reply<W: Write>(
     out.put_if(writer, b"WWW-Authenticate", reply.challenge);
     out.put_close(writer, close);
     out.put(writer, b"\r\n");
-    out.put_body(writer, head, &reply.body);
     out.finish(writer)
 }
 
-/// Writes a refusal: its status line, no body, and that the connection is closed.
-pub fn write_refusal<W: Write>(refusal: FramingRefusal, writer: &mut W) -> Result<(), WriteFault>
-    ensures { SendsReply result (W.contents writer.old) (W.contents writer.new) (refusal_text refusal) }
+/// What is sent of a reply behind its head: the body as it is. With `head` there is none (RFC 9110, section
+/// 9.3.2). A reply that has the length of its body alone is one to HEAD.
+pub fn sent_body(reply: Reply, head: bool) -> Body
+    requires whole { head ≡ false → is_sent (answer_of reply).body ≡ true }
+    ensures { sent_text (content_of result) ≡ body_text head (answer_of reply).body }
 {
-    let mut out = Outgoing::new();
-    out.put_status(writer, refusal.code());
-    out.put(writer, b"Content-Length: 0\r\nConnection: close\r\n\r\n");
-    out.finish(writer)
-}
-
-/// Writes, where a client waits for it, that it may send the body (RFC 9110, section 10.1.1).
-pub fn write_continue<W: Write>(awaits: bool, writer: &mut W) -> Result<(), WriteFault>
-    ensures { SendsReply result (W.contents writer.old) (W.contents writer.new) (continue_if awaits) }
-{
-    let mut out = Outgoing::new();
-    out.put_continue(writer, awaits);
-    out.finish(writer)
+    let mut reply = reply;
+    if head {
+        Body::Constant("")
+    } else {
+        mem::replace(&mut reply.body, Body::Constant(""))
+    }
 }

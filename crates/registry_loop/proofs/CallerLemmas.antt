@@ -3,7 +3,7 @@ use Rattle.std.proofs.Common.{◌≡◌, inl, inr, Bool, true, false, List, [], 
 use Rattle.oci_types.specs.Text.{Text}
 use Rattle.registry_model.specs.Keeping.{State}
 use Rattle.order_carrying.specs.Answering.{IsOneStep}
-use Rattle.order_carrying.specs.Calling.{Called, CarriesOutLine, Obeys, Attends, AttendsAll, AttendsRound}
+use Rattle.order_sockets.specs.Calling.{Called, CarriesOutLine, Obeys, Attends, AttendsAll, AttendsRound}
 use Rattle.registry_loop.specs.Together.{LeadsBeside}
 use Rattle.registry_loop.proofs.TogetherLemmas.{beside_none, beside_then, beside_step}
 

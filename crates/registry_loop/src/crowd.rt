@@ -7,16 +7,22 @@ ghost use Rattle.registry_loop.specs.Together.{bounds_of, most_silence};
 
 use crate::doors::Doors;
 use crate::gathering::Gathering;
-use crate::log::Log;
 use crate::sockets::{EVENTS, Sockets};
 use registry_model::Keeper;
 use registry_orders::Limits;
 use registry_server::{Bounds, Connections};
 use registry_service::Service;
+use request_log::Log;
 use std::alloc::Global;
 use std::io;
 use std::io::Write;
-use std::time::Clock;
+use std::time::{Clock, Duration};
+
+/// For how many milliseconds requests are answered before sockets are looked at again; one is in any case.
+const MOST_WORK: u64 = 50;
+
+/// Work that took so many seconds is nobody's silence.
+const LONG_WORK: u64 = 1;
 
 /// A listener, and the sockets that were taken there; and those who give orders.
 #[derive(Drop)]
@@ -37,6 +43,25 @@ fn bounds_for(at_once: usize, buffer: u64) -> Bounds
         coming: half,
         going: half,
     }
+}
+
+/// Says what was done for no request: replies that were cut off, and that descriptors are wanting.
+fn say_others<T: Clock, E: Write>(
+    alloc: Global,
+    clock: &T,
+    log: &mut Log<'_, E>,
+    sockets: &mut Sockets,
+) {
+    let now = sockets.now;
+    if sockets.is_short {
+        sockets.is_short = false;
+        log.say_short(alloc, clock, now, sockets.peers.len());
+    }
+    for cut in sockets.cuts.iter() {
+        log.say_cut(alloc, clock, now, cut);
+    }
+    sockets.cuts.clear();
+    log.note_second(alloc, clock, now);
 }
 
 impl<'a, T: Clock, E: Write> Crowd<'a, T, E> {
@@ -60,13 +85,25 @@ impl<'a, T: Clock, E: Write> Crowd<'a, T, E> {
         })
     }
 
-    /// Waits until something happens, and notes what, and when it is.
-    fn wait(&mut self, connections: &Connections) -> io::Result<()> {
-        self.sockets.wait(connections)?;
+    /// Notes when it is.
+    fn look_at_clock(&mut self, connections: &mut Connections)
+        ensures { connected connections.new ≡ connected connections.old }
+    {
         if let Ok(now) = self.clock.monotonic() {
             self.sockets.now = now;
         }
-        Ok(())
+        connections.tick(self.sockets.millis());
+    }
+
+    /// The server has worked since a moment of the clock, and heard nobody meanwhile. Where that was for
+    /// long it is nobody's silence.
+    fn note_work(&mut self, connections: &mut Connections, began: Duration)
+        ensures { connected connections.new ≡ connected connections.old }
+    {
+        self.look_at_clock(connections);
+        if self.sockets.now.saturating_sub(began) >= Duration::from_secs(LONG_WORK) {
+            self.sockets.excuse_all(connections);
+        }
     }
 
     /// Has one request answered, if there is room for a reply; says whether there may be another.
@@ -83,12 +120,15 @@ impl<'a, T: Clock, E: Write> Crowd<'a, T, E> {
         if service.spent() {
             return false;
         }
-        let clock = self.clock;
-        let began = clock.monotonic().unwrap_or(self.sockets.now);
+        let began = self.sockets.now;
         match connections.turn(alloc, service) {
             Some(turn) => {
-                self.log.say_turn(alloc, clock, connections, &turn, began);
-                self.sockets.tell_of(connections, turn);
+                self.note_work(connections, began);
+                let took = self.sockets.now.saturating_sub(began);
+                let now = self.sockets.now;
+                self.log
+                    .say_turn(alloc, self.clock, connections, &turn, took, now);
+                self.sockets.tell_of(connections, &turn);
                 true
             }
             None => {
@@ -99,7 +139,7 @@ impl<'a, T: Clock, E: Write> Crowd<'a, T, E> {
         }
     }
 
-    /// Has requests answered, as long as there is room for replies.
+    /// Has requests answered, as long as there is room for replies, and others need not wait for long.
     fn answer_all<K: Keeper>(
         &mut self,
         alloc: Global,
@@ -110,12 +150,30 @@ impl<'a, T: Clock, E: Write> Crowd<'a, T, E> {
         ensures leads { K.is_honest service.new → Leads (connected connections.old) (K.state service.old)
             (connected connections.new) (K.state service.new) }
     {
+        let began = self.sockets.now;
         for _ in 0..EVENTS {
             let more = self.answer_one(alloc, connections, service);
-            if !more {
+            let worked = self.sockets.now.saturating_sub(began);
+            if !more || worked >= Duration::from_millis(MOST_WORK) {
                 return;
             }
         }
+    }
+
+    /// Has the orders carried out that are there, between two requests.
+    fn carry_out<K: Keeper>(
+        &mut self,
+        alloc: Global,
+        connections: &mut Connections,
+        service: &mut Service<K>,
+    )
+        ensures honest { K.is_honest service.new → K.is_honest service.old }
+        ensures leads { K.is_honest service.new → Leads (connected connections.old) (K.state service.old)
+            (connected connections.new) (K.state service.new) }
+    {
+        let began = self.sockets.now;
+        self.sockets.take_orders(alloc, service);
+        self.note_work(connections, began);
     }
 
     /// The beginning of a round: waits, and takes those who came.
@@ -127,8 +185,8 @@ impl<'a, T: Clock, E: Write> Crowd<'a, T, E> {
     ) -> io::Result<()>
         ensures { Carries (connected connections.old) (connected connections.new) }
     {
-        self.wait(connections)?;
-        connections.tick(self.sockets.millis());
+        self.sockets.wait(connections, self.log.has_left_out())?;
+        self.look_at_clock(connections);
         self.accept_all(alloc, connections, at_once)
     }
 
@@ -140,6 +198,7 @@ impl<'a, T: Clock, E: Write> Crowd<'a, T, E> {
     {
         let limit = self.limits.idle.saturating_mul(1_000);
         self.sockets.end_round(alloc, connections, limit);
+        say_others(alloc, self.clock, &mut self.log, &mut self.sockets);
     }
 
     /// One round: takes those who came, reads, has requests answered and orders carried out, begins to stop
@@ -160,7 +219,7 @@ impl<'a, T: Clock, E: Write> Crowd<'a, T, E> {
         self.begin_round(alloc, connections, at_once)?;
         self.sockets.hear_all(connections);
         self.answer_all(alloc, connections, service);
-        self.sockets.take_orders(alloc, service);
+        self.carry_out(alloc, connections, service);
         self.end_round(alloc, connections);
         Ok(())
     }

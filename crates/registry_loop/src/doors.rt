@@ -3,7 +3,7 @@
 use crate::stopping::watch;
 use mio::net::TcpListener;
 use mio::{Interest, Poll, Registry, Token};
-use order_carrying::Callers;
+use order_sockets::Callers;
 use std::alloc::Global;
 use std::os::fd::RawFd;
 use std::os::unix::net::UnixListener;

@@ -8,15 +8,15 @@
 pub mod crowd;
 pub mod doors;
 pub mod gathering;
-pub mod limit;
-pub mod log;
+mod parting;
+mod patience;
 pub mod peer;
 mod peers;
 mod sockets;
+pub mod standing;
 mod stopping;
 mod taking;
 
 pub use crowd::Crowd;
 pub use doors::Doors;
 pub use gathering::Gathering;
-pub use log::Log;

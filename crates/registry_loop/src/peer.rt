@@ -4,12 +4,13 @@ ghost use Rattle.registry_server.specs.Open.{outgoing_of};
 ghost use Rattle.registry_server.specs.Showing.{connected};
 ghost use Rattle.registry_server.specs.Events.{Carries};
 
+use crate::standing::Standing;
 use mio::event::Event;
 use mio::net::TcpStream;
 use registry_http::End;
 use registry_server::{Connections, Receipt, Step, Turn, Wants};
 use std::alloc::Global;
-use std::io::{ErrorKind, Read, Write};
+use std::io::{ErrorKind, IoSlice, Read};
 use std::net::Shutdown;
 use std::time::Duration;
 
@@ -45,10 +46,18 @@ pub struct Peer {
     lingers: Option<Duration>,
     /// Its connection may keep room that holds nothing.
     keeps_room: bool,
+    /// It stands on the list of those for which something may be to be done.
+    pub listed: bool,
+    /// Since when it has taken nothing of what is to go out.
+    pub stuck: Option<Duration>,
+    /// What its last reply tells of it.
+    pub standing: Standing,
     /// What its connection waits for, and how many bytes it holds of requests and of replies.
     pub wants: Option<Wants>,
     pub coming: usize,
     pub going: usize,
+    /// When the first of what it holds of a request came.
+    pub began: Duration,
 }
 
 impl Drop for Peer {
@@ -63,9 +72,13 @@ impl Drop for Peer {
             refused: _,
             lingers: _,
             keeps_room: _,
+            listed: _,
+            stuck: _,
+            standing: _,
             wants: _,
             coming: _,
             going: _,
+            began: _,
         } = self;
     }
 }
@@ -82,16 +95,24 @@ impl Peer {
             refused: false,
             lingers: None,
             keeps_room: false,
+            listed: false,
+            stuck: None,
+            standing: Standing::new(),
             wants: Some(Wants::Bytes),
             coming: 0,
             going: 0,
+            began: Duration::ZERO,
         }
     }
 
-    /// It is to be read, and its connection takes what comes.
+    /// It is to be read.
+    pub fn speaks(&self) -> bool {
+        self.readable && !self.failed && self.wants == Some(Wants::Bytes)
+    }
+
+    /// The same, and its connection takes what comes.
     pub fn may_speak(&self, connections: &Connections) -> bool {
-        let speaks = self.readable && !self.failed && self.wants == Some(Wants::Bytes);
-        speaks && connections.room(self.number) > 0
+        self.speaks() && connections.room(self.number) > 0
     }
 
     /// It is to be written to.
@@ -112,6 +133,12 @@ impl Peer {
     /// What it sends is read, and let fall.
     pub fn drains(&self) -> bool {
         self.refused && self.readable && !self.failed && self.wants == Some(Wants::Nothing)
+    }
+
+    /// Something may be to be done for it before anything happens to it.
+    pub fn is_awake(&self) -> bool {
+        let over = self.failed || self.wants == Some(Wants::Nothing);
+        over || self.speaks() || self.listens()
     }
 
     /// Whether one who was refused is heard on.
@@ -159,11 +186,14 @@ impl Peer {
         }
     }
 
-    fn write_failed(&mut self, kind: ErrorKind)
+    fn write_failed(&mut self, kind: ErrorKind, now: Duration)
         ensures { self.new.number ≡ self.old.number }
     {
         match kind {
-            ErrorKind::WouldBlock => self.writable = false,
+            ErrorKind::WouldBlock => {
+                self.writable = false;
+                self.stuck = Some(self.stuck.unwrap_or(now));
+            }
             ErrorKind::Interrupted => {}
             _ => self.failed = true,
         }
@@ -238,6 +268,9 @@ impl Peer {
     pub fn hear(&mut self, connections: &mut Connections, room: &mut [u8], now: Duration) -> bool
         ensures { Carries (connected connections.old) (connected connections.new) }
     {
+        if self.coming == 0 {
+            self.began = now;
+        }
         let may = self.may_speak(connections);
         self.hear_if(may, connections, room);
         self.drain_if(connections, room, now);
@@ -245,7 +278,7 @@ impl Peer {
     }
 
     /// Writes once; answers how many bytes went.
-    fn write_once(&mut self, connections: &Connections) -> Option<usize>
+    fn write_once(&mut self, connections: &Connections, now: Duration) -> Option<usize>
         ensures bound { IfSome result (λ count. count
             ≤ length (outgoing_of self.old.number (connected connections.now).slots)) }
         ensures number { self.new.number ≡ self.old.number }
@@ -254,25 +287,29 @@ impl Peer {
         if going.is_empty() {
             return None;
         }
-        match self.stream.write(going) {
+        let parts = [IoSlice::new(going.head), IoSlice::new(going.body)];
+        match self.stream.write_vectored(&parts) {
             Ok(0) => {
                 self.failed = true;
                 None
             }
-            Ok(count) => Some(count.min(going.len())),
+            Ok(count) => {
+                self.stuck = None;
+                Some(count.min(going.len()))
+            }
             Err(error) => {
-                self.write_failed(error.kind());
+                self.write_failed(error.kind(), now);
                 None
             }
         }
     }
 
     /// Writes what is to go out, as far as it is taken, but not for ever.
-    fn write_out(&mut self, connections: &mut Connections)
+    fn write_out(&mut self, connections: &mut Connections, now: Duration)
         ensures { Carries (connected connections.old) (connected connections.new) }
     {
         for _ in 0..WRITES {
-            let Some(count) = self.write_once(connections) else {
+            let Some(count) = self.write_once(connections, now) else {
                 return;
             };
             let _ = connections.sent(self.number, count);
@@ -280,30 +317,31 @@ impl Peer {
     }
 
     /// The same, and looks what is left.
-    fn tell(&mut self, connections: &mut Connections)
+    fn tell(&mut self, connections: &mut Connections, now: Duration)
         ensures { Carries (connected connections.old) (connected connections.new) }
     {
-        self.write_out(connections);
+        self.write_out(connections, now);
         self.look(connections);
     }
 
     /// The same, if it is to be written to.
-    pub fn tell_if(&mut self, takes: bool, connections: &mut Connections)
+    pub fn tell_if(&mut self, takes: bool, connections: &mut Connections, now: Duration)
         ensures { Carries (connected connections.old) (connected connections.new) }
     {
         if takes {
-            self.tell(connections);
+            self.tell(connections, now);
         }
     }
 
-    /// Sends what came of a turn, if it was its own.
-    pub fn tell_of(&mut self, turn: &Turn, connections: &mut Connections)
+    /// Sends what came of a turn of its own.
+    pub fn tell_of(&mut self, turn: &Turn, connections: &mut Connections, now: Duration)
         ensures { Carries (connected connections.old) (connected connections.new) }
     {
-        if self.number == turn.number {
-            self.refused = matches!(turn.step, Step::Ended(End::Refused(_)));
-            self.tell(connections);
+        self.refused = matches!(turn.step, Step::Ended(End::Refused(_)));
+        if let Some(standing) = Standing::after(turn) {
+            self.standing = standing;
         }
+        self.tell(connections, now);
     }
 
     /// Where it rests for some time, gives back the room that its connection keeps.

@@ -1,67 +1,80 @@
-//! Which of many sockets is ready, rests, or is to go.
+//! Many sockets in the order of their numbers, found by them.
 
+use crate::patience::{gives_way, holds_up, waits_for_room};
 use crate::peer::Peer;
 use mio::event::Event;
 use registry_server::Connections;
+use std::alloc::AllocError;
 use std::time::Duration;
 
-/// How many milliseconds a connection that rests stays where another waits to be taken, and one that takes
-/// nothing where there is no room for replies.
-const PATIENCE: u64 = 5_000;
+/// Where the one of this number stands.
+fn place_of(peers: &[Peer], number: u64) -> Option<usize> {
+    peers.binary_search_by_key(&number, |peer| peer.number).ok()
+}
 
-/// Whether any may be read, so that its connection takes what comes, or written to.
-pub fn is_any_ready(peers: &[Peer], connections: &Connections) -> bool {
-    for peer in peers.iter() {
-        if peer.listens() || peer.drains() || peer.may_speak(connections) {
-            return true;
+/// The one of this number.
+pub fn peer_of(peers: &mut [Peer], number: u64) -> Option<&mut Peer> {
+    let at = place_of(peers, number)?;
+    peers.get_mut(at)
+}
+
+/// Takes out the one of this number.
+pub fn take(peers: &mut Vec<Peer>, number: u64) -> Option<Peer> {
+    let at = place_of(peers, number)?;
+    if at < peers.len() {
+        Some(peers.remove(at))
+    } else {
+        None
+    }
+}
+
+/// Puts one that something is to be done for on the list, if it does not stand there.
+pub fn list(awake: &mut Vec<u64>, peer: &mut Peer) -> Result<(), AllocError> {
+    if !peer.listed {
+        match awake.push(peer.number) {
+            Ok(()) => peer.listed = true,
+            Err(_) => return Err(AllocError),
+        }
+    }
+    Ok(())
+}
+
+/// Whether any of these may be read, so that its connection takes what comes, or written to.
+pub fn is_any_ready(peers: &mut [Peer], awake: &[u64], connections: &Connections) -> bool {
+    for number in awake.iter() {
+        if let Some(peer) = peer_of(peers, *number) {
+            if peer.listens() || peer.drains() || peer.may_speak(connections) {
+                return true;
+            }
         }
     }
     false
 }
 
-/// Tells the one that an event is of.
-pub fn note(peers: &mut [Peer], event: &Event) {
-    let number = event.token().0 as u64;
-    for peer in peers.iter_mut() {
-        if peer.number == number {
-            peer.note(event);
+/// The one whose place is given to another who waits, of several the one that was open longest.
+pub fn first_to_give_way(
+    peers: &[Peer],
+    connections: &Connections,
+    pressing: bool,
+    now: Duration,
+) -> Option<u64> {
+    for peer in peers.iter() {
+        if gives_way(peer, connections, pressing, now) {
+            return Some(peer.number);
         }
     }
+    None
 }
 
-/// The one that has rested longest, if it has for some time.
-pub fn oldest(peers: &[Peer], connections: &Connections) -> Option<usize> {
-    let mut oldest = None;
-    let mut longest = PATIENCE;
-    for (at, peer) in peers.iter().enumerate() {
-        if peer.rests() {
-            let silence = connections.silence(peer.number);
-            if silence >= longest {
-                oldest = Some(at);
-                longest = silence;
-            }
-        }
-    }
-    oldest
-}
-
-/// It is to go: it ended, or takes nothing where there is no room.
-pub fn leaves(peer: &Peer, connections: &Connections, now: Duration, pressed: bool) -> bool {
-    let stalls = pressed && peer.going > 0 && connections.silence(peer.number) >= PATIENCE;
-    stalls || peer.ended(connections, now)
-}
-
-/// Forgets the one of this number.
-pub fn forget(peers: &mut Vec<Peer>, number: u64) {
+/// The one that goes where another waits for room, of several the one that holds most.
+pub fn first_that_holds_up(peers: &[Peer], connections: &Connections) -> Option<u64> {
     let mut found = None;
-    for (at, peer) in peers.iter().enumerate() {
-        if peer.number == number {
-            found = Some(at);
+    let mut most = 0;
+    for peer in peers.iter() {
+        if peer.coming > most && holds_up(peer, connections) {
+            found = Some(peer.number);
+            most = peer.coming;
         }
     }
-    if let Some(at) = found {
-        if at < peers.len() {
-            peers.remove(at);
-        }
-    }
+    found
 }

@@ -1,19 +1,20 @@
 //! The sockets of a crowd, and those who give orders.
+ghost use Rattle.std.specs.Prelude.{◌≡◌};
 ghost use Rattle.registry_server.specs.Events.{Carries};
 ghost use Rattle.registry_server.specs.Showing.{connected};
-ghost use Rattle.registry_server.specs.Lives.{NoneSilent};
 ghost use Rattle.registry_loop.specs.Together.{LeadsBeside};
 
 use crate::doors::{Doors, LISTENER};
 use crate::peer::Peer;
-use crate::peers::{forget, is_any_ready, leaves, note};
+use crate::peers::{is_any_ready, list, peer_of, take};
 use crate::stopping::is_end;
-use mio::net::TcpListener;
+use mio::net::{TcpListener, TcpStream};
 use mio::{Events, Poll};
-use order_carrying::Callers;
+use order_sockets::Callers;
 use registry_model::Keeper;
-use registry_server::{Connections, Turn};
+use registry_server::{Connections, Step, Turn};
 use registry_service::Service;
+use request_log::Cut;
 use std::alloc::{AllocError, Global};
 use std::io;
 use std::time::Duration;
@@ -36,15 +37,29 @@ pub struct Sockets {
     pub(crate) left: u64,
     /// One may wait to be taken.
     pub(crate) knocks: bool,
+    /// One that came, for which there is no place yet, and how many places there are.
+    pub(crate) door: Option<TcpStream>,
+    pub(crate) places: usize,
+    /// Since when one waits for a place.
+    pub(crate) waiting: Option<Duration>,
+    /// The system had no descriptor for one that came, and this was not said yet.
+    pub(crate) is_short: bool,
     /// Some connection may have a turn to take.
     pub(crate) pending: bool,
+    /// In the order of their numbers.
     pub(crate) peers: Vec<Peer>,
+    /// The numbers of those for which something may be to be done before anything happens to them.
+    pub(crate) awake: Vec<u64>,
+    /// When all were looked at last.
+    pub(crate) swept: Duration,
+    /// The replies that were cut off, and were not said yet.
+    pub(crate) cuts: Vec<Cut>,
     pub(crate) callers: Callers,
     /// Nobody holds the other end of what is watched.
     pub(crate) ended: bool,
     /// Since when it is to stop.
     pub(crate) stops: Option<Duration>,
-    room: Vec<u8>,
+    pub(crate) room: Vec<u8>,
     pub(crate) now: Duration,
 }
 
@@ -56,8 +71,15 @@ impl Drop for Sockets {
             listener: _,
             left: _,
             knocks: _,
+            door: _,
+            places: _,
+            waiting: _,
+            is_short: _,
             pending: _,
             peers: _,
+            awake: _,
+            swept: _,
+            cuts: _,
             callers: _,
             ended: _,
             stops: _,
@@ -71,6 +93,15 @@ impl Drop for Sockets {
 fn rooms(alloc: Global) -> Result<(Events, Vec<u8>), AllocError> {
     let events = Events::with_capacity(alloc, EVENTS)?;
     Ok((events, vec![in alloc; 0; ROOM]?))
+}
+
+/// Where a turn came to something that is to go out, silence begins now: it was the server that made wait.
+fn excuse_answered(connections: &mut Connections, turn: &Turn)
+    ensures { connected connections.new ≡ connected connections.old }
+{
+    if turn.step != Step::Waits {
+        connections.excuse(turn.number);
+    }
 }
 
 impl Sockets {
@@ -90,8 +121,15 @@ impl Sockets {
             listener,
             left: connections,
             knocks: true,
+            door: None,
+            places: 0,
+            waiting: None,
+            is_short: false,
             pending: false,
             peers: Vec::new(alloc),
+            awake: Vec::new(alloc),
+            swept: Duration::ZERO,
+            cuts: Vec::new(alloc),
             callers,
             ended: false,
             stops: None,
@@ -101,17 +139,19 @@ impl Sockets {
     }
 
     /// Whether something is to be done before anything happens.
-    fn busy(&self, connections: &Connections) -> bool {
+    fn is_busy(&mut self, connections: &Connections) -> bool {
         (self.pending && connections.has_room_for_reply())
-            || is_any_ready(&self.peers, connections)
+            || is_any_ready(&mut self.peers, &self.awake, connections)
             || self.callers.is_any_ready()
+            || self.takes_next(connections)
     }
 
-    /// For how long it may be waited, if not for ever.
-    fn patience(&self, connections: &Connections) -> Option<Duration> {
-        if self.busy(connections) {
+    /// For how long it may be waited, if not for ever; not for ever where something is to be said.
+    fn patience(&mut self, connections: &Connections, speaks: bool) -> Option<Duration> {
+        let quiet = !self.knocks && self.callers.is_quiet();
+        if self.is_busy(connections) {
             Some(Duration::ZERO)
-        } else if self.peers.is_empty() && !self.knocks && self.callers.is_quiet() {
+        } else if self.peers.is_empty() && quiet && !speaks {
             None
         } else {
             Some(Duration::from_secs(WAIT))
@@ -126,13 +166,16 @@ impl Sockets {
             }
             self.ended = self.ended || is_end(event);
             self.callers.note(event);
-            note(&mut self.peers, event);
+            if let Some(peer) = peer_of(&mut self.peers, event.token().0 as u64) {
+                peer.note(event);
+                let _ = list(&mut self.awake, peer);
+            }
         }
     }
 
-    /// Waits until something happens, and notes what.
-    pub fn wait(&mut self, connections: &Connections) -> io::Result<()> {
-        let limit = self.patience(connections);
+    /// Waits until something happens, and notes what; not for long where something is to be said.
+    pub fn wait(&mut self, connections: &Connections, speaks: bool) -> io::Result<()> {
+        let limit = self.patience(connections, speaks);
         self.poll.poll(&mut self.events, limit)?;
         self.note_events();
         Ok(())
@@ -143,13 +186,23 @@ impl Sockets {
         u64::try_from(self.now.as_millis()).unwrap_or(u64::MAX)
     }
 
-    /// Lets one connection go.
-    pub fn dismiss(&mut self, connections: &mut Connections, at: usize)
+    /// The one at a place of the list.
+    fn awake_at(&mut self, at: usize) -> Option<&mut Peer> {
+        let number = self.awake.get(at).copied()?;
+        peer_of(&mut self.peers, number)
+    }
+
+    /// Reads the one at a place of the list, if it may be read.
+    fn hear_at(&mut self, connections: &mut Connections, at: usize)
         ensures { Carries (connected connections.old) (connected connections.new) }
     {
-        if at < self.peers.len() {
-            let peer = self.peers.remove(at);
-            let _ = connections.close(peer.number);
+        let now = self.now;
+        let Some(number) = self.awake.get(at).copied() else {
+            return;
+        };
+        if let Some(peer) = peer_of(&mut self.peers, number) {
+            let may = peer.hear(connections, &mut self.room, now);
+            self.pending = self.pending || may;
         }
     }
 
@@ -158,82 +211,83 @@ impl Sockets {
     pub fn hear_all(&mut self, connections: &mut Connections)
         ensures { Carries (connected connections.old) (connected connections.new) }
     {
+        for at in 0..self.awake.len() {
+            self.hear_at(connections, at);
+        }
+    }
+
+    /// Writes to the one at a place of the list, if it takes something.
+    fn tell_at(&mut self, connections: &mut Connections, at: usize)
+        ensures { Carries (connected connections.old) (connected connections.new) }
+    {
         let now = self.now;
-        for peer in self.peers.iter_mut() {
-            let may = peer.hear(connections, &mut self.room, now);
-            self.pending = self.pending || may;
+        if let Some(peer) = self.awake_at(at) {
+            let takes = peer.listens();
+            peer.tell_if(takes, connections, now);
+            self.pending = self.pending || takes;
         }
     }
 
     /// Writes to each that takes something.
-    fn tell_all(&mut self, connections: &mut Connections)
+    pub fn tell_all(&mut self, connections: &mut Connections)
         ensures { Carries (connected connections.old) (connected connections.new) }
     {
-        for peer in self.peers.iter_mut() {
-            let takes = peer.listens();
-            self.pending = self.pending || takes;
-            peer.tell_if(takes, connections);
+        for at in 0..self.awake.len() {
+            self.tell_at(connections, at);
         }
     }
 
     /// Sends what came of a turn.
-    pub fn tell_of(&mut self, connections: &mut Connections, turn: Turn)
+    pub fn tell_of(&mut self, connections: &mut Connections, turn: &Turn)
         ensures { Carries (connected connections.old) (connected connections.new) }
     {
-        for peer in self.peers.iter_mut() {
-            peer.tell_of(&turn, connections);
+        let now = self.now;
+        excuse_answered(connections, turn);
+        if let Some(peer) = peer_of(&mut self.peers, turn.number) {
+            peer.tell_of(turn, connections, now);
+            let _ = list(&mut self.awake, peer);
         }
     }
 
-    /// Whether the connection at a place is to go.
-    fn is_to_go(&self, connections: &Connections, at: usize, pressed: bool) -> bool {
-        match self.peers.get(at) {
-            Some(peer) => {
-                self.goes_by_stop(peer) || leaves(peer, connections, self.now, pressed)
-            }
-            None => false,
+    /// The server worked for a time in which nobody was heard: the silence of all begins now.
+    pub fn excuse_all(&mut self, connections: &mut Connections)
+        ensures { connected connections.new ≡ connected connections.old }
+    {
+        for peer in self.peers.iter() {
+            connections.excuse(peer.number);
         }
     }
 
-    /// Lets one go that is to go; another gives back its room, if it rests. Says where the next is.
-    fn dismiss_if(
-        &mut self,
-        alloc: Global,
-        connections: &mut Connections,
-        at: usize,
-        pressed: bool,
-    ) -> usize
+    /// Notes where a reply is cut off.
+    fn note_cut(&mut self, peer: &Peer) {
+        if peer.going > 0 && !peer.failed {
+            let (number, left) = (peer.number, peer.going);
+            let _ = self.cuts.push(Cut { number, left });
+        }
+    }
+
+    /// Takes out the one of this number.
+    pub fn let_go(&mut self, number: u64) {
+        if let Some(peer) = take(&mut self.peers, number) {
+            self.note_cut(&peer);
+        }
+    }
+
+    /// Lets one connection go.
+    pub fn dismiss(&mut self, connections: &mut Connections, number: u64)
         ensures { Carries (connected connections.old) (connected connections.new) }
     {
-        if self.is_to_go(connections, at, pressed) {
-            self.dismiss(connections, at);
-            return at;
-        }
-        if let Some(peer) = self.peers.get_mut(at) {
-            peer.rest(alloc, connections);
-        }
-        at.saturating_add(1)
+        let _ = connections.close(number);
+        self.let_go(number);
     }
 
-    /// Lets those go that have been silent for so many milliseconds.
-    fn dismiss_silent(&mut self, connections: &mut Connections, limit: u64)
-        ensures leads { Carries (connected connections.old) (connected connections.new) }
-        ensures none { NoneSilent limit connections.new }
-    {
-        while let Some(number) = connections.silent(limit) {
-            let _ = connections.close(number);
-            forget(&mut self.peers, number);
-        }
-    }
-
-    /// Lets those go that are to go.
-    fn dismiss_all(&mut self, alloc: Global, connections: &mut Connections)
+    /// Lets the one go that came last.
+    fn dismiss_last(&mut self, connections: &mut Connections)
         ensures { Carries (connected connections.old) (connected connections.new) }
     {
-        let pressed = !connections.has_room_for_reply();
-        let mut at = 0;
-        for _ in 0..self.peers.len() {
-            at = self.dismiss_if(alloc, connections, at, pressed);
+        if let Some(peer) = self.peers.pop() {
+            let _ = connections.close(peer.number);
+            self.note_cut(&peer);
         }
     }
 
@@ -244,13 +298,13 @@ impl Sockets {
         self.tell_all(connections);
         self.callers.leave(self.now);
         for _ in 0..self.peers.len() {
-            self.dismiss(connections, 0);
+            self.dismiss_last(connections);
         }
     }
 
     /// Whether all have come and gone. Then those who give orders go too, with what can be told at once.
     pub fn has_ended(&mut self) -> bool {
-        if self.left == 0 && self.peers.is_empty() {
+        if self.left == 0 && self.peers.is_empty() && self.door.is_none() {
             self.callers.leave(self.now);
             return true;
         }
@@ -266,17 +320,5 @@ impl Sockets {
         let now = self.now;
         let registry = self.poll.registry();
         self.callers.attend(alloc, registry, service, now);
-    }
-
-    /// The end of a round: begins to stop if that was asked, writes, and lets go. Behind it none is open that
-    /// has been silent for so many milliseconds.
-    pub fn end_round(&mut self, alloc: Global, connections: &mut Connections, limit: u64)
-        ensures leads { Carries (connected connections.old) (connected connections.new) }
-        ensures none { NoneSilent limit connections.new }
-    {
-        self.stop_if_asked();
-        self.tell_all(connections);
-        self.dismiss_all(alloc, connections);
-        self.dismiss_silent(connections, limit);
     }
 }

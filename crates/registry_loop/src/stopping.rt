@@ -38,6 +38,7 @@ impl Sockets {
         if self.stops.is_none() && (self.ended || self.callers.is_asked_to_stop()) {
             self.stops = Some(self.now);
             self.left = 0;
+            self.door = None;
         }
     }
 

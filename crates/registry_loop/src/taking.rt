@@ -1,20 +1,34 @@
 //! How connections are taken.
+//!
+//! Who came stands in the door until there is a place. Where all are taken, the place of one is given away
+//! that rests: of several the one that was open longest, at once where the next request is one that a client
+//! sends again on another connection. So where clients pull, each who waits is taken within as many replies
+//! as there are places; where they push, when one of them has rested for a second or others have waited for
+//! five. A server may close a connection that rests at any time (RFC 9112, section 9.5); nothing that came is
+//! lost.
 ghost use Rattle.registry_server.specs.Events.{Carries};
 ghost use Rattle.registry_server.specs.Showing.{connected};
 
 use crate::crowd::Crowd;
 use crate::peer::Peer;
-use crate::peers::oldest;
+use crate::peers::{first_to_give_way, list, peer_of};
 use crate::sockets::{EVENTS, Sockets};
+use libc::EMFILE;
 use mio::net::TcpStream;
 use mio::{Interest, Token};
 use registry_http::FramingRefusal;
-use registry_http::reply_text::write_refusal;
+use registry_http::fixed_text::write_refusal;
 use registry_server::Connections;
 use std::alloc::Global;
 use std::io;
 use std::io::{ErrorKind, Write};
-use std::time::Clock;
+use std::time::{Clock, Duration};
+
+/// Who has waited for so many seconds for a place gets that of any that rests.
+const LONG: u64 = 5;
+
+/// The system's tables of descriptors are full (POSIX.1-2017, `ENFILE`).
+const ENFILE: i32 = 23;
 
 /// What came of a look for the next connection.
 #[derive(Clone, Copy)]
@@ -28,30 +42,79 @@ enum Came {
 }
 
 impl Sockets {
-    /// Whether one more may be taken. Where there is no room, the one goes that has rested longest.
-    fn has_room(&mut self, connections: &mut Connections, at_once: usize) -> bool
+    /// Whether one has waited for long for a place.
+    fn is_pressing(&self) -> bool {
+        match self.waiting {
+            Some(since) => self.now.saturating_sub(since) >= Duration::from_secs(LONG),
+            None => false,
+        }
+    }
+
+    /// The one whose place is given away.
+    fn first_to_go(&self, connections: &Connections) -> Option<u64> {
+        first_to_give_way(&self.peers, connections, self.is_pressing(), self.now)
+    }
+
+    /// Whether one that waits can be taken now.
+    pub fn takes_next(&self, connections: &Connections) -> bool {
+        let free = self.door.is_some() && self.peers.len() < self.places;
+        free || (self.waiting.is_some() && self.first_to_go(connections).is_some())
+    }
+
+    /// Reads once more from one whose place is to be given away. Says how many bytes it held before of a
+    /// request, if it has sent nothing since.
+    fn hear_last(&mut self, connections: &mut Connections, number: u64) -> Option<usize>
         ensures { Carries (connected connections.old) (connected connections.new) }
     {
-        if self.peers.len() < at_once {
-            return true;
-        }
-        match oldest(&self.peers, connections) {
-            Some(at) => {
-                self.dismiss(connections, at);
-                self.peers.len() < at_once
+        let now = self.now;
+        let peer = peer_of(&mut self.peers, number)?;
+        let before = peer.coming;
+        peer.readable = true;
+        let may = peer.hear(connections, &mut self.room, now);
+        self.pending = self.pending || may;
+        let _ = list(&mut self.awake, peer);
+        (peer.coming == before).then_some(before)
+    }
+
+    /// Lets one go whose place is given away, and says whether it went. From one that rests nothing is taken
+    /// that came.
+    fn give_place_of(&mut self, connections: &mut Connections, number: u64) -> bool
+        ensures { Carries (connected connections.old) (connected connections.new) }
+    {
+        match self.hear_last(connections, number) {
+            Some(0) => {
+                let rested = connections.close_resting(number);
+                if rested {
+                    self.let_go(number);
+                }
+                rested
+            }
+            Some(_) => {
+                self.dismiss(connections, number);
+                true
             }
             None => false,
         }
     }
 
-    /// Whether the next one that came may be taken, where one may wait.
-    fn takes_next(&mut self, connections: &mut Connections, at_once: usize) -> bool
+    /// Makes a place, if there is one that gives way.
+    fn make_place(&mut self, connections: &mut Connections) -> bool
         ensures { Carries (connected connections.old) (connected connections.new) }
     {
-        if !self.knocks || self.left == 0 {
-            return false;
+        match self.first_to_go(connections) {
+            Some(number) => self.give_place_of(connections, number),
+            None => false,
         }
-        self.has_room(connections, at_once)
+    }
+
+    /// Whether there is a place for one more, or one can be made.
+    fn has_place(&mut self, connections: &mut Connections) -> bool
+        ensures { Carries (connected connections.old) (connected connections.new) }
+    {
+        if self.peers.len() < self.places {
+            return true;
+        }
+        self.make_place(connections)
     }
 
     /// Has the socket of a connection watched, and keeps it; says whether it could.
@@ -60,10 +123,12 @@ impl Sockets {
         let interest = Interest::READABLE | Interest::WRITABLE;
         let token = Token(number as usize);
         let registered = self.poll.registry().register(&mut stream, token, interest);
-        match registered {
-            Ok(()) => self.peers.push(Peer::new(number, stream)).is_ok(),
-            Err(_) => false,
+        if registered.is_err() {
+            return false;
         }
+        let mut peer = Peer::new(number, stream);
+        let _ = list(&mut self.awake, &mut peer);
+        self.peers.push(peer).is_ok()
     }
 
     /// Takes a connection that came. Where memory is wanting for it, it is told so and closed, as where the
@@ -84,45 +149,80 @@ impl Sockets {
         Came::Somebody
     }
 
+    /// The system has no descriptor for one that came, or no memory: a place is made, if one gives way. An
+    /// error is that nobody is there.
+    fn none_to_have(&mut self, connections: &mut Connections, error: io::Error) -> io::Result<Came>
+        ensures { Carries (connected connections.old) (connected connections.new) }
+    {
+        if self.peers.is_empty() {
+            return Err(error);
+        }
+        self.is_short = matches!(error.raw_os_error(), Some(EMFILE | ENFILE));
+        self.waiting = Some(self.waiting.unwrap_or(self.now));
+        if self.make_place(connections) {
+            Ok(Came::Somebody)
+        } else {
+            Ok(Came::Nobody)
+        }
+    }
+
     /// What it comes to that none was taken. An error is that none can be, and nobody is there.
-    fn none_taken(&mut self, error: io::Error) -> io::Result<Came> {
+    fn none_taken(&mut self, connections: &mut Connections, error: io::Error) -> io::Result<Came>
+        ensures { Carries (connected connections.old) (connected connections.new) }
+    {
         match error.kind() {
             ErrorKind::WouldBlock => {
                 self.knocks = false;
+                self.waiting = None;
                 Ok(Came::Nobody)
             }
             ErrorKind::ConnectionAborted | ErrorKind::Interrupted => Ok(Came::Somebody),
-            _ if self.peers.is_empty() => Err(error),
-            _ => Ok(Came::Nobody),
+            _ => self.none_to_have(connections, error),
         }
     }
 
-    /// Takes the next one that came. An error is that none can be taken, and nobody is there.
-    fn accept_next(&mut self, alloc: Global, connections: &mut Connections) -> io::Result<Came>
+    /// Has the next one that came stand in the door. An error is that none can be taken, and nobody is there.
+    fn open_door(&mut self, connections: &mut Connections) -> io::Result<Came>
         ensures { Carries (connected connections.old) (connected connections.new) }
     {
+        if !self.knocks || self.left == 0 {
+            return Ok(Came::Nobody);
+        }
         match self.listener.accept() {
             Ok((stream, _)) => {
                 self.left = self.left.saturating_sub(1);
-                Ok(self.welcome(alloc, connections, stream))
+                self.door = Some(stream);
+                self.waiting = Some(self.waiting.unwrap_or(self.now));
+                Ok(Came::Somebody)
             }
-            Err(error) => self.none_taken(error),
+            Err(error) => self.none_taken(connections, error),
         }
     }
 
-    /// The same, if one may be taken.
-    fn accept_one(
-        &mut self,
-        alloc: Global,
-        connections: &mut Connections,
-        at_once: usize,
-    ) -> io::Result<Came>
+    /// Takes the one in the door, if there is a place.
+    fn take_from_door(&mut self, alloc: Global, connections: &mut Connections) -> Came
         ensures { Carries (connected connections.old) (connected connections.new) }
     {
-        if self.takes_next(connections, at_once) {
-            self.accept_next(alloc, connections)
+        if !self.has_place(connections) {
+            return Came::Nobody;
+        }
+        match self.door.take() {
+            Some(stream) => {
+                self.waiting = None;
+                self.welcome(alloc, connections, stream)
+            }
+            None => Came::Nobody,
+        }
+    }
+
+    /// Takes the next one that came, if one may be taken. An error is that none can be, and nobody is there.
+    fn accept_one(&mut self, alloc: Global, connections: &mut Connections) -> io::Result<Came>
+        ensures { Carries (connected connections.old) (connected connections.new) }
+    {
+        if self.door.is_none() {
+            self.open_door(connections)
         } else {
-            Ok(Came::Nobody)
+            Ok(self.take_from_door(alloc, connections))
         }
     }
 }
@@ -137,10 +237,14 @@ impl<'a, T: Clock, E: Write> Crowd<'a, T, E> {
     ) -> io::Result<()>
         ensures { Carries (connected connections.old) (connected connections.new) }
     {
-        for _ in 0..EVENTS {
-            match self.sockets.accept_one(alloc, connections, at_once)? {
+        self.sockets.places = at_once;
+        for _ in 0..2 * EVENTS {
+            match self.sockets.accept_one(alloc, connections)? {
                 Came::Somebody => {}
-                Came::TurnedAway => self.log.say_turned_away(alloc, self.clock),
+                Came::TurnedAway => {
+                    let now = self.sockets.now;
+                    self.log.say_turned_away(alloc, self.clock, now);
+                }
                 Came::Nobody => return Ok(()),
             }
         }

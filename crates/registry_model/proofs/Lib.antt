@@ -7,6 +7,7 @@ pub mod OwnLaws
 pub mod AsideLaws
 pub mod RunLaws
 pub mod ChangedMaps
+pub mod MapSums
 pub mod SoundRepositories
 pub mod BlobsTakenAway
 pub mod PruningLaws

@@ -1,5 +1,5 @@
 -- What the words of a command line ask for (profile).
-use Rattle.std.specs.Prelude.{◌≡◌, ◌↔◌, ◌||◌, ℕ, Bool, true, false, is_some, List, [], Option, Some, None, codes, option_map}
+use Rattle.std.specs.Prelude.{◌≡◌, ◌↔◌, true, List, [], Option, Some, None, codes, option_map}
 use Rattle.clap.specs.Words.{Row, first_of, one_of, subcommand_of}
 use Rattle.oci_types.specs.Text.{Text}
 use Rattle.registry_orders.specs.declared.beside.Beside.{Beside}
@@ -12,17 +12,12 @@ use Rattle.registry_orders.specs.Orders.{HasValue, IsOrderIn, IsTokenOrderIn}
 use Rattle.registry_orders.specs.Places.{IsPlaceIn}
 use Rattle.registry_orders.specs.Tokens.{IsTokenFrom}
 
--- there is something beside serving
-abbrev pub is_any_beside : Beside → Bool
-is_any_beside b = is_some b.orders || b.log || b.stop_at_eof
-
 -- where a server takes orders, whether it says each request, and whether it ends at the end of standard
--- input; with one connection at once there is none of it
-pub record IsBesideIn (options : List Row) (at_once : ℕ) (b : Beside) : Type 0 where
+-- input
+pub record IsBesideIn (options : List Row) (b : Beside) : Type 0 where
   pub orders : option_map (λ path. path.now) b.orders ≡ first_of (codes "orders") options
   pub log : (b.log ≡ true) ↔ HasFlag options (codes "log")
   pub stop_at_eof : (b.stop_at_eof ≡ true) ↔ HasFlag options (codes "stop-at-eof")
-  pub none : at_once ≡ 1 → is_any_beside b ≡ false
 
 -- the word of the subcommand, and the options that it was given, say what the task is
 abbrev pub IsTaskIn : Text → List Row → Task → Type 0
@@ -36,7 +31,7 @@ IsTaskIn word options (Server path address connections limits beside) =
     (word ≡ codes "serve") × HasValue options (codes "db") path.now
     × HasValue options (codes "listen") address.now
     × IsNumberOf (one_of (codes "connections") options) connections × AreLimitsIn options limits
-    × IsBesideIn options limits.at_once beside
+    × IsBesideIn options beside
 IsTaskIn word options (Order place order) = IsPlaceIn options place × IsOrderIn word options order
 IsTaskIn word options (TokenOrder place source order) =
     IsPlaceIn options place × IsTokenFrom options source × IsTokenOrderIn word options order

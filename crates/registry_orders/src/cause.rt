@@ -42,8 +42,6 @@ pub enum Cause {
     TokenOptions,
     /// The place of an order is given twice, or not at all.
     PlaceOptions,
-    /// What is served one after the other is asked for what only many at once can have.
-    TogetherOptions,
     NoFile,
     Unreadable,
     /// The first line that was read is no token.
@@ -86,9 +84,6 @@ impl Cause {
             }
             Cause::TokenOptions => "wants one of --token TOKEN and --token-file PATH",
             Cause::PlaceOptions => "wants one of --db PATH and --orders PATH",
-            Cause::TogetherOptions => {
-                "--orders, --log and --stop-at-eof want --at-once of 2 or more"
-            }
             Cause::NoFile => "no such file",
             Cause::Unreadable => "cannot be read",
             Cause::NoToken => "the first line is no token",

@@ -11,7 +11,7 @@ use clap::ArgMatches;
 /// How much connections that are served together may take.
 #[derive(Clone, Copy)]
 pub struct Limits {
-    /// How many there may be at once; with one, they are served one after the other.
+    /// How many there may be at once.
     pub at_once: u64,
     /// About how many bytes of requests and of replies may be in hand, of all of them together.
     pub buffer: u64,

@@ -75,8 +75,7 @@ fn stdio_task<'a>(alloc: Global, matches: &ArgMatches<'a>) -> Result<Task<'a>, F
     }
 }
 
-/// What `registry serve` is to serve, and how. Where connections are served one after the other, nobody hears
-/// orders or the end of standard input meanwhile, and nobody says requests.
+/// What `registry serve` is to serve, and how.
 fn serve_task<'a>(matches: &ArgMatches<'a>) -> Result<Task<'a>, Failure>
     ensures read { IfOk result (IsTaskIn (codes "serve") (rows_of (found_of matches.now))) }
     ensures refused { IfErr result IsOfWords }
@@ -87,7 +86,7 @@ fn serve_task<'a>(matches: &ArgMatches<'a>) -> Result<Task<'a>, Failure>
     };
     let connections = number_given(matches, "connections")?;
     let limits = limits_given(matches)?;
-    let beside = beside_given(matches, limits.at_once)?;
+    let beside = beside_given(matches);
     Ok(Task::Server {
         path,
         address,

@@ -19,11 +19,12 @@ pub enum Told<'a> {
 }
 
 /// Which options a subcommand wants that got others. Where both the place and the token of an order are a
-/// mistake, the place is told. A subcommand that is no order has one place, which `clap` wants.
+/// mistake, the place is told. A subcommand that is no order has one place, which `clap` wants, as it wants
+/// all that `serve` does.
 fn wanted(word: &str, matches: &ArgMatches) -> Option<Cause> {
     match word {
         "stdio" => Some(Cause::StdioOptions),
-        "serve" => Some(Cause::TogetherOptions),
+        "serve" => None,
         _ if place_given(matches).is_err() => Some(Cause::PlaceOptions),
         "grant" | "revoke" | "grants" => Some(Cause::TokenOptions),
         _ => None,

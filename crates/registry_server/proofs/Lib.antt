@@ -1,5 +1,6 @@
 pub mod PartLemmas
 pub mod HoldingLemmas
+pub mod WantingLemmas
 pub mod SteppingLemmas
 pub mod EndLemmas
 pub mod LawLemmas
@@ -11,5 +12,6 @@ pub mod LedgerLemmas
 pub mod TurnLemmas
 pub mod CallLemmas
 pub mod RoomLemmas
+pub mod KeptLemmas
 pub mod LifeLemmas
 pub mod ServingLemmas

@@ -33,10 +33,6 @@ no_life n (c ∷ cs) e = elim (cases_eq c.number n) [
   | inr ne ↦ life_other n c cs ne ∙ no_life n cs (sym (of_other n (slot_of c) (slots_of cs) ne) ∙ e)
 ]
 
--- of a list that was searched
-pub no_life_on : (n : ℕ) (xs ys : List Connection) → ys ≡ xs → conversation_of n (slots_of ys) ≡ None → life_in n xs ≡ None
-no_life_on n xs ys e none = no_life n xs (subst (λ (zs : List Connection). conversation_of n (slots_of zs) ≡ None) e none)
-
 -- the first connection of the number stands at this place
 abbrev IsFirst : ℕ → ℕ → List Connection → Type 0
 IsFirst n i [] = ⊥

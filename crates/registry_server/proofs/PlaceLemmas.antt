@@ -1,13 +1,13 @@
 -- Where a connection stands, and what a change of it comes to.
-use Rattle.std.proofs.Common.{◌≡◌, ◌≢◌, ℕ, suc, ◌+◌, ◌<◌, ◌≤◌, Bool, true, false, List, [], ◌∷◌, ◌++◌, length, take, drop, set, get_or, Option, Some, None, All, refl, sym, ap, ◌∙◌, subst, append-nil, arith}
-use Rattle.std.proofs.lemmas.List.{set_split, set-get_or, map-append, map-set, set_at, get_or_at, length-map, length-append, length-take-le, take_more, take_all, get_or-map, get_or-set_same, length-set, length-drop, take_at, take-map, drop-map}
+use Rattle.std.proofs.Common.{◌≡◌, ◌≢◌, ℕ, suc, ◌+◌, ◌-◌, ◌<◌, ◌≤◌, Bool, true, false, List, [], ◌∷◌, ◌++◌, length, take, drop, set, get_or, Option, Some, None, All, refl, sym, ap, ◌∙◌, subst, append-nil, drop-cons, drop_of_length-le, arith}
+use Rattle.std.proofs.lemmas.List.{set_split, set-get_or, map-append, map-set, set_at, get_or_at, length-map, length-append, length-take-le, take_all, get_or-map, get_or-set_same, length-set, length-drop, take_at, take-map, drop-map}
 use Rattle.std.specs.List.{remove}
-use Rattle.std.proofs.lemmas.List.Elements.{All-push}
+use Rattle.std.specs.Prelude.{IfSome, IfNone}
 use Rattle.registry_server.specs.declared.phase.Step.{Step}
 use Rattle.registry_server.specs.Shown.{Shown, begun}
 use Rattle.registry_server.specs.declared.bounds.Bounds.{Bounds}
 use Rattle.registry_server.specs.declared.connection.Connection.{Connection}
-use Rattle.registry_server.specs.Open.{Slot, conversation_of, are_numbered, Opens, Only, Changes, Closes, TakesTurn, Becomes, FoundAt, StirredAt, goes_on}
+use Rattle.registry_server.specs.Open.{Slot, conversation_of, are_numbered, Opens, Only, Changes, Closes, TakesTurn, Becomes, FoundAt, LastAt, StirredAt, goes_on}
 use Rattle.registry_server.specs.Slots.{slot_of, slots_of, IsMoved}
 use Rattle.registry_server.proofs.SlotLemmas.{of_same, of_other, skip, without, exchanged, AreNumbered, Among, among, fresh, pushed, in_place, to_back, opened, closed}
 
@@ -21,29 +21,50 @@ cut i xs x lt is =
 place : (i : ℕ) (xs : List Connection) → i < length xs → length (slots_of (take i xs)) ≡ i
 place i xs lt = length-map (take i xs) slot_of ∙ length-take-le i xs (omega arith)
 
-pub grown : (i : ℕ) (xs : List Connection) (x : Connection) → i < length xs → x ≡ get_or xs i x
-    → slots_of (take (i + 1) xs) ≡ slots_of (take i xs) ++ slot_of x ∷ []
-grown i xs x lt is =
-    ap slots_of (take_more xs i x lt)
-    ∙ map-append slot_of (take i xs) (get_or xs i x ∷ [])
-    ∙ ap (λ (y : Connection). slots_of (take i xs) ++ slot_of y ∷ []) (sym is)
+-- from the back: the rest is behind the one before this place
+one_more : (i : ℕ) (xs : List Connection) (x : Connection) → 0 < i → i ≤ length xs → x ≡ get_or xs (i - 1) x
+    → slots_of (drop (i - 1) xs) ≡ slot_of x ∷ slots_of (drop i xs)
+one_more i xs x some le is =
+    let back : suc (i - 1) ≡ i = omega arith in
+    ap slots_of (drop-cons xs (i - 1) x (omega arith)
+    ∙ ap (λ (y : Connection). y ∷ drop (suc (i - 1)) xs) (sym is)
+    ∙ ap (λ (k : ℕ). x ∷ drop k xs) back)
 
-pub found : (n i : ℕ) (xs : List Connection) (x : Connection) → i < length xs → x ≡ get_or xs i x → x.number ≡ n
-    → conversation_of n (slots_of (take i xs)) ≡ None → FoundAt n i (slots_of xs)
-found n i xs x lt is e none = record {
-  front = slots_of (take i xs);
-  slot = slot_of x;
-  back = slots_of (drop (suc i) xs);
-  was = cut i xs x lt is;
-  place = place i xs lt;
-  numbered = e;
-  first = none;
+pub found_last : (n i : ℕ) (xs : List Connection) (x : Connection) → 0 < i → i ≤ length xs → x ≡ get_or xs (i - 1) x → x.number ≡ n
+    → conversation_of n (slots_of (drop i xs)) ≡ None → LastAt n (i - 1) (slots_of xs)
+found_last n i xs x some le is e none =
+    let lt : i - 1 < length xs = omega (arith, some, le) in
+    let back : suc (i - 1) ≡ i = omega (arith, some) in
+    record {
+      front = slots_of (take (i - 1) xs);
+      slot = slot_of x;
+      back = slots_of (drop (suc (i - 1)) xs);
+      was = cut (i - 1) xs x lt is;
+      place = place (i - 1) xs lt;
+      numbered = e;
+      last = subst (λ (k : ℕ). conversation_of n (slots_of (drop k xs)) ≡ None) (sym back) none;
+    }
+
+pub not_last : (n i : ℕ) (xs : List Connection) (x : Connection) → 0 < i → i ≤ length xs → x ≡ get_or xs (i - 1) x → x.number ≢ n
+    → conversation_of n (slots_of (drop i xs)) ≡ None → conversation_of n (slots_of (drop (i - 1) xs)) ≡ None
+not_last n i xs x some le is ne none =
+    ap (conversation_of n) (one_more i xs x some le is) ∙ of_other n (slot_of x) (slots_of (drop i xs)) ne ∙ none
+
+pub none_at_end : (n : ℕ) (xs : List Connection) → conversation_of n (slots_of (drop (length xs) xs)) ≡ None
+none_at_end n xs = ap (λ (ys : List Connection). conversation_of n (slots_of ys)) (drop_of_length-le xs {i = length xs} (omega arith))
+
+-- where each number is one connection's, the last of it is the first
+pub first_of_last : (next n at : ℕ) (slots : List Slot) → are_numbered next slots ≡ true → LastAt n at slots → FoundAt n at slots
+first_of_last next n at slots h f = record {
+  front = f.front;
+  slot = f.slot;
+  back = f.back;
+  was = f.was;
+  place = f.place;
+  numbered = f.numbered;
+  first = subst (λ (k : ℕ). conversation_of k f.front ≡ None) f.numbered
+      (among next f.front f.slot f.back (subst (AreNumbered next) f.was (opened next slots h))).before;
 }
-
-pub not_yet : (n i : ℕ) (xs : List Connection) (x : Connection) → i < length xs → x ≡ get_or xs i x → x.number ≢ n
-    → conversation_of n (slots_of (take i xs)) ≡ None → conversation_of n (slots_of (take (i + 1) xs)) ≡ None
-not_yet n i xs x lt is ne none =
-    ap (conversation_of n) (grown i xs x lt is) ∙ skip n (slots_of (take i xs)) (slot_of x ∷ []) none ∙ of_other n (slot_of x) [] ne
 
 pub stirred : (i : ℕ) (xs : List Connection) (x : Connection) → i < length xs → x ≡ get_or xs i x → x.stirred ≡ true
     → All (λ (s : Slot). s.stirred ≡ false) (slots_of (take i xs)) → StirredAt i (slots_of xs)
@@ -57,22 +78,22 @@ stirred i xs x lt is e all = record {
   stirred = e;
 }
 
-pub still_idle : (i : ℕ) (xs : List Connection) (x : Connection) → i < length xs → x ≡ get_or xs i x → x.stirred ≡ false
-    → All (λ (s : Slot). s.stirred ≡ false) (slots_of (take i xs)) → All (λ (s : Slot). s.stirred ≡ false) (slots_of (take (i + 1) xs))
-still_idle i xs x lt is e all =
-    subst (All (λ (s : Slot). s.stirred ≡ false)) (sym (grown i xs x lt is))
-    (All-push (λ (s : Slot). s.stirred ≡ false) (slots_of (take i xs)) (slot_of x) all e)
-
 pub all_idle : (i : ℕ) (xs : List Connection) → length xs ≤ i → All (λ (s : Slot). s.stirred ≡ false) (slots_of (take i xs))
     → All (λ (s : Slot). s.stirred ≡ false) (slots_of xs)
 all_idle i xs le all = subst (λ (ys : List Connection). All (λ (s : Slot). s.stirred ≡ false) (slots_of ys)) (take_all i xs le) all
 
 -- the same of the list that was searched
-pub found_on : (n at : ℕ) (xs ys : List Connection) → xs ≡ ys → FoundAt n at (slots_of xs) → FoundAt n at (slots_of ys)
-found_on n at xs ys e f = subst (λ (zs : List Connection). FoundAt n at (slots_of zs)) e f
+found_on : (next n at : ℕ) (xs ys : List Connection) → xs ≡ ys → are_numbered next (slots_of ys) ≡ true → LastAt n at (slots_of xs) → FoundAt n at (slots_of ys)
+found_on next n at xs ys e h f = first_of_last next n at (slots_of ys) h (subst (λ (zs : List Connection). LastAt n at (slots_of zs)) e f)
 
-pub none_on : (n : ℕ) (xs ys : List Connection) → xs ≡ ys → conversation_of n (slots_of xs) ≡ None → conversation_of n (slots_of ys) ≡ None
-none_on n xs ys e none = subst (λ (zs : List Connection). conversation_of n (slots_of zs) ≡ None) e none
+pub found_if : (next n : ℕ) (o : Option ℕ) (xs ys : List Connection) → xs ≡ ys → are_numbered next (slots_of ys) ≡ true
+    → IfSome o (λ at. LastAt n at (slots_of xs)) → IfSome o (λ at. FoundAt n at (slots_of ys))
+found_if next n None xs ys e h f = tt
+found_if next n (Some at) xs ys e h f = found_on next n at xs ys e h f
+
+pub none_if : (n : ℕ) (o : Option ℕ) (xs ys : List Connection) → xs ≡ ys → IfNone o (conversation_of n (slots_of xs) ≡ None)
+    → IfNone o (conversation_of n (slots_of ys) ≡ None)
+none_if n o xs ys e f = subst (λ (zs : List Connection). IfNone o (conversation_of n (slots_of zs) ≡ None)) e f
 
 pub stirred_on : (at : ℕ) (xs ys : List Connection) → xs ≡ ys → StirredAt at (slots_of xs) → StirredAt at (slots_of ys)
 stirred_on at xs ys e f = subst (λ (zs : List Connection). StirredAt at (slots_of zs)) e f
@@ -87,7 +108,7 @@ within_found at xs front back slot was place =
     omega (arith, place, length-append front (slot ∷ back), ap length was, length-map xs slot_of)
 
 -- what the slot is
-slot_is : (at : ℕ) (xs : List Connection) (x : Connection) (front back : List Slot) (slot : Slot) → at < length xs → x ≡ get_or xs at x
+pub slot_is : (at : ℕ) (xs : List Connection) (x : Connection) (front back : List Slot) (slot : Slot) → at < length xs → x ≡ get_or xs at x
     → slots_of xs ≡ front ++ slot ∷ back → length front ≡ at → slot ≡ slot_of x
 slot_is at xs x front back slot lt is was place =
     sym (get_or_at front slot back slot at place)
@@ -95,7 +116,7 @@ slot_is at xs x front back slot lt is was place =
     ∙ get_or-map slot_of xs at x slot lt
     ∙ ap slot_of (sym is)
 
-set_is : (at : ℕ) (xs : List Connection) (y : Connection) (front back : List Slot) (slot : Slot)
+pub set_is : (at : ℕ) (xs : List Connection) (y : Connection) (front back : List Slot) (slot : Slot)
     → slots_of xs ≡ front ++ slot ∷ back → length front ≡ at → slots_of (set xs at y) ≡ front ++ slot_of y ∷ back
 set_is at xs y front back slot was place =
     map-set slot_of xs at y ∙ ap (λ (ys : List Slot). set ys at (slot_of y)) was ∙ set_at front slot back (slot_of y) at place
@@ -179,7 +200,7 @@ removed : (front : List Slot) (c : Slot) (back : List Slot) → remove (front ++
 removed [] c back = refl
 removed (x ∷ front) c back = ap (λ (ys : List Slot). x ∷ ys) (removed front c back)
 
-slots_without : (at : ℕ) (xs : List Connection) (front back : List Slot) (slot : Slot) → slots_of xs ≡ front ++ slot ∷ back → length front ≡ at
+pub slots_without : (at : ℕ) (xs : List Connection) (front back : List Slot) (slot : Slot) → slots_of xs ≡ front ++ slot ∷ back → length front ≡ at
     → slots_of (remove xs at) ≡ front ++ back
 slots_without at xs front back slot was place =
     map-append slot_of (take at xs) (drop (suc at) xs)
@@ -214,7 +235,7 @@ closed_numbers next n at xs zs f h e =
     subst (λ (ys : List Slot). are_numbered next ys ≡ true) (sym (ap slots_of e ∙ slots_without at xs f.front f.back f.slot f.was f.place))
     (closed next (f.front ++ f.back) (among next f.front f.slot f.back (subst (AreNumbered next) f.was (opened next (slots_of xs) h))).others)
 
-moved : (at : ℕ) (xs zs : List Connection) (y : Connection) (front back : List Slot) (slot : Slot) → slots_of xs ≡ front ++ slot ∷ back → length front ≡ at
+pub moved : (at : ℕ) (xs zs : List Connection) (y : Connection) (front back : List Slot) (slot : Slot) → slots_of xs ≡ front ++ slot ∷ back → length front ≡ at
     → IsMoved at (set xs at y) zs → slots_of zs ≡ (front ++ back) ++ slot_of y ∷ []
 moved at xs zs y front back slot was place m =
     ap slots_of (m y)
@@ -222,7 +243,7 @@ moved at xs zs y front back slot was place m =
     ∙ ap (λ (ys : List Slot). ys ++ slot_of (get_or (set xs at y) at y) ∷ []) (slots_without at (set xs at y) front back (slot_of y) (set_is at xs y front back slot was place) place)
     ∙ ap (λ (z : Connection). (front ++ back) ++ slot_of z ∷ []) (get_or-set_same xs at y y (within_found at xs front back slot was place))
 
-moved_length : (at : ℕ) (xs zs : List Connection) (y : Connection) → at < length xs → IsMoved at xs zs → length zs ≡ length xs
+pub moved_length : (at : ℕ) (xs zs : List Connection) (y : Connection) → at < length xs → IsMoved at xs zs → length zs ≡ length xs
 moved_length at xs zs y lt m =
     ap length (m y)
     ∙ length-append (remove xs at) (get_or xs at y ∷ [])

@@ -8,18 +8,18 @@ use Rattle.registry_server.specs.declared.phase.Step.{Step}
 use Rattle.registry_server.specs.ConversationEvents.{Event as Call, came, ended, acted, sent, Happens as Does}
 use Rattle.registry_server.specs.declared.bounds.Bounds.{Bounds}
 use Rattle.registry_server.specs.Open.{Slot, Open, none, conversation_of, Changes, Closes, TakesTurn, Opens, Finishes, Sends, hears, goes_on}
-use Rattle.registry_server.specs.Room.{share, largest, pool, most_coming, over, over_sum, over_most, most_beside, room_beside, room_in, room_of, coming_sum, going_sum, IsWithin, HoldsWithin}
+use Rattle.registry_server.specs.Room.{share, largest, pool, most_coming, over, over_sum, over_most, most_beside, room_beside, room_in, room_of, coming_sum, IsWithin, HoldsWithin}
 use Rattle.registry_server.specs.Events.{Event, comes, on, goes, elsewhere, HappensOn, Happens, Passes}
 use Rattle.registry_server.proofs.SlotLemmas.{of_same, skip, AreNumbered, among}
 use Rattle.registry_server.proofs.TurnLemmas.{numbers_after}
 
 -- ---- one of them, and the others
 
-sum_at : (front : List Slot) (c : Slot) (back : List Slot) → over_sum (front ++ c ∷ back) ≡ over_sum front + (over c.conversation + over_sum back)
+pub sum_at : (front : List Slot) (c : Slot) (back : List Slot) → over_sum (front ++ c ∷ back) ≡ over_sum front + (over c.conversation + over_sum back)
 sum_at [] c back = omega arith
 sum_at (x ∷ front) c back = omega (arith, sum_at front c back)
 
-sum_without : (front back : List Slot) → over_sum (front ++ back) ≡ over_sum front + over_sum back
+pub sum_without : (front back : List Slot) → over_sum (front ++ back) ≡ over_sum front + over_sum back
 sum_without [] back = omega arith
 sum_without (x ∷ front) back = omega (arith, sum_without front back)
 
@@ -298,12 +298,3 @@ all_within events bounds s u s' x =
         one = first_of_some u u.slots refl numbered all.1;
       },
     )
-
--- ---- sums as they are counted
-
-pub sum_more : (xs : List Slot) (c : Slot) → over_sum (xs ++ c ∷ []) ≡ over_sum xs + over c.conversation
-sum_more xs c = omega (arith, sum_at xs c [])
-
-pub going_more : (xs : List Slot) (c : Slot) → going_sum (xs ++ c ∷ []) ≡ going_sum xs + length c.conversation.going
-going_more [] c = omega arith
-going_more (x ∷ xs) c = omega (arith, going_more xs c)

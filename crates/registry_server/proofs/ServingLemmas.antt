@@ -280,7 +280,7 @@ module _ (c c' : Shown) (t : Traffic) (l : Option Text) (x : Waiting c t) where
   none_came taken = subst (λ (b : Text). Progress b y.said (record t { left' = l })) (append-nil y.rest) (came y.rest y.said t [] l y.progress taken)
 
   pub heard : Reads t.left' l c c' → Stands c' (record t { left' = l })
-  heard (inl (inl r)) = received r.0 r.1 r.2
+  heard (inl (inl r)) = received r.0 r.2 r.3
   heard (inl (inr none)) = is_over none.end c' (record t { left' = l }) none.ended (lacks none.end none.sends)
   heard (inr r) =
       subst (λ (k : Shown). Stands k (record t { left' = l })) (sym r.2)

@@ -1,7 +1,6 @@
 -- What a turn comes to, from its parts.
-use Rattle.std.proofs.Common.{◌≡◌, ℕ, ◌+◌, ◌&&◌, codes, List, ◌<◌, ◌≤◌, ◌⊎◌, ◌==◌, inl, inr, Bool, true, false, [], ◌∷◌, ◌++◌, length, take, drop, Some, Result, Ok, Err, refl, sym, ap, ◌∙◌, subst, append-nil, append_assoc, length-append, length-take, length-drop, le_of_eq, arith}
+use Rattle.std.proofs.Common.{◌≡◌, ℕ, ◌+◌, ◌&&◌, codes, List, ◌<◌, ◌≤◌, ◌⊎◌, ◌==◌, inl, inr, Bool, true, false, [], ◌∷◌, ◌++◌, length, take, drop, Option, Some, refl, sym, ap, ◌∙◌, subst, append-nil, append_assoc, length-append, length-take, length-drop, le_of_eq, arith}
 use Rattle.std.proofs.lemmas.Bool.Decides.{nat_tests}
-use Rattle.std.proofs.lemmas.List.{drop-append-le}
 use Rattle.std.specs.Bool.{MatchBool}
 use Rattle.oci_types.specs.Text.{Text}
 use Rattle.registry_model.specs.Keeping.{State}
@@ -9,8 +8,6 @@ use Rattle.registry_http.specs.Ending.{SendsRefusal}
 use Rattle.registry_model.specs.Answer.{Answer}
 use Rattle.registry_model.specs.Doing.{Does}
 use Rattle.registry_http.specs.Asking.{ask_in}
-use Rattle.registry_http.specs.Sending.{SendsReply}
-use Rattle.registry_http.specs.declared.outgoing.WriteFault.{WriteFault}
 use Rattle.registry_http.specs.Expecting.{IsBefore, expects_if, awaits_by, continue_if, text_before}
 use Rattle.registry_http.specs.Fields.{NamedValue, fields_of, values, first}
 use Rattle.registry_http.specs.Framing.{framing}
@@ -33,76 +30,62 @@ use Rattle.registry_server.specs.Headings.{BeginsAt}
 use Rattle.registry_server.specs.declared.heading.Heading.{Heading}
 use Rattle.registry_server.specs.declared.part.Part.{Part}
 use Rattle.registry_server.specs.Holding.{HoldsAs, Holds, HoldsWhole}
-use Rattle.registry_server.specs.Stepping.{IsRefusedThere, AnswersFirst, PutsPart, replying, refusing, EndsAs, ActsAs, Acts, LeadsOn, Refuses, LacksMemory, Comes, Receives, Waited}
+use Rattle.registry_outbox.specs.declared.report.Report.{Report}
+use Rattle.registry_outbox.specs.Reports.{TellsAnswer, TellsRefusal, Reported}
+use Rattle.registry_server.specs.Stepping.{IsRefusedThere, PutsPart, replying, refusing, LeadsOn, Refuses, LacksMemory, Comes, Receives, Waited}
+use Rattle.registry_server.specs.Telling.{PartTold, TellsAs, Tells}
 use Rattle.registry_server.proofs.HoldingLemmas.{holds_on, before_there, refused_there, item_request, item_begins}
-
--- ---- what is to go out grows
-
-pub going_on : (gone : ℕ) (out out' text : Text) → gone ≤ length out → out' ≡ out ++ text → drop gone out' ≡ drop gone out ++ text
-going_on gone out out' text within e = ap (drop gone) e ∙ drop-append-le gone out text within
-
-is_longer : (out out' text : Text) → out' ≡ out ++ text → length out ≤ length out'
-is_longer out out' text e = let same = ap length e in omega (arith, length-append out text)
-
-pub sends_longer : {A : Type 0} (r : Result A WriteFault) (out out' text : Text) → SendsReply r (Some out) (Some out') text → length out ≤ length out'
-sends_longer (Ok x) out out' text sent = is_longer out out' text sent
-sends_longer (Err e) out out' text sent = is_longer out out' (take e.written text) sent.1
-
-pub refusal_on : (e : End) (r : FramingRefusal) (gone : ℕ) (out out' : Text) → gone ≤ length out → SendsRefusal e r (Some out) (Some out')
-    → SendsRefusal e r (Some (drop gone out)) (Some (drop gone out'))
-refusal_on Closed r gone out out' within s = absurd s
-refusal_on Cut r gone out out' within s = absurd s
-refusal_on (Refused q) r gone out out' within s = (s.0, going_on gone out out' (refusal_text r) within s.1)
-refusal_on ReadFailed r gone out out' within s = absurd s
-refusal_on (WriteFailed n) r gone out out' within s = (s.0, going_on gone out out' (take n (refusal_text r)) within s.1)
 
 -- ---- a refusal
 
-refuse_ends : (e : End) (r : FramingRefusal) (b before : Text) (old new : Shown) (s : State) → SendsRefusal e r (Some old.going) (Some new.going)
-    → IsRefusedThere b before r → EndsAs e b before old.going s s new
-refuse_ends Closed r b before old new s x bad = absurd x
-refuse_ends Cut r b before old new s x bad = absurd x
-refuse_ends (Refused q) r b before old new s x bad =
-    (subst (λ (k : FramingRefusal). IsRefusedThere b before k) (sym x.0) bad, x.1 ∙ ap (λ (k : FramingRefusal). old.going ++ refusal_text k) (sym x.0), refl)
-refuse_ends ReadFailed r b before old new s x bad = absurd x
-refuse_ends (WriteFailed n) r b before old new s x bad = refusing r bad x.0 x.1 refl
+refuse_ends : (e : End) (r : FramingRefusal) (b before : Text) (old new : Shown) (s : State) (was now : Option Report) → SendsRefusal e r (Some old.going) (Some new.going)
+    → new.phase ≡ phase.Ended e → IsRefusedThere b before r → Reported now old.going new.going (λ q. TellsRefusal q r)
+    → TellsAs (step.Ended e) b before old.going s s new was now
+refuse_ends Closed r b before old new s was now x over bad told = absurd x
+refuse_ends Cut r b before old new s was now x over bad told = absurd x
+refuse_ends (Refused q) r b before old new s was now x over bad told = (
+  (over, (subst (λ (k : FramingRefusal). IsRefusedThere b before k) (sym x.0) bad, x.1 ∙ ap (λ (k : FramingRefusal). old.going ++ refusal_text k) (sym x.0), refl)),
+  subst (λ (k : FramingRefusal). Reported now old.going new.going (λ p. TellsRefusal p k)) (sym x.0) told,
+)
+refuse_ends ReadFailed r b before old new s was now x over bad told = absurd x
+refuse_ends (WriteFailed n) r b before old new s was now x over bad told = ((over, refusing r bad x.0 x.1 refl), told)
 
-pub refused : (found : Step) (r : FramingRefusal) (b before : Text) (old new : Shown) (s : State) → Refuses found r old new
-    → IsRefusedThere b before r → ActsAs found b before old.going s s new
-refused found r b before old new s x bad =
-    subst (λ (k : Step). ActsAs k b before old.going s s new) (sym x.found_is) (x.ended, refuse_ends x.end r b before old new s x.sends bad)
+pub refused : (found : Step) (r : FramingRefusal) (b before : Text) (old new : Shown) (s : State) (was now : Option Report) → Refuses found r old new
+    → Reported now old.going new.going (λ q. TellsRefusal q r) → IsRefusedThere b before r → TellsAs found b before old.going s s new was now
+refused found r b before old new s was now x told bad =
+    subst (λ (k : Step). TellsAs k b before old.going s s new was now) (sym x.found_is) (refuse_ends x.end r b before old new s was now x.sends x.ended bad told)
 
 -- ---- more bytes are missing
 
-pub waited_cut : (found : Step) (b before : Text) (old new : Shown) (s : State) → Waited found Cut old new → IsCut b → IsBefore b before
-    → Holds old b before → ActsAs found b before old.going s s new
-waited_cut found b before old new s w cut is holds = by_flag old.finished refl w
+pub waited_cut : (found : Step) (b before : Text) (old new : Shown) (s : State) (was now : Option Report) → Waited found Cut old new → now ≡ was → IsCut b → IsBefore b before
+    → Holds old b before → TellsAs found b before old.going s s new was now
+waited_cut found b before old new s was now w kept cut is holds = by_flag old.finished refl w
   where
     by_flag : (f : Bool) → old.finished ≡ f
         → MatchBool f ((found ≡ step.Ended Cut) × (new ≡ with_phase old (phase.Ended Cut))) ((found ≡ step.Waits) × (new ≡ old))
-        → ActsAs found b before old.going s s new
+        → TellsAs found b before old.going s s new was now
     by_flag true e x =
-        subst (λ (k : Step). ActsAs k b before old.going s s new) (sym x.0)
-        (subst (λ (c : Shown). ActsAs (step.Ended Cut) b before old.going s s c) (sym x.1) (refl, (e, cut, is, refl, refl)))
+        subst (λ (k : Step). TellsAs k b before old.going s s new was now) (sym x.0)
+        (subst (λ (c : Shown). TellsAs (step.Ended Cut) b before old.going s s c was now) (sym x.1) ((refl, (e, cut, is, refl, refl)), kept))
     by_flag false e x =
-        subst (λ (k : Step). ActsAs k b before old.going s s new) (sym x.0)
-        (subst (λ (c : Shown). ActsAs step.Waits b before old.going s s c) (sym x.1)
-        (record { goes_on = e; cut = inr cut; before_is = is; holds = holds; put = refl; same = refl }))
+        subst (λ (k : Step). TellsAs k b before old.going s s new was now) (sym x.0)
+        (subst (λ (c : Shown). TellsAs step.Waits b before old.going s s c was now) (sym x.1)
+        (record { goes_on = e; cut = inr cut; before_is = is; holds = holds; put = refl; same = refl }, kept))
 
-pub waited_closed : (found : Step) (b before : Text) (old new : Shown) (s : State) → Waited found Closed old new → b ≡ [] → before ≡ [] → IsBefore b before
-    → Holds old b before → ActsAs found b before old.going s s new
-waited_closed found b before old new s w none unsaid is holds = by_flag old.finished refl w
+pub waited_closed : (found : Step) (b before : Text) (old new : Shown) (s : State) (was now : Option Report) → Waited found Closed old new → now ≡ was → b ≡ [] → before ≡ []
+    → IsBefore b before → Holds old b before → TellsAs found b before old.going s s new was now
+waited_closed found b before old new s was now w kept none unsaid is holds = by_flag old.finished refl w
   where
     by_flag : (f : Bool) → old.finished ≡ f
         → MatchBool f ((found ≡ step.Ended Closed) × (new ≡ with_phase old (phase.Ended Closed))) ((found ≡ step.Waits) × (new ≡ old))
-        → ActsAs found b before old.going s s new
+        → TellsAs found b before old.going s s new was now
     by_flag true e x =
-        subst (λ (k : Step). ActsAs k b before old.going s s new) (sym x.0)
-        (subst (λ (c : Shown). ActsAs (step.Ended Closed) b before old.going s s c) (sym x.1) (refl, (e, none, unsaid, refl, refl)))
+        subst (λ (k : Step). TellsAs k b before old.going s s new was now) (sym x.0)
+        (subst (λ (c : Shown). TellsAs (step.Ended Closed) b before old.going s s c was now) (sym x.1) ((refl, (e, none, unsaid, refl, refl)), kept))
     by_flag false e x =
-        subst (λ (k : Step). ActsAs k b before old.going s s new) (sym x.0)
-        (subst (λ (c : Shown). ActsAs step.Waits b before old.going s s c) (sym x.1)
-        (record { goes_on = e; cut = inl none; before_is = is; holds = holds; put = refl; same = refl }))
+        subst (λ (k : Step). TellsAs k b before old.going s s new was now) (sym x.0)
+        (subst (λ (c : Shown). TellsAs step.Waits b before old.going s s c was now) (sym x.1)
+        (record { goes_on = e; cut = inl none; before_is = is; holds = holds; put = refl; same = refl }, kept))
 
 -- ---- turns come to an end
 
@@ -241,39 +224,49 @@ pub lacked : (found : Step) (bytes : Text) (old mid new : Shown) → mid.going �
     → Receives bytes old new
 lacked found bytes old mid new going finished r = inr (lacks_memory found NoBufferMemory old mid new refl going finished r)
 
-pub part_ends : (found : Step) (n : ℕ) (b before going : Text) (s s' : State) (old new : Shown) → found ≡ step.Ended (WriteFailed n)
-    → new ≡ with_phase old (phase.Ended (WriteFailed n)) → PutsPart n b before going s s' old.going → ActsAs found b before going s s' new
-part_ends found n b before going s s' old new told ends part =
-    subst (λ (k : Step). ActsAs k b before going s s' new) (sym told)
-    (subst (λ (c : Shown). ActsAs (step.Ended (WriteFailed n)) b before going s s' c) (sym ends) (refl, part))
+pub part_ends : (found : Step) (n : ℕ) (b before going : Text) (s s' : State) (old new : Shown) (was now : Option Report) → found ≡ step.Ended (WriteFailed n)
+    → new ≡ with_phase old (phase.Ended (WriteFailed n))
+    → (part : PutsPart n b before going s s' old.going) × PartTold n b before going s s' old.going part was now
+    → TellsAs found b before going s s' new was now
+part_ends found n b before going s s' old new was now told ends part =
+    subst (λ (k : Step). TellsAs k b before going s s' new was now) (sym told)
+    (subst (λ (c : Shown). TellsAs (step.Ended (WriteFailed n)) b before going s s' c was now) (sym ends) ((refl, part.0), part.1))
 
 -- ---- a request was answered
 
-module _ (taken unread going b said : Text) (w : HoldsWhole taken unread b said) where
+module _ (taken unread going b said : Text) (w : HoldsWhole taken unread b said) (was now : Option Report) where
   pub answered_first : (a : Answer) (s s' : State) (closing : Bool) (new : Shown) → Does s (ask_in w.head w.body.body) a s'
       → new.going ≡ going ++ reply_for (record { head = w.head; coded = w.body.coded; body = w.body.body }) a
       → closing ≡ closes (record { head = w.head; coded = w.body.coded; body = w.body.body })
-      → MatchBool closing (new.phase ≡ phase.Ended Closed) (Holds new unread []) → AnswersFirst b said going s s' new
-  answered_first a s s' closing new does put same next = record {
-    item = record { head = w.head; coded = w.body.coded; body = w.body.body };
-    rest = unread;
-    answer = a;
-    request = item_request taken unread b said w;
-    begins = item_begins taken unread b said w;
-    before_is = w.said_is;
-    does = does;
-    put = put;
-    goes_on = subst (λ (f : Bool). MatchBool f (new.phase ≡ phase.Ended Closed) (Holds new unread [])) same next;
-  }
+      → MatchBool closing (new.phase ≡ phase.Ended Closed) (Holds new unread [])
+      → Reported now going new.going (λ r. TellsAnswer r (record { head = w.head; coded = w.body.coded; body = w.body.body }) a)
+      → TellsAs step.Answered b said going s s' new was now
+  answered_first a s s' closing new does put same next told = (
+    record {
+      item = record { head = w.head; coded = w.body.coded; body = w.body.body };
+      rest = unread;
+      answer = a;
+      request = item_request taken unread b said w;
+      begins = item_begins taken unread b said w;
+      before_is = w.said_is;
+      does = does;
+      put = put;
+      goes_on = subst (λ (f : Bool). MatchBool f (new.phase ≡ phase.Ended Closed) (Holds new unread [])) same next;
+    },
+    told,
+  )
 
   -- its reply was put in part
   pub replied_in_part : (n : ℕ) (a : Answer) (s s' : State) (going' : Text) → Does s (ask_in w.head w.body.body) a s'
       → n < length (reply_for (record { head = w.head; coded = w.body.coded; body = w.body.body }) a)
       → going' ≡ going ++ take n (reply_for (record { head = w.head; coded = w.body.coded; body = w.body.body }) a)
-      → PutsPart n b said going s s' going'
-  replied_in_part n a s s' going' does short put =
-      replying (record { head = w.head; coded = w.body.coded; body = w.body.body }) unread a (item_request taken unread b said w) (item_begins taken unread b said w)
-      w.said_is does short put
+      → Reported now going going' (λ r. TellsAnswer r (record { head = w.head; coded = w.body.coded; body = w.body.body }) a)
+      → (part : PutsPart n b said going s s' going') × PartTold n b said going s s' going' part was now
+  replied_in_part n a s s' going' does short put told = (
+    replying (record { head = w.head; coded = w.body.coded; body = w.body.body }) unread a (item_request taken unread b said w) (item_begins taken unread b said w)
+        w.said_is does short put,
+    told,
+  )
 
 -- ---- a head was found, or none
 
@@ -301,21 +294,22 @@ module _ (heading : Heading) (b : Text) (x : BeginsAt heading b) where
 pub held_at_head : (c : Shown) (b said : Text) → c.phase ≡ phase.Head → Holds c b said → HoldsAs phase.Head c.taken c.unread b said
 held_at_head c b said e x = subst (λ (p : Phase). HoldsAs p c.taken c.unread b said) e x
 
-module _ (found : Step) (b said : Text) (old new : Shown) (s : State) (x : Holds old b said) (h : HoldsAs phase.Head old.taken old.unread b said) where
-  pub nothing_came : Waited found Closed old new → old.unread ≡ [] → Acts found b said old s s new
-  nothing_came w none =
+module _ (found : Step) (b said : Text) (old new : Shown) (s : State) (was now : Option Report) (x : Holds old b said) (h : HoldsAs phase.Head old.taken old.unread b said) where
+  pub nothing_came : Waited found Closed old new → now ≡ was → old.unread ≡ [] → Tells found b said old s s new was now
+  nothing_came w kept none =
       let all : b ≡ [] = sym h.1 ∙ none in
-      waited_closed found b said old new s w all h.2 (subst (λ (y : Text). IsBefore b y) (sym h.2) (before_empty b all)) x
+      waited_closed found b said old new s was now w kept all h.2 (subst (λ (y : Text). IsBefore b y) (sym h.2) (before_empty b all)) x
 
-  pub head_cut : Waited found Cut old new → (old.unread ≡ [] → ⊥) → (old.unread ≡ []) ⊎ HeadIsCut old.unread → Acts found b said old s s new
-  head_cut w some (inl none) = absurd (some none)
-  head_cut w some (inr cut) =
+  pub head_cut : Waited found Cut old new → now ≡ was → (old.unread ≡ [] → ⊥) → (old.unread ≡ []) ⊎ HeadIsCut old.unread → Tells found b said old s s new was now
+  head_cut w kept some (inl none) = absurd (some none)
+  head_cut w kept some (inr cut) =
       let here = subst HeadIsCut h.1 cut in
-      waited_cut found b said old new s w (inl here) (subst (λ (y : Text). IsBefore b y) (sym h.2) (before_cut b here)) x
+      waited_cut found b said old new s was now w kept (inl here) (subst (λ (y : Text). IsBefore b y) (sym h.2) (before_cut b here)) x
 
-  pub head_never : Refuses found UnreadableHead old new → ((tail : Text) → HeadIsUnreadable (old.unread ++ tail)) → Acts found b said old s s new
-  head_never w never =
-      refused found UnreadableHead b said old new s w
+  pub head_never : Refuses found UnreadableHead old new → Reported now old.going new.going (λ q. TellsRefusal q UnreadableHead)
+      → ((tail : Text) → HeadIsUnreadable (old.unread ++ tail)) → Tells found b said old s s new was now
+  head_never w told never =
+      refused found UnreadableHead b said old new s was now w told
       (λ tail. let bad = subst (λ (y : Text). HeadIsUnreadable (y ++ tail)) h.1 (never tail) in
       (inl (refl, bad), subst (λ (y : Text). IsBefore (b ++ tail) y) (sym h.2) (before_unreadable (b ++ tail) bad)))
 

@@ -1,7 +1,7 @@
 -- What a conversation shows.
-use Rattle.std.specs.Prelude.{drop}
 use Rattle.registry_http.specs.Buffering.{before, behind}
 use Rattle.registry_server.specs.declared.conversation.Conversation.{Conversation}
+use Rattle.registry_outbox.specs.Outboxes.{left}
 use Rattle.registry_server.specs.Shown.{Shown}
 
 abbrev pub shown : Conversation → Shown
@@ -10,5 +10,5 @@ shown c = record {
   taken = before c.buffer;
   unread = behind c.buffer;
   finished = c.finished;
-  going = drop c.gone c.out.items;
+  going = left c.outbox;
 }

@@ -4,13 +4,16 @@ pub mod Shown
 pub mod ConversationShowing
 pub mod Holding
 pub mod Stepping
+pub mod Telling
 pub mod ConversationEvents
 pub mod Open
 pub mod Room
 pub mod Slots
+pub mod Held
 pub mod Showing
 pub mod Accounts
 pub mod Events
+pub mod TurnTelling
 pub mod Turns
 pub mod Lives
 pub mod Accepting

@@ -21,6 +21,10 @@ abbrev pub moved_by : ℕ → ℕ → Life → Life
 moved_by count t l =
     if nat_le sign (l.moved + count) then alive_at t else record { since = l.since; moved = l.moved + count }
 
+-- the server itself made it wait
+abbrev pub excused_at : ℕ → Life → Life
+excused_at now l = alive_at now
+
 -- so many bytes went out, and then none was left to go, or some were
 abbrev pub sent_by : ℕ → Bool → ℕ → Life → Life
 sent_by count whole now l = if whole && nat_lt 0 count then alive_at now else moved_by count now l

@@ -1,5 +1,5 @@
 -- The connections that are open, as contracts see them, and what a call makes of them.
-use Rattle.std.specs.Prelude.{◌≡◌, ◌≢◌, ℕ, ◌+◌, ◌<◌, ◌≤◌, ⊤, Bool, true, false, ◌||◌, ◌&&◌, nat_lt, is_none, if◌then◌else◌, List, [], ◌∷◌, ◌++◌, ◌==◌, length, drop, min, Option, Some, None, All}
+use Rattle.std.specs.Prelude.{◌≡◌, ◌≢◌, ℕ, ◌+◌, ◌<◌, ◌≤◌, ◌⊎◌, ⊤, Bool, true, false, ◌||◌, ◌&&◌, nat_lt, is_none, if◌then◌else◌, List, [], ◌∷◌, ◌++◌, ◌==◌, length, drop, min, Option, Some, None, All}
 use Rattle.oci_types.specs.Text.{Text}
 use Rattle.registry_server.specs.declared.phase.Step.{Step}
 use Rattle.registry_server.specs.declared.phase.Step.TheVariants.{Answered, Interim, Waits, Ended}
@@ -141,6 +141,14 @@ abbrev pub IfOpen : Bool → ℕ → (List Slot → List Slot → Type 0) → Op
 IfOpen true n P old new = P old.slots new.slots × (new ≡ with_slots old new.slots)
 IfOpen false n P old new = (conversation_of n old.slots ≡ None) × (new ≡ old)
 
+-- a connection that rests is closed: it held nothing that came and is not answered, and nothing that is to go
+-- out; where it is not open, or holds any, nothing has changed
+abbrev pub IfResting : Bool → ℕ → Open → Open → Type 0
+IfResting true n old new =
+    Closes n old.slots new.slots × (held_of n old.slots ≡ 0) × (new ≡ with_slots old new.slots)
+IfResting false n old new =
+    ((conversation_of n old.slots ≡ None) ⊎ (0 < held_of n old.slots)) × (new ≡ old)
+
 -- something came for it, if it listened; while a reply waits for its way out, that is not looked at
 abbrev pub hears : Slot → Bool
 hears slot = (listens slot.conversation && is_told slot.conversation) || slot.stirred
@@ -180,6 +188,15 @@ pub record FoundAt (n at : ℕ) (slots : List Slot) : Type 0 where
   pub place : length front ≡ at
   pub numbered : slot.number ≡ n
   pub first : conversation_of n front ≡ None
+
+pub record LastAt (n at : ℕ) (slots : List Slot) : Type 0 where
+  pub front : List Slot
+  pub slot : Slot
+  pub back : List Slot
+  pub was : slots ≡ front ++ slot ∷ back
+  pub place : length front ≡ at
+  pub numbered : slot.number ≡ n
+  pub last : conversation_of n back ≡ None
 
 pub record StirredAt (at : ℕ) (slots : List Slot) : Type 0 where
   pub front : List Slot

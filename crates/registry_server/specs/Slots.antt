@@ -6,7 +6,7 @@ use Rattle.registry_server.specs.declared.connection.Connection.{Connection}
 use Rattle.registry_server.specs.Open.{Slot}
 
 abbrev pub slot_of : Connection → Slot
-slot_of c = record { number = c.number; conversation = shown c.conversation; stirred = c.stirred }
+slot_of c = record { number = c.number; conversation = shown c.conversation.value; stirred = c.stirred }
 
 abbrev pub slots_of : List Connection → List Slot
 slots_of connections = map slot_of connections

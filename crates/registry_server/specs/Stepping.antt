@@ -131,10 +131,11 @@ Comes bytes old new =
 abbrev pub Receives : Text → Shown → Shown → Type 0
 Receives bytes old new = Comes bytes old new ⊎ LacksMemory old new
 
--- bytes that the reader gave up came, or no memory; or it has none left
+-- bytes that the reader gave up came, at least one, or no memory; or it has none left
 abbrev pub Reads : Option Text → Option Text → Shown → Shown → Type 0
 Reads left left' old new =
-    (((bytes : Text) × Consumes left left' bytes × Comes bytes old new) ⊎ LacksMemory old new)
+    (((bytes : Text) × (0 < length bytes) × Consumes left left' bytes × Comes bytes old new)
+    ⊎ LacksMemory old new)
     ⊎ (Consumes left left' [] × IsAtEnd left' × (new ≡ with_finished old))
 
 -- more bytes are waited for; or where none come any more that is the end

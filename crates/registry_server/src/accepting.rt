@@ -9,25 +9,6 @@ use std::alloc::Global;
 use std::io;
 use std::net::TcpListener;
 
-/// Where connections come from.
-pub trait Entrance {
-    /// Waits for the next connection, and serves it to its end. An error is that none could be taken.
-    fn serve_next<K: Keeper>(&mut self, alloc: Global, service: &mut Service<K>) -> io::Result<End>
-        ensures honest { K.is_honest service.new → K.is_honest service.old }
-        ensures serves { K.is_honest service.new
-            → ServesNext result (K.state service.old) (K.state service.new) };
-}
-
-impl Entrance for TcpListener {
-    fn serve_next<K: Keeper>(
-        &mut self,
-        alloc: Global,
-        service: &mut Service<K>,
-    ) -> io::Result<End> {
-        serve_one(alloc, self, service)
-    }
-}
-
 /// Takes one connection, and serves it to its end. An error is a failed accept, and then nothing is
 /// done. What is written goes out at once (`TCP_NODELAY`); a socket that refuses that is served too.
 pub fn serve_one<K: Keeper>(

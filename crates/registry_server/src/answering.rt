@@ -8,6 +8,7 @@ ghost use Rattle.registry_model.specs.Doing.{Does};
 ghost use Rattle.registry_http.specs.Asking.{ask_in, verb_of, path_text, query_in, keys_in};
 ghost use Rattle.registry_http.specs.Decoding.{cow_text, keys_shown};
 ghost use Rattle.registry_http.specs.Reading.{HeadFits, IsHeadAt};
+ghost use Rattle.registry_outbox.specs.Reports.{IsAsked};
 
 use httparse::spans::{HeaderSpan, RequestSpans};
 use registry_http::fields::values_of;
@@ -15,6 +16,7 @@ use registry_http::query::{Values, text_if};
 use registry_http::target::{decode_path, route_if, split_target, verb};
 use registry_http::token::token;
 use registry_model::{Keeper, Reply, Request};
+use registry_outbox::report::Asked;
 use registry_service::Service;
 use std::alloc::{AllocError, Global};
 use std::borrow::CowStr;
@@ -73,8 +75,8 @@ fn unread(spent: bool) -> Reply
     }
 }
 
-/// Answers a request by its head, where its spans lie, and its body. Where memory is wanting for
-/// the texts of its target the answer is 503, or 500 where the service is spent.
+/// Answers a request by its head, where its spans lie, and its body, and says what it asks. Where memory is
+/// wanting for the texts of its target the answer is 503, or 500 where the service is spent.
 pub fn answer<K: Keeper>(
     alloc: Global,
     service: &mut Service<K>,
@@ -82,19 +84,25 @@ pub fn answer<K: Keeper>(
     fields: &[HeaderSpan],
     spans: &RequestSpans,
     body: &[u8],
-) -> Reply
+) -> (Reply, Asked)
     requires { HeadFits (length head.now) fields.now spans.now }
+    ensures asked { (h : RequestHead) → IsHeadAt head.now fields.now spans.now h
+        → IsAsked result.1 h (answer_of result.0) }
     ensures does { K.is_honest service.new → (h : RequestHead) → IsHeadAt head.now fields.now spans.now h
-        → Does (K.state service.old) (ask_in h body.now) (answer_of result) (K.state service.new) }
+        → Does (K.state service.old) (ask_in h body.now) (answer_of result.0) (K.state service.new) }
     ensures carries { is_head (verb_of (span_bytes head.now spans.now.method)) ≡ false
-        → is_sent (answer_of result).body ≡ true }
+        → is_sent (answer_of result.0).body ≡ true }
     ensures honest { K.is_honest service.new → K.is_honest service.old }
 {
     match decode_target(alloc, spans.path.of(head)) {
         Ok(texts) => {
             let request = request_of(head, fields, spans, &texts, body);
-            service.handle(alloc, &request)
+            let asked = Asked::of(alloc, &request);
+            (service.handle(alloc, &request), asked)
         }
-        Err(_) => unread(service.spent()),
+        Err(_) => {
+            let asked = Asked::unread(verb(spans.method.of(head)));
+            (unread(service.spent()), asked)
+        }
     }
 }

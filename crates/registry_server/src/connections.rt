@@ -1,16 +1,19 @@
-ghost use Rattle.std.specs.Prelude.{◌≡◌, true, false, ◌<◌, ◌≤◌, ◌⊎◌, ◌↔◌, length, option_map, ◌==◌, Some, None, All, IsTrue, IfOk, IfErr, IfSome, IfNone};
+ghost use Rattle.std.specs.Prelude.{◌≡◌, true, false, ◌<◌, ◌≤◌, ◌^◌, ◌⊎◌, ◌↔◌, length, option_map, if◌then◌else◌, ◌==◌, Some, None, All, IsTrue, IfOk, IfErr, IfSome, IfNone};
 ghost use Rattle.registry_server.specs.Open.{are_numbered};
 ghost use Rattle.registry_server.specs.Room.{IsWithin};
+ghost use Rattle.registry_server.specs.Held.{IsKept};
 ghost use Rattle.registry_server.specs.Slots.{slot_of, slots_of};
 
 use crate::bounds::{Bounds, pool, room_beside};
-use crate::connection::{Connection, find, find_silent, find_stirred, going, over, to_back};
+use crate::connection::{Connection, find, find_stirred, oldest_without, to_back};
 use crate::life::Life;
 use crate::receipt::Receipt;
 use crate::refusal::Refusal;
+use crate::sums::Sums;
 use crate::turn::Turn;
 use crate::{Conversation, Exchange, FieldRoom, Wants};
 use registry_model::Keeper;
+use registry_outbox::Outgoing;
 use registry_service::Service;
 use std::alloc::{AllocError, Global};
 
@@ -20,17 +23,27 @@ use std::alloc::{AllocError, Global};
 /// number that is not open does nothing, and says so.
 pub struct Connections {
     /// In the order in which they take their turns.
-    connections: Vec<Connection>,
+    pub(crate) connections: Vec<Connection>,
     /// The number of the connection that comes next.
     next: u64,
     /// How many may be open at once, and how much they may hold.
     bounds: Bounds,
     /// The time that was handed in last, in milliseconds.
-    time: u64,
+    pub(crate) time: u64,
     /// What all of them find header fields in, one turn after the other.
     fields: FieldRoom,
+    /// What they hold together.
+    sums: Sums,
+    /// So many of them from the front are not to be looked at.
+    resting: usize,
+    /// None of them gave its last sign of life before this time.
+    pub(crate) oldest: u64,
+    /// When that was last looked up in all of them.
+    pub(crate) looked: u64,
     ghost numbered: { are_numbered next (slots_of connections.items) ≡ true },
     ghost within: { IsWithin bounds (slots_of connections.items) },
+    ghost fits: { bounds.coming < 2 ^ 64 },
+    ghost kept: { IsKept sums resting oldest time connections.items },
 }
 
 impl Drop for Connections {
@@ -41,6 +54,10 @@ impl Drop for Connections {
             bounds: _,
             time: _,
             fields: _,
+            sums: _,
+            resting: _,
+            oldest: _,
+            looked: _,
         } = self;
     }
 }
@@ -48,12 +65,14 @@ impl Drop for Connections {
 impl Connections {
     ghost use Rattle.registry_server.specs.Shown.{coming_len, wants_of};
     ghost use Rattle.registry_server.specs.ConversationEvents.{Happens, acted};
-    ghost use Rattle.registry_server.specs.Open.{none, conversation_of, outgoing_of, held_of, Opens, Refuses, Changes, Closes, TakesTurn, IfOpen, with_slots, hears, sends, Finishes, Sends};
+    ghost use Rattle.registry_outbox.specs.Outboxes.{outgoing_text};
+    ghost use Rattle.registry_server.specs.Open.{none, FoundAt, conversation_of, outgoing_of, held_of, Opens, Refuses, Changes, Closes, TakesTurn, IfOpen, IfResting, with_slots, hears, sends, Finishes, Sends};
     ghost use Rattle.registry_server.specs.Room.{going_sum, room_of, IsReceived};
     ghost use Rattle.registry_server.specs.Events.{Leads, Carries};
     ghost use Rattle.registry_server.specs.Showing.{connected};
-    ghost use Rattle.registry_server.specs.Lives.{alive_at, moved_by, sent_by, life_of, silence_of};
-    ghost use Rattle.registry_server.specs.Lives.{LivesBut, LivesAt, LivesOn, LivesThrough, NoneSilent, IsSilent};
+    ghost use Rattle.registry_server.specs.Lives.{alive_at, sent_by, life_of};
+    ghost use Rattle.registry_server.specs.Lives.{LivesBut, LivesOn, LivesThrough};
+    ghost use Rattle.registry_server.specs.TurnTelling.{TellsTurn};
 
     /// No connection; they may take so much together. The time is 0. It fails only for want of memory.
     pub fn new(alloc: Global, bounds: Bounds) -> Result<Connections, AllocError>
@@ -67,15 +86,11 @@ impl Connections {
             bounds,
             time: 0,
             fields,
+            sums: Sums { over: 0, going: 0 },
+            resting: 0,
+            oldest: 0,
+            looked: 0,
         })
-    }
-
-    /// It is this time, in milliseconds from whenever.
-    pub fn tick(&mut self, time: u64)
-        ensures same { connected self.new ≡ connected self.old }
-        ensures lives { LivesAt time self.old self.new }
-    {
-        self.time = time;
     }
 
     /// A connection came. Answers its number, which no connection had before. Where it is refused nothing
@@ -95,10 +110,13 @@ impl Connections {
         if self.next == u64::MAX {
             return Err(Refusal::NoNumber);
         }
+        let Ok(conversation) = Box::new(alloc, Conversation::new(alloc)) else {
+            return Err(Refusal::Memory);
+        };
         let number = self.next;
         let connection = Connection {
             number,
-            conversation: Conversation::new(alloc),
+            conversation,
             stirred: false,
             life: Life::at(self.time),
         };
@@ -109,13 +127,21 @@ impl Connections {
         Ok(number)
     }
 
+    /// Where the connection of this number stands.
+    pub(crate) fn place_of(&self, number: u64) -> Option<usize>
+        ensures found { IfSome result (λ at. FoundAt number at (connected self.now).slots) }
+        ensures none { IfNone result (conversation_of number (connected self.now).slots ≡ None) }
+    {
+        find(&self.connections, number)
+    }
+
     /// The connection of this number.
-    fn under(&self, number: u64) -> Option<&Connection>
+    pub(crate) fn under(&self, number: u64) -> Option<&Connection>
         ensures shown { option_map (λ c. (slot_of c.now).conversation) result
             ≡ conversation_of number (connected self.now).slots }
         ensures life { option_map (λ c. c.now.life) result ≡ life_of number self.now }
     {
-        let at = find(&self.connections, number)?;
+        let at = self.place_of(number)?;
         Some(&self.connections[at])
     }
 
@@ -127,11 +153,10 @@ impl Connections {
     pub fn room(&self, number: u64) -> usize
         ensures { result ≡ room_of number (connected self.now) }
     {
-        let all = over(&self.connections);
         match self.under(number) {
             Some(connection) => {
                 let held = connection.conversation.coming();
-                room_beside(all, held, pool(&self.bounds))
+                room_beside(self.sums.over, held, pool(&self.bounds))
             }
             None => 0,
         }
@@ -145,12 +170,13 @@ impl Connections {
         ensures leads { Carries (connected self.old) (connected self.new) }
     {
         let room = self.room(number);
-        match find(&self.connections, number) {
+        match self.place_of(number) {
             Some(at) => {
                 if bytes.len() > room {
                     return Receipt::NoRoom;
                 }
-                self.connections[at].receive(bytes, self.time);
+                self.connections[at].receive(bytes, self.time, &mut self.sums);
+                self.resting = self.resting.min(at);
                 Receipt::Taken
             }
             None => Receipt::NotOpen,
@@ -164,9 +190,10 @@ impl Connections {
         ensures lives { LivesOn self.old self.new }
         ensures leads { Carries (connected self.old) (connected self.new) }
     {
-        match find(&self.connections, number) {
+        match self.place_of(number) {
             Some(at) => {
                 self.connections[at].finish();
+                self.resting = self.resting.min(at);
                 true
             }
             None => false,
@@ -174,12 +201,15 @@ impl Connections {
     }
 
     /// The bytes that are to go out on a connection; none where it is not open.
-    pub fn outgoing(&self, number: u64) -> &[u8]
-        ensures { result.now ≡ outgoing_of number (connected self.now).slots }
+    pub fn outgoing(&self, number: u64) -> Outgoing<'_>
+        ensures { outgoing_text result ≡ outgoing_of number (connected self.now).slots }
     {
         match self.under(number) {
             Some(connection) => connection.conversation.outgoing(),
-            None => &[],
+            None => Outgoing {
+                head: &[],
+                body: &[],
+            },
         }
     }
 
@@ -194,45 +224,14 @@ impl Connections {
             (life_of number self.old)) self.old self.new }
         ensures leads { Carries (connected self.old) (connected self.new) }
     {
-        match find(&self.connections, number) {
+        match self.place_of(number) {
             Some(at) => {
-                self.connections[at].sent(count, self.time);
+                self.connections[at].sent(count, self.time, &mut self.sums);
+                self.resting = self.resting.min(at);
                 true
             }
             None => false,
         }
-    }
-
-    /// So many bytes moved on a connection beside those that are told of here: they were read and let fall.
-    pub fn note_moved(&mut self, number: u64, count: usize)
-        ensures same { connected self.new ≡ connected self.old }
-        ensures lives { LivesBut number (option_map (moved_by count self.old.time) (life_of number self.old))
-            self.old self.new }
-    {
-        let time = self.time;
-        if let Some(at) = find(&self.connections, number) {
-            self.connections[at].note_moved(count, time);
-        }
-    }
-
-    /// For how many milliseconds there was no sign of life on a connection; 0 where it is not open. These are
-    /// signs of life: that it came, 65,536 bytes that came or went, and the last byte of a reply.
-    pub fn silence(&self, number: u64) -> u64
-        ensures { result ≡ silence_of number self.now }
-    {
-        match self.under(number) {
-            Some(connection) => self.time.saturating_sub(connection.life.since),
-            None => 0,
-        }
-    }
-
-    /// One that has been silent for so many milliseconds; none where none has.
-    pub fn silent(&self, limit: u64) -> Option<u64>
-        ensures silent { IfSome result (λ number. IsSilent limit number self.now) }
-        ensures none { IfNone result (NoneSilent limit self.now) }
-    {
-        let at = find_silent(&self.connections, self.time, limit)?;
-        Some(self.connections[at].number)
     }
 
     /// What a connection waits for, once it has no turn to take; `None` where it is not open.
@@ -269,7 +268,7 @@ impl Connections {
         ensures same { connected self.new ≡ connected self.old }
         ensures lives { LivesOn self.old self.new }
     {
-        if let Some(at) = find(&self.connections, number) {
+        if let Some(at) = self.place_of(number) {
             self.connections[at].give_back(alloc);
         }
     }
@@ -281,10 +280,38 @@ impl Connections {
         ensures lives { LivesBut number None self.old self.new }
         ensures leads { Carries (connected self.old) (connected self.new) }
     {
-        match find(&self.connections, number) {
+        match self.place_of(number) {
             Some(at) => {
-                self.connections.remove(at);
+                let gone = self.connections.remove(at);
+                self.sums.take(&gone.conversation);
+                self.resting = self.resting.saturating_sub(1);
+                self.oldest = oldest_without(
+                    &self.connections,
+                    gone.life.since,
+                    self.oldest,
+                    self.time,
+                );
                 true
+            }
+            None => false,
+        }
+    }
+
+    /// Closes a connection that rests, so that another one may come in its place: nothing came on it that is
+    /// not answered, and nothing is to go out. Says whether it was closed. Where it holds anything, or is not
+    /// open, nothing has changed.
+    pub fn close_resting(&mut self, number: u64) -> bool
+        ensures closes { IfResting result number (connected self.old) (connected self.new) }
+        ensures lives { LivesBut number (if result then None else life_of number self.old)
+            self.old self.new }
+        ensures leads { Carries (connected self.old) (connected self.new) }
+    {
+        match self.under(number) {
+            Some(connection) => {
+                if connection.conversation.held() > 0 {
+                    return false;
+                }
+                self.close(number)
             }
             None => false,
         }
@@ -294,15 +321,16 @@ impl Connections {
     pub fn has_room_for_reply(&self) -> bool
         ensures { IsTrue result ↔ (going_sum (connected self.now).slots < (connected self.now).bounds.going) }
     {
-        going(&self.connections) < self.bounds.going
+        self.sums.going < self.bounds.going as u128
     }
 
     /// One connection takes one turn, as `Conversation::answer_next` does: the first that is to be looked
     /// at, which goes behind all others. None takes one where nothing came for any that it has not
     /// answered yet, nor where the replies that wait to go out are as many bytes as may.
     ///
-    /// A connection that waited for more bytes is not looked at again before something comes for it, and
-    /// one that answered not before its reply has gone out: so none holds more than one reply.
+    /// A connection that waited for more bytes is not looked at again before something comes for it, and one
+    /// that answered not before its reply has gone out: so none holds more than one reply. What is told of a
+    /// turn is told of the request that it answered or refused, and of no other.
     pub fn turn<K: Keeper>(&mut self, alloc: Global, service: &mut Service<K>) -> Option<Turn>
         ensures honest { K.is_honest service.new → K.is_honest service.old }
         ensures takes { IfSome result (λ turn. TakesTurn turn.number turn.step
@@ -315,6 +343,9 @@ impl Connections {
         ensures idle { IfNone result ((connected self.new ≡ connected self.old) × (service.new ≡ service.old)
             × (All (λ s. s.stirred ≡ false) (connected self.old).slots
             ⊎ ((connected self.old).bounds.going ≤ going_sum (connected self.old).slots))) }
+        ensures tells { K.is_honest service.new → IfSome result (λ turn.
+            TellsTurn turn.number turn.step turn.report (connected self.old) (K.state service.old)
+            (connected self.new) (K.state service.new)) }
         ensures lives { LivesOn self.old self.new }
         ensures leads { K.is_honest service.new → Leads (connected self.old) (K.state service.old)
             (connected self.new) (K.state service.new) }
@@ -322,9 +353,18 @@ impl Connections {
         if !self.has_room_for_reply() {
             return None;
         }
-        let at = find_stirred(&self.connections)?;
-        let turn = self.connections[at].answer_next(alloc, service, &mut self.fields);
+        let Some(at) = find_stirred(&self.connections, self.resting) else {
+            self.resting = self.connections.len();
+            return None;
+        };
+        let turn = self.connections[at].answer_next(
+            alloc,
+            service,
+            &mut self.fields,
+            &mut self.sums,
+        );
         to_back(&mut self.connections, at);
+        self.resting = at;
         Some(turn)
     }
 }

@@ -1,42 +1,45 @@
-ghost use Rattle.std.specs.Prelude.{◌≡◌, ◌+◌, ◌<◌, ◌≤◌, [], true, false, length, drop, min, IfOk, MatchResult, vec_len};
+ghost use Rattle.std.specs.Prelude.{◌≡◌, ◌+◌, ◌<◌, ◌≤◌, [], true, false, length, drop, min, None, MatchResult};
 ghost use Rattle.std.specs.Io.KnownBytes.{Consumes};
 
 use crate::exchange::Exchange;
 use crate::part::Part;
 use crate::phase::{Phase, Step, Wants};
 use crate::receipt::ReadFault;
-use crate::whole_connection::refuse;
 use registry_http::buffer::{Buffer, LINES};
 use registry_http::ending::Stop;
 use registry_http::{End, FramingRefusal};
-use std::alloc::{AllocError, Global};
+use registry_outbox::outbox::{Outbox, Outgoing};
+use registry_outbox::report::Report;
+use std::alloc::Global;
 use std::io::Read;
 
 /// What has come of one connection and is not answered yet, and what is to go out on it (RFC 9112).
 ///
-/// It reads nothing and writes nothing itself. However its input is cut, what was taken of a body is not
-/// looked at again; a head, the line of a chunk and a trailer are looked for again from their first byte
-/// when more has come, and are 16,384, 1,024 and 16,384 bytes at most. A reply is copied once, to go out.
+/// It reads when it is asked to, and writes nothing itself. However its input is cut, what was taken of a
+/// body is not looked at again; a head, the line of a chunk and a trailer are looked for again from their
+/// first byte when more has come, and are 16,384, 1,024 and 16,384 bytes at most. The body of a reply goes
+/// out as the service made it, and is not copied.
 ///
-/// Where memory for what is to go out is wanting, it ends with `WriteFailed`: of the text in hand exactly the
-/// first `written` bytes are to go out, and a request whose reply it was took effect.
+/// Where memory for the head of a reply is wanting, the request is answered 503, or 500 by a service that is
+/// spent, and nothing has changed: so with heads of at most 4,096 bytes. With a longer one, or where the
+/// reply before has not gone out, it ends with `WriteFailed`: of the text in hand exactly the first `written`
+/// bytes are to go out, and a request whose reply it was took effect.
 #[derive(Drop)]
 pub struct Conversation {
     pub(crate) buffer: Buffer,
     pub(crate) phase: Phase,
     /// The input has ended.
     pub(crate) finished: bool,
-    /// What is to go out, behind what went out of it.
-    pub(crate) out: Vec<u8>,
-    gone: usize,
+    pub(crate) outbox: Outbox,
     /// What a log tells of the request in hand.
     pub(crate) exchange: Exchange,
-    ghost within: { gone ≤ vec_len out },
 }
 
 impl Conversation {
     ghost use Rattle.registry_server.specs.Shown.{begun, with_finished, with_phase, with_going, with_none, listens, wants_of, coming_len, held_len};
     ghost use Rattle.registry_server.specs.ConversationShowing.{shown};
+    ghost use Rattle.registry_outbox.specs.Outboxes.{outgoing_text};
+    ghost use Rattle.registry_outbox.specs.Reports.{TellsRefusal, Reported};
     ghost use Rattle.registry_server.specs.Stepping.{Refuses, Receives, Reads};
 
     /// A conversation to which nothing has come. It takes no memory before something does.
@@ -47,25 +50,9 @@ impl Conversation {
             buffer: Buffer::new(alloc),
             phase: Phase::Head,
             finished: false,
-            out: Vec::new(alloc),
-            gone: 0,
+            outbox: Outbox::new(alloc),
             exchange: Exchange::new(alloc),
         }
-    }
-
-    /// The same, with room for so many bytes that are to go out: replies that fit in take no memory then.
-    pub(crate) fn with_room(alloc: Global, size: usize) -> Result<Conversation, AllocError>
-        ensures { IfOk result (λ c. shown c ≡ begun) }
-    {
-        let out = Vec::with_capacity(alloc, size)?;
-        Ok(Conversation {
-            buffer: Buffer::new(alloc),
-            phase: Phase::Head,
-            finished: false,
-            out,
-            gone: 0,
-            exchange: Exchange::new(alloc),
-        })
     }
 
     /// Whether bytes that come are kept: the input goes on, and there may be a further request.
@@ -79,8 +66,9 @@ impl Conversation {
         }
     }
 
-    /// For how many bytes there should be room.
-    fn missing(&self) -> usize
+    /// For how many bytes there should be room; where that is not known, for so many.
+    fn missing(&self, unknown: usize) -> usize
+        requires { 0 < unknown }
         ensures { 0 < result }
     {
         let here = self.buffer.behind().len();
@@ -89,12 +77,13 @@ impl Conversation {
             Phase::Body(Part::Data { total: _, size }) => size,
             _ => 0,
         };
-        if here < whole { whole - here } else { LINES }
+        if here < whole { whole - here } else { unknown }
     }
 
     /// Ends the conversation.
     pub(crate) fn end(&mut self, end: End) -> Step
         ensures step { result ≡ Step.Ended end }
+        ensures report { self.new.outbox.report ≡ self.old.outbox.report }
         ensures ends { shown self.new ≡ with_phase (shown self.old) (Phase.Ended end) }
     {
         self.phase = Phase::Ended(end);
@@ -113,10 +102,12 @@ impl Conversation {
 
     /// Refuses what has come, and lets it go: no further request is read.
     pub(crate) fn refuse(&mut self, refusal: FramingRefusal) -> Step
-        ensures { Refuses result refusal (shown self.old) (shown self.new) }
+        ensures refuses { Refuses result refusal (shown self.old) (shown self.new) }
+        ensures tells { Reported self.new.outbox.report (shown self.old).going (shown self.new).going
+            (λ r. TellsRefusal r refusal) }
     {
         self.let_go();
-        let end = refuse(&mut self.out, refusal);
+        let end = self.outbox.put_refusal(refusal);
         self.end(end)
     }
 
@@ -138,7 +129,7 @@ impl Conversation {
         let mut left = bytes;
         // Each read takes a byte, or the last.
         'reads: for _ in 0..bytes.len() {
-            let missing = self.missing();
+            let missing = self.missing(left.len().max(1));
             match self.buffer.read_more(&mut left, missing) {
                 Ok(()) => {}
                 Err(_) => {
@@ -154,9 +145,9 @@ impl Conversation {
         let _ = self.refuse(FramingRefusal::NoBufferMemory);
     }
 
-    /// Reads some bytes, at most 1,048,576, which then came; or finds that the input has ended. They are
-    /// read to where they are kept. Where memory for them is wanting, it ends with the refusal
-    /// `NoBufferMemory`.
+    /// Reads some bytes, at least one and at most 1,048,576, which then came; or finds that the input has
+    /// ended. They are read to where they are kept. Where memory for them is wanting, it ends with the
+    /// refusal `NoBufferMemory`.
     pub fn read_from<R: Read>(&mut self, reader: &mut R) -> Result<(), ReadFault>
         requires { listens (shown self.old) ≡ true }
         ensures cases { MatchResult result
@@ -164,7 +155,7 @@ impl Conversation {
             (λ _. Consumes (R.remaining reader.old) (R.remaining reader.new) []) }
         ensures sized { coming_len (shown self.new) ≤ coming_len (shown self.old) + 1048576 }
     {
-        let missing = self.missing();
+        let missing = self.missing(LINES);
         match self.buffer.read_more(reader, missing) {
             Ok(()) => Ok(()),
             Err(Stop::AtEnd) => {
@@ -187,10 +178,10 @@ impl Conversation {
     }
 
     /// The bytes that are to go out.
-    pub fn outgoing(&self) -> &[u8]
-        ensures { result.now ≡ (shown self.now).going }
+    pub fn outgoing(&self) -> Outgoing<'_>
+        ensures { outgoing_text result ≡ (shown self.now).going }
     {
-        &self.out[self.gone..]
+        self.outbox.outgoing()
     }
 
     /// So many of the bytes that were to go out went.
@@ -198,20 +189,14 @@ impl Conversation {
         requires { count ≤ length (shown self.old).going }
         ensures { shown self.new ≡ with_going (shown self.old) (drop count (shown self.old).going) }
     {
-        let gone = self.gone + count;
-        if gone == self.out.len() {
-            self.gone = 0;
-            self.out.clear();
-        } else {
-            self.gone = gone;
-        }
+        self.outbox.sent(count);
     }
 
     /// What it waits for, once a turn came to nothing more.
     pub fn wants(&self) -> Wants
         ensures { result ≡ wants_of (shown self.now) }
     {
-        if self.gone < self.out.len() {
+        if !self.outgoing().is_empty() {
             return Wants::Room;
         }
         match self.phase {
@@ -219,6 +204,16 @@ impl Conversation {
             Phase::Body(_) => Wants::Bytes,
             Phase::Ended(_) => Wants::Nothing,
         }
+    }
+
+    /// What was answered or refused in the last turn, or was refused since for want of memory; none where
+    /// that was asked before.
+    pub fn take_report(&mut self) -> Option<Report>
+        ensures report { result ≡ self.old.outbox.report }
+        ensures none { self.new.outbox.report ≡ None }
+        ensures same { shown self.new ≡ shown self.old }
+    {
+        self.outbox.take_report()
     }
 
     /// The request in hand, or else the one that was answered last, as a log tells it.
@@ -237,18 +232,15 @@ impl Conversation {
     pub fn held(&self) -> usize
         ensures { result ≡ min (held_len (shown self.now)) usize.MAX }
     {
-        self.coming().saturating_add(self.out.len() - self.gone)
+        self.coming().saturating_add(self.outgoing().len())
     }
 
-    /// Gives back room for bytes that come, where none are held, and for bytes that go out, where none are
-    /// to go; it is made anew as it is wanted.
+    /// Gives back room for bytes that come, where none are held, and for heads of replies, where none is to
+    /// go out; it is made anew as it is wanted.
     pub fn give_back(&mut self, alloc: Global)
         ensures { shown self.new ≡ shown self.old }
     {
-        if self.gone == self.out.len() {
-            self.gone = 0;
-            self.out = Vec::new(alloc);
-        }
+        self.outbox.give_back(alloc);
         if self.coming() == 0 {
             self.buffer = Buffer::new(alloc);
         }

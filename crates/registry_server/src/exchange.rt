@@ -1,6 +1,6 @@
 //! What a log tells of a request.
 
-use std::alloc::Global;
+use std::alloc::{AllocError, Global};
 
 /// The most bytes that are kept of a method and a path.
 const LONGEST: usize = 1024;
@@ -10,7 +10,6 @@ const LONGEST: usize = 1024;
 #[derive(Drop)]
 pub struct Exchange {
     line: Vec<u8>,
-    came: usize,
 }
 
 /// Where the method and the path end: behind them comes the query, the version or the end of the line.
@@ -19,12 +18,21 @@ fn ends_path(byte: u8, spaces: usize) -> bool {
     is_space || matches!(byte, b'?' | b'\r' | b'\n')
 }
 
-/// A byte that shows, or a question mark.
-fn shown(byte: u8) -> u8 {
+/// The digits of 16.
+const DIGITS: [u8; 16] = *b"0123456789ABCDEF";
+
+/// Goes on with a byte: one that could be taken for something else on the line of a log as `%` and two
+/// digits.
+fn push_shown(line: &mut Vec<u8>, byte: u8) -> Result<(), AllocError> {
     match byte {
-        0x20..=0x7e => byte,
-        _ => b'?',
+        b'"' | b'\\' | 0..=0x1f | 0x7f..=0xff => {
+            line.push(b'%')?;
+            line.push(DIGITS[usize::from(byte / 16)])?;
+            line.push(DIGITS[usize::from(byte % 16)])?;
+        }
+        _ => line.push(byte)?,
     }
+    Ok(())
 }
 
 impl Exchange {
@@ -32,25 +40,19 @@ impl Exchange {
     pub(crate) fn new(alloc: Global) -> Exchange {
         Exchange {
             line: Vec::new(alloc),
-            came: 0,
         }
     }
 
-    /// The method, a space and the path without its query, at most 1,024 bytes, of which those that do not
-    /// show are question marks. Nothing where no head was read, or memory was wanting.
+    /// The method, a space and the path as it came, without its query, at most 1,024 bytes; each control
+    /// character, quote, backslash and byte above ASCII is `%` and two digits. Nothing where no head was
+    /// read, or memory was wanting.
     pub fn line(&self) -> &[u8] {
         &self.line
-    }
-
-    /// How many bytes the body has.
-    pub fn came(&self) -> usize {
-        self.came
     }
 
     /// Nothing is known of the request in hand.
     pub(crate) fn forget(&mut self) {
         self.line.clear();
-        self.came = 0;
     }
 
     /// A head was found. Empty lines before it are none of it (RFC 9112, section 2.2).
@@ -62,22 +64,17 @@ impl Exchange {
             let none = self.line.is_empty();
             let skipped = none && matches!(byte, b'\r' | b'\n');
             if !skipped {
-                if ends_path(byte, spaces) || self.line.len() >= LONGEST {
+                if ends_path(byte, spaces) || self.line.len() + 3 > LONGEST {
                     return;
                 }
                 if byte == b' ' {
                     spaces = spaces.saturating_add(1);
                 }
-                if self.line.push(shown(byte)).is_err() {
+                if push_shown(&mut self.line, byte).is_err() {
                     self.forget();
                     return;
                 }
             }
         }
-    }
-
-    /// The body is whole, of so many bytes.
-    pub(crate) fn note_body(&mut self, came: usize) {
-        self.came = came;
     }
 }

@@ -25,11 +25,13 @@ pub mod phase;
 pub mod receipt;
 pub mod refusal;
 pub mod replying;
+pub mod silence;
 pub mod stepping;
+pub mod sums;
 pub mod turn;
 pub mod whole_connection;
 
-pub use accepting::{Entrance, serve_one};
+pub use accepting::serve_one;
 pub use bounds::{Bounds, LARGEST, SHARE};
 pub use connections::Connections;
 pub use conversation::Conversation;

@@ -1,6 +1,6 @@
 //! The turns of a conversation.
 
-ghost use Rattle.std.specs.Prelude.{◌≡◌, ◌≤◌, [], length, IfSome, IfNone};
+ghost use Rattle.std.specs.Prelude.{◌≡◌, ◌≤◌, [], length, None, IfSome, IfNone};
 ghost use Rattle.std.specs.Bool.{MatchBool};
 ghost use Rattle.oci_types.specs.Text.{Text};
 ghost use Rattle.registry_http.specs.Expecting.{continue_if};
@@ -13,7 +13,6 @@ use crate::{Conversation, FieldRoom};
 use httparse::spans::RequestSpans;
 use registry_http::framing::Framing;
 use registry_http::head::{Parsed, parse_head};
-use registry_http::reply_text::write_continue;
 use registry_http::{End, FramingRefusal};
 use registry_model::Keeper;
 use registry_service::Service;
@@ -26,10 +25,12 @@ impl Conversation {
     ghost use Rattle.registry_server.specs.Headings.{BeginsAt};
     ghost use Rattle.registry_server.specs.Holding.{Holds, HoldsAs, HoldsWhole};
     ghost use Rattle.registry_server.specs.Stepping.{Acts, LeadsOn, Waited};
+    ghost use Rattle.registry_server.specs.Telling.{Tells};
 
     /// The request in hand is not whole: more bytes are missing, or the input ended there.
     fn wait(&mut self, end: End) -> Step
-        ensures { Waited result end (shown self.old) (shown self.new) }
+        ensures waits { Waited result end (shown self.old) (shown self.new) }
+        ensures report { self.new.outbox.report ≡ self.old.outbox.report }
     {
         if !self.finished {
             return Step::Waits;
@@ -42,6 +43,7 @@ impl Conversation {
         ensures going { (shown self.new).going ≡ (shown self.old).going }
         ensures finished { (shown self.new).finished ≡ (shown self.old).finished }
         ensures rest { coming_len (shown self.new) ≡ length (shown self.old).unread }
+        ensures report { self.new.outbox.report ≡ self.old.outbox.report }
         ensures next { MatchBool closing ((shown self.new).phase ≡ Phase.Ended End.Closed)
             (Holds (shown self.new) (shown self.old).unread []) }
     {
@@ -82,16 +84,14 @@ impl Conversation {
         ensures leads { LeadsOn result (shown self.old) (shown self.new) }
         ensures acts { K.is_honest service.new → (b said : Text)
             → HoldsWhole (shown self.old).taken (shown self.old).unread b said
-            → Acts result b said (shown self.old) (K.state service.old) (K.state service.new)
-            (shown self.new) }
+            → Tells result b said (shown self.old) (K.state service.old) (K.state service.new)
+            (shown self.new) self.old.outbox.report self.new.outbox.report }
     {
         let Some(spans) = self.taken_head(room) else {
             return self.refuse(FramingRefusal::UnreadableHead);
         };
         let taken = self.buffer.before();
-        self.exchange
-            .note_body(taken.len().saturating_sub(spans.len));
-        match reply_to(alloc, service, taken, &room.spans, &spans, &mut self.out) {
+        match reply_to(alloc, service, taken, &room.spans, &spans, &mut self.outbox) {
             Ok(closing) => {
                 self.close_if(closing);
                 Step::Answered
@@ -116,8 +116,8 @@ impl Conversation {
         ensures leads { LeadsOn result (shown self.old) (shown self.new) }
         ensures acts { K.is_honest service.new → (b said : Text)
             → HoldsAs (Phase.Body part) (shown self.old).taken (shown self.old).unread b said
-            → Acts result b said (shown self.old) (K.state service.old) (K.state service.new)
-            (shown self.new) }
+            → Tells result b said (shown self.old) (K.state service.old) (K.state service.new)
+            (shown self.new) self.old.outbox.report self.new.outbox.report }
     {
         match take_body(&mut self.buffer, &mut room.spans, part) {
             Taken::Whole => self.reply(alloc, service, room),
@@ -146,13 +146,13 @@ impl Conversation {
         ensures leads { LeadsOn result (shown self.old) (shown self.new) }
         ensures acts { K.is_honest service.new → (b : Text)
             → HoldsAs (Phase.Body part) (shown self.old).taken (shown self.old).unread b (continue_if awaits)
-            → Acts result b [] (shown self.old) (K.state service.old) (K.state service.new)
-            (shown self.new) }
+            → Tells result b [] (shown self.old) (K.state service.old) (K.state service.new)
+            (shown self.new) self.old.outbox.report self.new.outbox.report }
     {
         if !awaits {
             return self.go_on(alloc, service, room, part);
         }
-        match write_continue(awaits, &mut self.out) {
+        match self.outbox.put_continue() {
             Ok(()) => {
                 self.phase = Phase::Body(part);
                 Step::Interim
@@ -179,8 +179,8 @@ impl Conversation {
         ensures leads { LeadsOn result (shown self.old) (shown self.new) }
         ensures acts { K.is_honest service.new → (b : Text)
             → BeginsAt heading b → (shown self.old).taken ≡ [] → (shown self.old).unread ≡ b
-            → Acts result b [] (shown self.old) (K.state service.old) (K.state service.new)
-            (shown self.new) }
+            → Tells result b [] (shown self.old) (K.state service.old) (K.state service.new)
+            (shown self.new) self.old.outbox.report self.new.outbox.report }
     {
         self.exchange.note_head(self.buffer.behind());
         self.buffer.pass(heading.len);
@@ -208,8 +208,8 @@ impl Conversation {
         ensures fewer { coming_len (shown self.new) ≤ coming_len (shown self.old) }
         ensures leads { LeadsOn result (shown self.old) (shown self.new) }
         ensures acts { K.is_honest service.new → (b said : Text) → Holds (shown self.old) b said
-            → Acts result b said (shown self.old) (K.state service.old) (K.state service.new)
-            (shown self.new) }
+            → Tells result b said (shown self.old) (K.state service.old) (K.state service.new)
+            (shown self.new) self.old.outbox.report self.new.outbox.report }
     {
         match find_head(self.buffer.behind(), &mut room.spans) {
             FoundHead::Whole(heading) => self.take_head(alloc, service, room, heading),
@@ -232,7 +232,7 @@ impl Conversation {
     /// Takes the next turn: answers one request if one is whole, and else says that it waits for more
     /// bytes, or how it ended (RFC 9112, section 9.3). Once it has ended it says so again. Where a client
     /// waits for a 100, that alone is put out, and the body takes the next turn: no turn puts out two
-    /// texts.
+    /// texts. What was answered or refused is told by `take_report`.
     pub fn answer_next<K: Keeper>(
         &mut self,
         alloc: Global,
@@ -248,10 +248,19 @@ impl Conversation {
         ensures acts { K.is_honest service.new → (b said : Text) → Holds (shown self.old) b said
             → Acts result b said (shown self.old) (K.state service.old) (K.state service.new)
             (shown self.new) }
+        ensures tells { K.is_honest service.new → (b said : Text) → Holds (shown self.old) b said
+            → Tells result b said (shown self.old) (K.state service.old) (K.state service.new)
+            (shown self.new) None self.new.outbox.report }
     {
         match self.phase {
-            Phase::Head => self.begin(alloc, service, room),
-            Phase::Body(part) => self.go_on(alloc, service, room, part),
+            Phase::Head => {
+                self.outbox.report = None;
+                self.begin(alloc, service, room)
+            }
+            Phase::Body(part) => {
+                self.outbox.report = None;
+                self.go_on(alloc, service, room, part)
+            }
             Phase::Ended(end) => Step::Ended(end),
         }
     }

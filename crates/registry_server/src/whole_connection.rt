@@ -1,28 +1,27 @@
-ghost use Rattle.std.specs.Prelude.{◌≡◌, [], IfOk, OnOk};
+ghost use Rattle.std.specs.Prelude.{◌≡◌, [], OnOk};
 ghost use Rattle.registry_http.specs.Serving.{Serves};
 ghost use Rattle.registry_http.specs.Sending.{Sends};
 ghost use Rattle.registry_http.specs.Ending.{SendsRefusal};
 ghost use Rattle.registry_server.specs.Shown.{begun, with_going};
 ghost use Rattle.registry_server.specs.ConversationShowing.{shown};
+ghost use Rattle.registry_outbox.specs.Outboxes.{outgoing_text};
 
 use crate::phase::Step;
 use crate::{Conversation, FieldRoom};
+use registry_http::fixed_text::write_refusal;
 use registry_http::outgoing::send;
-use registry_http::reply_text::write_refusal;
 use registry_http::{End, FramingRefusal};
 use registry_model::Keeper;
+use registry_outbox::Outgoing;
 use registry_service::Service;
-use std::alloc::{AllocError, Global};
+use std::alloc::Global;
 use std::io::{Read, Write};
-
-/// Room for most replies, so that to put them together takes no memory.
-const REPLY: usize = 65_536;
 
 /// So many reads are made of one connection at most.
 const MOST_READS: u64 = 9_223_372_036_854_775_807;
 
 /// Writes a refusal.
-pub(crate) fn refuse<W: Write>(writer: &mut W, refusal: FramingRefusal) -> End
+fn refuse<W: Write>(writer: &mut W, refusal: FramingRefusal) -> End
     ensures { SendsRefusal result refusal (W.contents writer.old) (W.contents writer.new) }
 {
     match write_refusal(refusal, writer) {
@@ -30,6 +29,20 @@ pub(crate) fn refuse<W: Write>(writer: &mut W, refusal: FramingRefusal) -> End
         Err(fault) => End::WriteFailed {
             written: fault.written,
         },
+    }
+}
+
+/// Writes the one and then the other, or says how many bytes of both were written.
+fn send_both<W: Write>(writer: &mut W, text: Outgoing<'_>) -> Result<(), usize>
+    ensures { Sends result (W.contents writer.old) (W.contents writer.new) (outgoing_text text.entry) }
+{
+    match send(writer, text.head) {
+        Ok(()) => {}
+        Err(written) => return Err(written),
+    }
+    match send(writer, text.body) {
+        Ok(()) => Ok(()),
+        Err(written) => Err(text.head.len() + written),
     }
 }
 
@@ -41,7 +54,7 @@ fn send_out<W: Write>(conversation: &mut Conversation, writer: &mut W) -> Result
 {
     let text = conversation.outgoing();
     let count = text.len();
-    match send(writer, text) {
+    match send_both(writer, text) {
         Ok(()) => {
             conversation.sent(count);
             Ok(())
@@ -96,26 +109,17 @@ fn serve_requests<R: Read, W: Write, K: Keeper>(
     }
 }
 
-/// Room to find header fields in, and a conversation to which nothing came.
-fn rooms(alloc: Global) -> Result<(FieldRoom, Conversation), AllocError>
-    ensures { IfOk result (λ rooms. shown rooms.1 ≡ begun) }
-{
-    let room = FieldRoom::new(alloc)?;
-    let conversation = Conversation::with_room(alloc, REPLY)?;
-    Ok((room, conversation))
-}
-
 /// Serves one connection to its end: reads requests, answers them one after the other, and writes
 /// the replies (RFC 9112; OCI Distribution Specification 1.1).
 ///
-/// With all bytes that the reader gives, `Closed`, `Cut` and `Refused` come as those bytes spell
-/// requests, however they were cut into reads; what is written are the texts of the replies and
-/// then that of a refusal. `Refused(NoBufferMemory)` comes where memory for the connection's buffer
-/// is wanting, with the requests before answered. `ReadFailed` is the same for the bytes that came
-/// before the failed read, or before 9,223,372,036,854,775,807 reads. After `WriteFailed` all texts
-/// before went out whole, and of the text in hand exactly the first `written` bytes; a request
-/// whose reply was in hand took effect. A reply is put together in memory, for which room is made at the
-/// beginning: where it is longer than 65,536 bytes, and memory is wanting, it is a write that failed.
+/// With all bytes that the reader gives, `Closed`, `Cut` and `Refused` come as those bytes spell requests,
+/// however they were cut into reads; what is written are the texts of the replies and then that of a refusal.
+/// `Refused(NoBufferMemory)` comes where memory for the connection's buffer is wanting, with the requests
+/// before answered. `ReadFailed` is the same for the bytes that came before the failed read, or before
+/// 9,223,372,036,854,775,807 reads. After `WriteFailed` all texts before went out whole, and of the text in
+/// hand exactly the first `written` bytes; a request whose reply was in hand took effect. The head of a reply
+/// is put together in memory, for which room is made before the service is asked: where it is longer than
+/// 4,096 bytes, and memory is wanting, it is a write that failed.
 pub fn serve_connection<R: Read, W: Write, K: Keeper>(
     alloc: Global,
     service: &mut Service<K>,
@@ -132,11 +136,11 @@ pub fn serve_connection<R: Read, W: Write, K: Keeper>(
       state' = K.state service.new;
     }) }
 {
-    match rooms(alloc) {
-        Ok((room, conversation)) => {
+    match FieldRoom::new(alloc) {
+        Ok(room) => {
             // Both are let go in one place.
             let mut room = room;
-            let mut conversation = conversation;
+            let mut conversation = Conversation::new(alloc);
             serve_requests(alloc, service, &mut conversation, &mut room, reader, writer)
         }
         Err(_) => refuse(writer, FramingRefusal::NoBufferMemory),

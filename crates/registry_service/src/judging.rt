@@ -6,7 +6,7 @@ ghost use Rattle.registry_model.specs.Form.{form_of};
 ghost use Rattle.registry_model.specs.Answer.{answer_of, refused};
 ghost use Rattle.registry_model.specs.Ask.{ask_of, text_in};
 ghost use Rattle.registry_model.specs.Operation.{addressed, operation_of, valid_name};
-ghost use Rattle.registry_model.specs.Judging.{operate, not_allowed, at_base, granted, decide, served, decision, reply_to, after_request};
+ghost use Rattle.registry_model.specs.Judging.{operate, not_allowed, at_base, granted, decide, decision, reply_to, after_request};
 ghost use Rattle.registry_model.specs.Keeping.{Spends, WritesBy};
 ghost use Rattle.operation_parts.specs.Operating.{Comes, ComesOn, HasRepo, IsUnspent, Answers, Carries, OperatesWith};
 ghost use Rattle.registry_service.specs.Operations.{shown_operation};
@@ -208,28 +208,6 @@ fn reply_beside(route: &Route, method: Verb) -> Reply
     }
 }
 
-/// The reply to a request of a known token.
-fn serve<K: Keeper>(
-    keeper: &mut K,
-    alloc: Global,
-    token: &Token,
-    request: &Request,
-) -> Result<Reply, Fault>
-    requires { IsUnspent (K.state keeper.old) }
-    ensures comes { K.is_honest keeper.new → ComesOn result (addressed (form_of request.now.route))
-        (served ((K.state keeper.old).world.grants token.now) (repo_at (K.state keeper.old).world)
-        (ask_of request.now)) (K.state keeper.old) (K.state keeper.new) }
-    ensures answers { Answers result }
-    ensures carries { is_head request.now.method ≡ false → Carries result }
-    ensures spends { Spends result (K.state keeper.old) (K.state keeper.new) }
-    ensures honest { K.is_honest keeper.new → K.is_honest keeper.old }
-{
-    match name_at(&request.route) {
-        Some(name) => decide(keeper, alloc, token, name, request),
-        None => Ok(reply_beside(&request.route, request.method)),
-    }
-}
-
 /// The token that a request names, if its text is one.
 fn find_token(alloc: Global, text: Option<&str>) -> Result<Option<Token>, Fault>
     ensures none { text.entry ≡ None → result ≡ Ok None }
@@ -246,7 +224,7 @@ fn find_token(alloc: Global, text: Option<&str>) -> Result<Option<Token>, Fault>
     }
 }
 
-/// The reply to a request of a token.
+/// The reply to a request of a token, known or not.
 fn serve_token<K: Keeper>(
     keeper: &mut K,
     alloc: Global,
@@ -265,7 +243,10 @@ fn serve_token<K: Keeper>(
     if !keeper.known(token)? {
         return Ok(Reply::refusal(Refusal::TokenRequired));
     }
-    serve(keeper, alloc, token, request)
+    match name_at(&request.route) {
+        Some(name) => decide(keeper, alloc, token, name, request),
+        None => Ok(reply_beside(&request.route, request.method)),
+    }
 }
 
 /// The reply to a request, or why there is none.

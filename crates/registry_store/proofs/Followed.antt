@@ -1,6 +1,6 @@
 -- What is known of usages behind a write, and what a write tells whose change was looked up before.
-use Rattle.std.proofs.Common.{◌≡◌, ◌≢◌, ◌+◌, ◌++◌, ℕ, arith, is_some, Bool, true, false, None, Some, Ok, Err, Result, OnOk, OnErr, ap, sym, subst, refl}
-use Rattle.std.specs.Prelude.{⊤, Option, IfOk, IfSome}
+use Rattle.std.proofs.Common.{◌≡◌, ◌≢◌, ◌+◌, ◌++◌, ℕ, arith, is_some, true, false, None, Some, Ok, Err, Result, OnOk, OnErr, ap, sym, subst, refl}
+use Rattle.std.specs.Prelude.{Option, IfOk, IfSome}
 use Rattle.std.specs.FinMap.{get}
 use Rattle.sqlite_trees.specs.declared.store.Store.{Ghosts}
 use Rattle.sqlite.specs.State as sqlite
@@ -20,13 +20,11 @@ use Rattle.store_statements.proofs.SettledAfter.{stays_then}
 use Rattle.store_statements.proofs.Transactions.{registry, survives_all}
 use Rattle.store_reads.specs.declared.usage_change.Change.{Change}
 use Rattle.registry_store.specs.declared.known_usages.KnownUsages.{KnownUsages}
-use Rattle.store_session_writes.specs.Whole.{DoneWhereSo}
 use Rattle.store_reads.specs.Usages.{Foretells}
 use Rattle.registry_store.specs.Usages.{known_at, Knows, IsKnown, StaysKnown, Sets, IsNext}
 use Rattle.store_reads.proofs.CleanBefore.{was_clean}
 use Rattle.store_reads.proofs.Foretold.{earlier, later, session_has_repo}
 use Rattle.registry_store.proofs.KnownWorlds.{follows, unfollowed, forgets}
-use Rattle.registry_store.proofs.KnownAnswers.{whether_then}
 use Rattle.registry_store.proofs.KeeperAnswers.{made}
 
 -- what is known, whether the write was made or not
@@ -71,30 +69,6 @@ longer_known g old new known knew name number bytes change answer wrote foretold
     follows_made known knew (state g old) (state g new) name (λ (r : Repo). appended r number (bytes_or_none (get r.sessions number) ++ bytes)) (Some change) answer (knows early)
     (session_has_repo w name number (is_open early)) (foretold w (is_open early)) sets kept sound (makes is_open clean is) (memory clean is)
 
-not_done : ◌≡◌ {A = Result Bool Fault} (Ok false) (Ok true) → ⊥
-not_done e = absurd cc
-
-not_refused : (fault : Fault) → ◌≡◌ {A = Result Bool Fault} (Err fault) (Ok true) → ⊥
-not_refused fault e = absurd cc
-
--- the same of a write that answers whether it was made
-follows_done : (known knew : KnownUsages) (before after : sqlite.State) (name : Text) (so : World → Bool) (f : World → Repo → Repo) (change : Option Change) (answer : Result Bool Fault)
-    → Knows known (world_in before) → (so (world_in before) ≡ true → has_repo (world_in before) name ≡ true) → IfSome change (Foretells (world_in before) name (f (world_in before)))
-    → (answer ≡ Ok true → Sets known knew name (IsNext (known_at known name) change)) → ((answer ≡ Ok true → ⊥) → knew ≡ known) → is_storage answer ≡ false
-    → IfOk answer (λ done. DoneWhereSo done before after so (λ w. update_repo w name (f w) (repo_at w name))) → (answer ≡ Err Memory → StaysSettled before after) → Knows knew (world_in after)
-follows_done known knew before after name so f change (Ok true) knows there told sets kept sound made stays =
-    follows known knew after (world_in before) name (f (world_in before)) change knows (there made.0) told (sets refl) made.1.1
-follows_done known knew before after name so f change (Ok false) knows there told sets kept sound made stays =
-    subst (λ k. Knows k (world_in after)) (sym (kept not_done)) (later (Knows known) before after made.1 knows)
-follows_done known knew before after name so f change (Err fault) knows there told sets kept sound made stays =
-    subst (λ k. Knows k (world_in after)) (sym (kept (not_refused fault))) (unfollowed known before after fault knows sound stays)
-
--- a look-up before it changes nothing of that
-whether_before : (answer : Result Bool Fault) (old mid new : sqlite.State) (so : World → Bool) (f : World → World) → StaysSettled old mid
-    → IfOk answer (λ done. DoneWhereSo done mid new so f) → IfOk answer (λ done. DoneWhereSo done old new so f)
-whether_before (Ok done) old mid new so f stays made = whether_then done done old mid new so f refl stays made
-whether_before (Err fault) old mid new so f stays made = tt
-
 module _ {S : Type 0} (g : Ghosts S) (old mid new : Held S) (told : Result (Option Change) Fault) (change : Option Change) (is_told : told ≡ Ok change)
     (looked : Lasts g old mid) (stays : Stays g old mid told) (wrote : Lasts g mid new) where
   pub lasts : Lasts g old new
@@ -116,11 +90,7 @@ module _ {S : Type 0} (g : Ghosts S) (old mid new : Held S) (told : Result (Opti
         by : StaysSettled (state g old) (state g mid) → OnOk answer (SettlesOn (state g new) (f (world_in (state g old))))
         by same = earlier (λ w. OnOk answer (SettlesOn (state g new) (f w))) (state g old) (state g mid) same.1 (made (has_then P has is) clean same.0)
 
-    -- the same of a write that asks for nothing
-    pub makes_then : (f : World → World) → MakesWorld g mid new answer f → MakesWorld g old new answer f
-    makes_then f made clean is = made_then (λ w. ⊤) f (λ _. made) (λ _. tt) clean is
-
-    pub memory_then : StaysOnMemory g mid new answer → StaysOnMemory g old new answer
+    memory_then : StaysOnMemory g mid new answer → StaysOnMemory g old new answer
     memory_then memory clean is wanting = by (looked_up clean is)
       where
         by : StaysSettled (state g old) (state g mid) → StaysSettled (state g old) (state g new)
@@ -138,22 +108,3 @@ module _ {S : Type 0} (g : Ghosts S) (old mid new : Held S) (told : Result (Opti
         by then =
             follows_made known knew (state g old) (state g new) name (f (world_in (state g old))) change answer (knows (was_clean (state g old) (state g mid) looked then))
             (there (was_clean (state g old) (state g mid) looked then)) (subst (λ r. IfOk r (λ o. IfSome o (Foretells (world_in (state g old)) name (f (world_in (state g old)))))) is_told (tells then is)) sets kept sound (made clean is) (memory clean is)
-
-  module _ (answer : Result Bool Fault) where
-    pub done_then : (so : World → Bool) (f : World → World) → (HasCleanDisk (state g new) → IsSettled (state g mid) → IfOk answer (λ done. DoneWhereSo done (state g mid) (state g new) so f))
-        → HasCleanDisk (state g new) → IsSettled (state g old) → IfOk answer (λ done. DoneWhereSo done (state g old) (state g new) so f)
-    done_then so f made clean is = by (looked_up clean is)
-      where
-        by : StaysSettled (state g old) (state g mid) → IfOk answer (λ done. DoneWhereSo done (state g old) (state g new) so f)
-        by same = whether_before answer (state g old) (state g mid) (state g new) so f same (made clean same.0)
-
-    pub known_done : (known knew : KnownUsages) (name : Text) (so : World → Bool) (f : World → Repo → Repo) → ((w : World) → so w ≡ true → has_repo w name ≡ true) → IsKnown g old known
-        → Tells g old mid told (λ w change. IfSome change (Foretells w name (f w))) → (answer ≡ Ok true → Sets known knew name (IsNext (known_at known name) change)) → ((answer ≡ Ok true → ⊥) → knew ≡ known)
-        → (HasCleanDisk (state g new) → IsSettled (state g old) → IfOk answer (λ done. DoneWhereSo done (state g old) (state g new) so (λ w. update_repo w name (f w) (repo_at w name))))
-        → StaysOnMemory g old new answer → StaysKnown g old new knew answer
-    known_done known knew name so f there knows tells sets kept made memory clean is sound = by (was_clean (state g mid) (state g new) wrote clean)
-      where
-        by : HasCleanDisk (state g mid) → Knows knew (world_in (state g new))
-        by then =
-            follows_done known knew (state g old) (state g new) name so f change answer (knows (was_clean (state g old) (state g mid) looked then)) (there (world_in (state g old)))
-            (subst (λ r. IfOk r (λ o. IfSome o (Foretells (world_in (state g old)) name (f (world_in (state g old)))))) is_told (tells then is)) sets kept sound (made clean is) (memory clean is)

@@ -14,12 +14,10 @@ use Rattle.registry_model.specs.World.{World}
 use Rattle.registry_model.specs.Keeping.{State}
 use Rattle.registry_model.specs.Closing.{WritesWhereSo, session_matches}
 use Rattle.registry_model.specs.Lookups.{session_at}
-use Rattle.store_statements.specs.Held.{IsSettled, StaysSettled, SettlesOn, is_storage, world_in}
+use Rattle.store_statements.specs.Held.{IsSettled, StaysSettled, is_storage, world_in}
 use Rattle.store_statements.specs.Between.{StaysOnMemory}
-use Rattle.store_statements.proofs.SettledAfter.{stays_then}
-use Rattle.store_session_writes.specs.Whole.{DoneWhereSo}
+use Rattle.store_writes.specs.Whole.{DoneWhereSo}
 use Rattle.registry_store.specs.Kept.{Kept}
-use Rattle.store_reads.proofs.Foretold.{earlier}
 use Rattle.registry_store.proofs.KeeperStates.{found, wrote, stood}
 
 -- the store is settled, whether it was made or not
@@ -28,11 +26,6 @@ settled_whether (Ok true) old new so change sound made stays = made.1.0
 settled_whether (Ok false) old new so change sound made stays = made.0
 settled_whether (Err Memory) old new so change sound made stays = (stays refl).0
 settled_whether (Err Storage) old new so change sound made stays = absurd (true≢false sound)
-
--- a look-up before it changes nothing of that
-pub whether_then : (v done : Bool) (old mid new : sqlite.State) (so : World → Bool) (change : World → World) → v ≡ done → StaysSettled old mid → DoneWhereSo v mid new so change → DoneWhereSo done old new so change
-whether_then true done old mid new so change is stays made = subst (λ b. DoneWhereSo b old new so change) is (earlier (λ w. (so w ≡ true) × SettlesOn new (change w)) old mid stays.1 made)
-whether_then false done old mid new so change is stays made = subst (λ b. DoneWhereSo b old new so change) is (stays_then old mid new stays made)
 
 -- it was made of a session that is open
 pub was_open : (w : World) (name : Text) (number : ℕ) (digest : Text) → session_matches w name number digest ≡ true → is_some (session_at w name number) ≡ true

@@ -24,7 +24,7 @@ use Rattle.registry_store.specs.declared.known_usages.KnownUsages.{KnownUsages}
 use Rattle.store_reads.specs.Usages.{Turns, Foretells}
 use Rattle.registry_store.specs.Usages.{known_at, Knows, Sets, Applies, IsNext, HasQuota}
 use Rattle.store_reads.proofs.Foretold.{later}
-use Rattle.store_reads.proofs.MapSums.{sum_empty}
+use Rattle.registry_model.proofs.MapSums.{sum_empty}
 
 -- ---- numbers
 

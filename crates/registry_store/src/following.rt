@@ -1,5 +1,5 @@
 //! What is known of usages follows what was written.
-ghost use Rattle.std.specs.Prelude.{◌≡◌, true, Ok, OnOk, OnErr};
+ghost use Rattle.std.specs.Prelude.{◌≡◌, OnOk, OnErr};
 ghost use Rattle.registry_store.specs.Usages.{known_at, Sets, IsNext};
 
 use crate::known_usages::KnownUsages;
@@ -20,22 +20,5 @@ pub(crate) fn follow_made<T>(
     match made {
         Ok(_) => known.follow(repo, change),
         Err(_) => {}
-    }
-}
-
-/// The same of a write that answers whether it was made.
-pub(crate) fn follow_done(
-    known: &mut KnownUsages,
-    repo: &RepoName,
-    change: Option<Change>,
-    done: &Result<bool, Fault>,
-)
-    ensures followed { done.now ≡ Ok true
-        → Sets known.old known.new repo.now (IsNext (known_at known.old repo.now) change) }
-    ensures kept { (done.now ≡ Ok true → ⊥) → known.new ≡ known.old }
-{
-    match done {
-        Ok(true) => known.follow(repo, change),
-        _ => {}
     }
 }

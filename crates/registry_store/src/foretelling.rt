@@ -7,64 +7,14 @@ ghost use Rattle.registry_store.specs.Usages.{known_at};
 ghost use Rattle.registry_store.specs.Writes.{becomes};
 
 use crate::known_usages::KnownUsages;
-use oci_types::{Digest, Fault, RepoName, Tag};
+use crate::write::Write;
+use oci_types::{Fault, RepoName};
 use sqlite::{Alter, Connection};
 use std::alloc::Global;
 use store_reads::{
     Change, delete_blob_change, delete_blobs_change, delete_manifest_change, delete_tag_change,
-    drop_sessions_change, finish_change, known_finish_change, manifest_change, mount_change,
-    or_untold, put_change,
+    drop_sessions_change, finish_change, manifest_change, mount_change, or_untold,
 };
-
-/// A write to a repository whose change look-ups tell.
-#[derive(Clone, Copy)]
-pub(crate) enum Write<'a> {
-    /// A blob comes.
-    PutBlob {
-        digest: &'a Digest,
-        bytes: &'a [u8],
-    },
-    /// A blob of another repository comes.
-    Mount {
-        from: &'a RepoName,
-        digest: &'a Digest,
-    },
-    /// A manifest comes, and the tag, if there is one, names it.
-    PutManifest {
-        digest: &'a Digest,
-        bytes: &'a [u8],
-        tag: Option<&'a Tag>,
-    },
-    /// An upload session ends, and these bytes come as a blob.
-    Finish {
-        number: u64,
-        digest: &'a Digest,
-        bytes: &'a [u8],
-    },
-    /// An upload session ends, and its own bytes come as a blob.
-    FinishKnown {
-        number: u64,
-        digest: &'a Digest,
-    },
-    /// A blob goes.
-    DeleteBlob {
-        digest: &'a Digest,
-    },
-    /// Blobs go.
-    DeleteBlobs {
-        digests: &'a [Digest],
-    },
-    /// A manifest goes, with the tags that name it.
-    DeleteManifest {
-        digest: &'a Digest,
-    },
-    /// A tag goes.
-    DeleteTag {
-        tag: &'a Tag,
-    },
-    /// All open upload sessions end.
-    DropSessions,
-}
 
 /// What the write is going to change.
 fn look_up<S: Alter>(
@@ -79,17 +29,18 @@ fn look_up<S: Alter>(
     ensures survives { Lasts S.Store conn.old conn.new }
 {
     match write {
-        Write::PutBlob { digest, bytes } => put_change(conn, repo, digest, bytes),
         Write::Mount { from, digest } => mount_change(conn, from, repo, digest),
-        Write::PutManifest { digest, bytes, tag } => manifest_change(
-            alloc, conn, repo, digest, bytes, tag,
-        ),
+        Write::PutManifest {
+            digest,
+            bytes,
+            tag,
+            ..
+        } => manifest_change(alloc, conn, repo, digest, bytes, tag),
         Write::Finish {
             number,
             digest,
             bytes,
         } => finish_change(conn, repo, number, digest, bytes),
-        Write::FinishKnown { number, digest } => known_finish_change(conn, repo, number, digest),
         Write::DeleteBlob { digest } => delete_blob_change(conn, repo, digest),
         Write::DeleteBlobs { digests } => delete_blobs_change(conn, repo, digests),
         Write::DeleteManifest { digest } => delete_manifest_change(conn, repo, digest),

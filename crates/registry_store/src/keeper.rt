@@ -7,11 +7,13 @@ ghost use Rattle.store_statements.specs.Held.{held, world_in};
 ghost use Rattle.store_writes.specs.Naming.{is_named};
 ghost use Rattle.registry_store.specs.Kept.{IsHonest, shown};
 
+use crate::counted_writes::make_counted;
 use crate::fault_noting::note_fault;
 use crate::following::follow_made;
 use crate::origin::Origin;
 use crate::store::Store;
-use crate::{counted_blobs, counted_manifests, counted_repos, counted_sessions, usage_reads};
+use crate::write::Write;
+use crate::{counted_blobs, counted_repos, counted_sessions, usage_reads};
 use oci_types::{Digest, Fault, Kind, Manifest, RepoName, Tag, Token};
 use registry_model::{Grant, Keeper, Level, Quota, Usage};
 use sqlite::Alter;
@@ -29,12 +31,12 @@ macro_rules! unless_spent {
     }};
 }
 
-/// Makes a write to what a repository holds, which what is known of usages follows.
+/// Makes a write to what a repository holds; what is known of usages follows.
 macro_rules! counted {
-    ($store:ident, $write:path, $($given:expr),*) => {
+    ($store:ident, $repo:ident, $write:expr) => {
         unless_spent!(
             $store,
-            $write($store.alloc, &mut $store.conn, &mut $store.known, $($given),*)
+            make_counted($store.alloc, &mut $store.conn, &mut $store.known, $repo, $write)
         )
     };
 }
@@ -195,7 +197,17 @@ impl<S: Alter, O: Origin> Keeper for Store<S, O> {
     }
 
     fn put_blob(&mut self, repo: &RepoName, digest: &Digest, bytes: &[u8]) -> Result<(), Fault> {
-        counted!(self, counted_blobs::put_blob, repo, digest, bytes)
+        unless_spent!(
+            self,
+            counted_blobs::put_blob(
+                self.alloc,
+                &mut self.conn,
+                &mut self.known,
+                repo,
+                digest,
+                bytes
+            )
+        )
     }
 
     fn open_session(&mut self, repo: &RepoName) -> Result<u64, Fault> {
@@ -206,7 +218,7 @@ impl<S: Alter, O: Origin> Keeper for Store<S, O> {
                     opened: 1,
                     ..NO_CHANGE
                 };
-                let opened = store_session_writes::open_session(&mut self.conn, repo);
+                let opened = store_writes::open_session(&mut self.conn, repo);
                 follow_made(&mut self.known, repo, Some(one_more), &opened);
                 opened
             }
@@ -221,13 +233,7 @@ impl<S: Alter, O: Origin> Keeper for Store<S, O> {
                     added: bytes.len() as u64,
                     ..NO_CHANGE
                 };
-                let made = store_session_writes::append(
-                    self.alloc,
-                    &mut self.conn,
-                    repo,
-                    number,
-                    bytes
-                );
+                let made = store_writes::append(self.alloc, &mut self.conn, repo, number, bytes);
                 follow_made(&mut self.known, repo, Some(longer), &made);
                 made
             }
@@ -241,7 +247,12 @@ impl<S: Alter, O: Origin> Keeper for Store<S, O> {
         digest: &Digest,
         bytes: &[u8],
     ) -> Result<(), Fault> {
-        counted!(self, counted_sessions::finish, repo, number, digest, bytes)
+        let finish = Write::Finish {
+            number,
+            digest,
+            bytes,
+        };
+        counted!(self, repo, finish)
     }
 
     fn finish_known(
@@ -250,11 +261,21 @@ impl<S: Alter, O: Origin> Keeper for Store<S, O> {
         number: u64,
         digest: &Digest,
     ) -> Result<bool, Fault> {
-        counted!(self, counted_sessions::finish_known, repo, number, digest)
+        unless_spent!(
+            self,
+            counted_sessions::finish_known(
+                self.alloc,
+                &mut self.conn,
+                &mut self.known,
+                repo,
+                number,
+                digest
+            )
+        )
     }
 
     fn mount(&mut self, from: &RepoName, to: &RepoName, digest: &Digest) -> Result<(), Fault> {
-        counted!(self, counted_blobs::mount, from, to, digest)
+        counted!(self, to, Write::Mount { from, digest })
     }
 
     fn put_manifest(
@@ -265,31 +286,29 @@ impl<S: Alter, O: Origin> Keeper for Store<S, O> {
         manifest: &Manifest,
         tag: Option<&Tag>,
     ) -> Result<(), Fault> {
-        counted!(
-            self,
-            counted_manifests::put_manifest,
-            repo,
+        let put = Write::PutManifest {
             digest,
             bytes,
             manifest,
-            tag
-        )
+            tag,
+        };
+        counted!(self, repo, put)
     }
 
     fn delete_blob(&mut self, repo: &RepoName, digest: &Digest) -> Result<(), Fault> {
-        counted!(self, counted_blobs::delete_blob, repo, digest)
+        counted!(self, repo, Write::DeleteBlob { digest })
     }
 
     fn delete_blobs(&mut self, repo: &RepoName, digests: &[Digest]) -> Result<(), Fault> {
-        counted!(self, counted_blobs::delete_blobs, repo, digests)
+        counted!(self, repo, Write::DeleteBlobs { digests })
     }
 
     fn delete_manifest(&mut self, repo: &RepoName, digest: &Digest) -> Result<(), Fault> {
-        counted!(self, counted_manifests::delete_manifest, repo, digest)
+        counted!(self, repo, Write::DeleteManifest { digest })
     }
 
     fn delete_tag(&mut self, repo: &RepoName, tag: &Tag) -> Result<(), Fault> {
-        counted!(self, counted_manifests::delete_tag, repo, tag)
+        counted!(self, repo, Write::DeleteTag { tag })
     }
 
     fn set_repo(&mut self, name: &RepoName, quota: Quota) -> Result<(), Fault> {
@@ -325,7 +344,7 @@ impl<S: Alter, O: Origin> Keeper for Store<S, O> {
     }
 
     fn drop_sessions(&mut self, name: &RepoName) -> Result<(), Fault> {
-        counted!(self, counted_sessions::drop_sessions, name)
+        counted!(self, name, Write::DropSessions)
     }
 
     /// Frees each content that no blob, manifest or upload session names: exactly the others stay, and the

@@ -2,9 +2,9 @@
 #![tactic(auto)]
 
 mod counted_blobs;
-mod counted_manifests;
 mod counted_repos;
 mod counted_sessions;
+mod counted_writes;
 mod fault_noting;
 mod following;
 mod foretelling;
@@ -14,6 +14,7 @@ mod next_usage;
 mod origin;
 mod store;
 mod usage_reads;
+mod write;
 mod written;
 
 pub use origin::{Foreign, Origin, Ours};

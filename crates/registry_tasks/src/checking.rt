@@ -9,8 +9,9 @@ ghost use Rattle.registry_tasks.specs.Stored.{OverAt};
 use crate::opened::end_at;
 use oci_types::Fault;
 use order_carrying::Ended;
-use registry_checking::{Opener, Watch, Wrong, look, write_wrongs};
+use registry_checking::{Watch, Wrong, look, write_wrongs};
 use registry_model::Keeper;
+use registry_opening::Opener;
 use registry_orders::Failure;
 use registry_orders::cause::say_at;
 use registry_orders::failure::say;
@@ -77,7 +78,7 @@ fn told<E: Write>(checked: Result<(), Failure>, err: &mut E) -> u8
 }
 
 /// Opens the registry at a path, reads all that it holds, and writes a line for each thing that is wrong.
-pub fn run_check<K: Keeper, O: Opener<K>, W: Write, E: Write>(
+pub fn run_check<K: Keeper, O: Opener<K> + Watch, W: Write, E: Write>(
     alloc: Global,
     opener: &O,
     path: &str,

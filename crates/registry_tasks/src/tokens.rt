@@ -8,8 +8,8 @@ ghost use Rattle.registry_tasks.specs.Opened.{GivesToken, IsReadFor, RunsTokenOr
 
 use crate::opened::run_order_at;
 use oci_types::Token;
-use registry_checking::Opener;
 use registry_model::Keeper;
+use registry_opening::Opener;
 use registry_orders::cause::say_at;
 use registry_orders::{Cause, Failure, Place, TokenOrder, TokenSource, read_token};
 use std::alloc::Global;

@@ -51,8 +51,12 @@ fn step(alloc: Global, talk: &mut Talk) -> Step {
 fn go(rt: &impl Abort, talk: &mut Talk, count: usize) {
     let going = talk.conversation.outgoing();
     let count = count.min(going.len());
+    let of_head = count.min(going.head.len());
     talk.output
-        .extend_from_slice(&going[..count])
+        .extend_from_slice(&going.head[..of_head])
+        .expect(rt, "memory");
+    talk.output
+        .extend_from_slice(&going.body[..count - of_head])
         .expect(rt, "memory");
     talk.conversation.sent(count);
 }
@@ -152,7 +156,9 @@ fn happens(rt: &impl Abort, alloc: Global, place: usize, talk: &mut Talk, event:
                 talk.conversation.exchange().line(),
                 line.as_bytes(),
             );
-            same(rt, place, talk.conversation.exchange().came(), came);
+            let report = talk.conversation.take_report().expect(rt, "a report");
+            same(rt, place, report.came, came);
+            same(rt, place, report.went, talk.output.len() - before);
         }
         Event::Holds(held, wants) => {
             same(rt, place, talk.conversation.held(), held);

@@ -96,10 +96,22 @@ pub fn send(
 ) {
     let going = connections.outgoing(number);
     let count = count.min(going.len());
+    let of_head = count.min(going.head.len());
     output
-        .extend_from_slice(&going[..count])
+        .extend_from_slice(&going.head[..of_head])
+        .expect(rt, "memory");
+    output
+        .extend_from_slice(&going.body[..count - of_head])
         .expect(rt, "memory");
     let _ = connections.sent(number, count);
+}
+
+/// Whose turn it was, and what it came to.
+fn told(turn: Option<Turn>) -> Option<(u64, Step)> {
+    match turn {
+        Some(turn) => Some((turn.number, turn.step)),
+        None => None,
+    }
 }
 
 fn is_seen(rt: &impl Abort, place: usize, connections: &Connections, sight: Sight) {
@@ -131,9 +143,12 @@ pub fn happens(rt: &impl Abort, alloc: Global, place: usize, play: &mut Play, ac
         Act::Close(number, was_open) => same(rt, place, connections.close(number), was_open),
         Act::Turn(number, step) => {
             let turn = connections.turn(alloc, &mut play.registry);
-            same(rt, place, turn, Some(Turn { number, step }));
+            same(rt, place, told(turn), Some((number, step)));
         }
-        Act::NoTurn => same(rt, place, connections.turn(alloc, &mut play.registry), None),
+        Act::NoTurn => {
+            let turn = connections.turn(alloc, &mut play.registry);
+            same(rt, place, told(turn), None);
+        }
         Act::Send(number, count) => send(rt, connections, number, count, &mut Vec::new(alloc)),
         Act::Move(number, count) => connections.note_moved(number, count),
         Act::GiveBack(number) => connections.give_back(alloc, number),

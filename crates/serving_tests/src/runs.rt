@@ -3,7 +3,8 @@
 use crate::setting::{grant, same, setting};
 use crate::texts::{ABC, BLOB_UNKNOWN, CREATED, DELETED, FOUND, HELLO, filled};
 use oci_types::{RepoName, Token};
-use registry_http::write_reply;
+use registry_http::reply_text::body_bytes;
+use registry_http::write_head;
 use registry_model::{AdminCommand, Body, Level, Query, Quota, Request, Route, Verb};
 use registry_service::{Outcome, Step};
 use std::alloc::Global;
@@ -157,7 +158,9 @@ fn outcome_text(rt: &impl Abort, alloc: Global, outcome: &Outcome) -> Vec<u8> {
     match outcome {
         Outcome::Reply(reply) => {
             assert!(rt; !matches!(reply.body, Body::Unsent(_)));
-            assert!(rt; write_reply(reply, false, false, &mut text).is_ok());
+            assert!(rt; write_head(reply, false, &mut text).is_ok());
+            text.extend_from_slice(body_bytes(&reply.body))
+                .expect(rt, "memory");
         }
         Outcome::Admin(Ok(())) => {}
         Outcome::Admin(Err(fault)) => {

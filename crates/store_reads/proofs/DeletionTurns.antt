@@ -11,7 +11,7 @@ use Rattle.registry_model.specs.Command.{without_sessions}
 use Rattle.registry_model.proofs.TextOrder.{text_total, exact_texts, remove_absent}
 use Rattle.store_reads.specs.declared.usage_change.Change.{Change}
 use Rattle.store_reads.specs.Usages.{Turns, gone_too}
-use Rattle.store_reads.proofs.MapSums.{sum_empty, sum_gone, len_gone}
+use Rattle.registry_model.proofs.MapSums.{sum_empty, sum_gone, len_gone}
 use Rattle.store_reads.proofs.UsageTurns.{no_turn}
 
 abbrev pub loss : ℕ → ℕ → ℕ → ℕ → ℕ → Change

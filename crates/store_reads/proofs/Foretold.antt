@@ -1,6 +1,6 @@
 -- What look-ups tell of a write's change.
 use Rattle.std.proofs.Common.{◌≡◌, ◌∙◌, ◌+◌, ◌++◌, ℕ, length, true, false, cond, None, Some, Ok, Err, Result, IfOk, IfErr, refl, sym, ap, subst}
-use Rattle.std.specs.Prelude.{Option, option_map, is_some, IfSome}
+use Rattle.std.specs.Prelude.{Option, option_map, is_some, is_none, IfSome}
 use Rattle.std.specs.Option.{option_and_then, option_map_or, unwrap_or}
 use Rattle.std.specs.FinMap.{get}
 use Rattle.oci_types.specs.Text.{Text}
@@ -12,7 +12,7 @@ use Rattle.registry_model.specs.World.{Repo, World, repo_at, has_repo}
 use Rattle.registry_model.specs.Blobs.{with_blob}
 use Rattle.registry_model.specs.Sessions.{opened, appended, finished}
 use Rattle.registry_model.specs.Manifests.{with_manifest, kind_in}
-use Rattle.registry_model.specs.Lookups.{blob_size_at, session_size_at, manifest_size_at, tag_at, session_at, last_number_at, bytes_or_none, with_mounted}
+use Rattle.registry_model.specs.Lookups.{blob_at, blob_size_at, session_size_at, manifest_size_at, tag_at, session_at, last_number_at, bytes_or_none, with_mounted}
 use Rattle.store_statements.specs.World.{world_of}
 use Rattle.store_statements.specs.Held.{tables_in, world_in, is_storage}
 use Rattle.store_reads.specs.declared.usage_change.Change.{Change}
@@ -45,7 +45,27 @@ pub session_length : (o : Option Text) (size : ℕ) → Some size ≡ option_map
 session_length None size e = absurd cc
 session_length (Some bytes) size e = sym (ap (λ x. unwrap_or x size) e)
 
+-- what is there, or not
+there : {A : Type 0} (o : Option A) → false ≡ is_none o → is_some o ≡ true
+there None e = absurd cc
+there (Some x) e = refl
+
+not_there : {A : Type 0} (o : Option A) → true ≡ is_none o → o ≡ None
+not_there None e = refl
+not_there (Some x) e = absurd cc
+
+held_size : (o : Option Text) → false ≡ is_none o → (n : ℕ) × (Some n ≡ option_map length o)
+held_size None e = absurd cc
+held_size (Some bytes) e = (length bytes, refl)
+
+no_size : (o : Option Text) → true ≡ is_none o → ◌≡◌ {A = Option ℕ} None (option_map length o)
+no_size None e = refl
+no_size (Some bytes) e = absurd cc
+
 module _ (w : World) (name : Text) (r : Repo) (at : repo_at w name ≡ Some r) where
+  blob_held : (digest : Text) → blob_at w name digest ≡ get r.blobs digest
+  blob_held digest = ap (option_and_then (λ (x : Repo). get x.blobs digest)) at
+
   pub blob_shown : (digest : Text) → blob_size_at w name digest ≡ option_map length (get r.blobs digest)
   blob_shown digest = ap (λ o. option_map length (option_and_then (λ (x : Repo). get x.blobs digest) o)) at
 
@@ -65,11 +85,11 @@ module _ (w : World) (name : Text) (r : Repo) (at : repo_at w name ≡ Some r) w
 -- ---- a whole push, and a mount
 
 module _ (w : World) (name digest : Text) where
-  pub put_kept : (bytes : Text) (size : ℕ) → Some size ≡ blob_size_at w name digest → Foretells w name (λ r. with_blob r digest bytes) (change 0 0 0 0 0 0 0)
-  put_kept bytes size e r at = put_there r digest bytes (has length (get r.blobs digest) size (e ∙ blob_shown w name r at digest))
+  pub put_kept : (bytes : Text) → false ≡ is_none (blob_at w name digest) → Foretells w name (λ r. with_blob r digest bytes) (change 0 0 0 0 0 0 0)
+  put_kept bytes e r at = put_there r digest bytes (there (get r.blobs digest) (e ∙ ap is_none (blob_held w name r at digest)))
 
-  pub put_added : (bytes : Text) → ◌≡◌ {A = Option ℕ} None (blob_size_at w name digest) → Foretells w name (λ r. with_blob r digest bytes) (change (length bytes) 0 1 0 0 0 0)
-  put_added bytes e r at = put_new r digest bytes (lacks length (get r.blobs digest) (e ∙ blob_shown w name r at digest))
+  pub put_added : (bytes : Text) → true ≡ is_none (blob_at w name digest) → Foretells w name (λ r. with_blob r digest bytes) (change (length bytes) 0 1 0 0 0 0)
+  put_added bytes e r at = put_new r digest bytes (not_there (get r.blobs digest) (e ∙ ap is_none (blob_held w name r at digest)))
 
   pub mount_kept : (source : Option Text) (size : ℕ) → Some size ≡ blob_size_at w name digest → Foretells w name (with_mounted digest source) (change 0 0 0 0 0 0 0)
   mount_kept source size e r at = mount_there r digest source (has length (get r.blobs digest) size (e ∙ blob_shown w name r at digest))
@@ -77,7 +97,7 @@ module _ (w : World) (name digest : Text) where
   pub mount_added : (source : Option Text) (size : ℕ) → ◌≡◌ {A = Option ℕ} None (blob_size_at w name digest) → Some size ≡ option_map length source → Foretells w name (with_mounted digest source) (change size 0 1 0 0 0 0)
   mount_added None size e s r at = absurd cc
   mount_added (Some bytes) size e s r at =
-      subst (λ n. Foretells w name (with_mounted digest (Some bytes)) (change n 0 1 0 0 0 0)) (sym (ap (λ x. unwrap_or x size) s)) (put_added bytes e) r at
+      subst (λ n. Foretells w name (with_mounted digest (Some bytes)) (change n 0 1 0 0 0 0)) (sym (ap (λ x. unwrap_or x size) s)) (put_added bytes (sym (ap is_none (lacks length (blob_at w name digest) e)))) r at
 
 -- ---- the end of a session
 
@@ -93,6 +113,19 @@ module _ (w : World) (name digest bytes : Text) (number size : ℕ) (sized_so : 
       let s = sized (get r.sessions number) size (sym sized_so ∙ session_shown w name r at number) in
       subst (λ n. Turns (change (length bytes) n 1 0 0 0 1) r (finished r number digest bytes)) s.2
       (end_new r number s.0 digest bytes s.1 (lacks length (get r.blobs digest) (e ∙ blob_shown w name r at digest)))
+
+-- of one whose own bytes are the blob
+module _ (w : World) (name digest : Text) (number size : ℕ) (sized_so : session_size_at w name number ≡ Some size) where
+  abbrev own : Text
+  own = bytes_or_none (session_at w name number)
+
+  pub known_kept : false ≡ is_none (blob_at w name digest) → Foretells w name (λ r. finished r number digest own) (change 0 size 0 0 0 0 1)
+  known_kept e = let held = held_size (blob_at w name digest) e in end_kept w name digest own number size sized_so held.0 held.1
+
+  pub known_added : true ≡ is_none (blob_at w name digest) → Foretells w name (λ r. finished r number digest own) (change size size 1 0 0 0 1)
+  known_added e =
+      subst (λ n. Foretells w name (λ r. finished r number digest own) (change n size 1 0 0 0 1)) (session_length (session_at w name number) size (sym sized_so))
+      (end_added w name digest own number size sized_so (no_size (blob_at w name digest) e))
 
 -- ---- a manifest
 

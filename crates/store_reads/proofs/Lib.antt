@@ -10,7 +10,6 @@ pub mod SessionBytes
 pub mod ReferrerBytes
 pub mod DigestsFound
 pub mod CleanBefore
-pub mod MapSums
 pub mod UsageTurns
 pub mod Foretold
 pub mod Behind

@@ -12,7 +12,7 @@ use Rattle.registry_model.specs.Lookups.{with_mounted}
 use Rattle.registry_model.proofs.TextOrder.{text_total}
 use Rattle.store_reads.specs.declared.usage_change.Change.{Change}
 use Rattle.store_reads.specs.Usages.{Turns}
-use Rattle.store_reads.proofs.MapSums.{sum_new, len_new, len_over, sum_gone, len_gone, sum_over}
+use Rattle.registry_model.proofs.MapSums.{sum_new, len_new, len_over, sum_gone, len_gone, sum_over}
 
 abbrev pub change : ℕ → ℕ → ℕ → ℕ → ℕ → ℕ → ℕ → Change
 change added gone blobs manifests tags opened ended = record {

@@ -3,10 +3,9 @@
 ghost use Rattle.std.specs.Prelude.{◌≡◌, length, IfSome, Some, None};
 ghost use Rattle.oci_types.specs.Text.{Text};
 ghost use Rattle.registry_model.specs.Ask.{text_in};
-ghost use Rattle.registry_model.specs.Blobs.{with_blob};
 ghost use Rattle.registry_model.specs.Sessions.{finished};
 ghost use Rattle.registry_model.specs.Manifests.{with_manifest};
-ghost use Rattle.registry_model.specs.Lookups.{blob_at, blob_size_at, session_at, session_size_at, bytes_or_none, with_mounted};
+ghost use Rattle.registry_model.specs.Lookups.{blob_at, blob_size_at, session_size_at, with_mounted};
 ghost use Rattle.store_statements.specs.Between.{Stays, Tells};
 ghost use Rattle.store_statements.specs.Clauses.{Lasts, WorldHas};
 ghost use Rattle.store_reads.specs.Usages.{Foretells, new_tags, or_untold};
@@ -25,29 +24,6 @@ pub fn or_untold(change: Result<Option<Change>, Fault>) -> Result<Option<Change>
     match change {
         Err(Fault::Memory) => Ok(None),
         told => told,
-    }
-}
-
-/// Of a push of a whole blob, in bytes and blobs.
-pub fn put_change<S: Alter>(
-    conn: &mut Connection<S>,
-    repo: &RepoName,
-    digest: &Digest,
-    bytes: &[u8],
-) -> Result<Option<Change>, Fault>
-    ensures found { Tells S.Store conn.old conn.new result
-        (λ w change. IfSome change (Foretells w repo.now (λ r. with_blob r digest.now bytes.now))) }
-    ensures settled { Stays S.Store conn.old conn.new result }
-    ensures survives { Lasts S.Store conn.old conn.new }
-{
-    match blob_size(conn, repo, digest) {
-        Ok(Some(_)) => Ok(Some(NO_CHANGE)),
-        Ok(None) => Ok(Some(Change {
-            added: bytes.len() as u64,
-            blobs: 1,
-            ..NO_CHANGE
-        })),
-        Err(fault) => Err(fault),
     }
 }
 
@@ -144,26 +120,6 @@ pub fn finish_change<S: Alter>(
 {
     match session_size(conn, repo, number) {
         Ok(Some(size)) => end_change(conn, repo, number, size, digest, bytes.len() as u64),
-        Ok(None) => Ok(None),
-        Err(fault) => Err(fault),
-    }
-}
-
-/// The same where the session's own bytes are the blob's, which no one reads.
-pub fn known_finish_change<S: Alter>(
-    conn: &mut Connection<S>,
-    repo: &RepoName,
-    number: u64,
-    digest: &Digest,
-) -> Result<Option<Change>, Fault>
-    ensures found { Tells S.Store conn.old conn.new result
-        (λ w change. IfSome change (Foretells w repo.now
-        (λ r. finished r number digest.now (bytes_or_none (session_at w repo.now number))))) }
-    ensures settled { Stays S.Store conn.old conn.new result }
-    ensures survives { Lasts S.Store conn.old conn.new }
-{
-    match session_size(conn, repo, number) {
-        Ok(Some(size)) => end_change(conn, repo, number, size, digest, size),
         Ok(None) => Ok(None),
         Err(fault) => Err(fault),
     }

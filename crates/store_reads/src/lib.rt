@@ -20,9 +20,7 @@ mod uploads;
 mod usage_change;
 
 pub use blobs::{blob, blob_digests, blob_size};
-pub use change_lookups::{
-    finish_change, known_finish_change, manifest_change, mount_change, or_untold, put_change,
-};
+pub use change_lookups::{finish_change, manifest_change, mount_change, or_untold};
 pub use deletion_lookups::{
     delete_blob_change, delete_blobs_change, delete_manifest_change, delete_tag_change,
     drop_sessions_change,
@@ -37,4 +35,4 @@ pub use repos::{count_repos, has_repo, last_number, repo_names};
 pub use sessions::session_numbered;
 pub use tags::{all_tags, tag};
 pub use uploads::{session_size, sessions_open};
-pub use usage_change::{Change, NO_CHANGE};
+pub use usage_change::{Change, NO_CHANGE, known_end_change, put_change};

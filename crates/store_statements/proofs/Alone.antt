@@ -7,13 +7,10 @@ use Rattle.sqlite.specs.Held.{Held, state}
 use Rattle.sqlite.proofs.Callers.{survives_begin}
 use Rattle.oci_types.specs.declared.fault.Fault.{Fault}
 use Rattle.store_statements.specs.Tables.{Tables}
-use Rattle.store_statements.specs.Between.{CommitsStep, GoesBack}
-use Rattle.store_statements.specs.Clauses.{KeepsInside, Lasts, LastsUncommitted, TablesHave}
+use Rattle.store_statements.specs.Clauses.{Lasts, LastsUncommitted}
 use Rattle.store_statements.specs.Held.{IsReady, IsSettled, Commits, IsBack, held}
-use Rattle.store_statements.proofs.Transactions.{ready, back_dropped, survives_all}
+use Rattle.store_statements.proofs.Transactions.{back_dropped, survives_all}
 use Rattle.store_statements.specs.Ends.{Ends}
-use Rattle.store_statements.specs.StepsFrom.{StepsFrom}
-use Rattle.store_statements.proofs.CleanBefore.{was_clean}
 
 -- ---- of results
 
@@ -51,28 +48,9 @@ module _ {S : Type 0} {g : Ghosts S} (old : Held S) {first mid new : Held S} {A 
   pub lasts : LastsUncommitted g first mid → Lasts g old new
   lasts worked = survives_all (state g old) (state g mid) (state g new) _ _ (survives_begin g old (state g mid) _ (subst (λ (h : Held S). LastsUncommitted g h mid) begun worked)) ends.survives
 
-  set : IsSettled (state g old) → IsReady (state g first)
-  set is = at_begin IsReady (ready (state g old) is)
-
   -- what was so of the work that was done is so of what was committed
   pub committed_so : (P : Tables → Type 0) → HasCleanDisk (state g new) → OnOk done (IsReady (state g mid) × P (held (state g mid))) → OnOk r (Commits (state g new) (held (state g new)) × P (held (state g new)))
   committed_so P clean it = both done r ends.told it (ends.committed clean (less done (λ h. h.0) it)) (λ h c. (commits_same c, subst P (sym c.tables) h.1))
 
   pub went_back : KeepsCommit (state g first) (state g mid) → HasCleanDisk (state g new) → IsSettled (state g old) → OnOk done (IsReady (state g mid)) → OnErr r (IsBack (state g old) (state g new))
   went_back kept clean is it = less_err r (back_dropped (state g old) (state g first) (state g mid) (state g new) is (at_begin (λ (s : State). s.committed ≡ (state g old).committed) refl) kept) (ends.undone clean it)
-
-  -- ---- from tables of which this is so, a step that leaves that
-  module _ (Q : Tables → Type 0) (P : Tables → Tables → Type 0) (work : StepsFrom g first mid done Q P) (kept : KeepsInside g first mid)
-      (worked : LastsUncommitted g first mid) where
-    done_so : TablesHave g old Q → HasCleanDisk (state g new) → IsSettled (state g old) → OnOk done (IsReady (state g mid) × P (held (state g old)) (held (state g mid)))
-    done_so free clean is =
-        let late = was_clean ends.survives clean in
-        before_begin (λ (s : State). OnOk done (IsReady (state g mid) × P (held s) (held (state g mid))))
-        (work late (set is) (at_begin (λ (s : State). Q (held s)) (free (before_begin HasCleanDisk (was_clean worked late)))))
-
-    pub alone_from : (TablesHave g old Q → CommitsStep g old new r P) × (TablesHave g old Q → GoesBack g old new r) × Lasts g old new
-    alone_from = (
-      λ free clean is. committed_so (P (held (state g old))) clean (done_so free clean is),
-      λ free clean is. went_back (kept (was_clean ends.survives clean) (set is)) clean is (less done (λ h. h.0) (done_so free clean is)),
-      lasts worked,
-    )

@@ -10,3 +10,6 @@ pub mod ManifestPuts
 pub mod ContentNaming
 pub mod ContentsFreed
 pub mod SeveralBlobs
+pub mod BytesStored
+pub mod SessionWrites
+pub mod KnownEnds

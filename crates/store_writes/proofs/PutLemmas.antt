@@ -1,6 +1,6 @@
 -- What is set where it is there, and comes where it is not.
-use Rattle.std.proofs.Common.{◌≡◌, ◌≢◌, ◌∙◌, inl, inr, ℕ, List, [], ◌∷◌, Bool, true, false, cond, None, Some, Ok, Err, Result, OnOk, length, refl, sym, ap, subst}
-use Rattle.std.specs.Prelude.{find, filter, is_some}
+use Rattle.std.proofs.Common.{◌≡◌, ◌∙◌, inl, inr, ℕ, List, true, None, Some, Ok, Err, Result, OnOk, refl, sym, ap, subst}
+use Rattle.std.specs.Prelude.{find, is_some}
 use Rattle.sqlite.specs.Order.{Row}
 use Rattle.sqlite.specs.State.{State}
 use Rattle.registry_model.specs.declared.level.Level.{Level}
@@ -11,42 +11,16 @@ use Rattle.store_statements.specs.Keys.{has_key, of_first}
 use Rattle.store_statements.specs.Tables.{Tables}
 use Rattle.store_statements.specs.World.{world_of}
 use Rattle.store_statements.specs.Registry.{is_repo, IsRegistry}
-use Rattle.store_statements.specs.Changes.{changed, with_level, grant_columns, with_quota, repo_columns, Comes}
+use Rattle.store_statements.specs.Changes.{with_level, grant_columns, with_quota, repo_columns, Comes}
 use Rattle.store_statements.proofs.Children.{some_is}
 use Rattle.store_statements.proofs.BlobWorlds.{blob_mounted}
 use Rattle.store_statements.proofs.GrantWorlds.{level_set, grant_added}
 use Rattle.store_statements.proofs.RepoWorlds.{quota_set, repo_added}
 use Rattle.store_statements.specs.Held.{Becomes, held}
 use Rattle.store_statements.specs.Steps.{grants_changed, GrantComes, repos_changed, RepoComes}
+use Rattle.store_writes.proofs.RowCounts.{none_changed}
 use Rattle.store_writes.specs.Puts.{SetOrCome, LevelIsPut, QuotaIsPut}
 use Rattle.store_statements.specs.StepsFrom.{LinkIsPut}
-
--- ---- how many rows were set
-
-pub none_counted : (p : Row → Bool) (rows : List Row) → length (filter p rows) ≡ 0 → find p rows ≡ None
-none_counted p [] e = refl
-none_counted p (r ∷ rows) e = step (p r) (none_counted p rows) e
-  where
-    step : (b : Bool) → (length (filter p rows) ≡ 0 → find p rows ≡ None) → length (cond b (r ∷ filter p rows) (filter p rows)) ≡ 0 → cond b (Some r) (find p rows) ≡ None
-    step true more e = absurd cc
-    step false more e = more e
-
-pub some_counted : (p : Row → Bool) (rows : List Row) → length (filter p rows) ≢ 0 → is_some (find p rows) ≡ true
-some_counted p [] e = absurd (e refl)
-some_counted p (r ∷ rows) e = step (p r) (some_counted p rows) e
-  where
-    step : (b : Bool) → (length (filter p rows) ≢ 0 → is_some (find p rows) ≡ true) → length (cond b (r ∷ filter p rows) (filter p rows)) ≢ 0 → is_some (cond b (Some r) (find p rows)) ≡ true
-    step true more e = refl
-    step false more e = more e
-
--- where none passes, none changed
-pub none_changed : (p : Row → Bool) (f : Row → Row) (rows : List Row) → find p rows ≡ None → changed p f rows ≡ rows
-none_changed p f [] e = refl
-none_changed p f (r ∷ rows) e = step (p r) (none_changed p f rows) e
-  where
-    step : (b : Bool) → (find p rows ≡ None → changed p f rows ≡ rows) → cond b (Some r) (find p rows) ≡ None → (cond b (f r) r ∷ changed p f rows) ≡ r ∷ rows
-    step true more e = absurd cc
-    step false more e = ap (λ rs. r ∷ rs) (more e)
 
 -- ---- it was set, or it came
 

@@ -1,5 +1,5 @@
 -- Statements, one after the other.
-use Rattle.std.proofs.Common.{Result, OnOk, subst, refl, inl, arith}
+use Rattle.std.proofs.Common.{◌∙◌, Ok, Err, Result, OnOk, ap, subst, refl, inl, arith}
 use Rattle.sqlite_trees.specs.declared.store.Store.{Ghosts}
 use Rattle.sqlite.specs.State.{State, HasCleanDisk, KeepsCommit, Survives}
 use Rattle.sqlite.specs.Held.{Held, state}
@@ -35,6 +35,11 @@ module _ {S : Type 0} (g : Ghosts S) where
       let early : HasCleanDisk (state g mid) = was_clean then_lasts clean in
       let it = first early is in
       subst (λ t. Becomes (state g new) (h t)) it.1 (second clean it.0)
+
+-- a statement that was done, and one that says how it ended
+pub becomes_then : {A E : Type 0} (f g : Tables → Tables) (a b c : State) (r : Result A E) → Becomes b (f (held a)) → OnOk r (Becomes c (g (held b))) → OnOk r (Becomes c (g (f (held a))))
+becomes_then f g a b c (Ok x) p q = (q.0, q.1 ∙ ap g p.1)
+becomes_then f g a b c (Err e) p q = tt
 
 -- ---- so far
 

@@ -13,10 +13,11 @@ use Rattle.store_statements.specs.Drops.{dropped}
 use Rattle.store_statements.specs.Steps.{tags_without, grants_without, blobs_without, without_manifest, BlobStored}
 use Rattle.store_statements.specs.StepsFrom.{LinkIsPut}
 use Rattle.store_writes.specs.declared.change.Change.{Change}
-use Rattle.store_writes.specs.declared.change.Change.TheVariants.{AddBlob, AddLink, TakeBlob, TakeBlobs, AddManifest, SetTag, TakeManifest, TakeTag, SetLevel, TakeLevel, TakeLevels, SetRepo, DropRepo, Clear}
+use Rattle.store_writes.specs.declared.change.Change.TheVariants.{AddBlob, AddLink, TakeBlob, TakeBlobs, AddManifest, SetTag, TakeManifest, TakeTag, SetLevel, TakeLevel, TakeLevels, SetRepo, DropRepo, Session, Clear}
 use Rattle.store_writes.specs.Deleting.{without_blob_links}
 use Rattle.store_writes.specs.Naming.{Cleared}
 use Rattle.store_writes.specs.Puts.{LevelIsPut, QuotaIsPut}
+use Rattle.store_writes.specs.SessionChanging.{SessionAsks, SessionFits, SessionMakes}
 use Rattle.store_writes.specs.Worlds.{StandsFor, tagged}
 
 -- numbers fit a column, and bytes are what is said of them
@@ -27,6 +28,7 @@ Fits (AddManifest alloc repo digest bytes manifest tag) =
     (matches digest.now bytes.now ≡ true) × (manifest_in bytes.now ≡ Ok (shown manifest.now))
     × (length bytes.now ≤ largest_manifest)
 Fits (SetRepo repo quota) = quota < 2 ^ 63
+Fits (Session change) = SessionFits change
 Fits _ = ⊤
 
 -- what comes is not there, and what is needed for it is
@@ -37,6 +39,7 @@ Asks (AddManifest alloc repo digest bytes manifest tag) t =
     Agree t × (is_repo t.repos repo.now ≡ true) × (find (has_key repo.now digest.now) t.manifests ≡ None)
 Asks (SetTag repo tag digest) t = Agree t × (is_repo t.repos repo.now ≡ true)
 Asks (DropRepo repo) t = IsEmptyBeside t.beside
+Asks (Session change) t = SessionAsks change t
 Asks _ t = ⊤
 
 -- of the tables before and after
@@ -55,4 +58,5 @@ Makes (TakeLevel token repo) t u = u ≡ grants_without (has_key token.now repo.
 Makes (TakeLevels token) t u = u ≡ grants_without (of_first token.now) t
 Makes (SetRepo repo quota) t u = QuotaIsPut t u repo.now quota
 Makes (DropRepo repo) t u = u ≡ dropped repo.now t
+Makes (Session change) t u = SessionMakes change t u
 Makes (Clear alloc) t u = Cleared t u

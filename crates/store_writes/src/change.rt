@@ -1,5 +1,6 @@
 //! What a change of the tables is, as a value.
 
+use crate::session_change::SessionChange;
 use oci_types::{Digest, Manifest, Tag};
 use registry_model::Level;
 use std::alloc::Global;
@@ -80,6 +81,8 @@ pub(crate) enum Change<'a> {
     DropRepo {
         repo: &'a str,
     },
+    /// Upload sessions change.
+    Session(SessionChange<'a>),
     /// Each content goes that nothing names.
     Clear {
         alloc: Global,

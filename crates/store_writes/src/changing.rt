@@ -15,6 +15,7 @@ use crate::grant_changes::put_level;
 use crate::manifest_puts::{add_tagged, put_tag_if};
 use crate::quota_changes::put_quota;
 use crate::repo_removal::drop_rows;
+use crate::session_changing::change_session;
 use oci_types::Fault;
 use sqlite::{Alter, Connection, Transaction};
 use store_statements::alone;
@@ -67,6 +68,7 @@ fn work<S: Alter>(tx: &mut Transaction<'_, S>, change: Change<'_>) -> Result<(),
         Change::TakeLevels { token } => take_token_grants(tx, token),
         Change::SetRepo { repo, quota } => put_quota(tx, repo, quota),
         Change::DropRepo { repo } => drop_rows(tx, repo),
+        Change::Session(session) => change_session(tx, session),
         Change::Clear { alloc } => clear_contents(alloc, tx),
     }
 }

@@ -13,9 +13,3 @@ returns-in_err-limits c = record {
   read = IfOk-from_err c.from_residual-in_err-limits.result _ c.from_residual-in_err-limits.ensures.0;
   refused = words_failed c.from_residual-in_err-limits.result _ c.in_err-limits.ensures.refused c.from_residual-in_err-limits.ensures.1;
 }
-
-pub returns-in_err-beside : goal.returns-in_err-beside
-returns-in_err-beside c = record {
-  read = IfOk-from_err c.from_residual-in_err-beside.result _ c.from_residual-in_err-beside.ensures.0;
-  refused = words_failed c.from_residual-in_err-beside.result _ c.in_err-beside.ensures.refused c.from_residual-in_err-beside.ensures.1;
-}

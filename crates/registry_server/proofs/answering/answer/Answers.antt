@@ -1,15 +1,31 @@
-use Rattle.std.proofs.Common.{◌≡◌, Bool, true, false, if◌then◌else◌, refl, sym, ap, subst, ◌∙◌}
+use Rattle.std.proofs.Common.{◌≡◌, inl, inr, Option, Some, None, refl, ap, sym, subst, ◌∙◌}
+use Rattle.std.specs.Prelude.{IfSome, String, string_bytes}
+use Rattle.std.specs.declared.alloc.Global.{Global}
 use Rattle.oci_types.specs.Text.{Text}
-use Rattle.registry_model.specs.Answer.{Answer, answer_of, busy_answer, failed_answer}
+use Rattle.registry_model.specs.Answer.{answer_of}
 use Rattle.registry_model.specs.Ask.{Ask}
 use Rattle.registry_model.specs.Doing.{Does}
-use Rattle.registry_model.specs.Heads.{is_head, is_sent}
-use Rattle.registry_model.specs.Keeping.{State}
-use Rattle.registry_http.specs.Asking.{ask_in, path_text, keys_in, query_in}
+use Rattle.registry_model.specs.Form.{Form}
+use Rattle.registry_model.specs.Heads.{is_head}
+use Rattle.registry_http.specs.Asking.{ask_in, verb_of, path_text, form_if, keys_in, query_in}
+use Rattle.registry_outbox.specs.Reports.{endpoint_of, name_of}
+use Rattle.registry_server.proofs.WantingLemmas.{wanting, whole}
 use Rattle.registry_server.proofs.answering.answer.Goals as goal
 
 pub returns-in-Ok : goal.returns-in-Ok
 returns-in-Ok g c = record {
+  asked = λ h at.
+      let target = c.of.ensures ∙ at.target in
+      let path = c.in-Ok.ensures.path ∙ ap path_text target in
+      let keys = c.in-Ok.ensures.keys ∙ ap (λ (t : Text). keys_in (query_in t)) target in
+      let asks = c.request_of-request.ensures.asks h at path keys in
+      let asked = c.of-asked in
+      record {
+        verb = asked.ensures.verb ∙ ap (λ (q : Ask). q.verb) asks;
+        endpoint = inl (asked.ensures.endpoint ∙ ap (λ (q : Ask). Some (endpoint_of q.form)) asks);
+        repository = subst (λ (f : Form). IfSome asked.result.repository (λ (n : String Global). name_of f ≡ Some (string_bytes n))) (ap (λ (q : Ask). q.form) asks)
+            asked.ensures.repository;
+      };
   does = λ honest h at.
       let target = c.of.ensures ∙ at.target in
       let path = c.in-Ok.ensures.path ∙ ap path_text target in
@@ -20,16 +36,13 @@ returns-in-Ok g c = record {
   honest = c.handle.ensures.honest;
 }
 
-wanting : (s : State) (q : Ask) (a : Answer) (spent : Bool) → a ≡ (if spent then failed_answer else busy_answer) → spent ≡ s.spent → Does s q a s
-wanting s q a true e is = rw e (refl, sym is)
-wanting s q a false e is = rw e (sym is, refl, refl)
-
-whole : (a : Answer) (spent : Bool) → a ≡ (if spent then failed_answer else busy_answer) → is_sent a.body ≡ true
-whole a true e = rw e refl
-whole a false e = rw e refl
-
 pub returns-in-Err : goal.returns-in-Err
 returns-in-Err g c = record {
+  asked = λ h at. record {
+    verb = c.unread-asked.ensures.verb ∙ c.verb.ensures ∙ ap verb_of (c.of-in-Err.ensures ∙ at.method);
+    endpoint = inr (c.unread-asked.ensures.endpoint, (c.spent.result, c.unread.ensures));
+    repository = subst (λ (o : Option (String Global)). IfSome o (λ (n : String Global). name_of (form_if (path_text h.target)) ≡ Some (string_bytes n))) (sym c.unread-asked.ensures.repository) tt;
+  };
   does = λ honest h at. wanting (g.K.Keeper.state c.args.service.now) (ask_in h c.args.body.now) (answer_of c.unread.result) c.spent.result c.unread.ensures c.spent.ensures;
   carries = λ other. whole (answer_of c.unread.result) c.spent.result c.unread.ensures;
   honest = λ honest. honest;

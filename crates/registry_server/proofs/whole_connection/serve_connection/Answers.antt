@@ -3,7 +3,7 @@ use Rattle.registry_http.proofs.ConnectionProgress.{starts, memory_serves}
 use Rattle.registry_server.proofs.whole_connection.serve_connection.Goals as goal
 
 pub serve_requests-requires : goal.serve_requests-requires
-serve_requests-requires g c = c.in-Ok.ensures
+serve_requests-requires g c = c.new-conversation.ensures
 
 pub returns-in-Ok : goal.returns-in-Ok
 returns-in-Ok g c = record { honest = c.serve_requests.ensures.honest; serves = c.serve_requests.ensures.serves }

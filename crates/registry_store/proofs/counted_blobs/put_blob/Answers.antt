@@ -1,36 +1,33 @@
-use Rattle.std.proofs.Common.{◌≡◌, true, true≢false}
-use Rattle.registry_model.specs.World.{World, Repo, has_repo}
+use Rattle.std.proofs.Common.{Some}
+use Rattle.sqlite.specs.Held.{state}
+use Rattle.registry_model.specs.World.{Repo}
 use Rattle.registry_model.specs.Blobs.{with_blob}
-use Rattle.registry_model.specs.Lookups.{put_blob}
-use Rattle.store_statements.proofs.Checks.{never_storage}
-use Rattle.registry_store.proofs.Followed.{lasts, made_then, memory_then, known_then}
+use Rattle.store_statements.specs.Held.{world_in}
+use Rattle.store_reads.proofs.CleanBefore.{was_clean}
+use Rattle.registry_store.proofs.KnownWorlds.{follows, unfollowed}
 use Rattle.registry_store.proofs.counted_blobs.put_blob.Goals as goal
 
-pub put_blob-made-requires : goal.put_blob-made-requires
-put_blob-made-requires g c = record { matching = c.requires.matching; fits = c.requires.fits }
-
-pub returns : goal.returns
-returns g c =
-    let makes =
-    made_then g.S.Store c.args.conn.now c.foretell.new.conn c.put_blob-made.new.conn c.foretell.result c.in-Ok.change c.in-Ok.is c.foretell.ensures.survives c.foretell.ensures.settled c.put_blob-made.ensures.survives
-    c.put_blob-made.result (λ w. has_repo w c.args.repo.now ≡ true) (λ w. put_blob w c.args.repo.now c.args.digest.now c.args.bytes.now) c.put_blob-made.ensures.made in
-    let stays =
-    memory_then g.S.Store c.args.conn.now c.foretell.new.conn c.put_blob-made.new.conn c.foretell.result c.in-Ok.change c.in-Ok.is c.foretell.ensures.survives c.foretell.ensures.settled c.put_blob-made.ensures.survives
-    c.put_blob-made.result c.put_blob-made.ensures.memory in
-    record {
-      made = makes;
-      memory = stays;
-      survives = lasts g.S.Store c.args.conn.now c.foretell.new.conn c.put_blob-made.new.conn c.foretell.result c.in-Ok.change c.in-Ok.is c.foretell.ensures.survives c.foretell.ensures.settled c.put_blob-made.ensures.survives;
-      known = λ known there.
-          known_then g.S.Store c.args.conn.now c.foretell.new.conn c.put_blob-made.new.conn c.foretell.result c.in-Ok.change c.in-Ok.is c.foretell.ensures.survives c.foretell.ensures.settled c.put_blob-made.ensures.survives
-          c.put_blob-made.result c.args.known.now c.follow_made.new.known c.args.repo.now (λ (w : World) (r : Repo). with_blob r c.args.digest.now c.args.bytes.now) known there c.foretell.ensures.found c.follow_made.ensures.followed c.follow_made.ensures.kept
-          (makes there) stays;
-    }
-
-pub returns-in_default : goal.returns-in_default
-returns-in_default g c = record {
-  made = λ there clean is. tt;
-  memory = λ clean is wanting. absurd (never_storage wanting);
-  survives = c.foretell.ensures.survives;
-  known = λ known there clean is sound. absurd (true≢false sound);
+pub returns-in-Ok : goal.returns-in-Ok
+returns-in-Ok g c = record {
+  made = λ there clean is. c.in-Ok.ensures.made there clean is;
+  memory = λ clean is wanting. absurd (cc);
+  survives = c.put_blob.ensures.survives;
+  known = λ known there clean is sound.
+      let old = state g.S.Store c.args.conn.now in
+      let early = was_clean old (state g.S.Store c.put_blob.new.conn) c.put_blob.ensures.survives clean in
+      follows c.args.known.now c.follow.new.self (state g.S.Store c.put_blob.new.conn) (world_in old) c.args.repo.now (λ (r : Repo). with_blob r c.args.digest.now c.args.bytes.now) (Some c.put_change.result) (known early) (there early)
+      (c.put_change.ensures (world_in old) c.args.repo.now c.args.digest.now (c.in-Ok.ensures.came clean is)) c.follow.ensures (c.in-Ok.ensures.made there clean is).1;
 }
+
+pub returns-in-Err : goal.returns-in-Err
+returns-in-Err g c = record {
+  made = λ there clean is. tt;
+  memory = λ clean is wanting. c.in-Err.ensures.memory clean is (let e = wanting in cc);
+  survives = c.put_blob.ensures.survives;
+  known = λ known there clean is sound.
+      unfollowed {A = Unit {0}} c.args.known.now (state g.S.Store c.args.conn.now) (state g.S.Store c.put_blob.new.conn) c.in-Err.fault
+      (known (was_clean (state g.S.Store c.args.conn.now) (state g.S.Store c.put_blob.new.conn) c.put_blob.ensures.survives clean)) sound (λ wanting. c.in-Err.ensures.memory clean is (let e = wanting in cc));
+}
+
+pub put_blob-requires : goal.put_blob-requires
+put_blob-requires g c = record { matching = c.requires.matching; fits = c.requires.fits }

@@ -1,12 +1,5 @@
 use Rattle.registry_store.proofs.foretelling.look_up.Goals as goal
 
-pub returns-in-PutBlob : goal.returns-in-PutBlob
-returns-in-PutBlob g c = record {
-  found = rw c.in-PutBlob.is c.put_change.ensures.found;
-  settled = c.put_change.ensures.settled;
-  survives = c.put_change.ensures.survives;
-}
-
 pub returns-in-Mount : goal.returns-in-Mount
 returns-in-Mount g c = record {
   found = rw c.in-Mount.is c.mount_change.ensures.found;
@@ -26,13 +19,6 @@ returns-in-Finish g c = record {
   found = rw c.in-Finish.is c.finish_change.ensures.found;
   settled = c.finish_change.ensures.settled;
   survives = c.finish_change.ensures.survives;
-}
-
-pub returns-in-FinishKnown : goal.returns-in-FinishKnown
-returns-in-FinishKnown g c = record {
-  found = rw c.in-FinishKnown.is c.known_finish_change.ensures.found;
-  settled = c.known_finish_change.ensures.settled;
-  survives = c.known_finish_change.ensures.survives;
 }
 
 pub returns-in-DeleteBlob : goal.returns-in-DeleteBlob

@@ -10,12 +10,12 @@ use Rattle.store_statements.proofs.Checks.{never_storage}
 use Rattle.store_statements.proofs.CleanBefore.{was_clean}
 use Rattle.store_statements.proofs.SettledAfter.{stays_then}
 use Rattle.store_statements.proofs.Transactions.{survives_all}
-use Rattle.store_writes.proofs.Fitting.{link_fits}
+use Rattle.store_writes.proofs.Fitting.{not_above}
 use Rattle.store_writes.proofs.MountLemmas.{same_tables, no_storage, mounts}
 use Rattle.store_writes.proofs.blob_mounts.mount_link.Goals as goal
 
 pub make-requires : goal.make-requires
-make-requires g c = record { fits = link_fits c.in-Ok-Some.link.size c.if-link-le-LARGEST.true }
+make-requires g c = record { fits = not_above c.in-Ok-Some.link.size c.if-link-le-LARGEST.true }
 
 pub returns-in-Err : goal.returns-in-Err
 returns-in-Err g c = record {

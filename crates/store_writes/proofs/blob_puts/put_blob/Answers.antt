@@ -6,14 +6,13 @@ use Rattle.store_statements.specs.Keys.{has_key}
 use Rattle.store_statements.specs.declared.blobs.BlobLink.{BlobLink}
 use Rattle.store_statements.specs.Shown.{blob_link}
 use Rattle.store_statements.specs.Held.{held}
-use Rattle.store_statements.proofs.Alone.{less}
 use Rattle.store_statements.proofs.BlobLinks.{still_none}
 use Rattle.store_statements.proofs.Checks.{never_done}
 use Rattle.store_statements.proofs.CleanBefore.{was_clean}
 use Rattle.store_statements.proofs.SettledAfter.{stays_then}
 use Rattle.store_statements.proofs.Transactions.{survives_all}
 use Rattle.store_statements.proofs.WritesAfterReads.{none_found, memory_told}
-use Rattle.store_writes.proofs.BlobWrites.{puts_there, puts_new}
+use Rattle.store_writes.proofs.BlobWrites.{puts_there, puts_new, comes, is_there}
 use Rattle.store_writes.proofs.Fitting.{blob_fits}
 use Rattle.store_writes.proofs.blob_puts.put_blob.Goals as goal
 
@@ -25,6 +24,8 @@ returns-in-Ok-Some g c = record {
   made = λ there clean is.
       rw (c.as_str-repo.ensures.text, c.as_str-digest.ensures.text) at (puts_there (state g.S.Store c.args.conn.now) (state g.S.Store c.find_blob_link.new.conn) c.as_str-repo.result.now c.as_str-digest.result.now c.args.bytes.now c.in-Ok-Some.field-0-0 (c.in-Ok-Some.ensures.settled clean is refl)
       (sym c.in-Ok-Some.field-0-is ∙ c.in-Ok-Some.ensures.found clean is));
+  came = λ clean is.
+      rw (c.as_str-repo.ensures.text, c.as_str-digest.ensures.text) at (is_there (state g.S.Store c.args.conn.now) c.as_str-repo.result.now c.as_str-digest.result.now c.in-Ok-Some.field-0-0 is (sym c.in-Ok-Some.field-0-is ∙ c.in-Ok-Some.ensures.found clean is));
   memory = λ clean is memory. absurd (never_done memory);
   survives = c.find_blob_link.ensures.survives;
 }
@@ -32,12 +33,13 @@ returns-in-Ok-Some g c = record {
 pub returns-in-Err : goal.returns-in-Err
 returns-in-Err g c = record {
   made = λ there clean is. tt;
+  came = λ clean is. tt;
   memory = λ clean is memory. c.in-Err.ensures.settled clean is (memory_told (Option BlobLink) c.in-Err.fault memory);
   survives = c.find_blob_link.ensures.survives;
 }
 
-pub returns-in-Ok-None : goal.returns-in-Ok-None
-returns-in-Ok-None g c =
+pub returns-in-Ok : goal.returns-in-Ok
+returns-in-Ok g c =
     let old = state g.S.Store c.args.conn.now in
     let mid = state g.S.Store c.find_blob_link.new.conn in
     let new = state g.S.Store c.make.new.conn in
@@ -48,12 +50,27 @@ returns-in-Ok-None g c =
           let stays = c.in-Ok-None.ensures.settled late is refl in
           let found = sym c.in-Ok-None.field-0-is ∙ c.in-Ok-None.ensures.found late is in
           let none = none_found blob_link (find (has_key c.as_str-repo.result.now c.as_str-digest.result.now) (held old).blobs) found in
-          less c.make.result
-          (λ it. puts_new old mid new c.args.repo.now c.args.digest.now c.args.bytes.now is (there (was_clean c.find_blob_link.ensures.survives late)) stays (rw (c.as_str-repo.ensures.text, c.as_str-digest.ensures.text) at none) (rw (c.as_str-repo.ensures.text, c.as_str-digest.ensures.text) at it))
-          (c.make.ensures.made (λ clean. still_none old mid c.as_str-repo.result.now c.as_str-digest.result.now stays found) clean stays.0);
+          let it = c.in-Ok.ensures.made (λ clean. still_none old mid c.as_str-repo.result.now c.as_str-digest.result.now stays found) clean stays.0 in
+          puts_new old mid new c.args.repo.now c.args.digest.now c.args.bytes.now is (there (was_clean c.find_blob_link.ensures.survives late)) stays (rw (c.as_str-repo.ensures.text, c.as_str-digest.ensures.text) at none) (rw (c.as_str-repo.ensures.text, c.as_str-digest.ensures.text) at it);
+      came = λ clean is.
+          let found = sym c.in-Ok-None.field-0-is ∙ c.in-Ok-None.ensures.found (free clean) is in
+          let none = none_found blob_link (find (has_key c.as_str-repo.result.now c.as_str-digest.result.now) (held old).blobs) found in
+          comes old c.args.repo.now c.args.digest.now is (rw (c.as_str-repo.ensures.text, c.as_str-digest.ensures.text) at none);
+      memory = λ clean is memory. absurd (never_done memory);
+      survives = survives_all old mid new _ _ c.find_blob_link.ensures.survives c.make.ensures.survives;
+    }
+
+pub returns-in-Err-make : goal.returns-in-Err-make
+returns-in-Err-make g c =
+    let old = state g.S.Store c.args.conn.now in
+    let mid = state g.S.Store c.find_blob_link.new.conn in
+    let new = state g.S.Store c.make.new.conn in
+    record {
+      made = λ there clean is. tt;
+      came = λ clean is. tt;
       memory = λ clean is memory.
-          let late = free clean in
+          let late : HasCleanDisk mid = was_clean c.make.ensures.survives clean in
           let stays = c.in-Ok-None.ensures.settled late is refl in
-          stays_then old mid new stays (c.make.ensures.memory (λ clean. still_none old mid c.as_str-repo.result.now c.as_str-digest.result.now stays (sym c.in-Ok-None.field-0-is ∙ c.in-Ok-None.ensures.found late is)) clean stays.0 memory);
+          stays_then old mid new stays (c.in-Err-make.ensures.memory (λ clean. still_none old mid c.as_str-repo.result.now c.as_str-digest.result.now stays (sym c.in-Ok-None.field-0-is ∙ c.in-Ok-None.ensures.found late is)) clean stays.0 (let e = memory in cc));
       survives = survives_all old mid new _ _ c.find_blob_link.ensures.survives c.make.ensures.survives;
     }

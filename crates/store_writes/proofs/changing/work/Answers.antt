@@ -126,3 +126,14 @@ returns-in-Clear g c = record {
   same_reference = c.clear_contents.ensures.same_reference;
   survives = c.clear_contents.ensures.survives;
 }
+
+pub change_session-requires : goal.change_session-requires
+change_session-requires g c = record { fits = rw c.in-Session.is at c.requires.fits }
+
+pub returns-in-Session : goal.returns-in-Session
+returns-in-Session g c = record {
+  made = rw c.in-Session.is (c.change_session.ensures.made);
+  kept = λ clean is asks. c.change_session.ensures.kept clean is;
+  same_reference = c.change_session.ensures.same_reference;
+  survives = c.change_session.ensures.survives;
+}

@@ -7,7 +7,8 @@ use Rattle.store_schema.proofs.Selects.{commit_then, survives_both}
 use Rattle.store_statements.specs.Keys.{has_key}
 use Rattle.store_statements.specs.Held.{held}
 use Rattle.store_statements.proofs.CleanBefore.{was_clean}
-use Rattle.store_writes.proofs.PutLemmas.{none_counted, some_counted, then_ok, level_came, fresh_level, level_was_set}
+use Rattle.store_writes.proofs.RowCounts.{none_counted, some_counted}
+use Rattle.store_writes.proofs.PutLemmas.{then_ok, level_came, fresh_level, level_was_set}
 use Rattle.store_writes.proofs.grant_changes.put_level.Goals as goal
 
 pub returns-then-count-eq0 : goal.returns-then-count-eq0

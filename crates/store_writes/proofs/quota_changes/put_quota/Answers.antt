@@ -7,7 +7,8 @@ use Rattle.store_schema.proofs.Selects.{commit_then, survives_both}
 use Rattle.store_statements.specs.Keys.{of_first}
 use Rattle.store_statements.specs.Held.{held}
 use Rattle.store_statements.proofs.CleanBefore.{was_clean}
-use Rattle.store_writes.proofs.PutLemmas.{none_counted, some_counted, then_ok, repo_came, fresh_repo, quota_was_set}
+use Rattle.store_writes.proofs.RowCounts.{none_counted, some_counted}
+use Rattle.store_writes.proofs.PutLemmas.{then_ok, repo_came, fresh_repo, quota_was_set}
 use Rattle.store_writes.proofs.quota_changes.put_quota.Goals as goal
 
 pub returns-then-count-eq0 : goal.returns-then-count-eq0

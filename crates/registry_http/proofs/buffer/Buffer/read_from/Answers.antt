@@ -1,6 +1,6 @@
 use Rattle.std.proofs.Common.{◌≡◌, ◌≤◌, ◌+◌, ◌++◌, le_trans, le_of_eq, List, ℕ, length, take, slice_range, ap, ◌∙◌, arith}
 use Rattle.std.proofs.lemmas.List.{with_items_is}
-use Rattle.registry_http.proofs.BufferLemmas.{slice_kept, slice_more, slice_few}
+use Rattle.registry_http.proofs.BufferLemmas.{slice_kept, slice_more, slice_few, some_read}
 use Rattle.registry_http.proofs.buffer.Buffer.read_from.Goals as goal
 
 pub returns-in-Ok-clause-cases : goal.returns-in-Ok-clause-cases
@@ -13,6 +13,7 @@ returns-in-Ok-clause-cases g c =
     let kept = slice_kept b.room.items room b.end b.unread b.end front b.ordered (omega arith) in
     record {
       bytes = more;
+      some = some_read room b.end c.in-Ok.n c.in-Ok.ensures.cases.0 (omega (arith, c.in-Ok.n-test));
       grown = ap (λ (x : List ℕ). slice_range x b.unread (b.end + c.in-Ok.n)) (with_items_is b.room room size)
           ∙ slice_more room b.unread b.end c.in-Ok.n b.ordered ∙ ap (λ (x : List ℕ). x ++ more) kept;
       taken = c.in-Ok.ensures.cases.2;

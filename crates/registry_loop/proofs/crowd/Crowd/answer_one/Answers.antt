@@ -1,5 +1,5 @@
 use Rattle.registry_server.specs.Showing.{connected}
-use Rattle.registry_server.proofs.CallLemmas.{leads_none, leads_then}
+use Rattle.registry_server.proofs.CallLemmas.{leads_none, leads_then, carries_then, carries_same}
 use Rattle.registry_loop.proofs.crowd.Crowd.answer_one.Goals as goal
 
 pub returns-then-spent : goal.returns-then-spent
@@ -13,7 +13,9 @@ returns-in-Some g c = record {
   honest = c.turn.ensures.honest;
   leads = λ honest.
       let t = g.K.Keeper.state c.turn.new.service in
-      leads_then _ _ (connected c.turn.new.self) t _ t (c.turn.ensures.leads honest) (c.tell_of.ensures t);
+      let noted = carries_same _ _ c.note_work.ensures in
+      let told = carries_then _ _ _ noted c.tell_of.ensures in
+      leads_then _ _ (connected c.turn.new.self) t _ t (c.turn.ensures.leads honest) (told t);
 }
 
 pub returns-in-None : goal.returns-in-None

@@ -5,17 +5,18 @@ use Rattle.registry_loop.proofs.crowd.Crowd.serve_round.Goals as goal
 
 pub returns : goal.returns
 returns g c = record {
-  honest = λ honest. c.answer_all.ensures.honest (c.take_orders.ensures.honest honest);
+  honest = λ honest. c.answer_all.ensures.honest (c.carry_out.ensures.honest honest);
   leads = λ honest.
       let s = g.K.Keeper.state c.args.service.now in
       let t = g.K.Keeper.state c.answer_all.new.service in
-      let r = g.K.Keeper.state c.take_orders.new.service in
+      let r = g.K.Keeper.state c.carry_out.new.service in
       let u = connected c.hear_all.new.connections in
       let v = connected c.answer_all.new.connections in
+      let w = connected c.carry_out.new.connections in
       let before = carries_then _ _ _ c.begin_round.ensures c.hear_all.ensures in
-      let answered = c.answer_all.ensures.leads (c.take_orders.ensures.honest honest) in
-      let ordered = leads_then u s v t v r answered (c.take_orders.ensures.leads honest v) in
-      leads_then _ s v r _ r (leads_then _ s u s v r (before s) ordered) (c.end_round.ensures.leads r);
+      let answered = c.answer_all.ensures.leads (c.carry_out.ensures.honest honest) in
+      let ordered = leads_then u s v t w r answered (c.carry_out.ensures.leads honest) in
+      leads_then _ s w r _ r (leads_then _ s u s w r (before s) ordered) (c.end_round.ensures.leads r);
   none = c.end_round.ensures.none;
 }
 

@@ -3,6 +3,6 @@ use Rattle.registry_loop.proofs.sockets.Sockets.end_round.Goals as goal
 
 pub returns : goal.returns
 returns c = record {
-  leads = carries_then _ _ _ (carries_then _ _ _ c.tell_all.ensures c.dismiss_all.ensures) c.dismiss_silent.ensures.leads;
-  none = c.dismiss_silent.ensures.none;
+  leads = carries_then _ _ _ (carries_then _ _ _ c.tell_all.ensures c.part_with_others.ensures) c.part_with_silent.ensures.leads;
+  none = c.part_with_silent.ensures.none;
 }

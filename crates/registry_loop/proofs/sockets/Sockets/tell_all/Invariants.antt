@@ -2,5 +2,5 @@ use Rattle.registry_server.specs.Events.{Carries}
 use Rattle.registry_server.specs.Showing.{connected}
 use Rattle.registry_loop.proofs.sockets.Sockets.tell_all.Given as goal
 
-abbrev pub invariant-loop-peer : goal.invariant-loop-peer
-invariant-loop-peer l = Carries (connected l.fn.connections) (connected l.connections)
+abbrev pub invariant-loop-at : goal.invariant-loop-at
+invariant-loop-at l = Carries (connected l.fn.connections) (connected l.connections)

@@ -1,8 +1,9 @@
 use Rattle.std.proofs.Common.{◌≡◌, List, true, refl, ap, sym, subst}
 use Rattle.registry_server.specs.Open.{Slot, are_numbered}
 use Rattle.registry_server.specs.Room.{IsWithin}
-use Rattle.registry_server.proofs.PlaceLemmas.{found_on, unchanged}
+use Rattle.registry_server.proofs.PlaceLemmas.{unchanged}
 use Rattle.registry_server.proofs.LifeLemmas.{same_lives}
+use Rattle.registry_server.proofs.KeptLemmas.{kept_shown, alive_same}
 use Rattle.registry_server.proofs.connections.Connections.give_back.Goals as goal
 
 pub invariant_of-self : goal.invariant_of-self
@@ -11,6 +12,11 @@ invariant_of-self c = record {
       (sym (unchanged c.in-Some.at c.args.self.now.connections.items c.index_mut.result.now c.give_back.new.self c.index_mut.ensures.value c.give_back.ensures.same)) c.args.self.now.numbered;
   within = subst (IsWithin c.args.self.now.bounds)
       (sym (unchanged c.in-Some.at c.args.self.now.connections.items c.index_mut.result.now c.give_back.new.self c.index_mut.ensures.value c.give_back.ensures.same)) c.args.self.now.within;
+  kept = kept_shown c.args.self.now.sums c.args.self.now.resting c.args.self.now.oldest c.args.self.now.time c.in-Some.at c.args.self.now.connections.items c.give_back.new.self c.args.self.now.kept
+      (unchanged c.in-Some.at c.args.self.now.connections.items c.index_mut.result.now c.give_back.new.self c.index_mut.ensures.value c.give_back.ensures.same)
+      (alive_same c.args.self.now.sums c.args.self.now.resting c.args.self.now.oldest c.args.self.now.time c.args.number c.in-Some.at c.args.self.now.connections.items
+      c.index_mut.result.now c.give_back.new.self c.index_mut.ensures.value c.in-Some.ensures.found c.args.self.now.kept c.give_back.ensures.lives);
+  fits = c.args.self.now.fits;
 }
 
 pub returns-in-Some : goal.returns-in-Some
@@ -23,7 +29,7 @@ returns-in-Some c =
       lives = record {
         time = refl;
         all = same_lives c.args.number c.in-Some.at items c.index_mut.result.now y c.index_mut.ensures.value
-            (found_on c.args.number c.in-Some.at c.deref.result.now items c.deref.ensures.value c.in-Some.ensures.found)
+            c.in-Some.ensures.found
             (ap (λ (s : Slot). s.number) c.give_back.ensures.same) c.give_back.ensures.lives;
       };
     }

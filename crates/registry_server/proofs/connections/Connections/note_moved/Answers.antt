@@ -2,9 +2,10 @@ use Rattle.std.proofs.Common.{◌≡◌, List, true, refl, ap, sym, ◌∙◌, s
 use Rattle.std.specs.Prelude.{option_map}
 use Rattle.registry_server.specs.Open.{Slot, are_numbered}
 use Rattle.registry_server.specs.Room.{IsWithin}
-use Rattle.registry_server.proofs.PlaceLemmas.{found_on, unchanged}
-use Rattle.registry_server.proofs.LifeLemmas.{changed_life, no_life_on}
+use Rattle.registry_server.proofs.PlaceLemmas.{unchanged}
+use Rattle.registry_server.proofs.LifeLemmas.{changed_life, no_life}
 use Rattle.registry_server.specs.Lives.{moved_by}
+use Rattle.registry_server.proofs.KeptLemmas.{kept_shown, alive_moved}
 use Rattle.registry_server.proofs.connections.Connections.note_moved.Goals as goal
 
 pub invariant_of-self : goal.invariant_of-self
@@ -13,6 +14,11 @@ invariant_of-self c = record {
       (sym (unchanged c.in-Some.at c.args.self.now.connections.items c.index_mut.result.now c.note_moved.new.self c.index_mut.ensures.value c.note_moved.ensures.same)) c.args.self.now.numbered;
   within = subst (IsWithin c.args.self.now.bounds)
       (sym (unchanged c.in-Some.at c.args.self.now.connections.items c.index_mut.result.now c.note_moved.new.self c.index_mut.ensures.value c.note_moved.ensures.same)) c.args.self.now.within;
+  kept = kept_shown c.args.self.now.sums c.args.self.now.resting c.args.self.now.oldest c.args.self.now.time c.in-Some.at c.args.self.now.connections.items c.note_moved.new.self c.args.self.now.kept
+      (unchanged c.in-Some.at c.args.self.now.connections.items c.index_mut.result.now c.note_moved.new.self c.index_mut.ensures.value c.note_moved.ensures.same)
+      (alive_moved c.args.self.now.sums c.args.self.now.resting c.args.self.now.oldest c.args.self.now.time c.args.number c.in-Some.at c.args.count c.args.self.now.connections.items
+      c.index_mut.result.now c.note_moved.new.self c.index_mut.ensures.value c.in-Some.ensures.found c.args.self.now.kept c.note_moved.ensures.lives);
+  fits = c.args.self.now.fits;
 }
 
 pub returns-in-Some : goal.returns-in-Some
@@ -20,7 +26,7 @@ returns-in-Some c =
     let items = c.args.self.now.connections.items in
     let y = c.note_moved.new.self in
     let but = changed_life c.args.number c.in-Some.at (moved_by c.args.count c.args.self.now.time) items c.index_mut.result.now y c.index_mut.ensures.value
-    (found_on c.args.number c.in-Some.at c.deref.result.now items c.deref.ensures.value c.in-Some.ensures.found)
+    c.in-Some.ensures.found
     (ap (λ (s : Slot). s.number) c.note_moved.ensures.same) c.note_moved.ensures.lives in
     record {
       same = ap (λ (ys : List Slot). record { slots = ys; next = c.args.self.now.next; bounds = c.args.self.now.bounds })
@@ -30,7 +36,7 @@ returns-in-Some c =
 
 pub returns-in_default : goal.returns-in_default
 returns-in_default c =
-    let none = no_life_on c.args.number c.args.self.now.connections.items c.deref.result.now c.deref.ensures.value c.in_default.ensures.none in
+    let none = no_life c.args.number c.args.self.now.connections.items c.in_default.ensures.none in
     record {
       same = refl;
       lives = record { time = refl; is = none ∙ sym (ap (option_map (moved_by c.args.count c.args.self.now.time)) none); others = λ m ne. refl };

@@ -4,14 +4,28 @@ use Rattle.registry_server.specs.Holding.{HoldsAs}
 use Rattle.registry_server.specs.ConversationShowing.{shown}
 use Rattle.registry_server.proofs.conversation.Conversation.answer_next.Goals as goal
 
-pub returns-in-Body : goal.returns-in-Body
-returns-in-Body g c = record {
-  honest = c.go_on.ensures.honest;
-  finished = c.go_on.ensures.finished;
-  fewer = c.go_on.ensures.fewer;
-  leads = c.go_on.ensures.leads;
-  over = λ e ended. absurd (let both = sym c.in-Body.is ∙ ended in cc);
-  acts = λ honest b said x.
-      let old = shown c.args.self.now in
-      c.go_on.ensures.acts honest b said (subst (λ (p : Phase). HoldsAs p old.taken old.unread b said) c.in-Body.is x);
+pub returns-in-Head : goal.returns-in-Head
+returns-in-Head g c = record {
+  honest = c.begin.ensures.honest;
+  finished = c.begin.ensures.finished;
+  fewer = c.begin.ensures.fewer;
+  leads = c.begin.ensures.leads;
+  over = λ e ended. absurd (let both = sym c.in-Head.is ∙ ended in cc);
+  acts = λ honest b said x. (c.begin.ensures.acts honest b said x).0;
+  tells = c.begin.ensures.acts;
 }
+
+pub returns-in-Body : goal.returns-in-Body
+returns-in-Body g c =
+    let old = shown c.args.self.now in
+    record {
+      honest = c.go_on.ensures.honest;
+      finished = c.go_on.ensures.finished;
+      fewer = c.go_on.ensures.fewer;
+      leads = c.go_on.ensures.leads;
+      over = λ e ended. absurd (let both = sym c.in-Body.is ∙ ended in cc);
+      acts = λ honest b said x.
+          (c.go_on.ensures.acts honest b said (subst (λ (p : Phase). HoldsAs p old.taken old.unread b said) c.in-Body.is x)).0;
+      tells = λ honest b said x.
+          c.go_on.ensures.acts honest b said (subst (λ (p : Phase). HoldsAs p old.taken old.unread b said) c.in-Body.is x);
+    }

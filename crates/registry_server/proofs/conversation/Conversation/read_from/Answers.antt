@@ -19,6 +19,7 @@ returns-in-Ok-clause-cases g c =
     let pulls = c.in-Ok.ensures.cases in
     inl (inl (
       pulls.bytes,
+      pulls.some,
       pulls.taken,
       comes old _ pulls.bytes (grown old.phase old.finished old.going old.taken _ old.unread _ pulls.bytes c.read_more.ensures.before pulls.grown),
     ))
@@ -27,4 +28,4 @@ pub returns-in-Err-Refuse-clause-cases : goal.returns-in-Err-Refuse-clause-cases
 returns-in-Err-Refuse-clause-cases g c =
     let none = fill_refused c.in-Err-Refuse.field-0 c.in-Err-Refuse.refusal (behind c.args.self.now.buffer) (g.R.Read.remaining c.args.reader.now) (g.R.Read.remaining c.read_more.new.reader)
     c.in-Err-Refuse.field-0-is c.in-Err-Refuse.ensures.cases in
-    inl (inr (lacks_memory c.refuse.result c.in-Err-Refuse.refusal (shown c.args.self.now) _ (shown c.refuse.new.self) none refl refl c.refuse.ensures))
+    inl (inr (lacks_memory c.refuse.result c.in-Err-Refuse.refusal (shown c.args.self.now) _ (shown c.refuse.new.self) none refl refl c.refuse.ensures.refuses))

@@ -30,8 +30,8 @@ returns-in-Err c =
     record {
       ignores = λ deaf. absurd (not_both _ _ c.listens.ensures c.if-not-listens.false deaf);
       keeps = λ hears.
-          lacked _ c.args.bytes.now (shown c.args.self.now) _ _ (ap (λ (s : Shown). s.going) so_far.2) (ap (λ (s : Shown). s.finished) so_far.2) c.refuse.ensures;
-      sized = emptied _ _ c.refuse.ensures.none_held;
+          lacked _ c.args.bytes.now (shown c.args.self.now) _ _ (ap (λ (s : Shown). s.going) so_far.2) (ap (λ (s : Shown). s.finished) so_far.2) c.refuse.ensures.refuses;
+      sized = emptied _ _ c.refuse.ensures.refuses.none_held;
     }
 
 pub returns-then-whole : goal.returns-then-whole
@@ -54,6 +54,6 @@ returns c =
     record {
       ignores = λ deaf. absurd (not_both _ _ c.listens.ensures c.if-not-listens.false deaf);
       keeps = λ hears.
-          lacked _ c.args.bytes.now (shown c.args.self.now) _ _ (ap (λ (s : Shown). s.going) so_far.2) (ap (λ (s : Shown). s.finished) so_far.2) c.refuse-2.ensures;
-      sized = emptied _ _ c.refuse-2.ensures.none_held;
+          lacked _ c.args.bytes.now (shown c.args.self.now) _ _ (ap (λ (s : Shown). s.going) so_far.2) (ap (λ (s : Shown). s.finished) so_far.2) c.refuse-2.ensures.refuses;
+      sized = emptied _ _ c.refuse-2.ensures.refuses.none_held;
     }

@@ -1,25 +1,24 @@
-use Rattle.std.proofs.Common.{◌≡◌, ◌<◌, ◌≤◌, List, length, drop, refl, sym, ap, ◌∙◌, subst, le_of_eq, arith}
+use Rattle.std.proofs.Common.{◌≡◌, ◌<◌, ◌≤◌, List, Option, length, refl, sym, ap, ◌∙◌, subst, le_of_eq, arith}
 use Rattle.oci_types.specs.Text.{Text}
 use Rattle.httparse.specs.declared.spans.HeaderSpan.{HeaderSpan}
 use Rattle.registry_http.specs.Spelling.{Item}
-use Rattle.registry_http.specs.Reading.{HeadIsRead}
 use Rattle.registry_http.proofs.HeadLemmas.{request_some}
-use Rattle.registry_server.specs.declared.phase.Step.TheVariants as step
 use Rattle.registry_server.specs.Headings.{IsTaken}
-use Rattle.registry_server.specs.Holding.{HoldsWhole}
 use Rattle.registry_server.specs.Shown.{Shown, with_going, coming_len}
 use Rattle.registry_server.specs.ConversationShowing.{shown}
-use Rattle.registry_server.specs.Stepping.{ActsAs}
+use Rattle.registry_outbox.specs.Outboxes.{left}
+use Rattle.registry_outbox.specs.declared.report.Report.{Report}
+use Rattle.registry_outbox.specs.Reports.{TellsAnswer, Reported}
 use Rattle.registry_server.proofs.HoldingLemmas.{item_taken}
-use Rattle.registry_server.proofs.SteppingLemmas.{going_on, answered_first, replied_in_part, part_ends, none_left, leads_refused, leads_answered, leads_ended}
+use Rattle.registry_server.proofs.SteppingLemmas.{answered_first, replied_in_part, part_ends, none_left, leads_refused, leads_answered, leads_ended}
 use Rattle.registry_server.proofs.conversation.Conversation.reply.Goals as goal
 
 pub returns-in_default : goal.returns-in_default
 returns-in_default g c = record {
   honest = λ honest. honest;
-  finished = c.refuse.ensures.finished;
-  fewer = none_left (shown c.args.self.now) (shown c.refuse.new.self) c.refuse.ensures.none_held;
-  leads = leads_refused c.refuse.result _ (shown c.args.self.now) _ (shown c.refuse.new.self) c.refuse.ensures;
+  finished = c.refuse.ensures.refuses.finished;
+  fewer = none_left (shown c.args.self.now) (shown c.refuse.new.self) c.refuse.ensures.refuses.none_held;
+  leads = leads_refused c.refuse.result _ (shown c.args.self.now) _ (shown c.refuse.new.self) c.refuse.ensures.refuses;
   acts = λ honest b said w. absurd (c.in_default.ensures.none b said w);
 }
 
@@ -43,9 +42,10 @@ returns-in-Ok g c = record {
       (subst (λ (x : Text). IsTaken x c.taken_head.new.room.spans.items c.in-Some.spans i) (sym c.before-taken.ensures)
       (item_taken (shown mid).taken (shown mid).unread b said v c.taken_head.new.room.spans.items c.in-Some.spans found.0 read)) in
       let sent = c.in-Ok.ensures.replies honest i there in
-      let within : mid.gone ≤ length mid.out.items = omega (arith, mid.within, mid.out.ok.0) in
-      answered_first _ _ (shown mid).going b said v sent.0 _ _ c.in-Ok.closing (shown c.close_if.new.self) sent.1
-      (c.close_if.ensures.going ∙ going_on mid.gone mid.out.items _ _ within sent.2) (c.in-Ok.ensures.closing i there) c.close_if.ensures.next;
+      let told = subst (λ (q : Option Report). Reported q (shown mid).going (shown c.close_if.new.self).going (λ r. TellsAnswer r i sent.0)) (sym c.close_if.ensures.report)
+      (subst (λ (x : Text). Reported c.reply_to.new.outbox.report (shown mid).going x (λ r. TellsAnswer r i sent.0)) (sym c.close_if.ensures.going) sent.3) in
+      answered_first _ _ (shown mid).going b said v mid.outbox.report c.close_if.new.self.outbox.report sent.0 _ _ c.in-Ok.closing (shown c.close_if.new.self) sent.1
+      (c.close_if.ensures.going ∙ sent.2) (c.in-Ok.ensures.closing i there) c.close_if.ensures.next told;
 }
 
 pub returns-in-Err : goal.returns-in-Err
@@ -54,7 +54,7 @@ returns-in-Err g c = record {
   finished = ap (λ (k : Shown). k.finished) c.end.ensures.ends;
   fewer = le_of_eq (ap coming_len c.end.ensures.ends);
   leads =
-      leads_ended c.end.result _ (shown c.args.self.now) (with_going (shown c.args.self.now) (drop c.args.self.now.gone c.reply_to.new.out.items))
+      leads_ended c.end.result _ (shown c.args.self.now) (with_going (shown c.args.self.now) (left c.reply_to.new.outbox))
       (shown c.end.new.self) c.end.ensures.step c.end.ensures.ends;
   acts = λ honest b said w.
       let mid = c.args.self.now in
@@ -66,8 +66,7 @@ returns-in-Err g c = record {
       (subst (λ (x : Text). IsTaken x c.taken_head.new.room.spans.items c.in-Some.spans i) (sym c.before-taken.ensures)
       (item_taken (shown mid).taken (shown mid).unread b said v c.taken_head.new.room.spans.items c.in-Some.spans found.0 read)) in
       let sent = c.in-Err.ensures.replies honest i there in
-      let within : mid.gone ≤ length mid.out.items = omega (arith, mid.within, mid.out.ok.0) in
-      part_ends c.end.result _ b said (shown mid).going _ _ (with_going (shown mid) (drop mid.gone c.reply_to.new.out.items)) _ c.end.ensures.step c.end.ensures.ends
-      (replied_in_part _ _ (shown mid).going b said v _ sent.0 _ _ _ sent.1 sent.2.0
-      (going_on mid.gone mid.out.items _ _ within sent.2.1));
+      part_ends c.end.result _ b said (shown mid).going _ _ (with_going (shown mid) (left c.reply_to.new.outbox)) (shown c.end.new.self) mid.outbox.report c.end.new.self.outbox.report c.end.ensures.step c.end.ensures.ends
+      (replied_in_part _ _ (shown mid).going b said v mid.outbox.report c.end.new.self.outbox.report _ sent.0 _ _ _ sent.1 sent.2.0 sent.2.1
+      (subst (λ (q : Option Report). Reported q (shown mid).going (left c.reply_to.new.outbox) (λ r. TellsAnswer r i sent.0)) (sym c.end.ensures.report) sent.3));
 }

@@ -10,9 +10,9 @@ use Rattle.registry_store.proofs.keeper.StoreKeeper.delete_blob.Goals as goal
 
 pub invariant_of-self : goal.invariant_of-self
 invariant_of-self g c =
-    write_holds g.S.Store g.O.Origin.is_ours c.self.inside.conn c.args.self.now c.self.inside.spent c.self.view_is c.self.inside.known c.self.invariant c.if-self.false c.delete_blob-answer.new.conn c.delete_blob-answer.ensures.survives
-    c.note_fault.result c.delete_blob-answer.result c.note_fault.new.spent c.note_fault.ensures.same c.note_fault.ensures.noted c.delete_blob-answer.new.known (λ w. delete_blob w c.args.repo.now c.args.digest.now)
-    (λ ours. c.delete_blob-answer.ensures.made) (λ ours. c.delete_blob-answer.ensures.memory) (λ ours known. c.delete_blob-answer.ensures.known known (λ clean. blob_has_repo (world_in (state g.S.Store c.self.inside.conn)) c.args.repo.now c.args.digest.now (asked g.S.Store c.self.inside.conn c.args.self.now c.self.inside.spent c.self.view_is (λ w. is_some (blob_at w c.args.repo.now c.args.digest.now) ≡ true) g.O.Origin.is_ours c.if-self.false ours c.requires.there clean)))
+    write_holds g.S.Store g.O.Origin.is_ours c.self.inside.conn c.args.self.now c.self.inside.spent c.self.view_is c.self.inside.known c.self.invariant c.if-self.false c.make_counted-answer.new.conn c.make_counted-answer.ensures.survives
+    c.note_fault.result c.make_counted-answer.result c.note_fault.new.spent c.note_fault.ensures.same c.note_fault.ensures.noted c.make_counted-answer.new.known (λ w. delete_blob w c.args.repo.now c.args.digest.now)
+    (λ ours. c.make_counted-answer.ensures.made (λ clean. tt)) (λ ours. c.make_counted-answer.ensures.memory (λ clean. tt)) (λ ours known. c.make_counted-answer.ensures.known known (λ clean. tt) (λ clean. blob_has_repo (world_in (state g.S.Store c.self.inside.conn)) c.args.repo.now c.args.digest.now (asked g.S.Store c.self.inside.conn c.args.self.now c.self.inside.spent c.self.view_is (λ w. is_some (blob_at w c.args.repo.now c.args.digest.now) ≡ true) g.O.Origin.is_ours c.if-self.false ours c.requires.there clean)))
 
 pub returns-then-self : goal.returns-then-self
 returns-then-self g c = record {
@@ -24,12 +24,15 @@ returns-then-self g c = record {
 pub returns : goal.returns
 returns g c = record {
   made =
-      write_says g.S.Store g.O.Origin.is_ours c.self.inside.conn c.args.self.now c.self.inside.spent c.self.view_is c.self.inside.known c.self.invariant c.if-self.false c.delete_blob-answer.new.conn c.delete_blob-answer.ensures.survives
-      c.note_fault.result c.delete_blob-answer.result c.note_fault.new.spent c.note_fault.ensures.same c.note_fault.ensures.noted (λ w. delete_blob w c.args.repo.now c.args.digest.now)
-      (λ ours. c.delete_blob-answer.ensures.made) (λ ours. c.delete_blob-answer.ensures.memory);
+      write_says g.S.Store g.O.Origin.is_ours c.self.inside.conn c.args.self.now c.self.inside.spent c.self.view_is c.self.inside.known c.self.invariant c.if-self.false c.make_counted-answer.new.conn c.make_counted-answer.ensures.survives
+      c.note_fault.result c.make_counted-answer.result c.note_fault.new.spent c.note_fault.ensures.same c.note_fault.ensures.noted (λ w. delete_blob w c.args.repo.now c.args.digest.now)
+      (λ ours. c.make_counted-answer.ensures.made (λ clean. tt)) (λ ours. c.make_counted-answer.ensures.memory (λ clean. tt));
   spends =
-      spends_told g.S.Store g.O.Origin.is_ours c.self.inside.conn c.args.self.now c.self.inside.spent c.self.view_is c.self.inside.known c.self.invariant c.if-self.false c.delete_blob-answer.new.conn c.delete_blob-answer.ensures.survives
-      c.note_fault.result c.delete_blob-answer.result c.note_fault.new.spent c.note_fault.ensures.same c.note_fault.ensures.noted;
+      spends_told g.S.Store g.O.Origin.is_ours c.self.inside.conn c.args.self.now c.self.inside.spent c.self.view_is c.self.inside.known c.self.invariant c.if-self.false c.make_counted-answer.new.conn c.make_counted-answer.ensures.survives
+      c.note_fault.result c.make_counted-answer.result c.note_fault.new.spent c.note_fault.ensures.same c.note_fault.ensures.noted;
   honest =
-      was_honest g.S.Store g.O.Origin.is_ours c.self.inside.conn c.args.self.now c.self.inside.spent c.self.view_is c.self.inside.known c.self.invariant c.if-self.false c.delete_blob-answer.new.conn c.delete_blob-answer.ensures.survives c.note_fault.new.spent;
+      was_honest g.S.Store g.O.Origin.is_ours c.self.inside.conn c.args.self.now c.self.inside.spent c.self.view_is c.self.inside.known c.self.invariant c.if-self.false c.make_counted-answer.new.conn c.make_counted-answer.ensures.survives c.note_fault.new.spent;
 }
+
+pub make_counted-answer-requires : goal.make_counted-answer-requires
+make_counted-answer-requires g c = record { fits = tt }

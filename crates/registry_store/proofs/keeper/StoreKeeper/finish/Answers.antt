@@ -1,17 +1,20 @@
 use Rattle.std.proofs.Common.{◌≡◌, true, is_some}
+use Rattle.sqlite.specs.Held.{state}
 use Rattle.registry_model.specs.Lookups.{finish, session_at}
+use Rattle.store_statements.specs.Held.{world_in}
+use Rattle.store_reads.proofs.Foretold.{session_has_repo}
 use Rattle.registry_store.proofs.KeeperStates.{asked}
 use Rattle.registry_store.proofs.KeeperAnswers.{spends_told, still_spent, was_honest, write_holds, write_says}
 use Rattle.registry_store.proofs.keeper.StoreKeeper.finish.Goals as goal
 
-pub finish-answer-requires : goal.finish-answer-requires
-finish-answer-requires g c = record { matching = c.requires.matching; fits = c.requires.fits }
+pub make_counted-answer-requires : goal.make_counted-answer-requires
+make_counted-answer-requires g c = record { fits = (c.requires.matching, c.requires.fits) }
 
 pub invariant_of-self : goal.invariant_of-self
 invariant_of-self g c =
-    write_holds g.S.Store g.O.Origin.is_ours c.self.inside.conn c.args.self.now c.self.inside.spent c.self.view_is c.self.inside.known c.self.invariant c.if-self.false c.finish-answer.new.conn c.finish-answer.ensures.survives
-    c.note_fault.result c.finish-answer.result c.note_fault.new.spent c.note_fault.ensures.same c.note_fault.ensures.noted c.finish-answer.new.known (λ w. finish w c.args.repo.now c.args.number c.args.digest.now c.args.bytes.now)
-    (λ ours. c.finish-answer.ensures.made (asked g.S.Store c.self.inside.conn c.args.self.now c.self.inside.spent c.self.view_is (λ w. is_some (session_at w c.args.repo.now c.args.number) ≡ true) g.O.Origin.is_ours c.if-self.false ours c.requires.«open»)) (λ ours. c.finish-answer.ensures.memory) (λ ours known. c.finish-answer.ensures.known known (asked g.S.Store c.self.inside.conn c.args.self.now c.self.inside.spent c.self.view_is (λ w. is_some (session_at w c.args.repo.now c.args.number) ≡ true) g.O.Origin.is_ours c.if-self.false ours c.requires.«open»))
+    write_holds g.S.Store g.O.Origin.is_ours c.self.inside.conn c.args.self.now c.self.inside.spent c.self.view_is c.self.inside.known c.self.invariant c.if-self.false c.make_counted-answer.new.conn c.make_counted-answer.ensures.survives
+    c.note_fault.result c.make_counted-answer.result c.note_fault.new.spent c.note_fault.ensures.same c.note_fault.ensures.noted c.make_counted-answer.new.known (λ w. finish w c.args.repo.now c.args.number c.args.digest.now c.args.bytes.now)
+    (λ ours. c.make_counted-answer.ensures.made (asked g.S.Store c.self.inside.conn c.args.self.now c.self.inside.spent c.self.view_is (λ w. is_some (session_at w c.args.repo.now c.args.number) ≡ true) g.O.Origin.is_ours c.if-self.false ours c.requires.«open»)) (λ ours. c.make_counted-answer.ensures.memory (asked g.S.Store c.self.inside.conn c.args.self.now c.self.inside.spent c.self.view_is (λ w. is_some (session_at w c.args.repo.now c.args.number) ≡ true) g.O.Origin.is_ours c.if-self.false ours c.requires.«open»)) (λ ours known. c.make_counted-answer.ensures.known known (asked g.S.Store c.self.inside.conn c.args.self.now c.self.inside.spent c.self.view_is (λ w. is_some (session_at w c.args.repo.now c.args.number) ≡ true) g.O.Origin.is_ours c.if-self.false ours c.requires.«open») (λ clean. session_has_repo (world_in (state g.S.Store c.self.inside.conn)) c.args.repo.now c.args.number (asked g.S.Store c.self.inside.conn c.args.self.now c.self.inside.spent c.self.view_is (λ w. is_some (session_at w c.args.repo.now c.args.number) ≡ true) g.O.Origin.is_ours c.if-self.false ours c.requires.«open» clean)))
 
 pub returns-then-self : goal.returns-then-self
 returns-then-self g c = record {
@@ -23,12 +26,12 @@ returns-then-self g c = record {
 pub returns : goal.returns
 returns g c = record {
   made =
-      write_says g.S.Store g.O.Origin.is_ours c.self.inside.conn c.args.self.now c.self.inside.spent c.self.view_is c.self.inside.known c.self.invariant c.if-self.false c.finish-answer.new.conn c.finish-answer.ensures.survives
-      c.note_fault.result c.finish-answer.result c.note_fault.new.spent c.note_fault.ensures.same c.note_fault.ensures.noted (λ w. finish w c.args.repo.now c.args.number c.args.digest.now c.args.bytes.now)
-      (λ ours. c.finish-answer.ensures.made (asked g.S.Store c.self.inside.conn c.args.self.now c.self.inside.spent c.self.view_is (λ w. is_some (session_at w c.args.repo.now c.args.number) ≡ true) g.O.Origin.is_ours c.if-self.false ours c.requires.«open»)) (λ ours. c.finish-answer.ensures.memory);
+      write_says g.S.Store g.O.Origin.is_ours c.self.inside.conn c.args.self.now c.self.inside.spent c.self.view_is c.self.inside.known c.self.invariant c.if-self.false c.make_counted-answer.new.conn c.make_counted-answer.ensures.survives
+      c.note_fault.result c.make_counted-answer.result c.note_fault.new.spent c.note_fault.ensures.same c.note_fault.ensures.noted (λ w. finish w c.args.repo.now c.args.number c.args.digest.now c.args.bytes.now)
+      (λ ours. c.make_counted-answer.ensures.made (asked g.S.Store c.self.inside.conn c.args.self.now c.self.inside.spent c.self.view_is (λ w. is_some (session_at w c.args.repo.now c.args.number) ≡ true) g.O.Origin.is_ours c.if-self.false ours c.requires.«open»)) (λ ours. c.make_counted-answer.ensures.memory (asked g.S.Store c.self.inside.conn c.args.self.now c.self.inside.spent c.self.view_is (λ w. is_some (session_at w c.args.repo.now c.args.number) ≡ true) g.O.Origin.is_ours c.if-self.false ours c.requires.«open»));
   spends =
-      spends_told g.S.Store g.O.Origin.is_ours c.self.inside.conn c.args.self.now c.self.inside.spent c.self.view_is c.self.inside.known c.self.invariant c.if-self.false c.finish-answer.new.conn c.finish-answer.ensures.survives
-      c.note_fault.result c.finish-answer.result c.note_fault.new.spent c.note_fault.ensures.same c.note_fault.ensures.noted;
+      spends_told g.S.Store g.O.Origin.is_ours c.self.inside.conn c.args.self.now c.self.inside.spent c.self.view_is c.self.inside.known c.self.invariant c.if-self.false c.make_counted-answer.new.conn c.make_counted-answer.ensures.survives
+      c.note_fault.result c.make_counted-answer.result c.note_fault.new.spent c.note_fault.ensures.same c.note_fault.ensures.noted;
   honest =
-      was_honest g.S.Store g.O.Origin.is_ours c.self.inside.conn c.args.self.now c.self.inside.spent c.self.view_is c.self.inside.known c.self.invariant c.if-self.false c.finish-answer.new.conn c.finish-answer.ensures.survives c.note_fault.new.spent;
+      was_honest g.S.Store g.O.Origin.is_ours c.self.inside.conn c.args.self.now c.self.inside.spent c.self.view_is c.self.inside.known c.self.invariant c.if-self.false c.make_counted-answer.new.conn c.make_counted-answer.ensures.survives c.note_fault.new.spent;
 }

@@ -7,9 +7,9 @@ use Rattle.registry_store.proofs.keeper.StoreKeeper.mount.Goals as goal
 
 pub invariant_of-self : goal.invariant_of-self
 invariant_of-self g c =
-    write_holds g.S.Store g.O.Origin.is_ours c.self.inside.conn c.args.self.now c.self.inside.spent c.self.view_is c.self.inside.known c.self.invariant c.if-self.false c.mount-answer.new.conn c.mount-answer.ensures.survives
-    c.note_fault.result c.mount-answer.result c.note_fault.new.spent c.note_fault.ensures.same c.note_fault.ensures.noted c.mount-answer.new.known (λ w. mount w c.args.from.now c.args.to.now c.args.digest.now)
-    (λ ours. c.mount-answer.ensures.made (asked g.S.Store c.self.inside.conn c.args.self.now c.self.inside.spent c.self.view_is (λ w. has_repo w c.args.to.now ≡ true) g.O.Origin.is_ours c.if-self.false ours c.requires.there)) (λ ours. c.mount-answer.ensures.memory) (λ ours known. c.mount-answer.ensures.known known (asked g.S.Store c.self.inside.conn c.args.self.now c.self.inside.spent c.self.view_is (λ w. has_repo w c.args.to.now ≡ true) g.O.Origin.is_ours c.if-self.false ours c.requires.there))
+    write_holds g.S.Store g.O.Origin.is_ours c.self.inside.conn c.args.self.now c.self.inside.spent c.self.view_is c.self.inside.known c.self.invariant c.if-self.false c.make_counted-answer.new.conn c.make_counted-answer.ensures.survives
+    c.note_fault.result c.make_counted-answer.result c.note_fault.new.spent c.note_fault.ensures.same c.note_fault.ensures.noted c.make_counted-answer.new.known (λ w. mount w c.args.from.now c.args.to.now c.args.digest.now)
+    (λ ours. c.make_counted-answer.ensures.made (asked g.S.Store c.self.inside.conn c.args.self.now c.self.inside.spent c.self.view_is (λ w. has_repo w c.args.to.now ≡ true) g.O.Origin.is_ours c.if-self.false ours c.requires.there)) (λ ours. c.make_counted-answer.ensures.memory (asked g.S.Store c.self.inside.conn c.args.self.now c.self.inside.spent c.self.view_is (λ w. has_repo w c.args.to.now ≡ true) g.O.Origin.is_ours c.if-self.false ours c.requires.there)) (λ ours known. c.make_counted-answer.ensures.known known (asked g.S.Store c.self.inside.conn c.args.self.now c.self.inside.spent c.self.view_is (λ w. has_repo w c.args.to.now ≡ true) g.O.Origin.is_ours c.if-self.false ours c.requires.there) (asked g.S.Store c.self.inside.conn c.args.self.now c.self.inside.spent c.self.view_is (λ w. has_repo w c.args.to.now ≡ true) g.O.Origin.is_ours c.if-self.false ours c.requires.there))
 
 pub returns-then-self : goal.returns-then-self
 returns-then-self g c = record {
@@ -21,12 +21,15 @@ returns-then-self g c = record {
 pub returns : goal.returns
 returns g c = record {
   made =
-      write_says g.S.Store g.O.Origin.is_ours c.self.inside.conn c.args.self.now c.self.inside.spent c.self.view_is c.self.inside.known c.self.invariant c.if-self.false c.mount-answer.new.conn c.mount-answer.ensures.survives
-      c.note_fault.result c.mount-answer.result c.note_fault.new.spent c.note_fault.ensures.same c.note_fault.ensures.noted (λ w. mount w c.args.from.now c.args.to.now c.args.digest.now)
-      (λ ours. c.mount-answer.ensures.made (asked g.S.Store c.self.inside.conn c.args.self.now c.self.inside.spent c.self.view_is (λ w. has_repo w c.args.to.now ≡ true) g.O.Origin.is_ours c.if-self.false ours c.requires.there)) (λ ours. c.mount-answer.ensures.memory);
+      write_says g.S.Store g.O.Origin.is_ours c.self.inside.conn c.args.self.now c.self.inside.spent c.self.view_is c.self.inside.known c.self.invariant c.if-self.false c.make_counted-answer.new.conn c.make_counted-answer.ensures.survives
+      c.note_fault.result c.make_counted-answer.result c.note_fault.new.spent c.note_fault.ensures.same c.note_fault.ensures.noted (λ w. mount w c.args.from.now c.args.to.now c.args.digest.now)
+      (λ ours. c.make_counted-answer.ensures.made (asked g.S.Store c.self.inside.conn c.args.self.now c.self.inside.spent c.self.view_is (λ w. has_repo w c.args.to.now ≡ true) g.O.Origin.is_ours c.if-self.false ours c.requires.there)) (λ ours. c.make_counted-answer.ensures.memory (asked g.S.Store c.self.inside.conn c.args.self.now c.self.inside.spent c.self.view_is (λ w. has_repo w c.args.to.now ≡ true) g.O.Origin.is_ours c.if-self.false ours c.requires.there));
   spends =
-      spends_told g.S.Store g.O.Origin.is_ours c.self.inside.conn c.args.self.now c.self.inside.spent c.self.view_is c.self.inside.known c.self.invariant c.if-self.false c.mount-answer.new.conn c.mount-answer.ensures.survives
-      c.note_fault.result c.mount-answer.result c.note_fault.new.spent c.note_fault.ensures.same c.note_fault.ensures.noted;
+      spends_told g.S.Store g.O.Origin.is_ours c.self.inside.conn c.args.self.now c.self.inside.spent c.self.view_is c.self.inside.known c.self.invariant c.if-self.false c.make_counted-answer.new.conn c.make_counted-answer.ensures.survives
+      c.note_fault.result c.make_counted-answer.result c.note_fault.new.spent c.note_fault.ensures.same c.note_fault.ensures.noted;
   honest =
-      was_honest g.S.Store g.O.Origin.is_ours c.self.inside.conn c.args.self.now c.self.inside.spent c.self.view_is c.self.inside.known c.self.invariant c.if-self.false c.mount-answer.new.conn c.mount-answer.ensures.survives c.note_fault.new.spent;
+      was_honest g.S.Store g.O.Origin.is_ours c.self.inside.conn c.args.self.now c.self.inside.spent c.self.view_is c.self.inside.known c.self.invariant c.if-self.false c.make_counted-answer.new.conn c.make_counted-answer.ensures.survives c.note_fault.new.spent;
 }
+
+pub make_counted-answer-requires : goal.make_counted-answer-requires
+make_counted-answer-requires g c = record { fits = tt }

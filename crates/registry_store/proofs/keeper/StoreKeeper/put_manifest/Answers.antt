@@ -6,14 +6,14 @@ use Rattle.registry_store.proofs.KeeperStates.{asked}
 use Rattle.registry_store.proofs.KeeperAnswers.{spends_told, still_spent, was_honest, write_holds, write_says}
 use Rattle.registry_store.proofs.keeper.StoreKeeper.put_manifest.Goals as goal
 
-pub put_manifest-answer-requires : goal.put_manifest-answer-requires
-put_manifest-answer-requires g c = record { matching = c.requires.matching; reads = c.requires.reads; fits = c.requires.fits }
+pub make_counted-answer-requires : goal.make_counted-answer-requires
+make_counted-answer-requires g c = record { fits = (c.requires.matching, c.requires.reads, c.requires.fits) }
 
 pub invariant_of-self : goal.invariant_of-self
 invariant_of-self g c =
-    write_holds g.S.Store g.O.Origin.is_ours c.self.inside.conn c.args.self.now c.self.inside.spent c.self.view_is c.self.inside.known c.self.invariant c.if-self.false c.put_manifest-answer.new.conn c.put_manifest-answer.ensures.survives
-    c.note_fault.result c.put_manifest-answer.result c.note_fault.new.spent c.note_fault.ensures.same c.note_fault.ensures.noted c.put_manifest-answer.new.known (λ w. put_manifest w c.args.repo.now c.args.digest.now c.args.bytes.now (text_in c.args.tag))
-    (λ ours. c.put_manifest-answer.ensures.made (asked g.S.Store c.self.inside.conn c.args.self.now c.self.inside.spent c.self.view_is (λ w. has_repo w c.args.repo.now ≡ true) g.O.Origin.is_ours c.if-self.false ours c.requires.there)) (λ ours. c.put_manifest-answer.ensures.memory (asked g.S.Store c.self.inside.conn c.args.self.now c.self.inside.spent c.self.view_is (λ w. has_repo w c.args.repo.now ≡ true) g.O.Origin.is_ours c.if-self.false ours c.requires.there)) (λ ours known. c.put_manifest-answer.ensures.known known (asked g.S.Store c.self.inside.conn c.args.self.now c.self.inside.spent c.self.view_is (λ w. has_repo w c.args.repo.now ≡ true) g.O.Origin.is_ours c.if-self.false ours c.requires.there))
+    write_holds g.S.Store g.O.Origin.is_ours c.self.inside.conn c.args.self.now c.self.inside.spent c.self.view_is c.self.inside.known c.self.invariant c.if-self.false c.make_counted-answer.new.conn c.make_counted-answer.ensures.survives
+    c.note_fault.result c.make_counted-answer.result c.note_fault.new.spent c.note_fault.ensures.same c.note_fault.ensures.noted c.make_counted-answer.new.known (λ w. put_manifest w c.args.repo.now c.args.digest.now c.args.bytes.now (text_in c.args.tag))
+    (λ ours. c.make_counted-answer.ensures.made (asked g.S.Store c.self.inside.conn c.args.self.now c.self.inside.spent c.self.view_is (λ w. has_repo w c.args.repo.now ≡ true) g.O.Origin.is_ours c.if-self.false ours c.requires.there)) (λ ours. c.make_counted-answer.ensures.memory (asked g.S.Store c.self.inside.conn c.args.self.now c.self.inside.spent c.self.view_is (λ w. has_repo w c.args.repo.now ≡ true) g.O.Origin.is_ours c.if-self.false ours c.requires.there)) (λ ours known. c.make_counted-answer.ensures.known known (asked g.S.Store c.self.inside.conn c.args.self.now c.self.inside.spent c.self.view_is (λ w. has_repo w c.args.repo.now ≡ true) g.O.Origin.is_ours c.if-self.false ours c.requires.there) (asked g.S.Store c.self.inside.conn c.args.self.now c.self.inside.spent c.self.view_is (λ w. has_repo w c.args.repo.now ≡ true) g.O.Origin.is_ours c.if-self.false ours c.requires.there))
 
 pub returns-then-self : goal.returns-then-self
 returns-then-self g c = record {
@@ -25,12 +25,12 @@ returns-then-self g c = record {
 pub returns : goal.returns
 returns g c = record {
   made =
-      write_says g.S.Store g.O.Origin.is_ours c.self.inside.conn c.args.self.now c.self.inside.spent c.self.view_is c.self.inside.known c.self.invariant c.if-self.false c.put_manifest-answer.new.conn c.put_manifest-answer.ensures.survives
-      c.note_fault.result c.put_manifest-answer.result c.note_fault.new.spent c.note_fault.ensures.same c.note_fault.ensures.noted (λ w. put_manifest w c.args.repo.now c.args.digest.now c.args.bytes.now (text_in c.args.tag))
-      (λ ours. c.put_manifest-answer.ensures.made (asked g.S.Store c.self.inside.conn c.args.self.now c.self.inside.spent c.self.view_is (λ w. has_repo w c.args.repo.now ≡ true) g.O.Origin.is_ours c.if-self.false ours c.requires.there)) (λ ours. c.put_manifest-answer.ensures.memory (asked g.S.Store c.self.inside.conn c.args.self.now c.self.inside.spent c.self.view_is (λ w. has_repo w c.args.repo.now ≡ true) g.O.Origin.is_ours c.if-self.false ours c.requires.there));
+      write_says g.S.Store g.O.Origin.is_ours c.self.inside.conn c.args.self.now c.self.inside.spent c.self.view_is c.self.inside.known c.self.invariant c.if-self.false c.make_counted-answer.new.conn c.make_counted-answer.ensures.survives
+      c.note_fault.result c.make_counted-answer.result c.note_fault.new.spent c.note_fault.ensures.same c.note_fault.ensures.noted (λ w. put_manifest w c.args.repo.now c.args.digest.now c.args.bytes.now (text_in c.args.tag))
+      (λ ours. c.make_counted-answer.ensures.made (asked g.S.Store c.self.inside.conn c.args.self.now c.self.inside.spent c.self.view_is (λ w. has_repo w c.args.repo.now ≡ true) g.O.Origin.is_ours c.if-self.false ours c.requires.there)) (λ ours. c.make_counted-answer.ensures.memory (asked g.S.Store c.self.inside.conn c.args.self.now c.self.inside.spent c.self.view_is (λ w. has_repo w c.args.repo.now ≡ true) g.O.Origin.is_ours c.if-self.false ours c.requires.there));
   spends =
-      spends_told g.S.Store g.O.Origin.is_ours c.self.inside.conn c.args.self.now c.self.inside.spent c.self.view_is c.self.inside.known c.self.invariant c.if-self.false c.put_manifest-answer.new.conn c.put_manifest-answer.ensures.survives
-      c.note_fault.result c.put_manifest-answer.result c.note_fault.new.spent c.note_fault.ensures.same c.note_fault.ensures.noted;
+      spends_told g.S.Store g.O.Origin.is_ours c.self.inside.conn c.args.self.now c.self.inside.spent c.self.view_is c.self.inside.known c.self.invariant c.if-self.false c.make_counted-answer.new.conn c.make_counted-answer.ensures.survives
+      c.note_fault.result c.make_counted-answer.result c.note_fault.new.spent c.note_fault.ensures.same c.note_fault.ensures.noted;
   honest =
-      was_honest g.S.Store g.O.Origin.is_ours c.self.inside.conn c.args.self.now c.self.inside.spent c.self.view_is c.self.inside.known c.self.invariant c.if-self.false c.put_manifest-answer.new.conn c.put_manifest-answer.ensures.survives c.note_fault.new.spent;
+      was_honest g.S.Store g.O.Origin.is_ours c.self.inside.conn c.args.self.now c.self.inside.spent c.self.view_is c.self.inside.known c.self.invariant c.if-self.false c.make_counted-answer.new.conn c.make_counted-answer.ensures.survives c.note_fault.new.spent;
 }

@@ -1,0 +1,208 @@
+"""Strangers without a token who hold room or places and say nothing more, and clients who ask beside them."""
+import contextlib
+import os
+import subprocess
+import time
+
+from hostile.crowd import closed, prepared
+from hostile.ordering import ordered
+from hostile.said import look_side_by_side
+from hostile.server import Server, answer
+from hostile.writes import push, request
+
+# each holds so many times this, and a piece of it is still to come
+PIECE = 128 << 10
+PLACES = 16
+# what each connection may always hold of requests, and the largest request (registry_server/specs/Room.antt)
+SHARE, LARGEST = 65_536, 67_190_784
+# who holds room or a place, and is silent, goes after so many seconds where another waits; where it was answered as
+# one whose token is known
+PATIENCE, PATIENCE_WITH_TOKEN = 5, 15
+# so many seconds later somebody who waits is answered, other work on the machine included
+LATER = 4
+# more than a connection may always hold
+LARGE = push(os.urandom(97 << 10))
+SMALL = request("GET", "/v2/")
+HALF_HEAD = b"GET /v2/ HTTP/1.1\r\nHost: r\r\n"
+WITHOUT_BODY = b"POST /v2/team/app/blobs/uploads/ HTTP/1.1\r\nHost: r\r\nContent-Length: 10\r\n\r\n"
+WITH_TOKEN = request("POST", "/v2/team/app/blobs/uploads/", bytes(10))
+
+
+def quiet(room, name, *words):
+    return Server(prepared(room, name), *words, stderr=subprocess.DEVNULL)
+
+
+def sized(pool):
+    """With room for so many bytes above the shares. Where three connections hold no more than that, a fourth may hold
+    the largest request; where four do not, a fifth has its share alone."""
+    return "--at-once", str(PLACES), "--buffer", str(2 * (PLACES * SHARE + LARGEST + pool))
+
+
+def without_token(text):
+    return text.replace(b"Authorization: Bearer t1\r\n", b"")
+
+
+def began(server, text):
+    """A connection on which a part of a request was sent."""
+    connection = server.connect()
+    connection.sendall(text)
+    return connection
+
+
+def known(server, text):
+    """The same on a connection on which a known token was answered before."""
+    connection = server.connect()
+    answer(connection, SMALL)
+    connection.sendall(text)
+    return connection
+
+
+def waited(server, text, count=1, seconds=2 * PATIENCE + PATIENCE_WITH_TOKEN):
+    """What so many clients are answered who come at once, and after how many seconds the last of them is."""
+    start = time.monotonic()
+    clients = [began(server, text) for _ in range(count)]
+    statuses = []
+    for it in clients:
+        with it:
+            it.settimeout(max(0.1, start + seconds - time.monotonic()))
+            reply = answer(it, b"")
+            statuses.append(reply and reply[0])
+    return statuses, time.monotonic() - start
+
+
+def in_time(found, wanted, least, most, what):
+    """What is said of clients who waited so many seconds at least and at most."""
+    statuses, seconds = found
+    held = statuses == wanted and least <= seconds <= most
+    return held, f"{what}: after {seconds:.1f} s", [f"{set(statuses)}, and not {set(wanted)} in {least} to {most} s"]
+
+
+def all_read(server):
+    """Waits until the server has read all that came, as the system tells it (/proc/net/tcp)."""
+    at = f":{server.port:04X}"
+    for _ in range(100):
+        with open("/proc/net/tcp", encoding="ascii") as it:
+            rows = [line.split() for line in it]
+        if not any(row[1].endswith(at) and not row[4].endswith(":00000000") for row in rows):
+            return
+        time.sleep(0.05)
+
+
+# ---- the room for requests
+
+
+def fill_room(room):
+    """four strangers with most of a body each"""
+    server = quiet(room, "filled", *sized(13 * PIECE))
+    texts = [without_token(push(bytes(count * PIECE)))[:-PIECE] for count in (5, 7, 5, 5)]
+    strangers = [began(server, it) for it in texts]
+    all_read(server)
+    found = waited(server, LARGE)
+    what = "four strangers fill the room for requests and are silent: a push of 97 KiB is answered"
+    yield in_time(found, [201], 2, PATIENCE + LATER, what)
+    gone = [closed(it, 0.5) for it in strangers]
+    yield gone == [False, True, False, False], "the one goes that holds most, and nobody else", [gone]
+    server.kill()
+
+
+def drip_into_room(room):
+    """four strangers who send more now and then"""
+    idle, often, more = 4, 2.5, 70_000
+    server = quiet(room, "dripped", *sized(29 * PIECE), "--idle", str(idle))
+    text = without_token(push(bytes(20 * PIECE)))[: 8 * PIECE]
+    strangers = [began(server, text) for _ in range(4)]
+    all_read(server)
+    client, start = began(server, LARGE), time.monotonic()
+    while time.monotonic() - start < 2 * idle:
+        for it in strangers:
+            # (one who is let go sends no more)
+            with contextlib.suppress(ConnectionError):
+                it.sendall(bytes(more))
+        time.sleep(often)
+    for it in strangers:
+        it.close()
+    reply = answer(client, b"")
+    what = f"a push that the server does not read for {2 * idle} s, since others fill the room, is not closed for a silence of {idle} s"
+    yield reply is not None and reply[0] == 201, what, [reply]
+    client.close()
+    server.kill()
+
+
+def hold_room(room, goes_on):
+    """four clients with a known token and most of a body each"""
+    server = quiet(room, f"held-{goes_on}", *sized(13 * PIECE))
+    text = push(bytes(5 * PIECE))
+    clients = [known(server, text[:-PIECE]) for _ in range(4)]
+    all_read(server)
+    if not goes_on:
+        what = "four with a known token do so: another is answered, and not before"
+        yield in_time(waited(server, LARGE), [201], PATIENCE_WITH_TOKEN - 2, PATIENCE_WITH_TOKEN + LATER, what)
+    else:
+        other = began(server, LARGE)
+        time.sleep(PATIENCE + 3)
+        replies = [answer(it, text[-PIECE:]) for it in clients] + [answer(other, b"")]
+        statuses = [it and it[0] for it in replies]
+        what = f"four with a known token go on after {PATIENCE + 3} s: they are answered, and so is another"
+        yield statuses == [201] * 5, what, [statuses]
+    server.kill()
+
+
+# ---- the places
+
+
+def fill_places(room, places, text, what, seconds=PATIENCE, words=()):
+    """places that are held"""
+    server = quiet(room, f"places-{places}-{len(text)}-{len(words)}", "--at-once", str(places), *words)
+    hold = known if text.startswith(WITH_TOKEN[:-10]) else began
+    holders = [hold(server, text) for _ in range(places)]
+    count = min(places, 4)
+    found = waited(server, SMALL, count)
+    most = seconds + LATER - 1
+    what = f"{places} of {places} places are held by {what}: {count} who come are answered"
+    yield in_time(found, [200] * count, 0 if words else seconds - 1, most, what)
+    for it in holders:
+        it.close()
+    server.kill()
+
+
+def hold_places(room):
+    """places that are held by those with a known token, who go on"""
+    server = quiet(room, "going-on", "--at-once", "8")
+    holders = [known(server, WITH_TOKEN[:-10]) for _ in range(8)]
+    others = [began(server, SMALL) for _ in range(4)]
+    time.sleep(PATIENCE + 3)
+    statuses = [it and it[0] for it in [*(answer(it, bytes(10)) for it in holders), *(answer(it, b"") for it in others)]]
+    what = f"where they go on after {PATIENCE + 3} s, they are answered, and so are four who wait"
+    yield statuses == [202] * 8 + [200] * 4, what, [statuses]
+    server.kill()
+
+
+def order_beside_one(room):
+    """an order to a server of one place"""
+    os.mkdir(f"{room}/one")
+    server = quiet(room, "one/place", "--at-once", "1", "--orders", f"{room}/one/orders")
+    with server.connect():
+        start = time.monotonic()
+        found = ordered(f"{room}/one/orders", "usage")
+    held = found[0] == 0 and time.monotonic() - start < 3
+    yield held, "of one place, which a silent client has, orders are taken at once", [found]
+    server.kill()
+
+
+PLACES_HELD = [
+    (8, HALF_HEAD, "half heads"),
+    (256, HALF_HEAD, "half heads"),
+    (8, WITHOUT_BODY, "heads without their bodies"),
+    (256, WITHOUT_BODY, "heads without their bodies"),
+    (8, WITH_TOKEN[:-10], "heads of a known token without their bodies", PATIENCE_WITH_TOKEN),
+    (1, b"", "one who is silent"),
+    (1, HALF_HEAD, "half a head"),
+    (1, b"", "one who is silent, which it may be for two seconds", PATIENCE, ("--idle", "2")),
+]
+
+
+def look_at_strangers(room):
+    looks = [(it, room) for it in (fill_room, drip_into_room, hold_places, order_beside_one)]
+    looks += [(hold_room, room, goes_on) for goes_on in (True, False)]
+    looks += [(fill_places, room, *held) for held in PLACES_HELD]
+    look_side_by_side(looks)

@@ -1,0 +1,2 @@
+pub mod OutboxLemmas
+pub mod ReportLemmas

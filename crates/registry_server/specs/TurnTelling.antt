@@ -1,0 +1,21 @@
+-- What a turn tells, of all connections.
+use Rattle.std.specs.Prelude.{◌≡◌, ℕ, Option, Some, None}
+use Rattle.oci_types.specs.Text.{Text}
+use Rattle.registry_model.specs.Keeping.{State}
+use Rattle.registry_server.specs.declared.phase.Step.{Step}
+use Rattle.registry_outbox.specs.declared.report.Report.{Report}
+use Rattle.registry_server.specs.Holding.{Holds}
+use Rattle.registry_server.specs.Open.{Open, conversation_of}
+use Rattle.registry_server.specs.Shown.{Shown}
+use Rattle.registry_server.specs.Telling.{Tells}
+
+-- the conversation under n came to this: what is told is told of the request of it that was answered or
+-- refused
+pub record TellsTurn (n : ℕ) (found : Step) (report : Option Report) (u : Open) (s : State) (u' : Open)
+    (s' : State)
+    : Type 0 where
+  pub old : Shown
+  pub new : Shown
+  pub was : conversation_of n u.slots ≡ Some old
+  pub is : conversation_of n u'.slots ≡ Some new
+  pub tells : (b said : Text) → Holds old b said → Tells found b said old s s' new None report

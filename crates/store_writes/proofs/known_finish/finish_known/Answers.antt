@@ -1,0 +1,74 @@
+use Rattle.std.proofs.Common.{◌∙◌, refl, sym, ap, arith}
+use Rattle.std.specs.Prelude.{Option, is_some}
+use Rattle.sqlite.specs.State.{HasCleanDisk}
+use Rattle.sqlite.specs.Held.{state}
+use Rattle.store_statements.specs.declared.blobs.BlobLink.{BlobLink}
+use Rattle.store_statements.proofs.SettledAfter.{stays_then}
+use Rattle.store_statements.proofs.Transactions.{survives_all}
+use Rattle.store_writes.proofs.KnownEnds.{done, still_known, end_told}
+use Rattle.store_statements.proofs.WritesAfterReads.{memory_told}
+use Rattle.store_statements.proofs.CleanBefore.{was_clean}
+use Rattle.store_statements.proofs.Checks.{never_done}
+use Rattle.store_statements.proofs.Checks.{survives_here}
+use Rattle.store_writes.proofs.known_finish.finish_known.Goals as goal
+
+pub returns-then-number-gt-LARGEST : goal.returns-then-number-gt-LARGEST
+returns-then-number-gt-LARGEST g c = record {
+  made = λ clean is. (is, refl);
+  known = λ fits clean is. absurd (omega (arith, fits, c.if-number-gt-LARGEST.true));
+  ended = λ clean is. tt;
+  memory = λ clean is memory. absurd (never_done memory);
+  survives = survives_here (state g.S.Store c.args.conn.now);
+}
+
+pub returns-in-Ok : goal.returns-in-Ok
+returns-in-Ok g c = record {
+  made = λ clean is.
+      let mid = state g.S.Store c.find_known.new.conn in
+      let late : HasCleanDisk mid = was_clean c.finish_whole.ensures.survives clean in
+      rw (c.as_str-repo.ensures.text, c.as_str-digest.ensures.text) at (done (state g.S.Store c.args.conn.now) mid (state g.S.Store c.finish_whole.new.conn) c.as_str-repo.result.now c.args.number c.as_str-digest.result.now c.in-Ok-Some.link
+      is (c.in-Ok-Some.ensures.settled late is refl) (sym c.in-Ok-Some.field-0-is ∙ c.in-Ok-Some.ensures.found late is) (c.in-Ok.ensures.made (λ clean. still_known (state g.S.Store c.args.conn.now) (state g.S.Store c.find_known.new.conn) (c.in-Ok-Some.ensures.settled clean is refl) c.as_str-repo.result.now c.args.number c.as_str-digest.result.now c.in-Ok-Some.link
+      (sym c.in-Ok-Some.field-0-is ∙ c.in-Ok-Some.ensures.found clean is)) clean (c.in-Ok-Some.ensures.settled late is refl).0));
+  known = λ fits clean is.
+      let late : HasCleanDisk (state g.S.Store c.find_known.new.conn) = was_clean c.finish_whole.ensures.survives clean in
+      rw (c.as_str-repo.ensures.text, c.as_str-digest.ensures.text) at (ap is_some (sym c.in-Ok-Some.field-0-is ∙ c.in-Ok-Some.ensures.found late is));
+  ended = λ clean is.
+      let mid = state g.S.Store c.find_known.new.conn in
+      let late : HasCleanDisk mid = was_clean c.finish_whole.ensures.survives clean in
+      let stays = c.in-Ok-Some.ensures.settled late is refl in
+      rw (c.as_str-repo.ensures.text, c.as_str-digest.ensures.text) at (end_told (state g.S.Store c.args.conn.now) mid c.as_str-repo.result.now c.args.number c.as_str-digest.result.now c.in-Ok-Some.link c.in-Ok.came
+      is stays (sym c.in-Ok-Some.field-0-is ∙ c.in-Ok-Some.ensures.found late is) (c.in-Ok.ensures.came clean stays.0));
+  memory = λ clean is memory. absurd (never_done memory);
+  survives = survives_all (state g.S.Store c.args.conn.now) (state g.S.Store c.find_known.new.conn) (state g.S.Store c.finish_whole.new.conn) _ _ c.find_known.ensures.survives c.finish_whole.ensures.survives;
+}
+
+pub returns-in-Err-finish_whole : goal.returns-in-Err-finish_whole
+returns-in-Err-finish_whole g c = record {
+  made = λ clean is. tt;
+  known = λ fits clean is. tt;
+  ended = λ clean is. tt;
+  memory = λ clean is memory.
+      let late : HasCleanDisk (state g.S.Store c.find_known.new.conn) = was_clean c.finish_whole.ensures.survives clean in
+      stays_then (state g.S.Store c.args.conn.now) (state g.S.Store c.find_known.new.conn) (state g.S.Store c.finish_whole.new.conn) (c.in-Ok-Some.ensures.settled late is refl)
+      (c.in-Err-finish_whole.ensures.memory clean (c.in-Ok-Some.ensures.settled late is refl).0 (let e = memory in cc));
+  survives = survives_all (state g.S.Store c.args.conn.now) (state g.S.Store c.find_known.new.conn) (state g.S.Store c.finish_whole.new.conn) _ _ c.find_known.ensures.survives c.finish_whole.ensures.survives;
+}
+
+pub returns-in-Ok-None : goal.returns-in-Ok-None
+returns-in-Ok-None g c = record {
+  made = λ clean is. c.in-Ok-None.ensures.settled clean is refl;
+  known = λ fits clean is.
+      rw (c.as_str-repo.ensures.text, c.as_str-digest.ensures.text) at (ap is_some (sym c.in-Ok-None.field-0-is ∙ c.in-Ok-None.ensures.found clean is));
+  ended = λ clean is. tt;
+  memory = λ clean is memory. absurd (never_done memory);
+  survives = c.find_known.ensures.survives;
+}
+
+pub returns-in-Err : goal.returns-in-Err
+returns-in-Err g c = record {
+  made = λ clean is. tt;
+  known = λ fits clean is. tt;
+  ended = λ clean is. tt;
+  memory = λ clean is memory. c.in-Err.ensures.settled clean is (memory_told (Option BlobLink) c.in-Err.fault memory);
+  survives = c.find_known.ensures.survives;
+}

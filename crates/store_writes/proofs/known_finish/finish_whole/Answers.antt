@@ -1,0 +1,90 @@
+use Rattle.std.proofs.Common.{◌∙◌, true, false, refl, sym}
+use Rattle.std.specs.Prelude.{find, Option}
+use Rattle.sqlite.specs.State.{HasCleanDisk}
+use Rattle.sqlite.specs.Held.{state}
+use Rattle.store_statements.specs.Keys.{has_key}
+use Rattle.store_statements.specs.declared.blobs.BlobLink.{BlobLink}
+use Rattle.store_statements.specs.Shown.{blob_link}
+use Rattle.store_statements.specs.Held.{held}
+use Rattle.store_statements.proofs.Transactions.{registry, survives_all}
+use Rattle.store_statements.proofs.BlobLinks.{still_none}
+use Rattle.store_writes.proofs.BlobWrites.{comes, is_there}
+use Rattle.store_writes.proofs.KnownEnds.{known_is, ends_there, ends_new, came_so, came_told, came_memory}
+use Rattle.store_statements.proofs.WritesAfterReads.{none_found, memory_told}
+use Rattle.store_statements.proofs.CleanBefore.{was_clean}
+use Rattle.store_statements.proofs.SettledAfter.{stays_then}
+use Rattle.store_statements.proofs.Alone.{commits_as}
+use Rattle.store_statements.proofs.Checks.{never_storage}
+use Rattle.store_writes.proofs.Fitting.{not_above}
+use Rattle.store_writes.proofs.known_finish.finish_whole.Goals as goal
+
+pub returns-in-Ok-Some : goal.returns-in-Ok-Some
+returns-in-Ok-Some g c =
+    let old = state g.S.Store c.args.conn.now in
+    let mid = state g.S.Store c.find_blob_link.new.conn in
+    let new = state g.S.Store c.make.new.conn in
+    record {
+      made = λ known clean is.
+          let late : HasCleanDisk mid = was_clean c.make.ensures.survives clean in
+          let early : HasCleanDisk old = was_clean c.find_blob_link.ensures.survives late in
+          let stays = c.in-Ok-Some.ensures.settled late is refl in
+          came_so c.make.result false c.tell_came.result c.tell_came.ensures
+          (λ it. ends_there old mid new c.args.repo.now c.args.number c.args.digest.now c.args.link c.in-Ok-Some.field-0-0 is (known_is (held old) c.args.repo.now c.args.number (registry old is) c.args.digest.now c.args.link (known early)) stays (sym c.in-Ok-Some.field-0-is ∙ c.in-Ok-Some.ensures.found late is) (commits_as new _ it.0 it.1))
+          (c.make.ensures.made (λ early. tt) clean stays.0);
+      came = λ clean is.
+          let late : HasCleanDisk mid = was_clean c.make.ensures.survives clean in
+          came_told c.make.result false _ c.tell_came.result c.tell_came.ensures (is_there old c.args.repo.now c.args.digest.now c.in-Ok-Some.field-0-0 is (sym c.in-Ok-Some.field-0-is ∙ c.in-Ok-Some.ensures.found late is));
+      memory = λ clean is memory.
+          let stays = c.in-Ok-Some.ensures.settled (was_clean c.make.ensures.survives clean) is refl in
+          stays_then old mid new stays (c.make.ensures.memory (λ early. tt) clean stays.0 (came_memory c.make.result false c.tell_came.result c.tell_came.ensures memory));
+      survives = survives_all old mid new _ _ c.find_blob_link.ensures.survives c.make.ensures.survives;
+    }
+
+pub returns-in-Ok-None : goal.returns-in-Ok-None
+returns-in-Ok-None g c =
+    let old = state g.S.Store c.args.conn.now in
+    let mid = state g.S.Store c.find_blob_link.new.conn in
+    let new = state g.S.Store c.make-in-Ok-None.new.conn in
+    record {
+      made = λ known clean is.
+          let late : HasCleanDisk mid = was_clean c.make-in-Ok-None.ensures.survives clean in
+          let early : HasCleanDisk old = was_clean c.find_blob_link.ensures.survives late in
+          let stays = c.in-Ok-None.ensures.settled late is refl in
+          let found = sym c.in-Ok-None.field-0-is ∙ c.in-Ok-None.ensures.found late is in
+          let none = none_found blob_link (find (has_key c.args.repo.now c.args.digest.now) (held old).blobs) found in
+          came_so c.make-in-Ok-None.result true c.tell_came-in-Ok-None.result c.tell_came-in-Ok-None.ensures
+          (λ it. ends_new old mid new c.args.repo.now c.args.number c.args.digest.now c.args.link is (known_is (held old) c.args.repo.now c.args.number (registry old is) c.args.digest.now c.args.link (known early)) stays none it)
+          (c.make-in-Ok-None.ensures.made (λ early. still_none old mid c.args.repo.now c.args.digest.now stays found) clean stays.0);
+      came = λ clean is.
+          let late : HasCleanDisk mid = was_clean c.make-in-Ok-None.ensures.survives clean in
+          let found = sym c.in-Ok-None.field-0-is ∙ c.in-Ok-None.ensures.found late is in
+          let none = none_found blob_link (find (has_key c.args.repo.now c.args.digest.now) (held old).blobs) found in
+          came_told c.make-in-Ok-None.result true _ c.tell_came-in-Ok-None.result c.tell_came-in-Ok-None.ensures (comes old c.args.repo.now c.args.digest.now is none);
+      memory = λ clean is memory.
+          let late : HasCleanDisk mid = was_clean c.make-in-Ok-None.ensures.survives clean in
+          let stays = c.in-Ok-None.ensures.settled late is refl in
+          stays_then old mid new stays (c.make-in-Ok-None.ensures.memory (λ early. still_none old mid c.args.repo.now c.args.digest.now stays (sym c.in-Ok-None.field-0-is ∙ c.in-Ok-None.ensures.found late is)) clean stays.0 (came_memory c.make-in-Ok-None.result true c.tell_came-in-Ok-None.result c.tell_came-in-Ok-None.ensures memory));
+      survives = survives_all old mid new _ _ c.find_blob_link.ensures.survives c.make-in-Ok-None.ensures.survives;
+    }
+
+pub make-requires : goal.make-requires
+make-requires g c = record { fits = c.requires.number_fits }
+
+pub make-requires-in-Ok-None : goal.make-requires-in-Ok-None
+make-requires-in-Ok-None g c = record { fits = (c.requires.number_fits, not_above c.args.link.size c.if-link-le-LARGEST.true) }
+
+pub returns-in-Ok-None-2 : goal.returns-in-Ok-None-2
+returns-in-Ok-None-2 g c = record {
+  made = λ known clean is. tt;
+  came = λ clean is. tt;
+  memory = λ clean is memory. absurd (never_storage memory);
+  survives = c.find_blob_link.ensures.survives;
+}
+
+pub returns-in-Err : goal.returns-in-Err
+returns-in-Err g c = record {
+  made = λ known clean is. tt;
+  came = λ clean is. tt;
+  memory = λ clean is memory. c.in-Err.ensures.settled clean is (memory_told (Option BlobLink) c.in-Err.fault memory);
+  survives = c.find_blob_link.ensures.survives;
+}

@@ -1,0 +1,42 @@
+use Rattle.std.proofs.Common.{◌∙◌, ap}
+use Rattle.std.specs.Prelude.{find}
+use Rattle.sqlite.specs.State.{HasCleanDisk}
+use Rattle.sqlite.specs.Held.{state}
+use Rattle.store_schema.proofs.Selects.{commit_then, survives_both}
+use Rattle.store_statements.specs.Keys.{has_key}
+use Rattle.store_statements.specs.Steps.{BlobStored}
+use Rattle.store_writes.proofs.BytesStored.{after_step}
+use Rattle.store_statements.specs.Tables.{Tables}
+use Rattle.store_statements.proofs.CleanBefore.{was_clean}
+use Rattle.store_writes.proofs.session_finish.end_session.Goals as goal
+
+pub returns-in-Ok : goal.returns-in-Ok
+returns-in-Ok g c = record {
+  finished = λ clean is fresh.
+      let mid = state g.S.Store c.take_session.new.tx.conn.now in
+      let new = state g.S.Store c.store_blob.new.tx.conn.now in
+      let early : HasCleanDisk mid = was_clean c.store_blob.ensures.survives clean in
+      let first = c.in-Ok.ensures.taken early is in
+      after_step (λ s n. BlobStored s n c.args.repo.now c.args.digest.now c.args.bytes.now) _ mid new c.store_blob.result first.1
+      (c.store_blob.ensures.stored clean first.0 (ap (λ (t : Tables). find (has_key c.args.repo.now c.args.digest.now) t.blobs) first.1 ∙ fresh));
+  kept = λ clean is.
+      let mid = state g.S.Store c.take_session.new.tx.conn.now in
+      let early : HasCleanDisk mid = was_clean c.store_blob.ensures.survives clean in
+      commit_then (state g.S.Store c.args.tx.now.conn.now) mid (state g.S.Store c.store_blob.new.tx.conn.now) (c.take_session.ensures.kept early is) (c.store_blob.ensures.kept clean (c.in-Ok.ensures.taken early is).0);
+  same_reference = c.store_blob.ensures.same_reference ∙ c.take_session.ensures.same_reference;
+  survives = survives_both (state g.S.Store c.args.tx.now.conn.now) (state g.S.Store c.take_session.new.tx.conn.now) (state g.S.Store c.store_blob.new.tx.conn.now) c.take_session.ensures.survives c.store_blob.ensures.survives;
+}
+
+pub take_session-requires : goal.take_session-requires
+take_session-requires g c = record { fits = c.requires.number_fits }
+
+pub store_blob-requires : goal.store_blob-requires
+store_blob-requires g c = record { matching = c.requires.matching; fits = c.requires.fits }
+
+pub returns-in-Err : goal.returns-in-Err
+returns-in-Err g c = record {
+  finished = λ clean is fresh. tt;
+  kept = c.take_session.ensures.kept;
+  same_reference = c.take_session.ensures.same_reference;
+  survives = c.take_session.ensures.survives;
+}

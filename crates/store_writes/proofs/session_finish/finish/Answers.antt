@@ -1,0 +1,78 @@
+use Rattle.std.proofs.Common.{◌∙◌, length, refl, sym}
+use Rattle.std.specs.Prelude.{find, Option}
+use Rattle.sqlite.specs.State.{HasCleanDisk}
+use Rattle.sqlite.specs.Held.{state}
+use Rattle.store_statements.specs.Keys.{has_key}
+use Rattle.store_statements.specs.declared.blobs.BlobLink.{BlobLink}
+use Rattle.store_statements.specs.Shown.{blob_link}
+use Rattle.store_statements.proofs.BlobLinks.{still_none}
+use Rattle.store_writes.proofs.SessionWrites.{finishes_there, finishes_new}
+use Rattle.store_statements.specs.Held.{held}
+use Rattle.store_statements.proofs.Transactions.{survives_all}
+use Rattle.store_statements.proofs.WritesAfterReads.{none_found, memory_told}
+use Rattle.store_statements.proofs.CleanBefore.{was_clean}
+use Rattle.store_statements.proofs.Checks.{never_storage}
+use Rattle.store_statements.proofs.Checks.{survives_here}
+use Rattle.store_statements.proofs.SettledAfter.{stays_then}
+use Rattle.store_statements.proofs.Alone.{commits_as, less}
+use Rattle.store_writes.proofs.Fitting.{not_above, blob_fits}
+use Rattle.store_writes.proofs.session_finish.finish.Goals as goal
+
+pub returns-in-Err : goal.returns-in-Err
+returns-in-Err g c = record {
+  made = λ is_open clean is. tt;
+  memory = λ clean is memory. c.in-Err.ensures.settled clean is (memory_told (Option BlobLink) c.in-Err.fault memory);
+  survives = c.find_blob_link.ensures.survives;
+}
+
+pub returns-then-number-gt-LARGEST : goal.returns-then-number-gt-LARGEST
+returns-then-number-gt-LARGEST g c = record {
+  made = λ is_open clean is. tt;
+  memory = λ clean is memory. absurd (never_storage memory);
+  survives = survives_here (state g.S.Store c.args.conn.now);
+}
+
+pub make-requires : goal.make-requires
+make-requires g c = record { fits = not_above c.args.number c.if-number-gt-LARGEST.false }
+
+pub make-requires-in-Ok-None : goal.make-requires-in-Ok-None
+make-requires-in-Ok-None g c = record { fits = (not_above c.args.number c.if-number-gt-LARGEST.false, rw c.as_str-digest.ensures.text c.requires.matching, blob_fits (length c.args.bytes.now) c.requires.fits) }
+
+pub returns-in-Ok-Some : goal.returns-in-Ok-Some
+returns-in-Ok-Some g c =
+    let old = state g.S.Store c.args.conn.now in
+    let mid = state g.S.Store c.find_blob_link.new.conn in
+    let new = state g.S.Store c.make.new.conn in
+    record {
+      made = λ is_open clean is.
+          let late : HasCleanDisk mid = was_clean c.make.ensures.survives clean in
+          let stays = c.in-Ok-Some.ensures.settled late is refl in
+          less c.make.result
+          (λ it. rw (c.as_str-repo.ensures.text, c.as_str-digest.ensures.text) at (finishes_there old mid new c.as_str-repo.result.now c.args.number c.as_str-digest.result.now c.args.bytes.now c.in-Ok-Some.field-0-0 is stays (sym c.in-Ok-Some.field-0-is ∙ c.in-Ok-Some.ensures.found late is) (commits_as new _ it.0 it.1)))
+          (c.make.ensures.made (λ early. tt) clean stays.0);
+      memory = λ clean is memory.
+          let stays = c.in-Ok-Some.ensures.settled (was_clean c.make.ensures.survives clean) is refl in
+          stays_then old mid new stays (c.make.ensures.memory (λ early. tt) clean stays.0 memory);
+      survives = survives_all old mid new _ _ c.find_blob_link.ensures.survives c.make.ensures.survives;
+    }
+
+pub returns-in-Ok-None : goal.returns-in-Ok-None
+returns-in-Ok-None g c =
+    let old = state g.S.Store c.args.conn.now in
+    let mid = state g.S.Store c.find_blob_link.new.conn in
+    let new = state g.S.Store c.make-in-Ok-None.new.conn in
+    record {
+      made = λ is_open clean is.
+          let late : HasCleanDisk mid = was_clean c.make-in-Ok-None.ensures.survives clean in
+          let stays = c.in-Ok-None.ensures.settled late is refl in
+          let found = sym c.in-Ok-None.field-0-is ∙ c.in-Ok-None.ensures.found late is in
+          let none = none_found blob_link (find (has_key c.as_str-repo.result.now c.as_str-digest.result.now) (held old).blobs) found in
+          less c.make-in-Ok-None.result
+          (λ it. finishes_new old mid new c.args.repo.now c.args.number c.args.digest.now c.args.bytes.now is (is_open (was_clean c.find_blob_link.ensures.survives late)) stays (rw (c.as_str-repo.ensures.text, c.as_str-digest.ensures.text) at none) (rw (c.as_str-repo.ensures.text, c.as_str-digest.ensures.text) at it))
+          (c.make-in-Ok-None.ensures.made (λ early. still_none old mid c.as_str-repo.result.now c.as_str-digest.result.now stays found) clean stays.0);
+      memory = λ clean is memory.
+          let late : HasCleanDisk mid = was_clean c.make-in-Ok-None.ensures.survives clean in
+          let stays = c.in-Ok-None.ensures.settled late is refl in
+          stays_then old mid new stays (c.make-in-Ok-None.ensures.memory (λ early. still_none old mid c.as_str-repo.result.now c.as_str-digest.result.now stays (sym c.in-Ok-None.field-0-is ∙ c.in-Ok-None.ensures.found late is)) clean stays.0 memory);
+      survives = survives_all old mid new _ _ c.find_blob_link.ensures.survives c.make-in-Ok-None.ensures.survives;
+    }

@@ -1,0 +1,94 @@
+//! Bytes come behind those of an open upload session.
+ghost use Rattle.std.specs.Prelude.{◌≡◌, ◌<◌, ◌+◌, ◌^◌, true, length, find, is_some, None, Some, Ok, Err, IfOk, IfErr};
+ghost use Rattle.registry_model.specs.Lookups.{append, session_at};
+ghost use Rattle.store_statements.specs.Keys.{has_start};
+ghost use Rattle.store_statements.specs.StepsFrom.{StepsFrom};
+ghost use Rattle.store_statements.specs.Between.{MakesWorld, StaysOnMemory};
+ghost use Rattle.store_statements.specs.Clauses.{KeepsInside, Lasts, LastsUncommitted, WorldHas};
+ghost use Rattle.store_statements.specs.Steps.{Appended};
+
+use crate::change::Change;
+use crate::changing::make;
+use crate::session_change::SessionChange;
+use oci_types::{Fault, RepoName};
+use sqlite::{Alter, Connection, Transaction};
+use std::alloc::Global;
+use store_statements::contents::keep;
+use store_statements::numbers::{LARGEST, has_room};
+use store_statements::pieces::add_piece;
+use store_statements::uploads::{find_upload, set_size};
+
+/// Puts bytes behind those of a session that has `size` bytes.
+pub(crate) fn add_bytes<S: Alter>(
+    alloc: Global,
+    tx: &mut Transaction<'_, S>,
+    repo: &str,
+    number: u64,
+    size: u64,
+    bytes: &[u8],
+) -> Result<(), Fault>
+    requires number_fits { number < 2 ^ 63 }
+    requires fits { size + length bytes.now < 2 ^ 63 }
+    ensures appended { StepsFrom S.Store tx.old.conn.now tx.new.conn.now result
+        (λ t. find (has_start repo.now number size) t.pieces ≡ None)
+        (λ t u. Appended t u repo.now number size bytes.now) }
+    ensures kept { KeepsInside S.Store tx.old.conn.now tx.new.conn.now }
+    ensures same_reference { tx.new.conn.ghost_name ≡ tx.old.conn.ghost_name }
+    ensures survives { LastsUncommitted S.Store tx.old.conn.now tx.new.conn.now }
+{
+    match set_size(tx, repo, number, size + bytes.len() as u64) {
+        Ok(_) => match keep(alloc, tx, bytes) {
+            Ok(content) => add_piece(tx, repo, number, size, bytes.len() as u64, content),
+            Err(fault) => Err(fault),
+        },
+        Err(fault) => Err(fault),
+    }
+}
+
+/// The size that was found of a session, where there is room for so many bytes more.
+fn with_room(found: Result<Option<u64>, Fault>, more: u64) -> Result<u64, Fault>
+    ensures same { IfOk result (λ size. found ≡ Ok (Some size)) }
+    ensures room { IfOk result (λ size. size + more < 2 ^ 63) }
+    ensures memory { IfErr result (λ fault. fault ≡ Fault.Memory → found ≡ Err fault) }
+{
+    match found {
+        Ok(Some(size)) if has_room(size, more) => Ok(size),
+        Ok(_) => Err(Fault::Storage),
+        Err(fault) => Err(fault),
+    }
+}
+
+/// Puts bytes behind those of an open session; none that it has are touched.
+pub fn append<S: Alter>(
+    alloc: Global,
+    conn: &mut Connection<S>,
+    repo: &RepoName,
+    number: u64,
+    bytes: &[u8],
+) -> Result<(), Fault>
+    ensures made { WorldHas S.Store conn.old (λ w. is_some (session_at w repo.now number) ≡ true)
+        → MakesWorld S.Store conn.old conn.new result (λ w. append w repo.now number bytes.now) }
+    ensures memory { StaysOnMemory S.Store conn.old conn.new result }
+    ensures survives { Lasts S.Store conn.old conn.new }
+{
+    if bytes.is_empty() {
+        return Ok(());
+    }
+    if number > LARGEST {
+        return Err(Fault::Storage);
+    }
+    let repo = repo.as_str();
+    match with_room(find_upload(conn, repo, number), bytes.len() as u64) {
+        Ok(size) => make(
+            conn,
+            Change::Session(SessionChange::Append {
+                alloc,
+                repo,
+                number,
+                size,
+                bytes,
+            }),
+        ),
+        Err(fault) => Err(fault),
+    }
+}
