@@ -47,8 +47,7 @@ returns-in-None-clause-comes g c honest =
     let q = ask_of c.args.request.now in
     let asked = c.in_ok-known.ensures.found honest in
     let k = on_none (s.world.grants c.args.token.now) (repo_at s.world) q q.form (sym c.name_at.ensures ∙ ap text_in c.in-None.is) in
-    known_served (Ok c.reply_beside.result) c.args.token.now q (g.K.Keeper.state c.args.keeper.now) s s asked.1 (sym asked.0 ∙ c.if-not-branch.false)
-    (
+    known_served (Ok c.reply_beside.result) c.args.token.now q (g.K.Keeper.state c.args.keeper.now) s s asked.1 (sym asked.0 ∙ c.if-not-branch.false) (
       c.reply_beside.ensures.told ∙ ap (λ d. d.reply) (sym k.0),
       (λ i. record { world = s.world; spent = c.in_ok-known.ensures.spends.1 i })
           ∙ ap (λ o. record { world = changed s.world (addressed q.form) o; spent = false }) (sym (ap (λ d. d.change) k.0 ∙ k.1)),
