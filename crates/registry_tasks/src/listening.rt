@@ -3,6 +3,7 @@ ghost use Rattle.std.specs.Prelude.{◌≡◌, OnOk, IfErr};
 ghost use Rattle.registry_orders.specs.Failures.{IsOfServing};
 
 use crate::order_socket::listen_for_orders;
+use libc::net::listen as set_queue;
 use oci_types::Fault;
 use os::FromRawFd;
 use registry_model::Keeper;
@@ -11,11 +12,16 @@ use std::alloc::Global;
 use std::io;
 use std::io::{ErrorKind, Write};
 use std::net::TcpListener;
-use std::os::fd::IntoRawFd;
+use std::os::fd::{AsRawFd, IntoRawFd};
 use std::os::unix::net::UnixListener;
 
 /// What is written in the place of an address where a listener is handed over.
 const HANDED_OVER: &str = "fd:3";
+
+/// So many connections may wait until they are taken, as far as the system allows it (on Linux
+/// net.core.somaxconn). With the standard library's 128 a burst of more clients overruns the queue, and those
+/// that found no room in it come again after a second.
+const QUEUE: i32 = 4_096;
 
 /// Where a server takes connections, and where orders, if anywhere.
 #[derive(Drop)]
@@ -45,12 +51,20 @@ fn handed_over() -> io::Result<TcpListener> {
     }
 }
 
+/// Listens at an address, with room for many that wait. Asked again of a socket that listens, `listen` changes
+/// the length of its queue alone (POSIX.1-2017); where it fails, that stays as it was.
+fn bind(rt: &HostRuntime, address: &str) -> io::Result<TcpListener> {
+    let listener = TcpListener::bind(rt, address)?;
+    let _ = set_queue(listener.as_raw_fd(), QUEUE);
+    Ok(listener)
+}
+
 /// Listens at an address, or takes the listener that was handed over where that is asked for.
 fn listener_at(rt: &HostRuntime, address: &str) -> io::Result<TcpListener> {
     if address == HANDED_OVER {
         return handed_over();
     }
-    TcpListener::bind(rt, address)
+    bind(rt, address)
 }
 
 /// Listens at an address for connections, and then for orders at the path of a socket, if one is given.
