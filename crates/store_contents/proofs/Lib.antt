@@ -7,5 +7,5 @@ pub mod AddLemmas
 pub mod RemoveLemmas
 pub mod ReadLemmas
 pub mod ListingLemmas
-pub mod Told
+pub mod ToldLemmas
 pub mod Lasting

@@ -1,4 +1,4 @@
-ghost use Rattle.std.specs.Prelude.{◌≡◌, Ok, Err, IsOk, MatchResult, OnOk};
+ghost use Rattle.std.specs.Prelude.{◌≡◌, Ok, Err, IfOk, IsOk, MatchResult, OnOk};
 ghost use Rattle.store_contents.specs.Search.{fault_by};
 
 use oci_types::Fault;
@@ -14,9 +14,10 @@ pub fn fault_of(error: Error) -> Fault
     }
 }
 
-/// Whether it was done, without how many rows that were.
-pub(crate) fn done(ran: Result<usize, Error>) -> Result<(), Fault>
-    ensures { OnOk result (IsOk ran) }
+/// Whether it was done, without how many rows that were, or what the error is to a caller.
+pub fn done(ran: Result<usize, Error>) -> Result<(), Fault>
+    ensures exact { MatchResult ran (λ _. result ≡ Ok tt) (λ error. result ≡ Err (fault_by error)) }
+    ensures ok { OnOk result (IsOk ran) }
 {
     match ran {
         Ok(_) => Ok(()),
@@ -25,8 +26,9 @@ pub(crate) fn done(ran: Result<usize, Error>) -> Result<(), Fault>
 }
 
 /// The value, or what the error is to a caller.
-pub(crate) fn told<T>(found: Result<T, Error>) -> Result<T, Fault>
-    ensures { MatchResult found (λ value. result ≡ Ok value) (λ error. result ≡ Err (fault_by error)) }
+pub fn told<T>(found: Result<T, Error>) -> Result<T, Fault>
+    ensures exact { MatchResult found (λ value. result ≡ Ok value) (λ error. result ≡ Err (fault_by error)) }
+    ensures ok { IfOk result (λ value. found ≡ Ok value) }
 {
     match found {
         Ok(value) => Ok(value),

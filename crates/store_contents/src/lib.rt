@@ -14,7 +14,7 @@ mod removal;
 mod search;
 
 pub use content_id::ContentId;
-pub use fault::fault_of;
+pub use fault::{done, fault_of, told};
 pub use hashed::is_hashed;
 pub use keep::{find_or_add, find_or_add_hashed};
 pub use listing::unlinked;

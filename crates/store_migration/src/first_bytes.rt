@@ -3,10 +3,9 @@ ghost use Rattle.std.specs.Prelude.{◌≡◌, option_map, slice_get, IfOk, IsOk
 ghost use Rattle.store_schema.specs.Rows.{bytes_at};
 ghost use Rattle.store_migration.specs.Shown.{shown};
 
-use crate::telling::told;
 use oci_types::Fault;
 use sqlite::{Error, Row};
-use store_contents::fault_of;
+use store_contents::{fault_of, told};
 
 /// The bytes that the first of the rows shows first, if there is one.
 fn bytes_in(rows: &[Row]) -> Result<Option<Vec<u8>>, Error>

@@ -19,7 +19,6 @@ pub mod old_manifests;
 pub mod old_sessions;
 mod rewrite;
 mod session_moves;
-mod telling;
 mod version;
 mod watch;
 pub mod worked;

@@ -4,11 +4,10 @@ ghost use Rattle.sqlite.specs.Order.{Row};
 ghost use Rattle.store_schema.specs.Rows.{bytes_at, natural_at};
 ghost use Rattle.store_migration.specs.Shown.{AllShown};
 
-use crate::telling::told;
 use oci_types::Fault;
 use sqlite::{Error, Row};
 use std::alloc::Global;
-use store_contents::fault_of;
+use store_contents::{fault_of, told};
 
 /// Of a blob or a manifest.
 #[derive(Drop)]

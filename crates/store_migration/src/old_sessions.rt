@@ -11,10 +11,10 @@ ghost use Rattle.store_migration.specs.Shown.{session_shown, shown};
 
 use crate::first_bytes::first_bytes;
 use crate::old_keys::{SessionKey, keys_of};
-use crate::telling::done;
 use oci_types::Fault;
 use sqlite::{Alter, Transaction, params};
 use std::alloc::Global;
+use store_contents::done;
 
 /// The key of each row, in any order. Nothing changes.
 pub fn session_keys<S: Alter>(

@@ -8,9 +8,9 @@ ghost use Rattle.store_migration.specs.OldTables.{IsOfSchemaOne};
 ghost use Rattle.store_migration.specs.Moves.{with_version_two};
 ghost use Rattle.store_migration.specs.Clauses.{OverBoth};
 
-use crate::telling::done;
 use oci_types::Fault;
 use sqlite::{Alter, Transaction};
+use store_contents::done;
 
 /// Makes the one row of `registry_schema` say 2.
 pub fn raise_version<S: Alter>(tx: &mut Transaction<'_, S>) -> Result<(), Fault>

@@ -9,7 +9,7 @@ use Rattle.oci_types.specs.Text.{Text}
 use Rattle.oci_types.specs.Digest.{sha256_digest, sha256_prefix}
 use Rattle.store_contents.specs.Contents.{sha256_text}
 use Rattle.store_contents.specs.Hashed.{has_hash}
-use Rattle.store_contents.proofs.Told.{sha256_told}
+use Rattle.store_contents.proofs.ToldLemmas.{sha256_told}
 use Rattle.store_statements.specs.ContentShown.{has_sha256_digest}
 
 both_so : (a b : Bool) → (a ≡ true → b ≡ true) → (b ≡ true → a ≡ true) → a ≡ b

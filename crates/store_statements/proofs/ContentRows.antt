@@ -11,7 +11,7 @@ use Rattle.oci_types.specs.Digest.{matches, sha256_digest, sha512_digest, sha256
 use Rattle.store_schema.proofs.Ids.{int_eq_itself, int_eq_is}
 use Rattle.store_contents.specs.declared.content_id.ContentId.{ContentId}
 use Rattle.store_contents.specs.Contents.{sha256_text, bytes_in, IsInside, FindsOrAdds}
-use Rattle.store_contents.proofs.Told.{sha256_told}
+use Rattle.store_contents.proofs.ToldLemmas.{sha256_told}
 use Rattle.store_statements.specs.Tables.{Tables, AreTables}
 use Rattle.store_statements.specs.Changes.{Grow}
 use Rattle.store_statements.specs.Known.{KnowsRegistry}

@@ -13,11 +13,11 @@ ghost use Rattle.store_statements.specs.Shown.{blob_link, content_named};
 ghost use Rattle.store_statements.specs.Steps.{blobs_without, BlobComes};
 
 use crate::reading::{FromRow, all, first};
-use crate::telling::{checked, done};
+use crate::telling::checked;
 use oci_types::{Digest, Fault};
 use sqlite::{Alter, Connection, Error, Row, Transaction, params};
 use std::alloc::Global;
-use store_contents::ContentId;
+use store_contents::{ContentId, done};
 
 /// What a repository has of a blob: its size in bytes, and the content that it is.
 #[derive(Clone, Copy)]

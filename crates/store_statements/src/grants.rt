@@ -12,11 +12,12 @@ ghost use Rattle.store_statements.specs.Shown.{by_token};
 ghost use Rattle.store_statements.specs.Steps.{grants_without, grants_changed, GrantComes};
 
 use crate::reading::{FromRow, any_row, first};
-use crate::telling::{checked, done, told};
+use crate::telling::checked;
 use oci_types::Fault;
 use registry_model::Level;
 use sqlite::{Alter, Connection, Error, Row, Transaction, params};
 use std::alloc::Global;
+use store_contents::{done, told};
 
 /// A level as a column has it.
 fn number_of(level: Level) -> i64

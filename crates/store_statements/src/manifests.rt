@@ -11,11 +11,11 @@ ghost use Rattle.store_statements.specs.Steps.{manifests_without, ManifestComes}
 ghost use Rattle.store_statements.specs.ManifestShown.{by_second, link_shown, manifest_link, manifest_content};
 
 use crate::reading::{FromRow, all, first};
-use crate::telling::{checked, done};
+use crate::telling::checked;
 use oci_types::{Digest, Fault, Kind};
 use sqlite::{Alter, Connection, Error, ErrorCode, Row, Transaction, params};
 use std::alloc::Global;
-use store_contents::ContentId;
+use store_contents::{ContentId, done};
 
 /// A manifest of a repository: its size in bytes, its kind, and the content that is its bytes.
 #[derive(Clone, Copy)]

@@ -10,11 +10,11 @@ ghost use Rattle.store_statements.specs.Shown.{content_named};
 ghost use Rattle.store_statements.specs.Steps.{pieces_without, PieceComes};
 
 use crate::reading::all;
-use crate::telling::{checked, done};
+use crate::telling::checked;
 use oci_types::Fault;
 use sqlite::{Alter, Connection, Transaction, params};
 use std::alloc::Global;
-use store_contents::ContentId;
+use store_contents::{ContentId, done};
 
 /// Takes all pieces of the session out.
 pub fn take_pieces_of<S: Alter>(

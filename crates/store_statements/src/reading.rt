@@ -5,11 +5,10 @@ ghost use Rattle.store_schema.specs.Rows.{bytes_at, natural_at};
 ghost use Rattle.store_statements.specs.Shown.{content_named};
 ghost use Rattle.store_statements.specs.Told.{IsRead};
 
-use crate::telling::told;
 use oci_types::{Digest, Fault, NameFault, RepoName, Tag};
 use sqlite::{Error, ErrorCode, Row};
 use std::alloc::Global;
-use store_contents::{ContentId, fault_of};
+use store_contents::{ContentId, fault_of, told};
 
 /// A value that a row shows.
 pub(crate) trait FromRow: Drop {

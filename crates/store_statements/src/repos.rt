@@ -15,10 +15,11 @@ ghost use Rattle.store_statements.specs.Drops.{HasNoChildren};
 ghost use Rattle.store_statements.specs.FirstRows.{repo_shown};
 
 use crate::reading::{FromRow, all, count_rows, first};
-use crate::telling::{checked, done, told};
+use crate::telling::checked;
 use oci_types::{Fault, RepoName};
 use sqlite::{Alter, Connection, Error, Row, Transaction, params};
 use std::alloc::Global;
+use store_contents::{done, told};
 
 /// What the row of a repository has beside its name: the quota in bytes, and the last number that an upload
 /// session got, 0 where none was opened.

@@ -9,11 +9,11 @@ ghost use Rattle.store_statements.specs.Told.{IsRead};
 
 use crate::numbers::LARGEST;
 use crate::reading::each;
-use crate::telling::{checked, told};
+use crate::telling::checked;
 use oci_types::{Fault, Tag};
 use sqlite::{Alter, Connection, Error, Row, params};
 use std::alloc::Global;
-use store_contents::fault_of;
+use store_contents::{fault_of, told};
 
 /// Tags in their order, and whether more follow.
 pub struct TagPage {

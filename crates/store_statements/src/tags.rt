@@ -8,10 +8,11 @@ ghost use Rattle.store_statements.specs.Clauses.{Adds, Changes, FindsInside, Kee
 ghost use Rattle.store_statements.specs.Steps.{names_digest, tags_without, tags_changed, TagComes};
 
 use crate::reading::{count_rows, first_on};
-use crate::telling::{checked, done, told};
+use crate::telling::checked;
 use oci_types::{Digest, Fault};
 use sqlite::{Alter, Connection, Transaction, params};
 use std::alloc::Global;
+use store_contents::{done, told};
 
 /// Takes the tag out, where it is there.
 pub fn take_tag<S: Alter>(tx: &mut Transaction<'_, S>, repo: &str, tag: &str) -> Result<(), Fault>

@@ -9,10 +9,11 @@ ghost use Rattle.store_statements.specs.Clauses.{Adds, Changes, FindsInside, Kee
 ghost use Rattle.store_statements.specs.Steps.{uploads_without, uploads_changed, UploadComes};
 
 use crate::reading::{all, count_rows, first};
-use crate::telling::{checked, done, told};
+use crate::telling::checked;
 use oci_types::Fault;
 use sqlite::{Alter, Connection, Transaction, params};
 use std::alloc::Global;
+use store_contents::{done, told};
 
 /// Takes the session out, where it is there.
 pub fn take_upload<S: Alter>(

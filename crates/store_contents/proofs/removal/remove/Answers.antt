@@ -15,10 +15,10 @@ returns g c =
     let new = state g.S.Store c.execute.new.self.conn.now in
     record {
       removed = λ clean is.
-          on_done _ c.execute.result c.done.result c.done.ensures
+          on_done _ c.execute.result c.done.result c.done.ensures.ok
           (removed_by old new c.args.id.id c.execute.result is.contents (rw (c.params-to_sql.ensures ∙ ap Int (to_z-of_z w64 c.get.result range ∙ c.get.ensures)) at (c.execute.ensures.runs clean is.inside))).0;
       inside = λ clean is.
-          on_done _ c.execute.result c.done.result c.done.ensures
+          on_done _ c.execute.result c.done.result c.done.ensures.ok
           (removed_by old new c.args.id.id c.execute.result is.contents (rw (c.params-to_sql.ensures ∙ ap Int (to_z-of_z w64 c.get.result range ∙ c.get.ensures)) at (c.execute.ensures.runs clean is.inside))).1;
       kept = λ clean is. keeps_by_execute 0 remove_text _ old new c.execute.result (c.execute.ensures.runs clean is.inside);
       same_reference = c.execute.ensures.same_reference;

@@ -8,7 +8,7 @@ use Rattle.store_statements.proofs.repos.set_quota.Goals as goal
 pub returns : goal.returns
 returns g c =
     let whole : to_z w64 c.args.quota ≡ pos c.args.quota = is_whole c.args.quota c.requires.fits in
-    let it = makes_so_many g.S.Store c.args.tx.now.conn.now c.execute.new.self.conn.now _ _ c.execute.result c.execute.ensures.runs _ (given c.params-to_sql.ensures (given (c.params-to_sql-2.ensures ∙ ap Int whole) refl)) c.told.result _ _ c.told.ensures (quota_set_by c.args.name.now c.args.quota (state g.S.Store c.args.tx.now.conn.now) (state g.S.Store c.execute.new.self.conn.now) c.execute.result) in
+    let it = makes_so_many g.S.Store c.args.tx.now.conn.now c.execute.new.self.conn.now _ _ c.execute.result c.execute.ensures.runs _ (given c.params-to_sql.ensures (given (c.params-to_sql-2.ensures ∙ ap Int whole) refl)) c.told.result _ _ c.told.ensures.ok (quota_set_by c.args.name.now c.args.quota (state g.S.Store c.args.tx.now.conn.now) (state g.S.Store c.execute.new.self.conn.now) c.execute.result) in
     record {
       set = it.0;
       counted = it.1;
