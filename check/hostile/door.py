@@ -70,7 +70,7 @@ class Client:
             self.crowd.bad.append(f"answered {self.had[:100]}")
         self.crowd.waits.append(time.monotonic() - self.since)
         self.had, self.since, self.left = b"", None, self.left - 1
-        if self.left:
+        if self.left > 0 or self.crowd.over:
             self.crowd.is_to_ask(self)
 
 
@@ -78,7 +78,7 @@ class Crowd:
     """So many clients of one server, in one thread."""
 
     def __init__(self, port, count):
-        self.port, self.waits, self.bad, self.again = port, [], [], 0
+        self.port, self.waits, self.bad, self.again, self.over = port, [], [], 0, None
         self.poll, self.opened, self.by_number, self.due = select.epoll(), ExitStack(), {}, []
         self.clients = [Client(self) for _ in range(count)]
 
@@ -93,13 +93,17 @@ class Crowd:
     def is_to_ask(self, client):
         heapq.heappush(self.due, (time.monotonic() + BETWEEN, id(client), client))
 
-    def go_on(self, seconds):
-        """Until all have asked as often as they are to, or for so many seconds."""
-        ends = time.monotonic() + seconds
+    def is_on(self, over):
+        """Whether they go on: until it is over, where that is told, else until all have asked often enough."""
+        return not over.is_set() if over else any(it.left > 0 for it in self.clients)
+
+    def go_on(self, seconds, over=None):
+        """Until all have asked as often as they are to, or it is over; or for so many seconds."""
+        ends, self.over = time.monotonic() + seconds, over
         with self.opened, self.poll:
             for it in self.clients:
                 it.ask()
-            while any(it.left for it in self.clients) and time.monotonic() < ends:
+            while self.is_on(over) and time.monotonic() < ends:
                 for number, event in self.poll.poll(0.02):
                     client = self.by_number.get(number)
                     if client and event & select.EPOLLOUT:
@@ -111,7 +115,7 @@ class Crowd:
 
     def unanswered(self):
         """How many have had no reply at all."""
-        return sum(it.left == TIMES for it in self.clients)
+        return sum(it.left >= TIMES for it in self.clients)
 
 
 class Pusher:
