@@ -10,18 +10,18 @@ use Rattle.registry_model.specs.declared.level.Level.{Level}
 use Rattle.registry_model.specs.declared.admin.AdminCommand.{AdminCommand}
 use Rattle.registry_model.specs.declared.admin.AdminCommand.TheVariants.{AddRepo, SetQuota, DropRepo, Grant, Revoke, RevokeAll, DropSessions, Prune, Clear}
 use Rattle.registry_model.specs.declared.admin.AdminFault.{AdminFault}
-use Rattle.registry_model.specs.declared.refusal.Refusal.TheVariants.{TokenRequired}
 use Rattle.registry_model.specs.World.{text_cmp, Repo, Grants, World, repo_at, level_at, update_repo}
 use Rattle.registry_model.specs.Ask.{Ask}
 use Rattle.registry_model.specs.Decision.{refuses}
 use Rattle.registry_model.specs.Operation.{addressed, rank, rank_of}
 use Rattle.registry_model.specs.Command.{with_quota, grant, revoke, revoke_all, drop_repo, without_sessions, refusal_of, carried_out, after_command}
 use Rattle.registry_model.specs.Pruning.{pruned}
-use Rattle.registry_model.specs.Judging.{decision, judged, changed, after_request}
+use Rattle.registry_model.specs.Judging.{decision, judged, decided, changed, after_request, unnamed}
 use Rattle.registry_model.specs.Team.{Team, IsTeamOf, view, Step, asks, orders, is_reading, GivesNoPush, NeverPushes, MayNotPush, IsElsewhere, OwnOrAside}
 use Rattle.registry_model.specs.Runs.{after}
 use Rattle.registry_model.proofs.TextOrder.{text_total, bytes_same, same_key, remove_absent}
 use Rattle.registry_model.proofs.JudgingLaws.{reading_changes, decision_changes}
+use Rattle.registry_model.proofs.ResourceLaws.{change_at, unchanged}
 use Rattle.registry_model.proofs.ViewLaws.{changed_outside, updated_outside, with_repo_outside, with_grants_outside, no_level, dropped_outside}
 
 -- what stays since the first world of a list
@@ -41,10 +41,6 @@ same_grants w (Some t) (Some r) = refl
 pub updated_grants : (w : World) (name : Text) (change : Repo → Repo) (o : Option Repo) → (update_repo w name change o).grants ≡ w.grants
 updated_grants w name change None = refl
 updated_grants w name change (Some r) = refl
-
-unchanged : (w : World) (t : Option Text) → changed w t None ≡ w
-unchanged w None = refl
-unchanged w (Some t) = refl
 
 -- the grants stayed
 kept_grants : (first : World) (all : List Step) (team : Team) (w v : World) → v.grants ≡ w.grants → Since first all team w → Since first all team v
@@ -132,7 +128,7 @@ module _ (first : World) (all : List Step) (team : Team) (mine : IsTeamOf first 
   since_order Clear h gives = s
 
   pub since : (st : Step) → OwnOrAside first all team st → ((u n : Text) → All (GivesNoPush u n) all → GivesNoPush u n st) → Since first all team (after w st)
-  since (asks q) h gives = kept_grants first all team w _ (same_grants w (addressed q.form) (judged w q.token q).change) s
+  since (asks q) h gives = kept_grants first all team w _ (same_grants w (addressed q.form) (decided w q).change) s
   since (orders a) h gives = by_refusal (λ v. Since first all team v) w a s (since_order a h gives)
 
   -- ---- requests
@@ -141,7 +137,7 @@ module _ (first : World) (all : List Step) (team : Team) (mine : IsTeamOf first 
   none_of_reading None q r = refl
   none_of_reading (Some token) q r = by (is_token token)
     where
-      by : (b : Bool) → (cond b (decision (w.grants token) (repo_at w) q) (refuses TokenRequired)).change ≡ None
+      by : (b : Bool) → (cond b (decision (w.grants token) (repo_at w) q) (unnamed q)).change ≡ None
       by true = reading_changes (w.grants token) (repo_at w) q r
       by false = refl
 
@@ -152,7 +148,7 @@ module _ (first : World) (all : List Step) (team : Team) (mine : IsTeamOf first 
   none_pushed : (u : Text) (q : Ask) (name : Text) → addressed q.form ≡ Some name → NeverPushes first all u name → (judged w (Some u) q).change ≡ None
   none_pushed u q name e never = by (is_token u)
     where
-      by : (b : Bool) → (cond b (decision (w.grants u) (repo_at w) q) (refuses TokenRequired)).change ≡ None
+      by : (b : Bool) → (cond b (decision (w.grants u) (repo_at w) q) (unnamed q)).change ≡ None
       by true = no_change (decision (w.grants u) (repo_at w) q).change (rank_of (level_at w u name)) (decision_changes (w.grants u) (repo_at w) q name e) (s.low u name never)
       by false = refl
 
@@ -171,10 +167,11 @@ module _ (first : World) (all : List Step) (team : Team) (mine : IsTeamOf first 
 
   pub aside_request : (q : Ask) → IsElsewhere team q.form ⊎ ((is_reading q.verb ≡ true) ⊎ MayNotPush first all q.token (addressed q.form))
       → view (after_request w q) team ≡ view w team
-  aside_request q (inl h) = changed_outside w team (addressed q.form) (judged w q.token q).change (λ name e. elsewhere q h name e)
+  aside_request q (inl h) = changed_outside w team (addressed q.form) (decided w q).change (λ name e. elsewhere q h name e)
   aside_request q (inr (inl r)) =
-      ap (λ c. view (changed w (addressed q.form) c) team) (none_of_reading q.token q r) ∙ ap (λ v. view v team) (unchanged w (addressed q.form))
-  aside_request q (inr (inr h)) = ap (λ v. view v team) (may_not q.token q (addressed q.form) refl h)
+      ap (λ c. view (changed w (addressed q.form) c) team) (change_at (λ c. c ≡ None) refl q.resource q (judged w q.token q) (none_of_reading q.token q r)) ∙ ap (λ v. view v team) (unchanged w (addressed q.form))
+  aside_request q (inr (inr h)) = ap (λ v. view v team)
+      (change_at (λ c. changed w (addressed q.form) c ≡ w) (unchanged w (addressed q.form)) q.resource q (judged w q.token q) (may_not q.token q (addressed q.form) refl h))
 
   -- ---- commands
 

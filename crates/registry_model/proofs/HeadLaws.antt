@@ -8,8 +8,10 @@ use Rattle.oci_types.specs.Token.{is_token}
 use Rattle.registry_model.specs.declared.request.Verb.{Verb}
 use Rattle.registry_model.specs.declared.request.Verb.TheVariants.{Get, Head}
 use Rattle.registry_model.specs.World.{World, Grants, Repo, repo_at, is_known}
+use Rattle.registry_model.specs.declared.request.Resource.{Resource}
+use Rattle.registry_model.specs.declared.request.Resource.TheVariants as resource
 use Rattle.registry_model.specs.Answer.{sent, unsent}
-use Rattle.registry_model.specs.Ask.{Ask, Keys}
+use Rattle.registry_model.specs.Ask.{Ask}
 use Rattle.registry_model.specs.Form.{Form, no_form, base, blob, uploads, session, manifest, tags, referrers}
 use Rattle.registry_model.specs.Heads.{as_head, as_get, without_content}
 use Rattle.registry_model.specs.Decision.{Decision, refuses, tells, in_repo}
@@ -17,8 +19,8 @@ use Rattle.registry_model.specs.Blobs.{found_blob, found_size, read_blob, size_b
 use Rattle.registry_model.specs.Manifests.{Found, found_manifest, found_manifest_size, read_manifest, size_manifest, manifest_named}
 use Rattle.registry_model.specs.Referrers.{filter_in, referrers_body, referrers_reply, list_referrers, size_referrers}
 use Rattle.registry_model.specs.Operation.{reads_blob, reads_manifest, lists_referrers, operation_of, addressed}
-use Rattle.registry_model.specs.Judging.{allows, granted, decide, served, judged, changed, reply_to, after_request}
-use Rattle.registry_model.specs.declared.refusal.Refusal.TheVariants.{AccessDenied, InvalidName, InvalidDigest, TokenRequired}
+use Rattle.registry_model.specs.Judging.{allows, granted, decide, served, judged, decided_at, changed, reply_to, after_request, unnamed}
+use Rattle.registry_model.specs.declared.refusal.Refusal.TheVariants.{AccessDenied, InvalidName, InvalidDigest}
 
 record Alike (a b : Decision) : Type 0 where
   reply : without_content a.reply ≡ without_content b.reply
@@ -60,40 +62,45 @@ referrers_alike r digest artifact_type =
     else_alike (not (is_digest digest)) (tells (referrers_reply wanted (unsent (length body)))) (tells (referrers_reply wanted (sent body))) (refuses InvalidDigest)
     (record { reply = refl; change = refl })
 
-module _ (grants : Grants) (repos : Text → Option Repo) (token : Option Text) (keys : Keys) (content_type content_range : Option Text) (body : Text) where
+module _ (grants : Grants) (repos : Text → Option Repo) (q : Ask) where
   abbrev asked : Verb → Form → Ask
-  asked verb form = record { token = token; verb = verb; form = form; keys = keys; content_type = content_type; content_range = content_range; body = body }
+  asked verb form = record q { verb = verb; form = form }
 
-  decided : (name : Text) (form : Form) → Alike (granted grants repos name form (operation_of (asked Head form)) body) (granted grants repos name form (operation_of (asked Get form)) body)
+  alike_decide : (name : Text) (form : Form) → Alike (granted grants repos name form (operation_of (asked Head form)) q.body) (granted grants repos name form (operation_of (asked Get form)) q.body)
       → Alike (decide grants repos name (asked Head form)) (decide grants repos name (asked Get form))
-  decided name form h = if_alike (is_repo_name name) _ _ (refuses InvalidName) h
+  alike_decide name form h = if_alike (is_repo_name name) _ _ (refuses InvalidName) h
 
   served_alike : (form : Form) → Alike (served grants repos (asked Head form)) (served grants repos (asked Get form))
   served_alike no_form = same _
   served_alike base = same _
   served_alike (blob name digest) =
-      decided name (blob name digest)
+      alike_decide name (blob name digest)
       (if_alike (allows grants name (reads_blob digest)) _ _ (refuses AccessDenied) (in_repo_alike (repos name) _ _ (λ r. blob_alike r digest)))
   served_alike (uploads name) = same _
   served_alike (session name reference) = same _
   served_alike (manifest name reference) =
-      decided name (manifest name reference)
+      alike_decide name (manifest name reference)
       (if_alike (allows grants name (reads_manifest reference)) _ _ (refuses AccessDenied) (in_repo_alike (repos name) _ _ (λ r. manifest_alike r reference)))
   served_alike (tags name) = same _
   served_alike (referrers name digest) =
-      decided name (referrers name digest)
-      (if_alike (allows grants name (lists_referrers digest keys.artifact_type)) _ _ (refuses AccessDenied)
-      (in_repo_alike (repos name) _ _ (λ r. referrers_alike r digest keys.artifact_type)))
+      alike_decide name (referrers name digest)
+      (if_alike (allows grants name (lists_referrers digest q.keys.artifact_type)) _ _ (refuses AccessDenied)
+      (in_repo_alike (repos name) _ _ (λ r. referrers_alike r digest q.keys.artifact_type)))
 
 judged_alike : (w : World) (token : Option Text) (q : Ask) → Alike (judged w token (as_head q)) (judged w token (as_get q))
 judged_alike w None q = same _
 judged_alike w (Some token) q =
-    if_alike (is_token token) _ _ (refuses TokenRequired)
-    (if_alike (is_known (w.grants token)) _ _ (refuses TokenRequired)
-    (served_alike (w.grants token) (repo_at w) q.token q.keys q.content_type q.content_range q.body q.form))
+    if_alike (is_token token) _ _ (unnamed q)
+    (if_alike (is_known (w.grants token)) _ _ (unnamed q)
+    (served_alike (w.grants token) (repo_at w) q q.form))
+
+decided_alike : (r : Resource) (q : Ask) (a b : Decision) → Alike a b → Alike (decided_at r (as_head q) a) (decided_at r (as_get q) b)
+decided_alike resource.Registry q a b h = h
+decided_alike resource.Tokens q a b h = same _
+decided_alike resource.Health q a b h = same _
 
 pub reply_alike : (w : World) (q : Ask) → without_content (reply_to w (as_head q)) ≡ without_content (reply_to w (as_get q))
-reply_alike w q = (judged_alike w q.token q).reply
+reply_alike w q = (decided_alike q.resource q _ _ (judged_alike w q.token q)).reply
 
 pub world_alike : (w : World) (q : Ask) → after_request w (as_head q) ≡ after_request w (as_get q)
-world_alike w q = ap (changed w (addressed q.form)) (judged_alike w q.token q).change
+world_alike w q = ap (changed w (addressed q.form)) (decided_alike q.resource q _ _ (judged_alike w q.token q)).change

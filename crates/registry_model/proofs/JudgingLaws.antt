@@ -8,7 +8,7 @@ use Rattle.oci_types.specs.Digest.{is_digest}
 use Rattle.oci_types.specs.RepoName.{is_repo_name}
 use Rattle.registry_model.specs.declared.level.Level.{Level}
 use Rattle.registry_model.specs.declared.level.Level.TheVariants.{Pull, Push, Delete}
-use Rattle.registry_model.specs.declared.refusal.Refusal.TheVariants.{TokenRequired, InvalidName, AccessDenied, InvalidDigest}
+use Rattle.registry_model.specs.declared.refusal.Refusal.TheVariants.{InvalidName, AccessDenied, InvalidDigest}
 use Rattle.registry_model.specs.declared.request.Verb.{Verb}
 use Rattle.registry_model.specs.declared.request.Verb.TheVariants as verb
 use Rattle.registry_model.specs.World.{Repo, Grants, is_known}
@@ -23,7 +23,7 @@ use Rattle.registry_model.specs.Mount.{may_read, source, mounted}
 use Rattle.registry_model.specs.Manifests.{Found, found_manifest, found_manifest_size, manifest_named}
 use Rattle.registry_model.specs.TagPage.{size_in, list_page}
 use Rattle.registry_model.specs.Referrers.{list_referrers, size_referrers}
-use Rattle.registry_model.specs.Judging.{operate, allows, granted, decide, at_base, served_on, served, decision}
+use Rattle.registry_model.specs.Judging.{operate, allows, granted, decide, at_base, served_on, served, decision, unnamed}
 use Rattle.registry_model.specs.Team.{is_reading}
 
 -- what is allowed needs a level
@@ -92,7 +92,7 @@ module _ (g : Grants) (f f' : Text → Option Repo) (agree : (name : Text) → i
   served_same (referrers name digest) q = decide_same name q
 
   pub decision_same : (q : Ask) → decision g f q ≡ decision g f' q
-  decision_same q = ap (λ x. cond (is_known g) x (refuses TokenRequired)) (served_same q.form q)
+  decision_same q = ap (λ x. cond (is_known g) x (unnamed q)) (served_same q.form q)
 
 -- ---- operations that change nothing
 
@@ -242,7 +242,7 @@ module _ (g : Grants) (f : Text → Option Repo) where
   pub reading_changes : (q : Ask) → is_reading q.verb ≡ true → (decision g f q).change ≡ None
   reading_changes q h = by (is_known g)
     where
-      by : (b : Bool) → (cond b (served g f q) (refuses TokenRequired)).change ≡ None
+      by : (b : Bool) → (cond b (served g f q) (unnamed q)).change ≡ None
       by true = none_served q.form q (reading_operation q.form q.verb q.keys q.content_type q.content_range h)
       by false = refl
 
@@ -299,6 +299,6 @@ module _ (g : Grants) (f : Text → Option Repo) where
   pub decision_changes : (q : Ask) (name : Text) → addressed q.form ≡ Some name → OnSome (decision g f q).change (MayPush g name)
   decision_changes q name e = subst (λ o. OnSome (decision g f q).change (IfSome o (λ n. MayPush g n))) e (by (is_known g))
     where
-      by : (b : Bool) → OnSome (cond b (served g f q) (refuses TokenRequired)).change (IfSome (addressed q.form) (λ n. MayPush g n))
+      by : (b : Bool) → OnSome (cond b (served g f q) (unnamed q)).change (IfSome (addressed q.form) (λ n. MayPush g n))
       by true = served_changes q.form q
       by false = tt

@@ -3,6 +3,7 @@ pub mod TextOrder
 pub mod JudgingLaws
 pub mod HeadLaws
 pub mod ViewLaws
+pub mod ResourceLaws
 pub mod OwnLaws
 pub mod AsideLaws
 pub mod RunLaws

@@ -14,6 +14,8 @@ use Rattle.registry_model.specs.declared.range.RangeVerdict.{RangeVerdict}
 use Rattle.registry_model.specs.declared.range.RangeVerdict.TheVariants.{Fits, Malformed, OutOfOrder, Unequal}
 use Rattle.registry_model.specs.declared.request.Verb.{Verb}
 use Rattle.registry_model.specs.declared.request.Verb.TheVariants as verb
+use Rattle.registry_model.specs.declared.request.Resource.{Resource}
+use Rattle.registry_model.specs.declared.request.Resource.TheVariants as resource
 use Rattle.registry_model.specs.declared.admin.AdminCommand.{AdminCommand}
 use Rattle.registry_model.specs.declared.admin.AdminFault.{AdminFault}
 use Rattle.registry_model.specs.World.{Repo, Grants, World, repo_at, is_known}
@@ -21,6 +23,7 @@ use Rattle.registry_model.specs.Limits.{largest_blob, largest_manifest}
 use Rattle.registry_model.specs.Usage.{goes_over}
 use Rattle.registry_model.specs.Answer.{Answer, code_of}
 use Rattle.registry_model.specs.Form.{Form, no_form, base, blob, uploads, session, manifest, tags, referrers}
+use Rattle.registry_model.specs.Login.{login_answer, health_answer}
 use Rattle.registry_model.specs.Ask.{Ask}
 use Rattle.registry_model.specs.Decision.{Decision, makes, in_repo, within_quota}
 use Rattle.registry_model.specs.Range.{range_verdict}
@@ -31,8 +34,9 @@ use Rattle.registry_model.specs.Mount.{source, mounted}
 use Rattle.registry_model.specs.Manifests as manifests
 use Rattle.registry_model.specs.TagPage as page
 use Rattle.registry_model.specs.Operation.{Operation, reads_blob, sizes_blob, deletes_blob, pushes_blob, opens_session, mounts_blob, reads_session, appends_chunk, closes_session, reads_manifest, sizes_manifest, deletes_manifest, pushes_manifest, lists_tags, lists_referrers, sizes_referrers, operation_of, addressed}
-use Rattle.registry_model.specs.Judging.{operate, allows, granted, decide, at_base, served_on, judged, changed, reply_to, after_request}
+use Rattle.registry_model.specs.Judging.{operate, allows, granted, decide, at_base, served_on, judged, read_alone, decided_at, changed, reply_to, after_request}
 use Rattle.registry_model.specs.Command.{refusal_of, carried_out, after_command}
+use Rattle.registry_model.proofs.ResourceLaws.{reads_none, unchanged}
 
 -- an outcome with a refusal's status changes nothing
 abbrev IsIdle : Decision → Type 0
@@ -172,12 +176,17 @@ idle_judged w None q = λ _. refl
 idle_judged w (Some token) q =
     either (is_token token) _ _ (either (is_known (w.grants token)) _ _ (idle_served (w.grants token) (repo_at w) q.form q) (λ _. refl)) (λ _. refl)
 
-unchanged : (w : World) (name : Option Text) → changed w name None ≡ w
-unchanged w None = refl
-unchanged w (Some name) = refl
+idle_alone : (v : Verb) (a : Answer) → IsIdle (read_alone v a)
+idle_alone v a = λ _. reads_none v a
+
+idle_at : (r : Resource) (q : Ask) (d : Decision) → IsIdle d → IsIdle (decided_at r q d)
+idle_at resource.Registry q d h = h
+idle_at resource.Tokens q d h = idle_alone q.verb (login_answer q.basic)
+idle_at resource.Health q d h = idle_alone q.verb health_answer
 
 pub same_world : (w : World) (q : Ask) → 400 ≤ code_of (reply_to w q).status → after_request w q ≡ w
-same_world w q h = ap (changed w (addressed q.form)) (idle_judged w q.token q h) ∙ unchanged w (addressed q.form)
+same_world w q h =
+    ap (changed w (addressed q.form)) (idle_at q.resource q (judged w q.token q) (idle_judged w q.token q) h) ∙ unchanged w (addressed q.form)
 
 -- ---- commands
 

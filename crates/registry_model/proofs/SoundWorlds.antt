@@ -20,11 +20,12 @@ use Rattle.registry_model.specs.Form.{Form, no_form, base, blob, uploads, sessio
 use Rattle.registry_model.specs.Ask.{Ask}
 use Rattle.registry_model.specs.Operation.{Operation, operation_of, addressed}
 use Rattle.registry_model.specs.Decision.{in_repo}
-use Rattle.registry_model.specs.Judging.{operate, allows, granted, decide, at_base, served_on, decision, judged, changed, after_request}
+use Rattle.registry_model.specs.Judging.{operate, allows, granted, decide, at_base, served_on, decision, judged, decided, changed, after_request}
 use Rattle.registry_model.specs.Command.{with_quota, set_repo, grant, revoke, revoke_all, drop_repo, without_sessions, refusal_of, after_command}
 use Rattle.registry_model.specs.Pruning.{pruned}
 use Rattle.registry_model.specs.Team.{Step, asks, orders}
 use Rattle.registry_model.specs.Runs.{Outcome, after, after_all}
+use Rattle.registry_model.proofs.ResourceLaws.{change_at}
 use Rattle.registry_model.proofs.TextOrder.{text_total, exact_texts}
 use Rattle.registry_model.proofs.ChangedMaps.{not_Some, got_insert, stays_there, got_remove, left_there}
 use Rattle.registry_model.proofs.SoundRepositories.{sound_new, sound_quota, sound_without_sessions}
@@ -89,7 +90,8 @@ module _ (w : World) (s : IsSound w) where
   sound_changed (Some name) (Some r) h = sound_with_repo name r h
 
   pub sound_after_request : (q : Ask) → IsSound (after_request w q)
-  sound_after_request q = sound_changed (addressed q.form) (judged w q.token q).change (sound_judged q.token q)
+  sound_after_request q = sound_changed (addressed q.form) (decided w q).change
+      (change_at (λ c. IfSome c IsSoundRepo) tt q.resource q (judged w q.token q) (sound_judged q.token q))
 
   -- ---- commands
 

@@ -9,6 +9,8 @@ use Rattle.registry_model.specs.declared.reply.Status.{Status}
 use Rattle.registry_model.specs.declared.reply.Status.TheVariants as status
 use Rattle.registry_model.specs.declared.reply.Body.{Body}
 use Rattle.registry_model.specs.declared.reply.Body.TheVariants.{Constant, Owned, Unsent}
+use Rattle.registry_model.specs.declared.reply.Challenge.{Challenge}
+use Rattle.registry_model.specs.declared.reply.Challenge.TheVariants as challenge
 use Rattle.registry_model.specs.declared.reply.Reply.{Reply}
 use Rattle.registry_model.specs.Refusals.{status_of, error_body, code_word, message_of}
 
@@ -28,6 +30,7 @@ pub record Answer : Type 0 where
   pub allow : Option Text
   pub challenge : Option Text
   pub content_type : Option Text
+  pub caching : Option Text
   pub body : Content
 
 -- the numbers of the statuses (RFC 9110, section 15; RFC 6585, section 4)
@@ -60,6 +63,7 @@ bare_answer s = record {
   allow = None;
   challenge = None;
   content_type = None;
+  caching = None;
   body = sent [];
 }
 
@@ -97,6 +101,10 @@ owned o = option_map string_bytes o
 abbrev pub constant : Option (Bor Text) → Option Text
 constant o = option_map (λ t. t.now) o
 
+abbrev pub challenge_text : Challenge → Text
+challenge_text (challenge.Constant text) = text.now
+challenge_text (challenge.Made text) = string_bytes text
+
 abbrev pub answer_of : Reply → Answer
 answer_of r = record {
   status = r.status;
@@ -107,7 +115,8 @@ answer_of r = record {
   filters = constant r.filters;
   link = owned r.link;
   allow = constant r.allow;
-  challenge = constant r.challenge;
+  challenge = option_map challenge_text r.challenge;
   content_type = constant r.content_type;
+  caching = constant r.caching;
   body = content_of r.body;
 }

@@ -4,6 +4,8 @@ use Rattle.std.specs.Borrow.{Bor}
 use Rattle.oci_types.specs.Text.{Text}
 use Rattle.registry_model.specs.declared.request.Verb.{Verb}
 use Rattle.registry_model.specs.declared.request.Query.{Query}
+use Rattle.registry_model.specs.declared.request.Resource.{Resource}
+use Rattle.registry_model.specs.declared.settings.Settings.{Settings}
 use Rattle.registry_model.specs.declared.request.Request.{Request}
 use Rattle.registry_model.specs.Form.{Form, form_of}
 
@@ -17,6 +19,12 @@ pub record Keys : Type 0 where
   pub artifact_type : Option Text
 
 pub record Ask : Type 0 where
+  pub settings : Settings
+  pub resource : Resource
+  -- the first value of `Host`, where it is UTF-8
+  pub host : Option Text
+  -- the credentials of the scheme `Basic`, as they stand
+  pub basic : Option Text
   pub token : Option Text
   pub verb : Verb
   pub form : Form
@@ -40,6 +48,10 @@ keys_of q = record {
 
 abbrev pub ask_of : Request → Ask
 ask_of q = record {
+  settings = q.settings;
+  resource = q.resource;
+  host = text_in q.host;
+  basic = text_in q.basic;
   token = text_in q.token;
   verb = q.method;
   form = form_of q.route;

@@ -6,13 +6,16 @@ use Rattle.std.specs.FinMap.{get}
 use Rattle.oci_types.specs.Text.{Text}
 use Rattle.oci_types.specs.RepoName.{is_repo_name}
 use Rattle.oci_types.specs.Token.{is_token}
-use Rattle.registry_model.specs.declared.refusal.Refusal.TheVariants.{TokenRequired, NoEndpoint, InvalidName, MethodNotAllowed, AccessDenied}
+use Rattle.registry_model.specs.declared.refusal.Refusal.TheVariants.{NoEndpoint, InvalidName, MethodNotAllowed, AccessDenied}
+use Rattle.registry_model.specs.declared.request.Resource.{Resource}
+use Rattle.registry_model.specs.declared.request.Resource.TheVariants as resource
 use Rattle.registry_model.specs.declared.request.Verb.{Verb}
 use Rattle.registry_model.specs.declared.request.Verb.TheVariants.{Get, Head}
 use Rattle.registry_model.specs.declared.reply.Status.TheVariants.{OK}
 use Rattle.registry_model.specs.World.{Repo, Grants, World, repo_at, is_known, with_repo}
 use Rattle.registry_model.specs.Answer.{Answer, bare_answer, refused, sent}
 use Rattle.registry_model.specs.Form.{Form, no_form, base, blob, uploads, session, manifest, tags, referrers}
+use Rattle.registry_model.specs.Login.{unnamed_answer, login_answer, health_answer}
 use Rattle.registry_model.specs.Ask.{Ask}
 use Rattle.registry_model.specs.Operation.{Operation, reads_blob, sizes_blob, deletes_blob, pushes_blob, opens_session, mounts_blob, reads_session, appends_chunk, closes_session, reads_manifest, sizes_manifest, deletes_manifest, pushes_manifest, lists_tags, lists_referrers, sizes_referrers, operation_of, allow_of, addressed, rank, rank_of, needed_level}
 use Rattle.registry_model.specs.Decision.{Decision, refuses, tells, in_repo}
@@ -94,15 +97,36 @@ served_on grants repos (referrers name digest) q = decide grants repos name q
 abbrev pub served : Grants → (Text → Option Repo) → Ask → Decision
 served grants repos q = served_on grants repos q.form q
 
+-- what a request without a known token is answered
+abbrev pub unnamed : Ask → Decision
+unnamed q = tells (unnamed_answer q.settings.login q.host)
+
 -- what a token with these grants is answered, where the repositories are looked up so
 abbrev pub decision : Grants → (Text → Option Repo) → Ask → Decision
-decision grants repos q = if is_known grants then served grants repos q else refuses TokenRequired
+decision grants repos q = if is_known grants then served grants repos q else unnamed q
 
 -- a text that is no token counts as none
 abbrev pub judged : World → Option Text → Ask → Decision
-judged w None q = refuses TokenRequired
+judged w None q = unnamed q
 judged w (Some token) q =
-    if is_token token then decision (w.grants token) (repo_at w) q else refuses TokenRequired
+    if is_token token then decision (w.grants token) (repo_at w) q else unnamed q
+
+-- ---- what is answered beside the registry's endpoints
+
+-- what is read by GET and HEAD alone
+abbrev pub read_alone : Verb → Answer → Decision
+read_alone Get a = tells a
+read_alone Head a = tells a
+read_alone _ a = not_allowed base
+
+-- by what the path names; d is the registry's decision
+abbrev pub decided_at : Resource → Ask → Decision → Decision
+decided_at resource.Registry q d = d
+decided_at resource.Tokens q d = read_alone q.verb (login_answer q.basic)
+decided_at resource.Health q d = read_alone q.verb health_answer
+
+abbrev pub decided : World → Ask → Decision
+decided w q = decided_at q.resource q (judged w q.token q)
 
 -- ---- the answer, and the world after it: only the path's repository may change
 
@@ -112,7 +136,7 @@ changed w None (Some r) = w
 changed w (Some name) (Some r) = with_repo w name r
 
 abbrev pub reply_to : World → Ask → Answer
-reply_to w q = (judged w q.token q).reply
+reply_to w q = (decided w q).reply
 
 abbrev pub after_request : World → Ask → World
-after_request w q = changed w (addressed q.form) (judged w q.token q).change
+after_request w q = changed w (addressed q.form) (decided w q).change

@@ -6,6 +6,7 @@ pub mod Soundness
 pub mod Refusals
 pub mod Answer
 pub mod Form
+pub mod Login
 pub mod Ask
 pub mod Decision
 pub mod Numbers

@@ -8,9 +8,11 @@ use Rattle.registry_model.specs.declared.reply.Status.{Status}
 use Rattle.registry_model.specs.declared.reply.Status.TheVariants.{Created}
 use Rattle.registry_model.specs.declared.request.Verb.{Verb}
 use Rattle.registry_model.specs.declared.request.Verb.TheVariants.{Get, Post, Patch, Put}
+use Rattle.registry_model.specs.declared.request.Resource.TheVariants.{Registry}
 use Rattle.registry_model.specs.World.{Repo, World, repo_at, level_at, new_repo}
 use Rattle.registry_model.specs.Answer.{Answer, bare_answer, sent}
 use Rattle.registry_model.specs.Form.{Form, uploads, session, tags}
+use Rattle.registry_model.specs.Login.{profile}
 use Rattle.registry_model.specs.Ask.{Keys, Ask}
 
 abbrev pub app : Text
@@ -67,6 +69,10 @@ no_keys = record { digest = None; mount = None; «from» = None; n = None; last 
 -- with neither `Content-Type` nor `Content-Range`
 abbrev pub asks : Verb → Form → Keys → Text → Ask
 asks verb form keys body = record {
+  settings = profile;
+  resource = Registry;
+  host = None;
+  basic = None;
   token = Some t1;
   verb = verb;
   form = form;

@@ -10,7 +10,9 @@ ghost use Rattle.registry_model.specs.declared.grant.Grant.{Grant};
 ghost use Rattle.registry_model.specs.Lookups.{AreLevelsOn, AreLevelsOver};
 ghost use Rattle.registry_model.specs.Ask.{Ask};
 ghost use Rattle.registry_model.specs.Heads.{as_head, as_get, without_content};
-ghost use Rattle.registry_model.specs.Judging.{decision, reply_to, after_request};
+ghost use Rattle.registry_model.specs.Login.{profile, login_answer, health_answer};
+ghost use Rattle.registry_model.specs.Decision.{refuses};
+ghost use Rattle.registry_model.specs.Judging.{decision, judged, decided, unnamed, read_alone, reply_to, after_request};
 ghost use Rattle.registry_model.specs.Command.{after_command};
 ghost use Rattle.registry_model.specs.Manifests.{has_needs};
 ghost use Rattle.registry_model.specs.Pruning.{is_named, pruned, prune};
@@ -20,6 +22,8 @@ ghost use Rattle.registry_model.specs.Team.{Team, IsTeamOf, team_of_token, view,
 ghost use Rattle.registry_model.specs.Runs.{Outcome, TakesAll, RunSays, kept, requests_of, asked, answers_to, NoneMissed, IsToldAlone};
 ghost use Rattle.std.specs.Prelude.{Option};
 ghost use Rattle.std.specs.FinMap.{get};
+
+use crate::{Refusal, Resource};
 
 /// A reply, and what it changes, are told by the token's grants and the repositories of granted
 /// names alone: look-ups that agree on these give one decision.
@@ -35,6 +39,24 @@ pub fn head_is_get_without_its_content()
     ensures reply { (w : World) (q : Ask)
         → without_content (reply_to w (as_head q)) ≡ without_content (reply_to w (as_get q)) }
     ensures world { (w : World) (q : Ask) → after_request w (as_head q) ≡ after_request w (as_get q) }
+{}
+
+/// With the profile's settings a request is answered, and does, what it did where there was nothing to
+/// choose: its decision is the registry's, and who has no known token is refused with the one challenge.
+pub fn settings_change_nothing_by_default()
+    ensures registry { (w : World) (q : Ask) → q.resource ≡ Resource.Registry
+        → decided w q ≡ judged w q.token q }
+    ensures unnamed { (q : Ask) → q.settings ≡ profile → unnamed q ≡ refuses Refusal.TokenRequired }
+{}
+
+/// What is told where clients log in depends on the request alone, and so does what tells that a service goes
+/// on; neither changes anything.
+pub fn what_is_beside_the_registry_sees_none_of_it()
+    ensures told { (w : World) (q : Ask) → q.resource ≡ Resource.Tokens
+        → reply_to w q ≡ (read_alone q.verb (login_answer q.basic)).reply }
+    ensures well { (w : World) (q : Ask) → q.resource ≡ Resource.Health
+        → reply_to w q ≡ (read_alone q.verb health_answer).reply }
+    ensures same { (w : World) (q : Ask) → (q.resource ≡ Resource.Registry → ⊥) → after_request w q ≡ w }
 {}
 
 /// A team's own request gets the same reply in the world and in what the team sees of it.

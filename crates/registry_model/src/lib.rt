@@ -17,6 +17,7 @@ pub mod refusal;
 pub mod reply;
 pub mod request;
 pub mod route;
+pub mod settings;
 pub mod soundness;
 pub mod worked;
 
@@ -32,6 +33,7 @@ pub use page::page_link;
 pub use quota::{Quota, Usage};
 pub use range::{RangeVerdict, range_fits};
 pub use refusal::Refusal;
-pub use reply::{Body, Reply, Status};
-pub use request::{Query, Request, Verb};
+pub use reply::{Body, Challenge, Reply, Status};
+pub use request::{Query, Request, Resource, Verb};
 pub use route::Route;
+pub use settings::{Scheme, Settings};

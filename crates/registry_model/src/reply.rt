@@ -1,5 +1,5 @@
 ghost use Rattle.std.specs.Prelude.{◌≡◌, Some, string_bytes};
-ghost use Rattle.registry_model.specs.Answer.{answer_of, busy_answer, failed_answer, refused, code_of, bare_answer, content_of};
+ghost use Rattle.registry_model.specs.Answer.{answer_of, busy_answer, failed_answer, refused, code_of, bare_answer, content_of, challenge_text};
 
 use crate::Refusal;
 use oci_types::Digest;
@@ -65,6 +65,22 @@ impl Drop for Body {
     }
 }
 
+/// What a reply that asks for a token says of where one is to be had (RFC 9110, section 11.6.1): a constant
+/// text, or one that was made for the request.
+pub enum Challenge {
+    Constant(&'static str),
+    Made(String),
+}
+
+impl Drop for Challenge {
+    fn drop(self) {
+        match self {
+            Challenge::Constant(_) => {}
+            Challenge::Made(_) => {}
+        }
+    }
+}
+
 /// A reply: its status, the fields that it carries, and its body.
 pub struct Reply {
     pub status: Status,
@@ -75,8 +91,9 @@ pub struct Reply {
     pub filters: Option<&'static str>,
     pub link: Option<String>,
     pub allow: Option<&'static str>,
-    pub challenge: Option<&'static str>,
+    pub challenge: Option<Challenge>,
     pub content_type: Option<&'static str>,
+    pub caching: Option<&'static str>,
     pub body: Body,
 }
 
@@ -93,6 +110,7 @@ impl Drop for Reply {
             allow: _,
             challenge: _,
             content_type: _,
+            caching: _,
             body: _,
         } = self;
     }
@@ -114,6 +132,7 @@ impl Reply {
             allow: None,
             challenge: None,
             content_type: None,
+            caching: None,
             body: Body::Constant(""),
         }
     }
@@ -125,7 +144,7 @@ impl Reply {
         ensures { answer_of result ≡ refused refusal }
     {
         let challenge = match refusal {
-            Refusal::TokenRequired => Some("Bearer realm=\"registry\""),
+            Refusal::TokenRequired => Some(Challenge::Constant("Bearer realm=\"registry\"")),
             _ => None,
         };
         let reply = Reply::bare(refusal.status());
@@ -162,6 +181,24 @@ impl Reply {
     {
         let mut reply = self;
         reply.digest = Some(digest);
+        reply
+    }
+
+    /// The reply with another challenge.
+    pub fn with_challenge(self, challenge: Challenge) -> Reply
+        ensures { answer_of result ≡ record (answer_of self) { challenge = Some (challenge_text challenge) } }
+    {
+        let mut reply = self;
+        reply.challenge = Some(challenge);
+        reply
+    }
+
+    /// The reply, and how it may be kept (RFC 9111, section 5.2).
+    pub fn with_caching(self, caching: &'static str) -> Reply
+        ensures { answer_of result ≡ record (answer_of self) { caching = Some caching.now } }
+    {
+        let mut reply = self;
+        reply.caching = Some(caching);
         reply
     }
 

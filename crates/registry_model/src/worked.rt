@@ -10,6 +10,7 @@ ghost use Rattle.oci_types.specs.Tags.{tags_line};
 ghost use Rattle.registry_model.specs.World.{World, Repo, repo_at, level_at, no_world, new_repo, with_repo};
 ghost use Rattle.registry_model.specs.Answer.{bare_answer, sent, unsent};
 ghost use Rattle.registry_model.specs.Form.{form_at, no_form, base, blob, uploads, session, manifest, tags, referrers};
+ghost use Rattle.registry_model.specs.Login.{profile};
 ghost use Rattle.registry_model.specs.Ask.{Ask};
 ghost use Rattle.registry_model.specs.Blobs.{without_blob};
 ghost use Rattle.registry_model.specs.Manifests.{without_manifest};
@@ -17,7 +18,7 @@ ghost use Rattle.registry_model.specs.Command.{grant};
 ghost use Rattle.registry_model.specs.Judging.{reply_to, after_request};
 ghost use Rattle.registry_model.specs.Worked.{app, t1, Setting, abc_digest, hello_digest, md5_digest, holding_abc, in_session, four_tags, two_tags, no_keys, asks, pushes, mounts, patches, closes, lists_tags, json, created_at, session_1, token_required, blob_unknown, quota_exceeded, digest_does_not_match, invalid_digest, range_out_of_order, invalid_content_range, range_does_not_match_body, too_many_uploads, upload_unknown, invalid_page_size, access_denied, invalid_repository_name, no_such_endpoint, method_not_allowed, invalid_reference, manifest_unknown, abc_location, hello_location, next_page, index_type, no_referrers};
 
-use crate::{Level, Status, Verb};
+use crate::{Level, Resource, Status, Verb};
 
 /// A world of the setting can be made around any repository.
 pub fn the_setting_can_be_made()
@@ -29,10 +30,12 @@ pub fn the_base_is_there_for_known_tokens()
     ensures known { (w : World) (r : Repo) → Setting w r
         → reply_to w (asks Verb.Get base no_keys []) ≡ json Status.OK (codes "{}") }
     ensures unknown { (w : World) (q : Ask) → w.grants (codes "t9") ≡ empty
-        → reply_to w (record q { token = Some (codes "t9") })
+        → reply_to w
+        (record q { settings = profile; resource = Resource.Registry; token = Some (codes "t9") })
         ≡ record (json Status.Unauthorized token_required)
         { challenge = Some (codes "Bearer realm=\"registry\"") } }
-    ensures without { (w : World) (q : Ask) → reply_to w (record q { token = None })
+    ensures without { (w : World) (q : Ask)
+        → reply_to w (record q { settings = profile; resource = Resource.Registry; token = None })
         ≡ record (json Status.Unauthorized token_required)
         { challenge = Some (codes "Bearer realm=\"registry\"") } }
 {}

@@ -4,3 +4,5 @@ pub mod TokenLemmas
 pub mod DoingLemmas
 pub mod RunLemmas
 pub mod ServingLemmas
+pub mod ResourceLemmas
+pub mod LoginLemmas

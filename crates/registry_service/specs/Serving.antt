@@ -1,17 +1,11 @@
 -- Whom a request comes from, and where it leads.
-use Rattle.std.specs.Prelude.{Option, Some, None, if◌then◌else◌}
+use Rattle.std.specs.Prelude.{Option, Some, None}
 use Rattle.oci_types.specs.Text.{Text}
-use Rattle.oci_types.specs.Token.{is_token}
 use Rattle.registry_model.specs.declared.refusal.Refusal.TheVariants.{NoEndpoint}
 use Rattle.registry_model.specs.declared.request.Verb.{Verb}
 use Rattle.registry_model.specs.Decision.{Decision, refuses}
 use Rattle.registry_model.specs.Form.{Form, no_form, base, blob, uploads, session, manifest, tags, referrers}
 use Rattle.registry_model.specs.Judging.{at_base}
-
--- a text that is no token counts as none
-abbrev pub token_in : Option Text → Option Text
-token_in None = None
-token_in (Some text) = if is_token text then Some text else None
 
 -- the name of the repository that a path leads to
 abbrev pub name_at : Form → Option Text

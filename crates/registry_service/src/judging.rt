@@ -1,4 +1,4 @@
-ghost use Rattle.std.specs.Prelude.{◌≡◌, true, false, Ok, None, IsOkAnd, MatchResult};
+ghost use Rattle.std.specs.Prelude.{◌≡◌, true, false, None, IsOkAnd};
 ghost use Rattle.registry_model.specs.Heads.{is_head, is_sent, is_sizing};
 ghost use Rattle.registry_model.specs.declared.refusal.Refusal.TheVariants.{TokenRequired};
 ghost use Rattle.registry_model.specs.World.{repo_at};
@@ -6,12 +6,13 @@ ghost use Rattle.registry_model.specs.Form.{form_of};
 ghost use Rattle.registry_model.specs.Answer.{answer_of, refused};
 ghost use Rattle.registry_model.specs.Ask.{ask_of, text_in};
 ghost use Rattle.registry_model.specs.Operation.{addressed, operation_of, valid_name};
-ghost use Rattle.registry_model.specs.Judging.{operate, not_allowed, at_base, granted, decide, decision, reply_to, after_request};
+ghost use Rattle.registry_model.specs.Judging.{operate, not_allowed, at_base, granted, decide, decision, judged, reply_to, after_request};
 ghost use Rattle.registry_model.specs.Keeping.{Spends, WritesBy};
 ghost use Rattle.operation_parts.specs.Operating.{Comes, ComesOn, HasRepo, IsUnspent, Answers, Carries, OperatesWith};
 ghost use Rattle.registry_service.specs.Operations.{shown_operation};
-ghost use Rattle.registry_service.specs.Serving.{beside, name_at, token_in};
+ghost use Rattle.registry_service.specs.Serving.{beside, name_at};
 
+use crate::login::{ask_for_token, find_token, log_in, tell_health};
 use crate::operation::{Operation, allowed_methods, allows, find_operation};
 use blob_operations::blobs::{delete_blob, push_blob, read_blob, size_blob};
 use blob_operations::mounting::mount_blob;
@@ -22,7 +23,7 @@ use manifest_operations::manifest_push::push_manifest;
 use manifest_operations::manifests::{delete_manifest, read_manifest, size_manifest};
 use manifest_operations::referrers::{list_referrers, size_referrers};
 use oci_types::{Fault, NameFault, RepoName, Token};
-use registry_model::{Body, Keeper, Refusal, Reply, Request, Route, Status, Verb};
+use registry_model::{Body, Keeper, Refusal, Reply, Request, Resource, Route, Status, Verb};
 use std::alloc::Global;
 
 /// The reply to an operation in a repository that is there.
@@ -105,7 +106,7 @@ fn operate<K: Keeper>(
 }
 
 /// The refusal that names the methods which the form has.
-fn not_allowed(route: &Route) -> Reply
+pub fn not_allowed(route: &Route) -> Reply
     ensures refusal { answer_of result ≡ (not_allowed (form_of route.now)).reply }
     ensures carries { is_sent (answer_of result).body ≡ true }
 {
@@ -208,22 +209,6 @@ fn reply_beside(route: &Route, method: Verb) -> Reply
     }
 }
 
-/// The token that a request names, if its text is one.
-fn find_token(alloc: Global, text: Option<&str>) -> Result<Option<Token>, Fault>
-    ensures none { text.entry ≡ None → result ≡ Ok None }
-    ensures found { MatchResult result (λ token. token ≡ token_in (text_in text.entry))
-        (λ fault. fault ≡ Fault.Memory) }
-{
-    let Some(text) = text else {
-        return Ok(None);
-    };
-    match Token::parse(alloc, text) {
-        Ok(token) => Ok(Some(token)),
-        Err(NameFault::Memory) => Err(Fault::Memory),
-        Err(_) => Ok(None),
-    }
-}
-
 /// The reply to a request of a token, known or not.
 fn serve_token<K: Keeper>(
     keeper: &mut K,
@@ -241,11 +226,34 @@ fn serve_token<K: Keeper>(
     ensures honest { K.is_honest keeper.new → K.is_honest keeper.old }
 {
     if !keeper.known(token)? {
-        return Ok(Reply::refusal(Refusal::TokenRequired));
+        return ask_for_token(alloc, request);
     }
     match name_at(&request.route) {
         Some(name) => decide(keeper, alloc, token, name, request),
         None => Ok(reply_beside(&request.route, request.method)),
+    }
+}
+
+/// The reply to a request of an endpoint of the registry.
+fn judge_by_token<K: Keeper>(
+    keeper: &mut K,
+    alloc: Global,
+    request: &Request,
+) -> Result<Reply, Fault>
+    requires { IsUnspent (K.state keeper.old) }
+    ensures comes { K.is_honest keeper.new → ComesOn result (addressed (form_of request.now.route))
+        (judged (K.state keeper.old).world (text_in request.now.token) (ask_of request.now))
+        (K.state keeper.old) (K.state keeper.new) }
+    ensures answers { Answers result }
+    ensures carries { is_head request.now.method ≡ false → Carries result }
+    ensures spends { Spends result (K.state keeper.old) (K.state keeper.new) }
+    ensures no_token { request.now.token ≡ None → request.now.settings.login ≡ None →
+        IsOkAnd result (λ r. answer_of r ≡ refused TokenRequired) }
+    ensures honest { K.is_honest keeper.new → K.is_honest keeper.old }
+{
+    match find_token(alloc, request.token)? {
+        Some(token) => serve_token(keeper, alloc, &token, request),
+        None => ask_for_token(alloc, request),
     }
 }
 
@@ -258,15 +266,17 @@ pub fn judge<K: Keeper>(keeper: &mut K, alloc: Global, request: &Request) -> Res
     ensures answers { Answers result }
     ensures carries { is_head request.now.method ≡ false → Carries result }
     ensures spends { Spends result (K.state keeper.old) (K.state keeper.new) }
-    ensures no_token { request.now.token ≡ None → IsUnspent (K.state keeper.old) →
+    ensures no_token { request.now.token ≡ None → request.now.resource ≡ Resource.Registry
+        → request.now.settings.login ≡ None → IsUnspent (K.state keeper.old) →
         IsOkAnd result (λ r. answer_of r ≡ refused TokenRequired) }
     ensures honest { K.is_honest keeper.new → K.is_honest keeper.old }
 {
     if keeper.spent() {
         return Err(Fault::Storage);
     }
-    match find_token(alloc, request.token)? {
-        Some(token) => serve_token(keeper, alloc, &token, request),
-        None => Ok(Reply::refusal(Refusal::TokenRequired)),
+    match request.resource {
+        Resource::Registry => judge_by_token(keeper, alloc, request),
+        Resource::Tokens => log_in(alloc, request.method, request.basic),
+        Resource::Health => Ok(tell_health(request.method)),
     }
 }

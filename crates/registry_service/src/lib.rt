@@ -5,6 +5,7 @@
 
 mod admin_commands;
 mod judging;
+mod login;
 mod operation;
 pub mod run;
 pub mod service;

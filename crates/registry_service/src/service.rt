@@ -13,7 +13,9 @@ use crate::admin_commands::apply_command;
 use crate::judging::judge;
 use manifest_operations::{names_at, unnamed};
 use oci_types::{Digest, Fault, RepoName, Tag, Token};
-use registry_model::{AdminCommand, AdminFault, Grant, Keeper, Level, Reply, Request, Usage};
+use registry_model::{
+    AdminCommand, AdminFault, Grant, Keeper, Level, Reply, Request, Resource, Usage,
+};
 use std::alloc::Global;
 use std::marker::Model;
 
@@ -56,15 +58,17 @@ impl<K: Keeper> Service<K> {
     ///
     /// The reply and the world afterwards are those of the definitions; or the reply is 503, where
     /// memory was wanting, and nothing has changed; or it is 500, and the service is spent. A request
-    /// with no token is answered `TokenRequired` as long as the service is not spent. A reply that has
-    /// the length of its content alone comes of HEAD.
+    /// with no token is answered `TokenRequired` as long as the service is not spent, and, where clients
+    /// log in, there is memory for the challenge. A reply that has the length of its content alone comes of
+    /// HEAD.
     pub fn handle(&mut self, alloc: Global, request: &Request) -> Reply
         ensures does { K.is_honest self.new →
             Does (K.state self.old) (ask_of request.now) (answer_of result) (K.state self.new) }
         ensures carries { is_head request.now.method ≡ false → is_sent (answer_of result).body ≡ true }
         ensures spends { SpendsAs (course_of_answer (answer_of result))
             (K.state self.old) (K.state self.new) }
-        ensures no_token { request.now.token ≡ None → (K.state self.old).spent ≡ false →
+        ensures no_token { request.now.token ≡ None → request.now.resource ≡ Resource.Registry
+            → request.now.settings.login ≡ None → (K.state self.old).spent ≡ false →
             answer_of result ≡ refused TokenRequired }
         ensures honest { K.is_honest self.new → K.is_honest self.old }
     {

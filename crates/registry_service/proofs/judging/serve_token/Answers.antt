@@ -1,12 +1,11 @@
 use Rattle.std.proofs.Common.{◌∙◌, Ok, false, refl, sym, ap}
-use Rattle.registry_model.specs.declared.refusal.Refusal.TheVariants.{TokenRequired}
 use Rattle.registry_model.specs.World.{repo_at}
-use Rattle.registry_model.specs.Answer.{refused}
 use Rattle.registry_model.specs.Ask.{ask_of, text_in}
 use Rattle.registry_model.specs.Operation.{addressed}
-use Rattle.registry_model.specs.Judging.{changed, decision}
+use Rattle.registry_model.specs.Judging.{changed, decision, unnamed}
 use Rattle.operation_parts.proofs.RepoOutcomes.{spends_after}
-use Rattle.registry_service.proofs.JudgingLemmas.{gave_up, told}
+use Rattle.registry_service.proofs.JudgingLemmas.{gave_up}
+use Rattle.registry_service.proofs.ResourceLemmas.{told_if}
 use Rattle.registry_service.proofs.ServingLemmas.{served_by, on_none}
 use Rattle.registry_service.proofs.TokenLemmas.{unknown, known_served}
 use Rattle.registry_service.proofs.judging.serve_token.Goals as goal
@@ -19,8 +18,8 @@ returns-then-not-branch g c =
     let s = g.K.Keeper.state c.args.keeper.now in
     let q = ask_of c.args.request.now in
     let asked = c.in_ok-known.ensures in
-    told c.refusal.result (refused TokenRequired) (addressed q.form) (decision (s.world.grants c.args.token.now) (repo_at s.world) q)
-    _ s _ _ _ c.refusal.ensures refl refl asked.spends.0 asked.spends.1 (λ honest. (asked.found honest).1) asked.honest
+    told_if c.ask_for_token.result (unnamed q).reply (addressed q.form) (decision (s.world.grants c.args.token.now) (repo_at s.world) q)
+    _ s _ _ _ c.ask_for_token.ensures.asks refl refl asked.spends.0 asked.spends.1 (λ honest. (asked.found honest).1) asked.honest
     (λ honest. unknown (s.world.grants c.args.token.now) (repo_at s.world) q (sym (asked.found honest).0 ∙ c.if-not-branch.true))
 
 pub decide-requires : goal.decide-requires
