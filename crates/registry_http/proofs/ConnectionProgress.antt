@@ -8,6 +8,7 @@ use Rattle.registry_model.specs.Keeping.{State}
 use Rattle.std.specs.Bool.{MatchBool}
 use Rattle.registry_model.specs.Answer.{Answer}
 use Rattle.registry_model.specs.Doing.{Does}
+use Rattle.registry_model.specs.declared.settings.Settings.{Settings}
 use Rattle.registry_http.specs.Asking.{ask_in}
 use Rattle.registry_http.specs.Expecting.{text_before, IsBefore}
 use Rattle.registry_http.specs.Spelling.{Item, IsRequest, IsRefused, IsCut, closes, print_item, Ends, Then, Spells, Front}
@@ -62,12 +63,12 @@ Front-none b [] rest i behind f e last = (behind, f ∙ e, subst (λ c. MatchBoo
 Front-none b (x ∷ items) rest i behind f e last =
     (f.0, f.2, subst (λ c. MatchBool c (nothing ≡ nothing) (Leftover f.0 (items ++ i ∷ []) nothing)) (sym f.3) (Front-none f.0 items rest i behind f.4 e last))
 
-Run-more : (a : State) (items : List Item) (texts : List Text) (b : State) (i : Item) (text : Text) (c : State)
-    → Run a items texts b → Replies b i text c → Run a (items ++ i ∷ []) (texts ++ text ∷ []) c
-Run-more a [] [] b i text c r s = (c, subst (λ x. Replies x i text c) r s, refl)
-Run-more a [] (t ∷ texts) b i text c r s = absurd r
-Run-more a (x ∷ items) [] b i text c r s = absurd r
-Run-more a (x ∷ items) (t ∷ texts) b i text c r s = (r.0, r.1, Run-more r.0 items texts b i text c r.2 s)
+Run-more : (settings : Settings) (a : State) (items : List Item) (texts : List Text) (b : State) (i : Item) (text : Text) (c : State)
+    → Run settings a items texts b → Replies settings b i text c → Run settings a (items ++ i ∷ []) (texts ++ text ∷ []) c
+Run-more settings a [] [] b i text c r s = (c, subst (λ x. Replies settings x i text c) r s, refl)
+Run-more settings a [] (t ∷ texts) b i text c r s = absurd r
+Run-more settings a (x ∷ items) [] b i text c r s = absurd r
+Run-more settings a (x ∷ items) (t ∷ texts) b i text c r s = (r.0, r.1, Run-more settings r.0 items texts b i text c r.2 s)
 
 joined-more : (texts : List Text) (text : Text) → joined (texts ++ text ∷ []) ≡ joined texts ++ text
 joined-more texts text = flat_map-append (λ t. t) texts (text ∷ []) ∙ ap (λ x. joined texts ++ x) (append-nil text)
@@ -81,12 +82,12 @@ pub record Progress (buffer before : Text) (t : Traffic) : Type 0 where
   pub texts : List Text
   pub front : Front read items buffer
   pub consumed : Consumes t.left t.left' read
-  pub run : Run t.state items texts t.state'
+  pub run : Run t.settings t.state items texts t.state'
   pub written : Appends t.held t.held' (joined texts ++ before)
 
-pub starts : (l h : Option Text) (s : State)
-    → Progress [] [] (record { left = l; left' = l; held = h; held' = h; state = s; state' = s })
-starts l h s = record {
+pub starts : (settings : Settings) (l h : Option Text) (s : State)
+    → Progress [] [] (record { settings = settings; left = l; left' = l; held = h; held' = h; state = s; state' = s })
+starts settings l h s = record {
   read = [];
   items = [];
   texts = [];
@@ -230,8 +231,8 @@ module _ (b before : Text) (t : Traffic) (p : Progress b before t) where
       refused q w (subst (λ k. (tail : Text) → IsRefused (b ++ tail) k × IsBefore (b ++ tail) before) (sym s.0) h) (subst (λ k. Appends t.held' w (refusal_text k)) (sym s.0) s.1)
 
   module _ (i : Item) (behind : Text) (begins : b ≡ print_item i ++ behind) (request : IsRequest i) (same : before ≡ text_before i.head)
-      (a : Answer) (s : State) (does : Does t.state' (ask_in i.head i.body) a s) (w : Option Text) where
-    replies : Replies t.state' i (before ++ reply_for i a) s
+      (a : Answer) (s : State) (does : Does t.state' (ask_in t.settings i.head i.body) a s) (w : Option Text) where
+    replies : Replies t.settings t.state' i (before ++ reply_for i a) s
     replies = (a, does, ap (λ (x : Text). x ++ reply_for i a) same)
 
     -- the reply goes out whole, and the connection stays open
@@ -242,7 +243,7 @@ module _ (b before : Text) (t : Traffic) (p : Progress b before t) where
       texts = p.texts ++ (before ++ reply_for i a) ∷ [];
       front = Front-more p.read p.items b i behind p.front request begins stays;
       consumed = p.consumed;
-      run = Run-more _ p.items p.texts _ i (before ++ reply_for i a) s p.run replies;
+      run = Run-more _ _ p.items p.texts _ i (before ++ reply_for i a) s p.run replies;
       written = rw (append-nil, joined-more) (and_then w (reply_for i a) sent);
     }
 
@@ -255,7 +256,7 @@ module _ (b before : Text) (t : Traffic) (p : Progress b before t) where
           (ap (λ y. y ++ rest) begins ∙ append_assoc (print_item i) behind rest) last;
       before = [];
       leftover = Front-none x p.items (b ++ rest) i (behind ++ rest) (on x rest e) (ap (λ y. y ++ rest) begins ∙ append_assoc (print_item i) behind rest) last;
-      run = Run-more _ p.items p.texts _ i (before ++ reply_for i a) s p.run replies;
+      run = Run-more _ _ p.items p.texts _ i (before ++ reply_for i a) s p.run replies;
       written = rw (append-nil, joined-more) (and_then w (reply_for i a) sent);
     })
 
@@ -264,7 +265,7 @@ module _ (b before : Text) (t : Traffic) (p : Progress b before t) where
     reply_cut n short sent =
         stops (reply_for i a) n t.left' w s
         (λ tail. replying i (behind ++ tail) (ap (λ y. y ++ tail) begins ∙ append_assoc (print_item i) behind tail)
-        request same (Run-more _ p.items p.texts _ i (before ++ reply_for i a) s p.run replies)) short sent
+        request same (Run-more _ _ p.items p.texts _ i (before ++ reply_for i a) s p.run replies)) short sent
 
 -- what stands before the body goes out in part
 pub continue_cut : (b : Text) (t : Traffic) (p : Progress b [] t) (text : Text) (w : Option Text) (n : ℕ) → ((tail : Text) → IsBefore (b ++ tail) text)

@@ -29,7 +29,7 @@ none_long = decimal_digit 0 (omega arith)
 
 abbrev plain : Text → Text → Bool → Text
 plain line d close =
-    line ++ field (codes "Content-Length") d ++ [] ++ [] ++ [] ++ [] ++ [] ++ [] ++ [] ++ [] ++ [] ++ close_field close ++ crlf ++ []
+    line ++ field (codes "Content-Length") d ++ [] ++ [] ++ [] ++ [] ++ [] ++ [] ++ [] ++ [] ++ [] ++ [] ++ close_field close ++ crlf ++ []
 
 failed_closing_by : (d : Text) → d ≡ codes "0" → codes "HTTP/1.1 500 Internal Server Error\r\nContent-Length: 0\r\nConnection: close\r\n\r\n" ≡ plain (status_line 500) d true
 unfolding status_line

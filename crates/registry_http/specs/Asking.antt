@@ -10,6 +10,10 @@ use Rattle.httparse.specs.Grammar.{RequestHead}
 use Rattle.registry_model.specs.declared.request.Verb.{Verb}
 use Rattle.registry_model.specs.declared.request.Verb.TheVariants.{Get, Head, Post, Patch, Put, Delete, Other}
 use Rattle.registry_model.specs.Form.{Form, no_form, form_at}
+use Rattle.registry_model.specs.declared.request.Resource.{Resource}
+use Rattle.registry_model.specs.declared.request.Resource.TheVariants.{Registry}
+use Rattle.registry_model.specs.declared.settings.Settings.{Settings}
+use Rattle.registry_model.specs.Login.{resource_at}
 use Rattle.registry_model.specs.Ask.{Keys, Ask}
 use Rattle.registry_http.specs.Fields.{NamedValue, fields_of, values, first}
 
@@ -79,27 +83,53 @@ is_space b = b == 32
 abbrev pub skip_spaces : Text → Text
 skip_spaces bytes = drop (position_or_len (λ b. not (is_space b)) bytes) bytes
 
--- the scheme in any case, one or more spaces, and a text
-abbrev pub bearer_text : Text → Option Text
-bearer_text value =
-    if str_eq_ignore_ascii_case (take 6 value) (codes "Bearer")
-    && bytes_eq (take 1 (drop 6 value)) (codes " ")
-    then text_if_utf8 (skip_spaces (drop 6 value)) else None
-
-abbrev pub bearer_if : Option Text → Option Text
-bearer_if None = None
-bearer_if (Some value) = bearer_text value
-
--- more than one Authorization field gives none
-abbrev pub token_in : List NamedValue → Option Text
-token_in fields =
+-- the value of the one Authorization field; where there are more, none counts
+abbrev pub authorization : List NamedValue → Option Text
+authorization fields =
     if length (values (codes "authorization") fields) == 1
-    then bearer_if (first (values (codes "authorization") fields)) else None
+    then first (values (codes "authorization") fields) else None
+
+-- what stands behind the scheme, in any case, and one or more spaces (RFC 9110, section 11.4)
+abbrev pub behind_scheme : Text → Text → Option Text
+behind_scheme scheme value =
+    if str_eq_ignore_ascii_case (take (length scheme) value) scheme
+    && bytes_eq (take 1 (drop (length scheme) value)) (codes " ")
+    then Some (skip_spaces (drop (length scheme) value)) else None
+
+abbrev pub credentials : Text → Option Text → Option Text
+credentials scheme None = None
+credentials scheme (Some value) = behind_scheme scheme value
+
+abbrev pub text_if : Option Text → Option Text
+text_if None = None
+text_if (Some bytes) = text_if_utf8 bytes
+
+abbrev pub token_in : List NamedValue → Option Text
+token_in fields = text_if (credentials (codes "Bearer") (authorization fields))
+
+-- a name and a password (RFC 7617, section 2)
+abbrev pub basic_in : List NamedValue → Option Text
+basic_in fields = credentials (codes "Basic") (authorization fields)
+
+-- ---- the host (RFC 9110, section 7.2)
+
+abbrev pub host_in : List NamedValue → Option Text
+host_in fields = text_if (first (values (codes "host") fields))
+
+-- ---- what the path names
+
+abbrev pub resource_if : Settings → Option Text → Resource
+resource_if s None = Registry
+resource_if s (Some path) = resource_at s path
 
 -- ---- the request
 
-abbrev pub ask_in : RequestHead → Text → Ask
-ask_in h body = record {
+abbrev pub ask_in : Settings → RequestHead → Text → Ask
+ask_in settings h body = record {
+  settings = settings;
+  resource = resource_if settings (path_text h.target);
+  host = host_in (fields_of h);
+  basic = basic_in (fields_of h);
   token = token_in (fields_of h);
   verb = verb_of h.method;
   form = form_if (path_text h.target);

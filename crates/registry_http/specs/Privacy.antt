@@ -5,12 +5,13 @@ use Rattle.registry_model.specs.Answer.{Answer}
 use Rattle.registry_model.specs.Keeping.{State}
 use Rattle.registry_model.specs.Team.{Step, asks}
 use Rattle.registry_model.specs.Runs.{told, RunSays}
+use Rattle.registry_model.specs.declared.settings.Settings.{Settings}
 use Rattle.registry_http.specs.Asking.{ask_in}
 use Rattle.registry_http.specs.Spelling.{Item}
 use Rattle.registry_http.specs.Serving.{text_for}
 
-abbrev pub step_of : Item → Step
-step_of i = asks (ask_in i.head i.body)
+abbrev pub step_of : Settings → Item → Step
+step_of settings i = asks (ask_in settings i.head i.body)
 
 -- the text of each request's answer
 abbrev pub texts_of : List Item → List Answer → List Text
@@ -20,7 +21,8 @@ texts_of (i ∷ items) (a ∷ answers) = text_for i a ∷ texts_of items answers
 
 -- the texts are those of answers, one for each request, of which the laws of a run hold: among them that a
 -- team is told what it would be told alone
-pub record IsPrivateRun (s : State) (items : List Item) (texts : List Text) (s' : State) : Type 0 where
+pub record IsPrivateRun (settings : Settings) (s : State) (items : List Item) (texts : List Text) (s' : State)
+    : Type 0 where
   pub answers : List Answer
   pub are_texts : texts ≡ texts_of items answers
-  pub says : RunSays s (map step_of items) (map told answers) s'
+  pub says : RunSays s (map (step_of settings) items) (map told answers) s'

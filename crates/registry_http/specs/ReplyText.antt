@@ -46,6 +46,7 @@ head_after line close a =
     line
     ++ length_field (code_of a.status) (length_of a.body)
     ++ field_if (codes "Content-Type") a.content_type
+    ++ field_if (codes "Cache-Control") a.caching
     ++ field_if (codes "Docker-Content-Digest") a.digest
     ++ field_if (codes "Location") a.location
     ++ field_if (codes "Range") a.range

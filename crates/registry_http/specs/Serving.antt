@@ -9,6 +9,7 @@ use Rattle.registry_model.specs.Answer.{Answer}
 use Rattle.registry_model.specs.Keeping.{State}
 use Rattle.registry_model.specs.Doing.{Does}
 use Rattle.registry_model.specs.Heads.{is_head}
+use Rattle.registry_model.specs.declared.settings.Settings.{Settings}
 use Rattle.registry_http.specs.Asking.{ask_in, verb_of}
 use Rattle.registry_http.specs.Spelling.{Item, IsRequest, IsRefused, print_item, closes, Spells, Front}
 use Rattle.registry_http.specs.Expecting.{text_before, IsBefore}
@@ -27,15 +28,17 @@ abbrev pub text_for : Item → Answer → Text
 text_for i a = text_before i.head ++ reply_for i a
 
 -- a request is answered as the definitions say, and the text is that of the answer
-abbrev pub Replies : State → Item → Text → State → Type 0
-Replies s i text s' = (a : Answer) × Does s (ask_in i.head i.body) a s' × (text ≡ text_for i a)
+abbrev pub Replies : Settings → State → Item → Text → State → Type 0
+Replies settings s i text s' =
+    (a : Answer) × Does s (ask_in settings i.head i.body) a s' × (text ≡ text_for i a)
 
 -- requests are answered, one after the other
-abbrev pub Run : State → List Item → List Text → State → Type 0
-Run s [] [] s' = s' ≡ s
-Run s (i ∷ items) (text ∷ texts) s' = (mid : State) × Replies s i text mid × Run mid items texts s'
-Run s [] (text ∷ texts) s' = ⊥
-Run s (i ∷ items) [] s' = ⊥
+abbrev pub Run : Settings → State → List Item → List Text → State → Type 0
+Run settings s [] [] s' = s' ≡ s
+Run settings s (i ∷ items) (text ∷ texts) s' =
+    (mid : State) × Replies settings s i text mid × Run settings mid items texts s'
+Run settings s [] (text ∷ texts) s' = ⊥
+Run settings s (i ∷ items) [] s' = ⊥
 
 abbrev pub joined : List Text → Text
 joined texts = flat_map (λ t. t) texts
@@ -47,9 +50,10 @@ end_text (Refused r) = refusal_text r
 end_text ReadFailed = []
 end_text (WriteFailed n) = []
 
--- what a connection took and gave: the bytes that the reader had left before and after, those that the writer
--- held, and the service's states
+-- what a connection took and gave, with its settings: the bytes that the reader had left before and after,
+-- those that the writer held, and the service's states
 pub record Traffic : Type 0 where
+  pub settings : Settings
   pub left : Option Text
   pub left' : Option Text
   pub held : Option Text
@@ -71,7 +75,7 @@ pub record Answers (b : Text) (end : End) (t : Traffic) : Type 0 where
   pub spells : Spells b items end
   pub before : Text
   pub leftover : Leftover b items before
-  pub run : Run t.state items texts t.state'
+  pub run : Run t.settings t.state items texts t.state'
   pub written : Appends t.held t.held' (joined texts ++ (before ++ end_text end))
 
 -- no memory for the connection's buffer: the requests before are answered, and nothing else is done
@@ -82,7 +86,7 @@ pub record StopsForMemory (b : Text) (t : Traffic) : Type 0 where
   pub front : Front b items rest
   pub before : Text
   pub is_before : (before ≡ []) ⊎ IsBefore rest before
-  pub run : Run t.state items texts t.state'
+  pub run : Run t.settings t.state items texts t.state'
   pub written : Appends t.held t.held' (joined texts ++ (before ++ refusal_text NoBufferMemory))
 
 -- behind so much of a request's text a refusal is written: the request is refused, or memory is wanting
@@ -95,13 +99,14 @@ IsRefusedBehind rest before r =
 pub data InHand (rest before text : Text) (t : Traffic) (items : List Item) (texts : List Text) : Type 0 where
   -- the reply of a request that was answered by it
   replying : (i : Item) → (rest' : Text) → rest ≡ print_item i ++ rest' → IsRequest i
-      → before ≡ text_before i.head → Run t.state (items ++ i ∷ []) (texts ++ (before ++ text) ∷ []) t.state'
+      → before ≡ text_before i.head
+      → Run t.settings t.state (items ++ i ∷ []) (texts ++ (before ++ text) ∷ []) t.state'
       → InHand rest before text t items texts
   -- a refusal's
   refusing : (r : FramingRefusal) → text ≡ refusal_text r → IsRefusedBehind rest before r
-      → Run t.state items texts t.state' → InHand rest before text t items texts
+      → Run t.settings t.state items texts t.state' → InHand rest before text t items texts
   -- what stands before a body, which was not read then
-  continuing : before ≡ [] → IsBefore rest text → Run t.state items texts t.state'
+  continuing : before ≡ [] → IsBefore rest text → Run t.settings t.state items texts t.state'
       → InHand rest before text t items texts
 
 -- a write failed: the texts before went out whole, and of the text in hand the first n bytes

@@ -1,7 +1,7 @@
-ghost use Rattle.std.specs.Prelude.{◌≡◌, true, false, [], unwrap_or};
+ghost use Rattle.std.specs.Prelude.{◌≡◌, true, false, [], option_map, unwrap_or};
 ghost use Rattle.registry_model.specs.Heads.{is_sent};
 ghost use Rattle.http.specs.StatusCode.{IsStatusCode, reason_phrase};
-ghost use Rattle.registry_model.specs.Answer.{answer_of, content_of, code_of, owned};
+ghost use Rattle.registry_model.specs.Answer.{answer_of, content_of, code_of, owned, challenge_text};
 ghost use Rattle.registry_model.specs.Ask.{text_in};
 ghost use Rattle.registry_http.specs.ReplyText.{status_line, field, field_if, length_of, length_field, close_field, sent_text, body_text, head_text};
 ghost use Rattle.registry_http.specs.Sending.{GoesOn, SendsReply};
@@ -10,7 +10,7 @@ use crate::outgoing::{Outgoing, WriteFault};
 use http::StatusCode;
 use itoa::Buffer;
 use oci_types::Digest;
-use registry_model::{Body, Reply, Status};
+use registry_model::{Body, Challenge, Reply, Status};
 use std::io::Write;
 use std::mem;
 
@@ -81,6 +81,18 @@ impl Outgoing {
         }
     }
 
+    /// Goes on with a field line, where there is a challenge.
+    fn put_challenge<W: Write>(&mut self, writer: &mut W, name: &[u8], value: &Option<Challenge>)
+        ensures { GoesOn self.old self.new (W.contents writer.old) (W.contents writer.new)
+            (field_if name.now (option_map challenge_text value.now)) }
+    {
+        match value {
+            Some(Challenge::Constant(text)) => self.put_field(writer, name, text.as_bytes()),
+            Some(Challenge::Made(text)) => self.put_field(writer, name, text.as_bytes()),
+            None => {}
+        }
+    }
+
     /// Goes on with the length of a body of this status.
     fn put_length<W: Write>(&mut self, writer: &mut W, status: Status, body: &Body)
         ensures { GoesOn self.old self.new (W.contents writer.old) (W.contents writer.new)
@@ -138,6 +150,7 @@ pub fn write_head<W: Write>(reply: &Reply, close: bool, writer: &mut W) -> Resul
     out.put_status(writer, reply.status.code());
     out.put_length(writer, reply.status, &reply.body);
     out.put_if(writer, b"Content-Type", reply.content_type);
+    out.put_if(writer, b"Cache-Control", reply.caching);
     out.put_digest(writer, b"Docker-Content-Digest", &reply.digest);
     out.put_string(writer, b"Location", &reply.location);
     out.put_string(writer, b"Range", &reply.range);
@@ -145,7 +158,7 @@ pub fn write_head<W: Write>(reply: &Reply, close: bool, writer: &mut W) -> Resul
     out.put_if(writer, b"OCI-Filters-Applied", reply.filters);
     out.put_string(writer, b"Link", &reply.link);
     out.put_if(writer, b"Allow", reply.allow);
-    out.put_if(writer, b"WWW-Authenticate", reply.challenge);
+    out.put_challenge(writer, b"WWW-Authenticate", &reply.challenge);
     out.put_close(writer, close);
     out.put(writer, b"\r\n");
     out.finish(writer)

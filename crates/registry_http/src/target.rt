@@ -2,11 +2,11 @@ ghost use Rattle.std.specs.Prelude.{◌≡◌, ◌==◌, IfOk, position, bytes_e
 ghost use Rattle.registry_model.specs.Form.{form_of};
 ghost use Rattle.registry_model.specs.Ask.{text_in};
 ghost use Rattle.registry_model.specs.Heads.{is_head};
-ghost use Rattle.registry_http.specs.Asking.{verb_of, path_in, query_in, path_text, form_if};
+ghost use Rattle.registry_http.specs.Asking.{verb_of, path_in, query_in, path_text, form_if, resource_if};
 ghost use Rattle.registry_http.specs.Decoding.{cow_text};
 
 use percent_encoding::{DecodeError, percent_decode};
-use registry_model::{Route, Verb};
+use registry_model::{Resource, Route, Settings, Verb};
 use std::alloc::{AllocError, Global};
 use std::borrow::CowStr;
 
@@ -88,6 +88,16 @@ pub fn decode_path(alloc: Global, target: &[u8]) -> Result<Option<CowStr<'_, Glo
         Ok(path) => Ok(Some(path)),
         Err(DecodeError::Utf8(_)) => Ok(None),
         Err(DecodeError::OutOfMemory) => Err(AllocError),
+    }
+}
+
+/// What a path names; one that is not UTF-8 names no more than an endpoint of the registry that is none.
+pub fn resource_if(settings: &Settings, path: Option<&str>) -> Resource
+    ensures { result ≡ resource_if settings.now (text_in path.entry) }
+{
+    match path {
+        None => Resource::Registry,
+        Some(path) => settings.resource_at(path),
     }
 }
 

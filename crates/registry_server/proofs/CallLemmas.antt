@@ -11,6 +11,7 @@ use Rattle.registry_server.specs.declared.receipt.Receipt.TheVariants.{Taken, No
 use Rattle.registry_server.specs.Room.{IsReceived, going_sum}
 use Rattle.registry_server.specs.Open.{Slot, Open, Opens, Changes, Closes, TakesTurn, IfOpen, with_slots, hears, sends, Finishes, Sends}
 use Rattle.registry_server.specs.Events.{Event, comes, on, goes, HappensOn, Happens, Passes, Leads, Carries}
+use Rattle.registry_model.specs.declared.settings.Settings.{Settings}
 
 -- ---- none, one, and one behind the other
 
@@ -65,7 +66,7 @@ of_opened n u u' x s = leads_one (comes n) u s u' s (x, refl)
 pub of_received : (receipt : Receipt) (n : ℕ) (bytes : Text) (u u' : Open) → IsReceived receipt n bytes u u' → Carries u u'
 of_received Taken n bytes u u' x = λ s.
     let h : HappensOn n (came bytes) u s u' s =
-    (changes_as {Q = λ c c'. Does (came bytes) c s c' s × (coming_len c' ≤ coming_len c + length bytes)} (λ c c' h. ((h.0, h.1, refl), h.2)) x.0, x.2) in
+    (changes_as {Q = λ c c'. Does u.settings (came bytes) c s c' s × (coming_len c' ≤ coming_len c + length bytes)} (λ c c' h. ((h.0, h.1, refl), h.2)) x.0, x.2) in
     leads_one (on n (came bytes)) u s u' s (h, x.1)
 of_received NoRoom n bytes u u' x = carries_same u u' x.3
 of_received NotOpen n bytes u u' x = carries_same u u' x.1
@@ -73,20 +74,20 @@ of_received NotOpen n bytes u u' x = carries_same u u' x.1
 pub of_finished : (there : Bool) (n : ℕ) (u u' : Open) → IfOpen there n (Changes n Finishes hears) u u' → Carries u u'
 of_finished there n u u' =
     of_open there n (Changes n Finishes hears) u u'
-    (λ s x e. leads_one (on n ended) u s u' s (changes_as {Q = λ c c'. Does ended c s c' s} (λ c c' h. (h, refl)) x, e))
+    (λ s x e. leads_one (on n ended) u s u' s (changes_as {Q = λ c c'. Does u.settings ended c s c' s} (λ c c' h. (h, refl)) x, e))
 
 -- the bytes that went out
-went_of : (count : ℕ) (s : State) (c c' : Shown) → Sends count c c' → Does (sent (take count c.going)) c s c' s
-went_of count s c c' h =
+went_of : (settings : Settings) (count : ℕ) (s : State) (c c' : Shown) → Sends count c c' → Does settings (sent (take count c.going)) c s c' s
+went_of settings count s c c' h =
     let e : c'.going ≡ drop count c.going = ap (λ (x : Shown). x.going) h.1 in (
       sym (take-append-drop count c.going) ∙ ap (λ (rest : Text). take count c.going ++ rest) (sym e),
       h.1 ∙ ap (λ (text : Text). record c { going = text }) (sym e),
       refl,
     )
 
-sent_one : (n count : ℕ) (s : State) (xs ys : List Slot) → (y : Changes n (Sends count) (sends count) xs ys)
-    → Changes n (λ c c'. Does (sent (take count y.slot.conversation.going)) c s c' s) (sends (length (take count y.slot.conversation.going))) xs ys
-sent_one n count s xs ys y =
+sent_one : (settings : Settings) (n count : ℕ) (s : State) (xs ys : List Slot) → (y : Changes n (Sends count) (sends count) xs ys)
+    → Changes n (λ c c'. Does settings (sent (take count y.slot.conversation.going)) c s c' s) (sends (length (take count y.slot.conversation.going))) xs ys
+sent_one settings n count s xs ys y =
     let size : length (take count y.slot.conversation.going) ≡ count = length-take-le count y.slot.conversation.going y.changes.0 in
     record {
       front = y.front;
@@ -96,20 +97,20 @@ sent_one n count s xs ys y =
       was = y.was;
       numbered = y.numbered;
       is = y.is ∙ ap (λ (k : ℕ). y.front ++ record { number = n; conversation = y.conversation; stirred = sends k y.slot } ∷ y.back) (sym size);
-      changes = went_of count s y.slot.conversation y.conversation y.changes;
+      changes = went_of settings count s y.slot.conversation y.conversation y.changes;
       only = y.only;
     }
 
 pub of_sent : (there : Bool) (n count : ℕ) (u u' : Open) → IfOpen there n (Changes n (Sends count) (sends count)) u u' → Carries u u'
 of_sent there n count u u' =
     of_open there n (Changes n (Sends count) (sends count)) u u'
-    (λ s x e. leads_one (on n (sent (take count x.slot.conversation.going))) u s u' s (sent_one n count s u.slots u'.slots x, e))
+    (λ s x e. leads_one (on n (sent (take count x.slot.conversation.going))) u s u' s (sent_one u.settings n count s u.slots u'.slots x, e))
 
 pub of_closed : (there : Bool) (n : ℕ) (u u' : Open) → IfOpen there n (Closes n) u u' → Carries u u'
 of_closed there n u u' = of_open there n (Closes n) u u' (λ s x e. leads_one (goes n) u s u' s (x, e, refl))
 
 pub of_turn : {honest : Type 0} (n : ℕ) (found : Step) (u : Open) (s : State) (u' : Open) (s' : State)
-    → TakesTurn n found (λ c c'. (honest → Does (acted found) c s c' s') × (coming_len c' ≤ coming_len c)) u.slots u'.slots → u' ≡ with_slots u u'.slots
+    → TakesTurn n found (λ c c'. (honest → Does u.settings (acted found) c s c' s') × (coming_len c' ≤ coming_len c)) u.slots u'.slots → u' ≡ with_slots u u'.slots
     → going_sum u.slots < u.bounds.going → honest → Leads u s u' s'
 of_turn {honest} n found u s u' s' y e room h =
     leads_one (on n (acted found)) u s u' s' (

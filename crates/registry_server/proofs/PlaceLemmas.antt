@@ -10,6 +10,7 @@ use Rattle.registry_server.specs.declared.connection.Connection.{Connection}
 use Rattle.registry_server.specs.Open.{Slot, conversation_of, are_numbered, Opens, Only, Changes, Closes, TakesTurn, Becomes, FoundAt, LastAt, StirredAt, goes_on}
 use Rattle.registry_server.specs.Slots.{slot_of, slots_of, IsMoved}
 use Rattle.registry_server.proofs.SlotLemmas.{of_same, of_other, skip, without, exchanged, AreNumbered, Among, among, fresh, pushed, in_place, to_back, opened, closed}
+use Rattle.registry_model.specs.declared.settings.Settings.{Settings}
 
 cut : (i : ℕ) (xs : List Connection) (x : Connection) → i < length xs → x ≡ get_or xs i x
     → slots_of xs ≡ slots_of (take i xs) ++ slot_of x ∷ slots_of (drop (suc i) xs)
@@ -318,10 +319,10 @@ came_numbers xs zs x n e is h =
     (closed (n + 1) (slots_of xs ++ record { number = n; conversation = begun; stirred = false } ∷ [])
     (pushed n (n + 1) (slots_of xs) (record { number = n; conversation = begun; stirred = false }) all (omega arith) (omega arith) (fresh n (slots_of xs) n all (omega arith))))
 
-pub opens : (bounds : Bounds) (n : ℕ) (xs zs : List Connection) (x : Connection) → length xs < bounds.at_once → are_numbered n (slots_of xs) ≡ true → zs ≡ xs ++ x ∷ []
+pub opens : (settings : Settings) (bounds : Bounds) (n : ℕ) (xs zs : List Connection) (x : Connection) → length xs < bounds.at_once → are_numbered n (slots_of xs) ≡ true → zs ≡ xs ++ x ∷ []
     → slot_of x ≡ record { number = n; conversation = begun; stirred = false }
-    → Opens n (record { slots = slots_of xs; next = n; bounds = bounds }) (record { slots = slots_of zs; next = n + 1; bounds = bounds })
-opens bounds n xs zs x room h e is =
+    → Opens n (record { slots = slots_of xs; next = n; bounds = bounds; settings = settings }) (record { slots = slots_of zs; next = n + 1; bounds = bounds; settings = settings })
+opens settings bounds n xs zs x room h e is =
     let all = opened n (slots_of xs) h in
     let w = came_slots xs zs x n e is in
     let absent = fresh n (slots_of xs) n all (omega arith) in
@@ -329,7 +330,7 @@ opens bounds n xs zs x room h e is =
     record {
       number = refl;
       room = subst (λ (k : ℕ). k < bounds.at_once) (sym (length-map xs slot_of)) room;
-      is = ap (λ (ys : List Slot). record { slots = ys; next = n + 1; bounds = bounds }) w;
+      is = ap (λ (ys : List Slot). record { slots = ys; next = n + 1; bounds = bounds; settings = settings }) w;
       only = only_on refl w (record {
         was = absent;
         is = skip n (slots_of xs) (c ∷ []) absent ∙ of_same n c [] refl;

@@ -12,6 +12,7 @@ use Rattle.registry_server.specs.Room.{share, largest, pool, most_coming, over, 
 use Rattle.registry_server.specs.Events.{Event, comes, on, goes, elsewhere, HappensOn, Happens, Passes}
 use Rattle.registry_server.proofs.SlotLemmas.{of_same, skip, AreNumbered, among}
 use Rattle.registry_server.proofs.TurnLemmas.{numbers_after}
+use Rattle.registry_model.specs.declared.settings.Settings.{Settings}
 
 -- ---- one of them, and the others
 
@@ -197,18 +198,18 @@ as_many_ended c c' x = omega (arith, ap coming_len x)
 pub as_many_told : (count : ℕ) (c c' : Shown) → Sends count c c' → coming_len c' ≤ coming_len c
 as_many_told count c c' x = omega (arith, ap coming_len x.1)
 
-as_many_finished : (c c' : Shown) (s s' : State) → Does ended c s c' s' → coming_len c' ≤ coming_len c
-as_many_finished c c' s s' x = omega (arith, ap coming_len x.0)
+as_many_finished : (settings : Settings) (c c' : Shown) (s s' : State) → Does settings ended c s c' s' → coming_len c' ≤ coming_len c
+as_many_finished settings c c' s s' x = omega (arith, ap coming_len x.0)
 
-as_many_sent : (text : Text) (c c' : Shown) (s s' : State) → Does (sent text) c s c' s' → coming_len c' ≤ coming_len c
-as_many_sent text c c' s s' x = omega (arith, ap coming_len x.1)
+as_many_sent : (settings : Settings) (text : Text) (c c' : Shown) (s s' : State) → Does settings (sent text) c s c' s' → coming_len c' ≤ coming_len c
+as_many_sent settings text c c' s s' x = omega (arith, ap coming_len x.1)
 
 within_call : (n : ℕ) (call : Call) (u : Open) (s : State) (u' : Open) (s' : State) → HappensOn n call u s u' s' → IsWithin u.bounds u.slots
     → IsWithin u.bounds u'.slots
 within_call n (came bytes) u s u' s' x w = within_received u n bytes _ u'.slots (λ c c' h. h.1) x.0 x.1 w
-within_call n ended u s u' s' x w = within_changed u.bounds n _ _ u.slots u'.slots (λ c c' h. as_many_finished c c' s s' h) x w
+within_call n ended u s u' s' x w = within_changed u.bounds n _ _ u.slots u'.slots (λ c c' h. as_many_finished u.settings c c' s s' h) x w
 within_call n (acted found) u s u' s' x w = within_turned u.bounds n found _ u.slots u'.slots (λ c c' h. h.1) x.0 w
-within_call n (sent text) u s u' s' x w = within_changed u.bounds n _ _ u.slots u'.slots (λ c c' h. as_many_sent text c c' s s' h) x w
+within_call n (sent text) u s u' s' x w = within_changed u.bounds n _ _ u.slots u'.slots (λ c c' h. as_many_sent u.settings text c c' s s' h) x w
 
 within_on : (e : Event) (u : Open) (s : State) (u' : Open) (s' : State) → Happens e u s u' s' → IsWithin u.bounds u.slots
     → (u'.bounds ≡ u.bounds) × IsWithin u'.bounds u'.slots
@@ -286,11 +287,11 @@ first_of_some : (u : Open) (xs : List Slot) → u.slots ≡ xs → AreNumbered u
 first_of_some u [] e numbered w some = absurd (omega (arith, some, ap length e))
 first_of_some u (x ∷ xs) e numbered w some = one_may u (subst Heaviest (sym e) (heaviest x xs)) numbered w
 
-pub all_within : (events : List Event) (bounds : Bounds) (s : State) (u : Open) (s' : State) → Passes events (none bounds) s u s'
+pub all_within : (events : List Event) (settings : Settings) (bounds : Bounds) (s : State) (u : Open) (s' : State) → Passes events (none settings bounds) s u s'
     → (u.bounds ≡ bounds) × HoldsWithin u
-all_within events bounds s u s' x =
-    let all = within_after events (none bounds) s u s' x (none_within bounds) in
-    let numbered = numbers_after events (none bounds) s u s' x tt in (
+all_within events settings bounds s u s' x =
+    let all = within_after events (none settings bounds) s u s' x (none_within bounds) in
+    let numbered = numbers_after events (none settings bounds) s u s' x tt in (
       all.0,
       record {
         together = together u.bounds u.slots all.1;

@@ -25,6 +25,7 @@ use Rattle.registry_server.specs.Holding.{HoldsAs, Holds}
 use Rattle.registry_server.specs.Stepping.{AnswersFirst, WaitsForMore, PutsInterim, PutsPart, replying, refusing, continuing, EndsAs, ActsAs, Comes, Reads}
 use Rattle.registry_server.specs.ConversationEvents.{acted, Happens}
 use Rattle.registry_server.proofs.HoldingLemmas.{said_there}
+use Rattle.registry_model.specs.declared.settings.Settings.{Settings}
 
 -- ---- where a connection stands
 
@@ -123,7 +124,7 @@ quiet b said t w p a = record {
 -- ---- a turn
 
 module _ (b said : Text) (t : Traffic) (p : Progress b said t) (s' : State) (c : Shown) (done : c.finished ≡ true → IsAtEnd t.left') where
-  was_answered : AnswersFirst b said [] t.state' s' c → Turned step.Answered c (record t { state' = s' })
+  was_answered : AnswersFirst t.settings b said [] t.state' s' c → Turned step.Answered c (record t { state' = s' })
   was_answered x = record {
     whole = λ w a. by_close (closes x.item) refl x.goes_on w (subst (λ (y : Text). Appends t.held' w y) x.put a);
     part = λ n w short a.
@@ -175,7 +176,7 @@ module _ (b said : Text) (t : Traffic) (p : Progress b said t) (s' : State) (c :
     part = λ n w short a. absurd (none_short n c.going x.put short);
   }
 
-  puts_part : (m : ℕ) → PutsPart m b said [] t.state' s' c.going → Finishes (WriteFailed m) c.going (record t { state' = s' })
+  puts_part : (m : ℕ) → PutsPart t.settings m b said [] t.state' s' c.going → Finishes (WriteFailed m) c.going (record t { state' = s' })
   puts_part m (replying i rest a request begins is does short put) =
       cut_short m (reply_for i a) c.going (record t { state' = s' }) put short
       (λ n w less sent. reply_cut b said t p i rest begins request is a s' does w n less sent)
@@ -188,7 +189,7 @@ module _ (b said : Text) (t : Traffic) (p : Progress b said t) (s' : State) (c :
       (λ n w less sent. subst (λ (s : State). Serves (WriteFailed n) (record t { held' = w; state' = s })) (sym same)
       (continue_cut b t (unsaid none) text w n is less sent))
 
-  ends : (e : End) → EndsAs e b said [] t.state' s' c → Finishes e c.going (record t { state' = s' })
+  ends : (e : End) → EndsAs t.settings e b said [] t.state' s' c → Finishes e c.going (record t { state' = s' })
   ends Closed x = record {
     whole = λ w a.
         at_end b said (record t { held' = w; state' = s' }) (now x.3 x.4 w a) Closed (done x.0) x.1 (subst (λ (y : Text). IsBefore b y) (sym x.2) (before_empty b x.1)) refl;
@@ -209,19 +210,19 @@ module _ (b said : Text) (t : Traffic) (p : Progress b said t) (s' : State) (c :
   over : (e : End) → Finishes e c.going (record t { state' = s' }) → Turned (step.Ended e) c (record t { state' = s' })
   over e x = record { whole = x.whole; part = x.part }
 
-  turn : (found : Step) → ActsAs found b said [] t.state' s' c → Turned found c (record t { state' = s' })
+  turn : (found : Step) → ActsAs t.settings found b said [] t.state' s' c → Turned found c (record t { state' = s' })
   turn step.Answered x = was_answered x
   turn step.Interim x = interim x
   turn step.Waits x = waits x
   turn (step.Ended e) x = over e (ends e x.1)
 
-pub turned : (found : Step) (c c' : Shown) (t : Traffic) (s' : State) → Happens (acted found) c t.state' c' s' → Stands c t → Turned found c' (record t { state' = s' })
+pub turned : (found : Step) (c c' : Shown) (t : Traffic) (s' : State) → Happens t.settings (acted found) c t.state' c' s' → Stands c t → Turned found c' (record t { state' = s' })
 turned found c c' t s' x stands = by_phase c.phase refl stands
   where
     goes_on : Open c t → Turned found c' (record t { state' = s' })
     goes_on y =
         turn y.rest y.said t y.progress s' c' (λ f. y.at_end (sym x.1 ∙ f)) found
-        (subst (λ (g : Text). ActsAs found y.rest y.said g t.state' s' c') y.told (x.2 y.rest y.said y.holds))
+        (subst (λ (g : Text). ActsAs t.settings found y.rest y.said g t.state' s' c') y.told (x.2 y.rest y.said y.holds))
 
     by_phase : (q : Phase) → c.phase ≡ q → StandsAs q c t → Turned found c' (record t { state' = s' })
     by_phase Head e y = goes_on y
@@ -233,14 +234,14 @@ turned found c c' t s' x stands = by_phase c.phase refl stands
         (subst (λ (s : State). Turned (step.Ended end) c (record t { state' = s })) (sym same.2) (record { whole = y.whole; part = y.part })))
 
 -- all that it put out went
-pub went_on : (found k : Step) (c c' c'' : Shown) (t : Traffic) (s' : State) (w : Option Text) → Happens (acted found) c t.state' c' s' → Stands c t → found ≡ k
+pub went_on : (found k : Step) (c c' c'' : Shown) (t : Traffic) (s' : State) (w : Option Text) → Happens t.settings (acted found) c t.state' c' s' → Stands c t → found ≡ k
     → Appends t.held' w c'.going → c'' ≡ with_going c' [] → StepsTo k c'' (record t { held' = w; state' = s' })
 went_on found k c c' c'' t s' w x stands same sent told =
     subst (λ (z : Shown). StepsTo k z (record t { held' = w; state' = s' })) (sym told)
     (subst (λ (z : Step). StepsTo z (with_going c' []) (record t { held' = w; state' = s' })) same ((turned found c c' t s' x stands).whole w sent))
 
 -- only so much of it went
-pub broke_off : (found : Step) (c c' : Shown) (t : Traffic) (s' : State) (n : ℕ) (w : Option Text) → Happens (acted found) c t.state' c' s' → Stands c t
+pub broke_off : (found : Step) (c c' : Shown) (t : Traffic) (s' : State) (n : ℕ) (w : Option Text) → Happens t.settings (acted found) c t.state' c' s' → Stands c t
     → n < length c'.going → Appends t.held' w (take n c'.going) → Serves (WriteFailed n) (record t { held' = w; state' = s' })
 broke_off found c c' t s' n w x stands short sent = (turned found c c' t s' x stands).part n w short sent
 
@@ -291,8 +292,8 @@ module _ (c c' : Shown) (t : Traffic) (l : Option Text) (x : Waiting c t) where
 
 -- ---- before the first turn
 
-pub at_first : (c : Shown) (l h : Option Text) (s : State) → c ≡ begun
-    → Stands c (record { left = l; left' = l; held = h; held' = h; state = s; state' = s })
-at_first c l h s e =
-    subst (λ (k : Shown). Stands k (record { left = l; left' = l; held = h; held' = h; state = s; state' = s })) (sym e)
-    (record { rest = []; said = []; progress = starts l h s; holds = (refl, refl, refl); told = refl; at_end = λ done. absurd cc })
+pub at_first : (settings : Settings) (c : Shown) (l h : Option Text) (s : State) → c ≡ begun
+    → Stands c (record { settings = settings; left = l; left' = l; held = h; held' = h; state = s; state' = s })
+at_first settings c l h s e =
+    subst (λ (k : Shown). Stands k (record { settings = settings; left = l; left' = l; held = h; held' = h; state = s; state' = s })) (sym e)
+    (record { rest = []; said = []; progress = starts settings l h s; holds = (refl, refl, refl); told = refl; at_end = λ done. absurd cc })

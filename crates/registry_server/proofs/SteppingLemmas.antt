@@ -35,57 +35,7 @@ use Rattle.registry_outbox.specs.Reports.{TellsAnswer, TellsRefusal, Reported}
 use Rattle.registry_server.specs.Stepping.{IsRefusedThere, PutsPart, replying, refusing, LeadsOn, Refuses, LacksMemory, Comes, Receives, Waited}
 use Rattle.registry_server.specs.Telling.{PartTold, TellsAs, Tells}
 use Rattle.registry_server.proofs.HoldingLemmas.{holds_on, before_there, refused_there, item_request, item_begins}
-
--- ---- a refusal
-
-refuse_ends : (e : End) (r : FramingRefusal) (b before : Text) (old new : Shown) (s : State) (was now : Option Report) → SendsRefusal e r (Some old.going) (Some new.going)
-    → new.phase ≡ phase.Ended e → IsRefusedThere b before r → Reported now old.going new.going (λ q. TellsRefusal q r)
-    → TellsAs (step.Ended e) b before old.going s s new was now
-refuse_ends Closed r b before old new s was now x over bad told = absurd x
-refuse_ends Cut r b before old new s was now x over bad told = absurd x
-refuse_ends (Refused q) r b before old new s was now x over bad told = (
-  (over, (subst (λ (k : FramingRefusal). IsRefusedThere b before k) (sym x.0) bad, x.1 ∙ ap (λ (k : FramingRefusal). old.going ++ refusal_text k) (sym x.0), refl)),
-  subst (λ (k : FramingRefusal). Reported now old.going new.going (λ p. TellsRefusal p k)) (sym x.0) told,
-)
-refuse_ends ReadFailed r b before old new s was now x over bad told = absurd x
-refuse_ends (WriteFailed n) r b before old new s was now x over bad told = ((over, refusing r bad x.0 x.1 refl), told)
-
-pub refused : (found : Step) (r : FramingRefusal) (b before : Text) (old new : Shown) (s : State) (was now : Option Report) → Refuses found r old new
-    → Reported now old.going new.going (λ q. TellsRefusal q r) → IsRefusedThere b before r → TellsAs found b before old.going s s new was now
-refused found r b before old new s was now x told bad =
-    subst (λ (k : Step). TellsAs k b before old.going s s new was now) (sym x.found_is) (refuse_ends x.end r b before old new s was now x.sends x.ended bad told)
-
--- ---- more bytes are missing
-
-pub waited_cut : (found : Step) (b before : Text) (old new : Shown) (s : State) (was now : Option Report) → Waited found Cut old new → now ≡ was → IsCut b → IsBefore b before
-    → Holds old b before → TellsAs found b before old.going s s new was now
-waited_cut found b before old new s was now w kept cut is holds = by_flag old.finished refl w
-  where
-    by_flag : (f : Bool) → old.finished ≡ f
-        → MatchBool f ((found ≡ step.Ended Cut) × (new ≡ with_phase old (phase.Ended Cut))) ((found ≡ step.Waits) × (new ≡ old))
-        → TellsAs found b before old.going s s new was now
-    by_flag true e x =
-        subst (λ (k : Step). TellsAs k b before old.going s s new was now) (sym x.0)
-        (subst (λ (c : Shown). TellsAs (step.Ended Cut) b before old.going s s c was now) (sym x.1) ((refl, (e, cut, is, refl, refl)), kept))
-    by_flag false e x =
-        subst (λ (k : Step). TellsAs k b before old.going s s new was now) (sym x.0)
-        (subst (λ (c : Shown). TellsAs step.Waits b before old.going s s c was now) (sym x.1)
-        (record { goes_on = e; cut = inr cut; before_is = is; holds = holds; put = refl; same = refl }, kept))
-
-pub waited_closed : (found : Step) (b before : Text) (old new : Shown) (s : State) (was now : Option Report) → Waited found Closed old new → now ≡ was → b ≡ [] → before ≡ []
-    → IsBefore b before → Holds old b before → TellsAs found b before old.going s s new was now
-waited_closed found b before old new s was now w kept none unsaid is holds = by_flag old.finished refl w
-  where
-    by_flag : (f : Bool) → old.finished ≡ f
-        → MatchBool f ((found ≡ step.Ended Closed) × (new ≡ with_phase old (phase.Ended Closed))) ((found ≡ step.Waits) × (new ≡ old))
-        → TellsAs found b before old.going s s new was now
-    by_flag true e x =
-        subst (λ (k : Step). TellsAs k b before old.going s s new was now) (sym x.0)
-        (subst (λ (c : Shown). TellsAs (step.Ended Closed) b before old.going s s c was now) (sym x.1) ((refl, (e, none, unsaid, refl, refl)), kept))
-    by_flag false e x =
-        subst (λ (k : Step). TellsAs k b before old.going s s new was now) (sym x.0)
-        (subst (λ (c : Shown). TellsAs step.Waits b before old.going s s c was now) (sym x.1)
-        (record { goes_on = e; cut = inl none; before_is = is; holds = holds; put = refl; same = refl }, kept))
+use Rattle.registry_model.specs.declared.settings.Settings.{Settings}
 
 -- ---- turns come to an end
 
@@ -224,50 +174,6 @@ pub lacked : (found : Step) (bytes : Text) (old mid new : Shown) → mid.going �
     → Receives bytes old new
 lacked found bytes old mid new going finished r = inr (lacks_memory found NoBufferMemory old mid new refl going finished r)
 
-pub part_ends : (found : Step) (n : ℕ) (b before going : Text) (s s' : State) (old new : Shown) (was now : Option Report) → found ≡ step.Ended (WriteFailed n)
-    → new ≡ with_phase old (phase.Ended (WriteFailed n))
-    → (part : PutsPart n b before going s s' old.going) × PartTold n b before going s s' old.going part was now
-    → TellsAs found b before going s s' new was now
-part_ends found n b before going s s' old new was now told ends part =
-    subst (λ (k : Step). TellsAs k b before going s s' new was now) (sym told)
-    (subst (λ (c : Shown). TellsAs (step.Ended (WriteFailed n)) b before going s s' c was now) (sym ends) ((refl, part.0), part.1))
-
--- ---- a request was answered
-
-module _ (taken unread going b said : Text) (w : HoldsWhole taken unread b said) (was now : Option Report) where
-  pub answered_first : (a : Answer) (s s' : State) (closing : Bool) (new : Shown) → Does s (ask_in w.head w.body.body) a s'
-      → new.going ≡ going ++ reply_for (record { head = w.head; coded = w.body.coded; body = w.body.body }) a
-      → closing ≡ closes (record { head = w.head; coded = w.body.coded; body = w.body.body })
-      → MatchBool closing (new.phase ≡ phase.Ended Closed) (Holds new unread [])
-      → Reported now going new.going (λ r. TellsAnswer r (record { head = w.head; coded = w.body.coded; body = w.body.body }) a)
-      → TellsAs step.Answered b said going s s' new was now
-  answered_first a s s' closing new does put same next told = (
-    record {
-      item = record { head = w.head; coded = w.body.coded; body = w.body.body };
-      rest = unread;
-      answer = a;
-      request = item_request taken unread b said w;
-      begins = item_begins taken unread b said w;
-      before_is = w.said_is;
-      does = does;
-      put = put;
-      goes_on = subst (λ (f : Bool). MatchBool f (new.phase ≡ phase.Ended Closed) (Holds new unread [])) same next;
-    },
-    told,
-  )
-
-  -- its reply was put in part
-  pub replied_in_part : (n : ℕ) (a : Answer) (s s' : State) (going' : Text) → Does s (ask_in w.head w.body.body) a s'
-      → n < length (reply_for (record { head = w.head; coded = w.body.coded; body = w.body.body }) a)
-      → going' ≡ going ++ take n (reply_for (record { head = w.head; coded = w.body.coded; body = w.body.body }) a)
-      → Reported now going going' (λ r. TellsAnswer r (record { head = w.head; coded = w.body.coded; body = w.body.body }) a)
-      → (part : PutsPart n b said going s s' going') × PartTold n b said going s s' going' part was now
-  replied_in_part n a s s' going' does short put told = (
-    replying (record { head = w.head; coded = w.body.coded; body = w.body.body }) unread a (item_request taken unread b said w) (item_begins taken unread b said w)
-        w.said_is does short put,
-    told,
-  )
-
 -- ---- a head was found, or none
 
 none_awaited : (a b : Bool) → continue_if ((a && b) && false) ≡ []
@@ -294,27 +200,123 @@ module _ (heading : Heading) (b : Text) (x : BeginsAt heading b) where
 pub held_at_head : (c : Shown) (b said : Text) → c.phase ≡ phase.Head → Holds c b said → HoldsAs phase.Head c.taken c.unread b said
 held_at_head c b said e x = subst (λ (p : Phase). HoldsAs p c.taken c.unread b said) e x
 
-module _ (found : Step) (b said : Text) (old new : Shown) (s : State) (was now : Option Report) (x : Holds old b said) (h : HoldsAs phase.Head old.taken old.unread b said) where
-  pub nothing_came : Waited found Closed old new → now ≡ was → old.unread ≡ [] → Tells found b said old s s new was now
-  nothing_came w kept none =
-      let all : b ≡ [] = sym h.1 ∙ none in
-      waited_closed found b said old new s was now w kept all h.2 (subst (λ (y : Text). IsBefore b y) (sym h.2) (before_empty b all)) x
-
-  pub head_cut : Waited found Cut old new → now ≡ was → (old.unread ≡ [] → ⊥) → (old.unread ≡ []) ⊎ HeadIsCut old.unread → Tells found b said old s s new was now
-  head_cut w kept some (inl none) = absurd (some none)
-  head_cut w kept some (inr cut) =
-      let here = subst HeadIsCut h.1 cut in
-      waited_cut found b said old new s was now w kept (inl here) (subst (λ (y : Text). IsBefore b y) (sym h.2) (before_cut b here)) x
-
-  pub head_never : Refuses found UnreadableHead old new → Reported now old.going new.going (λ q. TellsRefusal q UnreadableHead)
-      → ((tail : Text) → HeadIsUnreadable (old.unread ++ tail)) → Tells found b said old s s new was now
-  head_never w told never =
-      refused found UnreadableHead b said old new s was now w told
-      (λ tail. let bad = subst (λ (y : Text). HeadIsUnreadable (y ++ tail)) h.1 (never tail) in
-      (inl (refl, bad), subst (λ (y : Text). IsBefore (b ++ tail) y) (sym h.2) (before_unreadable (b ++ tail) bad)))
-
 -- a body that was taken so far is refused
 pub body_never : (part : Part) (taken unread b said : Text) (r : FramingRefusal) (x : HoldsAs (phase.Body part) taken unread b said)
     → ((tail : Text) → BodyIsRefused (framing x.0) (x.1 ++ tail) r) → IsRefusedThere b said r
 body_never part taken unread b said r x bad tail =
     (refused_there x.0 b x.1 tail r x.2 (bad tail), subst (λ (y : Text). IsBefore (b ++ tail) y) (sym x.3) (before_there x.0 b x.1 tail x.2))
+
+module _ (settings : Settings) where
+  -- ---- a refusal
+
+  refuse_ends : (e : End) (r : FramingRefusal) (b before : Text) (old new : Shown) (s : State) (was now : Option Report) → SendsRefusal e r (Some old.going) (Some new.going)
+      → new.phase ≡ phase.Ended e → IsRefusedThere b before r → Reported now old.going new.going (λ q. TellsRefusal q r)
+      → TellsAs settings (step.Ended e) b before old.going s s new was now
+  refuse_ends Closed r b before old new s was now x over bad told = absurd x
+  refuse_ends Cut r b before old new s was now x over bad told = absurd x
+  refuse_ends (Refused q) r b before old new s was now x over bad told = (
+    (over, (subst (λ (k : FramingRefusal). IsRefusedThere b before k) (sym x.0) bad, x.1 ∙ ap (λ (k : FramingRefusal). old.going ++ refusal_text k) (sym x.0), refl)),
+    subst (λ (k : FramingRefusal). Reported now old.going new.going (λ p. TellsRefusal p k)) (sym x.0) told,
+  )
+  refuse_ends ReadFailed r b before old new s was now x over bad told = absurd x
+  refuse_ends (WriteFailed n) r b before old new s was now x over bad told = ((over, refusing r bad x.0 x.1 refl), told)
+
+  pub refused : (found : Step) (r : FramingRefusal) (b before : Text) (old new : Shown) (s : State) (was now : Option Report) → Refuses found r old new
+      → Reported now old.going new.going (λ q. TellsRefusal q r) → IsRefusedThere b before r → TellsAs settings found b before old.going s s new was now
+  refused found r b before old new s was now x told bad =
+      subst (λ (k : Step). TellsAs settings k b before old.going s s new was now) (sym x.found_is) (refuse_ends x.end r b before old new s was now x.sends x.ended bad told)
+
+  -- ---- more bytes are missing
+
+  pub waited_cut : (found : Step) (b before : Text) (old new : Shown) (s : State) (was now : Option Report) → Waited found Cut old new → now ≡ was → IsCut b → IsBefore b before
+      → Holds old b before → TellsAs settings found b before old.going s s new was now
+  waited_cut found b before old new s was now w kept cut is holds = by_flag old.finished refl w
+    where
+      by_flag : (f : Bool) → old.finished ≡ f
+          → MatchBool f ((found ≡ step.Ended Cut) × (new ≡ with_phase old (phase.Ended Cut))) ((found ≡ step.Waits) × (new ≡ old))
+          → TellsAs settings found b before old.going s s new was now
+      by_flag true e x =
+          subst (λ (k : Step). TellsAs settings k b before old.going s s new was now) (sym x.0)
+          (subst (λ (c : Shown). TellsAs settings (step.Ended Cut) b before old.going s s c was now) (sym x.1) ((refl, (e, cut, is, refl, refl)), kept))
+      by_flag false e x =
+          subst (λ (k : Step). TellsAs settings k b before old.going s s new was now) (sym x.0)
+          (subst (λ (c : Shown). TellsAs settings step.Waits b before old.going s s c was now) (sym x.1)
+          (record { goes_on = e; cut = inr cut; before_is = is; holds = holds; put = refl; same = refl }, kept))
+
+  pub waited_closed : (found : Step) (b before : Text) (old new : Shown) (s : State) (was now : Option Report) → Waited found Closed old new → now ≡ was → b ≡ [] → before ≡ []
+      → IsBefore b before → Holds old b before → TellsAs settings found b before old.going s s new was now
+  waited_closed found b before old new s was now w kept none unsaid is holds = by_flag old.finished refl w
+    where
+      by_flag : (f : Bool) → old.finished ≡ f
+          → MatchBool f ((found ≡ step.Ended Closed) × (new ≡ with_phase old (phase.Ended Closed))) ((found ≡ step.Waits) × (new ≡ old))
+          → TellsAs settings found b before old.going s s new was now
+      by_flag true e x =
+          subst (λ (k : Step). TellsAs settings k b before old.going s s new was now) (sym x.0)
+          (subst (λ (c : Shown). TellsAs settings (step.Ended Closed) b before old.going s s c was now) (sym x.1) ((refl, (e, none, unsaid, refl, refl)), kept))
+      by_flag false e x =
+          subst (λ (k : Step). TellsAs settings k b before old.going s s new was now) (sym x.0)
+          (subst (λ (c : Shown). TellsAs settings step.Waits b before old.going s s c was now) (sym x.1)
+          (record { goes_on = e; cut = inl none; before_is = is; holds = holds; put = refl; same = refl }, kept))
+
+  pub part_ends : (found : Step) (n : ℕ) (b before going : Text) (s s' : State) (old new : Shown) (was now : Option Report) → found ≡ step.Ended (WriteFailed n)
+      → new ≡ with_phase old (phase.Ended (WriteFailed n))
+      → (part : PutsPart settings n b before going s s' old.going) × PartTold settings n b before going s s' old.going part was now
+      → TellsAs settings found b before going s s' new was now
+  part_ends found n b before going s s' old new was now told ends part =
+      subst (λ (k : Step). TellsAs settings k b before going s s' new was now) (sym told)
+      (subst (λ (c : Shown). TellsAs settings (step.Ended (WriteFailed n)) b before going s s' c was now) (sym ends) ((refl, part.0), part.1))
+
+  -- ---- a request was answered
+
+  module _ (taken unread going b said : Text) (w : HoldsWhole taken unread b said) (was now : Option Report) where
+    pub answered_first : (a : Answer) (s s' : State) (closing : Bool) (new : Shown) → Does s (ask_in settings w.head w.body.body) a s'
+        → new.going ≡ going ++ reply_for (record { head = w.head; coded = w.body.coded; body = w.body.body }) a
+        → closing ≡ closes (record { head = w.head; coded = w.body.coded; body = w.body.body })
+        → MatchBool closing (new.phase ≡ phase.Ended Closed) (Holds new unread [])
+        → Reported now going new.going (λ r. TellsAnswer r (record { head = w.head; coded = w.body.coded; body = w.body.body }) a)
+        → TellsAs settings step.Answered b said going s s' new was now
+    answered_first a s s' closing new does put same next told = (
+      record {
+        item = record { head = w.head; coded = w.body.coded; body = w.body.body };
+        rest = unread;
+        answer = a;
+        request = item_request taken unread b said w;
+        begins = item_begins taken unread b said w;
+        before_is = w.said_is;
+        does = does;
+        put = put;
+        goes_on = subst (λ (f : Bool). MatchBool f (new.phase ≡ phase.Ended Closed) (Holds new unread [])) same next;
+      },
+      told,
+    )
+
+    -- its reply was put in part
+    pub replied_in_part : (n : ℕ) (a : Answer) (s s' : State) (going' : Text) → Does s (ask_in settings w.head w.body.body) a s'
+        → n < length (reply_for (record { head = w.head; coded = w.body.coded; body = w.body.body }) a)
+        → going' ≡ going ++ take n (reply_for (record { head = w.head; coded = w.body.coded; body = w.body.body }) a)
+        → Reported now going going' (λ r. TellsAnswer r (record { head = w.head; coded = w.body.coded; body = w.body.body }) a)
+        → (part : PutsPart settings n b said going s s' going') × PartTold settings n b said going s s' going' part was now
+    replied_in_part n a s s' going' does short put told = (
+      replying (record { head = w.head; coded = w.body.coded; body = w.body.body }) unread a (item_request taken unread b said w) (item_begins taken unread b said w)
+          w.said_is does short put,
+      told,
+    )
+
+  module _ (found : Step) (b said : Text) (old new : Shown) (s : State) (was now : Option Report) (x : Holds old b said) (h : HoldsAs phase.Head old.taken old.unread b said) where
+    pub nothing_came : Waited found Closed old new → now ≡ was → old.unread ≡ [] → Tells settings found b said old s s new was now
+    nothing_came w kept none =
+        let all : b ≡ [] = sym h.1 ∙ none in
+        waited_closed found b said old new s was now w kept all h.2 (subst (λ (y : Text). IsBefore b y) (sym h.2) (before_empty b all)) x
+
+    pub head_cut : Waited found Cut old new → now ≡ was → (old.unread ≡ [] → ⊥) → (old.unread ≡ []) ⊎ HeadIsCut old.unread → Tells settings found b said old s s new was now
+    head_cut w kept some (inl none) = absurd (some none)
+    head_cut w kept some (inr cut) =
+        let here = subst HeadIsCut h.1 cut in
+        waited_cut found b said old new s was now w kept (inl here) (subst (λ (y : Text). IsBefore b y) (sym h.2) (before_cut b here)) x
+
+    pub head_never : Refuses found UnreadableHead old new → Reported now old.going new.going (λ q. TellsRefusal q UnreadableHead)
+        → ((tail : Text) → HeadIsUnreadable (old.unread ++ tail)) → Tells settings found b said old s s new was now
+    head_never w told never =
+        refused found UnreadableHead b said old new s was now w told
+        (λ tail. let bad = subst (λ (y : Text). HeadIsUnreadable (y ++ tail)) h.1 (never tail) in
+        (inl (refl, bad), subst (λ (y : Text). IsBefore (b ++ tail) y) (sym h.2) (before_unreadable (b ++ tail) bad)))

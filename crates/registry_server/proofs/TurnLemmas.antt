@@ -12,6 +12,7 @@ use Rattle.registry_server.specs.Open.{Slot, Open, none, conversation_of, Change
 use Rattle.registry_server.specs.Events.{Event, comes, on, goes, elsewhere, HappensOn, Happens, Passes}
 use Rattle.registry_server.specs.Turns.{IsStirred, HasTurn, TurnsTwice}
 use Rattle.registry_server.proofs.SlotLemmas.{of_same, of_other, skip, AreNumbered, among, pushed, in_place, to_back}
+use Rattle.registry_model.specs.declared.settings.Settings.{Settings}
 
 -- ---- each number is one connection's, after any events
 
@@ -144,12 +145,12 @@ module _ (m n : ℕ) (ne : m ≢ n) (second : Step) where
   between (elsewhere step outcome ∷ es) u s u' s' x b =
       between es x.0 x.1 u' s' x.3 (subst (λ (v : Open). Before m n v.slots) (sym x.2.0) b)
 
-pub turn_between : (events : List Event) (bounds : Bounds) (s : State) (u : Open) (t : State) → Passes events (none bounds) s u t
+pub turn_between : (events : List Event) (settings : Settings) (bounds : Bounds) (s : State) (u : Open) (t : State) → Passes events (none settings bounds) s u t
     → (n m : ℕ) (es : List Event) (u' : Open) (t' : State) → m ≢ n → IsStirred m u.slots → TurnsTwice n es u t u' t' → HasTurn m es
-turn_between events bounds s u t p n m es u' t' ne waits x =
+turn_between events settings bounds s u t p n m es u' t' ne waits x =
     let y = x.2 in
     let f = y.2.0.0 in
-    let all = numbers_after events (none bounds) s u t p tt in
+    let all = numbers_after events (none settings bounds) s u t p tt in
     let r = among u.next f.front f.slot f.back (subst (AreNumbered u.next) f.was all) in
     let absent : conversation_of n (f.front ++ f.back) ≡ None =
     subst (λ (k : ℕ). conversation_of k (f.front ++ f.back) ≡ None) f.numbered (skip f.slot.number f.front f.back r.before ∙ r.behind) in

@@ -1,6 +1,7 @@
 -- What any list of a conversation's calls comes to.
 use Rattle.std.specs.Prelude.{◌≡◌, Bool, true, false, List, [], ◌∷◌, ◌++◌, Some}
 use Rattle.oci_types.specs.Text.{Text}
+use Rattle.registry_model.specs.declared.settings.Settings.{Settings}
 use Rattle.registry_model.specs.Keeping.{State}
 use Rattle.registry_http.specs.Spelling.{Item, Front}
 use Rattle.registry_http.specs.Serving.{Run, joined, Traffic, Serves}
@@ -25,21 +26,22 @@ pub data Event : Type 0 where
 
 -- what the call says of the conversation and of the service, whose keeper is honest: the clauses of
 -- `receive`, `finish`, `answer_next` and `sent`
-abbrev pub Happens : Event → Shown → State → Shown → State → Type 0
-Happens (came bytes) c s c' s' =
+abbrev pub Happens : Settings → Event → Shown → State → Shown → State → Type 0
+Happens settings (came bytes) c s c' s' =
     (listens c ≡ false → c' ≡ c) × (listens c ≡ true → Receives bytes c c') × (s' ≡ s)
-Happens ended c s c' s' = (c' ≡ with_finished c) × (s' ≡ s)
-Happens (acted found) c s c' s' =
+Happens settings ended c s c' s' = (c' ≡ with_finished c) × (s' ≡ s)
+Happens settings (acted found) c s c' s' =
     ((e : End) → c.phase ≡ Ended e → (found ≡ step.Ended e) × (c' ≡ c) × (s' ≡ s))
     × (c'.finished ≡ c.finished)
-    × ((b said : Text) → Holds c b said → Acts found b said c s s' c')
-Happens (sent text) c s c' s' =
+    × ((b said : Text) → Holds c b said → Acts settings found b said c s s' c')
+Happens settings (sent text) c s c' s' =
     (c.going ≡ text ++ c'.going) × (c' ≡ with_going c c'.going) × (s' ≡ s)
 
 -- the events, one after the other; nobody else touches the service
-abbrev pub Passes : List Event → Shown → State → Shown → State → Type 0
-Passes [] c s c' s' = (c' ≡ c) × (s' ≡ s)
-Passes (e ∷ es) c s c' s' = (mid : Shown) × (t : State) × Happens e c s mid t × Passes es mid t c' s'
+abbrev pub Passes : Settings → List Event → Shown → State → Shown → State → Type 0
+Passes settings [] c s c' s' = (c' ≡ c) × (s' ≡ s)
+Passes settings (e ∷ es) c s c' s' =
+    (mid : Shown) × (t : State) × Happens settings e c s mid t × Passes settings es mid t c' s'
 
 -- all bytes that came, as long as the input had not ended
 abbrev pub heard_if : Bool → List Event → Text
@@ -65,20 +67,28 @@ went (sent text ∷ es) = text ++ went es
 
 -- b is these requests and then what is held, they were answered one after the other, and all that was put out
 -- are their texts and what was said of the next
-pub record SoFar (b out : Text) (s s' : State) (c : Shown) : Type 0 where
+pub record SoFar (settings : Settings) (b out : Text) (s s' : State) (c : Shown) : Type 0 where
   pub items : List Item
   pub texts : List Text
   pub rest : Text
   pub said : Text
   pub front : Front b items rest
-  pub run : Run s items texts s'
+  pub run : Run settings s items texts s'
   pub put : out ≡ joined texts ++ said
   pub holds : Holds c rest said
 
 -- the bytes that came and were put out, and the service's states
-abbrev pub traffic : Text → Text → State → State → Traffic
-traffic b out s s' =
-    record { left = Some b; left' = Some []; held = Some []; held' = Some out; state = s; state' = s' }
+abbrev pub traffic : Settings → Text → Text → State → State → Traffic
+traffic settings b out s s' =
+    record {
+      settings = settings;
+      left = Some b;
+      left' = Some [];
+      held = Some [];
+      held' = Some out;
+      state = s;
+      state' = s';
+    }
 
 -- what serving a connection to this end says; none of it ends with a read
 abbrev pub ServedTo : End → Traffic → Type 0
@@ -89,10 +99,10 @@ ServedTo ReadFailed t = ⊥
 ServedTo (WriteFailed n) t = Serves (WriteFailed n) t
 
 -- while there may be a further request, and at the end: of a reader that gives b and a writer that takes out
-abbrev pub AccountsAs : Phase → Text → Text → State → State → Shown → Type 0
-AccountsAs Head b out s s' c = SoFar b out s s' c
-AccountsAs (Body part) b out s s' c = SoFar b out s s' c
-AccountsAs (Ended e) b out s s' c = ServedTo e (traffic b out s s')
+abbrev pub AccountsAs : Settings → Phase → Text → Text → State → State → Shown → Type 0
+AccountsAs settings Head b out s s' c = SoFar settings b out s s' c
+AccountsAs settings (Body part) b out s s' c = SoFar settings b out s s' c
+AccountsAs settings (Ended e) b out s s' c = ServedTo e (traffic settings b out s s')
 
-abbrev pub Accounts : Text → Text → State → State → Shown → Type 0
-Accounts b out s s' c = AccountsAs c.phase b out s s' c
+abbrev pub Accounts : Settings → Text → Text → State → State → Shown → Type 0
+Accounts settings b out s s' c = AccountsAs settings c.phase b out s s' c

@@ -1,5 +1,6 @@
 -- What any list of calls comes to, over all connections and one service.
 use Rattle.std.specs.Prelude.{◌≡◌, ℕ, ◌+◌, ◌<◌, ◌≤◌, ◌==◌, if◌then◌else◌, List, [], ◌∷◌, ◌++◌, length, map, IfSome}
+use Rattle.registry_model.specs.declared.settings.Settings.{Settings}
 use Rattle.registry_model.specs.Keeping.{State}
 use Rattle.registry_model.specs.Runs.{Outcome, told, Takes, TakesAll, RunSays}
 use Rattle.registry_model.specs.Team.{Step, asks}
@@ -24,15 +25,17 @@ pub data Event : Type 0 where
 -- `sent`
 abbrev pub HappensOn : ℕ → Call → Open → State → Open → State → Type 0
 HappensOn n (came bytes) u s u' s' =
-    Changes n (λ c c'. Does (came bytes) c s c' s' × (coming_len c' ≤ coming_len c + length bytes)) hears
+    Changes n
+    (λ c c'. Does u.settings (came bytes) c s c' s' × (coming_len c' ≤ coming_len c + length bytes)) hears
     u.slots u'.slots
     × (length bytes ≤ room_of n u)
-HappensOn n ended u s u' s' = Changes n (λ c c'. Does ended c s c' s') hears u.slots u'.slots
+HappensOn n ended u s u' s' = Changes n (λ c c'. Does u.settings ended c s c' s') hears u.slots u'.slots
 HappensOn n (acted found) u s u' s' =
-    TakesTurn n found (λ c c'. Does (acted found) c s c' s' × (coming_len c' ≤ coming_len c)) u.slots u'.slots
+    TakesTurn n found (λ c c'. Does u.settings (acted found) c s c' s' × (coming_len c' ≤ coming_len c))
+    u.slots u'.slots
     × (going_sum u.slots < u.bounds.going)
 HappensOn n (sent text) u s u' s' =
-    Changes n (λ c c'. Does (sent text) c s c' s') (sends (length text)) u.slots u'.slots
+    Changes n (λ c c'. Does u.settings (sent text) c s c' s') (sends (length text)) u.slots u'.slots
 
 -- what an event says of the connections and of the service, whose keeper is honest
 abbrev pub Happens : Event → Open → State → Open → State → Type 0
@@ -70,9 +73,9 @@ pub data Entry : Type 0 where
   replied : ℕ → Replied → Entry
   took : Step → Outcome → Entry
 
-abbrev pub step_of : Entry → Step
-step_of (replied n r) = asks (ask_in r.item.head r.item.body)
-step_of (took step outcome) = step
+abbrev pub step_of : Settings → Entry → Step
+step_of settings (replied n r) = asks (ask_in settings r.item.head r.item.body)
+step_of settings (took step outcome) = step
 
 abbrev pub outcome_of : Entry → Outcome
 outcome_of (replied n r) = told r.answer
@@ -97,7 +100,7 @@ pub record Explains (calls : List Call) (replies : List Replied) (n : ℕ) (u : 
 pub record OneLedger (events : List Event) (s s' : State) (u : Open) : Type 0 where
   pub ledger : List Entry
   -- each entry is taken in the state that those before it left
-  pub takes : TakesAll s (map step_of ledger) (map outcome_of ledger) s'
+  pub takes : TakesAll s (map (step_of u.settings) ledger) (map outcome_of ledger) s'
   -- so the laws of a run hold of it, of all connections together: among them isolation
-  pub says : RunSays s (map step_of ledger) (map outcome_of ledger) s'
+  pub says : RunSays s (map (step_of u.settings) ledger) (map outcome_of ledger) s'
   pub connections : (n : ℕ) → Explains (calls_of n events) (replies_of n ledger) n u

@@ -5,6 +5,7 @@ use Rattle.registry_server.specs.declared.phase.Step.{Step}
 use Rattle.registry_server.specs.declared.phase.Step.TheVariants.{Answered, Interim, Waits, Ended}
 use Rattle.registry_server.specs.Shown.{Shown, begun, listens, with_finished, with_going, coming_len, held_len}
 use Rattle.registry_server.specs.Stepping.{Receives}
+use Rattle.registry_model.specs.declared.settings.Settings.{Settings}
 use Rattle.registry_server.specs.declared.bounds.Bounds.{Bounds}
 use Rattle.registry_server.specs.declared.refusal.Refusal.{Refusal}
 use Rattle.registry_server.specs.declared.refusal.Refusal.TheVariants.{Full, NoNumber, Memory}
@@ -21,15 +22,16 @@ pub record Slot : Type 0 where
 abbrev pub last_number : ℕ
 last_number = 18446744073709551615
 
--- the connections, in the order in which they take their turns; the number of the next, and how many there
--- may be, and how much they may hold
+-- the connections, in the order in which they take their turns; the number of the next, how many there may
+-- be and how much they may hold, and the settings of all
 pub record Open : Type 0 where
   pub slots : List Slot
   pub next : ℕ
   pub bounds : Bounds
+  pub settings : Settings
 
-abbrev pub none : Bounds → Open
-none bounds = record { slots = []; next = 0; bounds = bounds }
+abbrev pub none : Settings → Bounds → Open
+none settings bounds = record { slots = []; next = 0; bounds = bounds; settings = settings }
 
 -- the conversation under a number
 abbrev pub conversation_of : ℕ → List Slot → Option Shown
@@ -74,6 +76,7 @@ pub record Opens (n : ℕ) (old new : Open) : Type 0 where
     slots = old.slots ++ record { number = n; conversation = begun; stirred = false } ∷ [];
     next = n + 1;
     bounds = old.bounds;
+    settings = old.settings;
   }
   pub only : Only n None (Some begun) old.slots new.slots
 

@@ -4,4 +4,9 @@ use Rattle.registry_server.specs.Open.{Open}
 use Rattle.registry_server.specs.Slots.{slots_of}
 
 abbrev pub connected : Connections → Open
-connected c = record { slots = slots_of c.connections.items; next = c.next; bounds = c.bounds }
+connected c = record {
+  slots = slots_of c.connections.items;
+  next = c.next;
+  bounds = c.bounds;
+  settings = c.settings;
+}

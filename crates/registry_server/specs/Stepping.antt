@@ -4,6 +4,7 @@ use Rattle.std.specs.Io.KnownBytes.{Consumes, IsAtEnd}
 use Rattle.std.specs.Bool.{MatchBool}
 use Rattle.oci_types.specs.Text.{Text}
 use Rattle.registry_model.specs.Answer.{Answer}
+use Rattle.registry_model.specs.declared.settings.Settings.{Settings}
 use Rattle.registry_model.specs.Keeping.{State}
 use Rattle.registry_model.specs.Doing.{Does}
 use Rattle.registry_http.specs.Asking.{ask_in}
@@ -25,14 +26,15 @@ use Rattle.registry_server.specs.Holding.{Holds}
 -- ---- where before was put out already, behind going, of the text of the request that b begins with
 
 -- that request is answered as the definitions say, the reply is put out, and what follows it is held
-pub record AnswersFirst (b before going : Text) (s s' : State) (new : Shown) : Type 0 where
+pub record AnswersFirst (settings : Settings) (b before going : Text) (s s' : State) (new : Shown)
+    : Type 0 where
   pub item : Item
   pub rest : Text
   pub answer : Answer
   pub request : IsRequest item
   pub begins : b ≡ print_item item ++ rest
   pub before_is : before ≡ text_before item.head
-  pub does : Does s (ask_in item.head item.body) answer s'
+  pub does : Does s (ask_in settings item.head item.body) answer s'
   pub put : new.going ≡ going ++ reply_for item answer
   pub goes_on : MatchBool (closes item) (new.phase ≡ phase.Ended Closed) (Holds new rest [])
 
@@ -59,42 +61,44 @@ abbrev pub IsRefusedThere : Text → Text → FramingRefusal → Type 0
 IsRefusedThere b before r = (tail : Text) → IsRefused (b ++ tail) r × IsBefore (b ++ tail) before
 
 -- memory was wanting for the text in hand: its first n bytes are put out
-pub data PutsPart (n : ℕ) (b before going : Text) (s s' : State) (going' : Text) : Type 0 where
+pub data PutsPart (settings : Settings) (n : ℕ) (b before going : Text) (s s' : State) (going' : Text)
+    : Type 0 where
   -- the reply of a request that took effect
   replying : (i : Item) (rest : Text) (a : Answer) → IsRequest i → b ≡ print_item i ++ rest
-      → before ≡ text_before i.head → Does s (ask_in i.head i.body) a s'
+      → before ≡ text_before i.head → Does s (ask_in settings i.head i.body) a s'
       → n < length (reply_for i a) → going' ≡ going ++ take n (reply_for i a)
-      → PutsPart n b before going s s' going'
+      → PutsPart settings n b before going s s' going'
   -- a refusal's
   refusing : (r : FramingRefusal) → IsRefusedThere b before r → n < length (refusal_text r)
-      → going' ≡ going ++ take n (refusal_text r) → s' ≡ s → PutsPart n b before going s s' going'
+      → going' ≡ going ++ take n (refusal_text r) → s' ≡ s → PutsPart settings n b before going s s' going'
   -- what stands before a body
   continuing : (text : Text) → before ≡ [] → ((tail : Text) → IsBefore (b ++ tail) text)
-      → n < length text → going' ≡ going ++ take n text → s' ≡ s → PutsPart n b before going s s' going'
+      → n < length text → going' ≡ going ++ take n text → s' ≡ s
+      → PutsPart settings n b before going s s' going'
 
 -- no further request is answered, and why
-abbrev pub EndsAs : End → Text → Text → Text → State → State → Shown → Type 0
-EndsAs Closed b before going s s' new =
+abbrev pub EndsAs : Settings → End → Text → Text → Text → State → State → Shown → Type 0
+EndsAs settings Closed b before going s s' new =
     (new.finished ≡ true) × (b ≡ []) × (before ≡ []) × (new.going ≡ going) × (s' ≡ s)
-EndsAs Cut b before going s s' new =
+EndsAs settings Cut b before going s s' new =
     (new.finished ≡ true) × IsCut b × IsBefore b before × (new.going ≡ going) × (s' ≡ s)
-EndsAs (Refused r) b before going s s' new =
+EndsAs settings (Refused r) b before going s s' new =
     IsRefusedThere b before r × (new.going ≡ going ++ refusal_text r) × (s' ≡ s)
-EndsAs ReadFailed b before going s s' new = ⊥
-EndsAs (WriteFailed n) b before going s s' new = PutsPart n b before going s s' new.going
+EndsAs settings ReadFailed b before going s s' new = ⊥
+EndsAs settings (WriteFailed n) b before going s s' new = PutsPart settings n b before going s s' new.going
 
-abbrev pub ActsAs : Step → Text → Text → Text → State → State → Shown → Type 0
-ActsAs step.Answered b before going s s' new = AnswersFirst b before going s s' new
-ActsAs step.Interim b before going s s' new = PutsInterim b before going s s' new
-ActsAs step.Waits b before going s s' new = WaitsForMore b before going s s' new
-ActsAs (step.Ended e) b before going s s' new =
-    (new.phase ≡ phase.Ended e) × EndsAs e b before going s s' new
+abbrev pub ActsAs : Settings → Step → Text → Text → Text → State → State → Shown → Type 0
+ActsAs settings step.Answered b before going s s' new = AnswersFirst settings b before going s s' new
+ActsAs settings step.Interim b before going s s' new = PutsInterim b before going s s' new
+ActsAs settings step.Waits b before going s s' new = WaitsForMore b before going s s' new
+ActsAs settings (step.Ended e) b before going s s' new =
+    (new.phase ≡ phase.Ended e) × EndsAs settings e b before going s s' new
 
 -- ---- one turn
 
 -- said was put out before, of the text of the request in hand
-abbrev pub Acts : Step → Text → Text → Shown → State → State → Shown → Type 0
-Acts found b said old s s' new = ActsAs found b said old.going s s' new
+abbrev pub Acts : Settings → Step → Text → Text → Shown → State → State → Shown → Type 0
+Acts settings found b said old s s' new = ActsAs settings found b said old.going s s' new
 
 -- turns come to an end, which a further one says again, or to more bytes being waited for
 abbrev pub LeadsOn : Step → Shown → Shown → Type 0

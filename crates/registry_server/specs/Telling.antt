@@ -1,6 +1,7 @@
 -- What is told of the request that a turn answered or refused.
 use Rattle.std.specs.Prelude.{◌≡◌, ℕ, Option}
 use Rattle.oci_types.specs.Text.{Text}
+use Rattle.registry_model.specs.declared.settings.Settings.{Settings}
 use Rattle.registry_model.specs.Keeping.{State}
 use Rattle.registry_http.specs.declared.ending.End.{End}
 use Rattle.registry_http.specs.declared.ending.End.TheVariants.{Closed, Cut, Refused, ReadFailed, WriteFailed}
@@ -13,38 +14,42 @@ use Rattle.registry_server.specs.Stepping.{PutsPart, replying, refusing, continu
 
 -- ---- by what a turn came to; `was` is what was to be told before it, and `now` is to be told behind it
 
-abbrev pub PartTold : (n : ℕ) (b before going : Text) (s s' : State) (going' : Text)
-    → PutsPart n b before going s s' going' → Option Report → Option Report → Type 0
-PartTold n b before going s s' going' (replying i rest a _ _ _ _ _ _) was now =
+abbrev pub PartTold : (settings : Settings) (n : ℕ) (b before going : Text) (s s' : State) (going' : Text)
+    → PutsPart settings n b before going s s' going' → Option Report → Option Report → Type 0
+PartTold settings n b before going s s' going' (replying i rest a _ _ _ _ _ _) was now =
     Reported now going going' (λ r. TellsAnswer r i a)
-PartTold n b before going s s' going' (refusing refusal _ _ _ _) was now =
+PartTold settings n b before going s s' going' (refusing refusal _ _ _ _) was now =
     Reported now going going' (λ r. TellsRefusal r refusal)
-PartTold n b before going s s' going' (continuing text _ _ _ _ _) was now = now ≡ was
+PartTold settings n b before going s s' going' (continuing text _ _ _ _ _) was now = now ≡ was
 
-abbrev pub EndTold : (e : End) (b before going : Text) (s s' : State) (new : Shown)
-    → EndsAs e b before going s s' new → Option Report → Option Report → Type 0
-EndTold Closed b before going s s' new x was now = now ≡ was
-EndTold Cut b before going s s' new x was now = now ≡ was
-EndTold (Refused refusal) b before going s s' new x was now =
+abbrev pub EndTold : (settings : Settings) (e : End) (b before going : Text) (s s' : State) (new : Shown)
+    → EndsAs settings e b before going s s' new → Option Report → Option Report → Type 0
+EndTold settings Closed b before going s s' new x was now = now ≡ was
+EndTold settings Cut b before going s s' new x was now = now ≡ was
+EndTold settings (Refused refusal) b before going s s' new x was now =
     Reported now going new.going (λ r. TellsRefusal r refusal)
-EndTold ReadFailed b before going s s' new x was now = now ≡ was
-EndTold (WriteFailed n) b before going s s' new x was now = PartTold n b before going s s' new.going x was now
+EndTold settings ReadFailed b before going s s' new x was now = now ≡ was
+EndTold settings (WriteFailed n) b before going s s' new x was now =
+    PartTold settings n b before going s s' new.going x was now
 
 -- of the request that was answered or refused in the turn, and of no other
-abbrev pub ActTold : (found : Step) (b before going : Text) (s s' : State) (new : Shown)
-    → ActsAs found b before going s s' new → Option Report → Option Report → Type 0
-ActTold step.Answered b before going s s' new x was now =
+abbrev pub ActTold : (settings : Settings) (found : Step) (b before going : Text) (s s' : State) (new : Shown)
+    → ActsAs settings found b before going s s' new → Option Report → Option Report → Type 0
+ActTold settings step.Answered b before going s s' new x was now =
     Reported now going new.going (λ r. TellsAnswer r x.item x.answer)
-ActTold step.Interim b before going s s' new x was now = now ≡ was
-ActTold step.Waits b before going s s' new x was now = now ≡ was
-ActTold (step.Ended e) b before going s s' new x was now = EndTold e b before going s s' new x.1 was now
+ActTold settings step.Interim b before going s s' new x was now = now ≡ was
+ActTold settings step.Waits b before going s s' new x was now = now ≡ was
+ActTold settings (step.Ended e) b before going s s' new x was now =
+    EndTold settings e b before going s s' new x.1 was now
 
 -- what a turn came to, as `ActsAs` has it, and what is told of that
-abbrev pub TellsAs : Step → Text → Text → Text → State → State → Shown → Option Report → Option Report
-    → Type 0
-TellsAs found b before going s s' new was now =
-    (x : ActsAs found b before going s s' new) × ActTold found b before going s s' new x was now
+abbrev pub TellsAs : Settings → Step → Text → Text → Text → State → State → Shown → Option Report
+    → Option Report → Type 0
+TellsAs settings found b before going s s' new was now =
+    (x : ActsAs settings found b before going s s' new)
+    × ActTold settings found b before going s s' new x was now
 
 -- said was put out before, of the text of the request in hand
-abbrev pub Tells : Step → Text → Text → Shown → State → State → Shown → Option Report → Option Report → Type 0
-Tells found b said old s s' new was now = TellsAs found b said old.going s s' new was now
+abbrev pub Tells : Settings → Step → Text → Text → Shown → State → State → Shown → Option Report
+    → Option Report → Type 0
+Tells settings found b said old s s' new was now = TellsAs settings found b said old.going s s' new was now

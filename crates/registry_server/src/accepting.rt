@@ -3,21 +3,24 @@ ghost use Rattle.registry_server.specs.Accepting.{ServesNext};
 
 use crate::serve_connection;
 use registry_http::End;
-use registry_model::Keeper;
+use registry_model::{Keeper, Settings};
 use registry_service::Service;
 use std::alloc::Global;
 use std::io;
 use std::net::TcpListener;
 
-/// Takes one connection, and serves it to its end. An error is a failed accept, and then nothing is
-/// done. What is written goes out at once (`TCP_NODELAY`); a socket that refuses that is served too.
+/// Takes one connection, and serves it with these settings to its end. An error is a failed accept, and then
+/// nothing is done. What is written goes out at once (`TCP_NODELAY`); a socket that refuses that is served
+/// too.
 pub fn serve_one<K: Keeper>(
     alloc: Global,
     listener: &TcpListener,
     service: &mut Service<K>,
+    settings: Settings,
 ) -> io::Result<End>
     ensures honest { K.is_honest service.new → K.is_honest service.old }
-    ensures serves { K.is_honest service.new → ServesNext result (K.state service.old) (K.state service.new) }
+    ensures serves { K.is_honest service.new
+        → ServesNext settings result (K.state service.old) (K.state service.new) }
 {
     let stream = match listener.accept() {
         Ok((stream, _)) => stream,
@@ -26,5 +29,5 @@ pub fn serve_one<K: Keeper>(
     let _ = stream.set_nodelay(true);
     let mut reader = &stream;
     let mut writer = &stream;
-    Ok(serve_connection(alloc, service, &mut reader, &mut writer))
+    Ok(serve_connection(alloc, service, settings, &mut reader, &mut writer))
 }

@@ -13,9 +13,9 @@ ghost use Rattle.registry_outbox.specs.Reports.{IsAsked};
 use httparse::spans::{HeaderSpan, RequestSpans};
 use registry_http::fields::values_of;
 use registry_http::query::{Values, text_if};
-use registry_http::target::{decode_path, route_if, split_target, verb};
-use registry_http::token::token;
-use registry_model::{Keeper, Reply, Request};
+use registry_http::target::{decode_path, resource_if, route_if, split_target, verb};
+use registry_http::token::{basic, host, token};
+use registry_model::{Keeper, Reply, Request, Settings};
 use registry_outbox::report::Asked;
 use registry_service::Service;
 use std::alloc::{AllocError, Global};
@@ -40,6 +40,7 @@ fn decode_target(alloc: Global, target: &[u8]) -> Result<Texts<'_>, AllocError>
 
 /// The request of a head, where its spans lie, with the texts of its target and its body.
 fn request_of<'a>(
+    settings: Settings,
     head: &'a [u8],
     fields: &[HeaderSpan],
     spans: &RequestSpans,
@@ -50,10 +51,14 @@ fn request_of<'a>(
     ensures asks { (h : RequestHead) → IsHeadAt head.now fields.now spans.now h
         → cow_text texts.now.path ≡ path_text h.target
         → keys_shown texts.now.values ≡ keys_in (query_in h.target)
-        → ask_of result ≡ ask_in h body.now }
+        → ask_of result ≡ ask_in settings h body.now }
     ensures verb { result.method ≡ verb_of (span_bytes head.now spans.now.method) }
 {
     Request {
+        settings,
+        resource: resource_if(&settings, text_if(&texts.path)),
+        host: host(head, fields),
+        basic: basic(head, fields),
         token: token(head, fields),
         method: verb(spans.method.of(head)),
         route: route_if(text_if(&texts.path)),
@@ -80,6 +85,7 @@ fn unread(spent: bool) -> Reply
 pub fn answer<K: Keeper>(
     alloc: Global,
     service: &mut Service<K>,
+    settings: Settings,
     head: &[u8],
     fields: &[HeaderSpan],
     spans: &RequestSpans,
@@ -89,14 +95,15 @@ pub fn answer<K: Keeper>(
     ensures asked { (h : RequestHead) → IsHeadAt head.now fields.now spans.now h
         → IsAsked result.1 h (answer_of result.0) }
     ensures does { K.is_honest service.new → (h : RequestHead) → IsHeadAt head.now fields.now spans.now h
-        → Does (K.state service.old) (ask_in h body.now) (answer_of result.0) (K.state service.new) }
+        → Does (K.state service.old) (ask_in settings h body.now) (answer_of result.0)
+        (K.state service.new) }
     ensures carries { is_head (verb_of (span_bytes head.now spans.now.method)) ≡ false
         → is_sent (answer_of result.0).body ≡ true }
     ensures honest { K.is_honest service.new → K.is_honest service.old }
 {
     match decode_target(alloc, spans.path.of(head)) {
         Ok(texts) => {
-            let request = request_of(head, fields, spans, &texts, body);
+            let request = request_of(settings, head, fields, spans, &texts, body);
             let asked = Asked::of(alloc, &request);
             (service.handle(alloc, &request), asked)
         }

@@ -8,7 +8,7 @@ use crate::life::Life;
 use crate::sums::Sums;
 use crate::turn::Turn;
 use crate::{Conversation, FieldRoom, Step};
-use registry_model::Keeper;
+use registry_model::{Keeper, Settings};
 use registry_service::Service;
 use std::alloc::Global;
 
@@ -131,13 +131,14 @@ impl Connection {
         &mut self,
         alloc: Global,
         service: &mut Service<K>,
+        settings: Settings,
         fields: &mut FieldRoom,
         sums: &mut Sums,
     ) -> Turn
         ensures honest { K.is_honest service.new → K.is_honest service.old }
         ensures number { result.number ≡ self.old.number }
         ensures acts { Becomes (λ c c'. K.is_honest service.new
-            → Happens (acted result.step) c (K.state service.old) c' (K.state service.new))
+            → Happens settings (acted result.step) c (K.state service.old) c' (K.state service.new))
             (goes_on result.step (slot_of self.new).conversation) (slot_of self.old) (slot_of self.new) }
         ensures fewer { coming_len (slot_of self.new).conversation
             ≤ coming_len (slot_of self.old).conversation }
@@ -146,11 +147,13 @@ impl Connection {
             (slot_of self.new).conversation sums.old }
         ensures tells { K.is_honest service.new → (b said : Text)
             → Holds (slot_of self.old).conversation b said
-            → Tells result.step b said (slot_of self.old).conversation (K.state service.old)
+            → Tells settings result.step b said (slot_of self.old).conversation (K.state service.old)
             (K.state service.new) (slot_of self.new).conversation None result.report }
     {
         sums.take(&self.conversation);
-        let step = self.conversation.answer_next(alloc, service, fields);
+        let step = self
+            .conversation
+            .answer_next(alloc, service, settings, fields);
         sums.add(&self.conversation);
         let report = self.conversation.take_report();
         self.settle(step);

@@ -12,7 +12,7 @@ use crate::refusal::Refusal;
 use crate::sums::Sums;
 use crate::turn::Turn;
 use crate::{Conversation, Exchange, FieldRoom, Wants};
-use registry_model::Keeper;
+use registry_model::{Keeper, Settings};
 use registry_outbox::Outgoing;
 use registry_service::Service;
 use std::alloc::{AllocError, Global};
@@ -28,6 +28,7 @@ pub struct Connections {
     next: u64,
     /// How many may be open at once, and how much they may hold.
     bounds: Bounds,
+    settings: Settings,
     /// The time that was handed in last, in milliseconds.
     pub(crate) time: u64,
     /// What all of them find header fields in, one turn after the other.
@@ -52,6 +53,7 @@ impl Drop for Connections {
             connections: _,
             next: _,
             bounds: _,
+            settings: _,
             time: _,
             fields: _,
             sums: _,
@@ -74,9 +76,10 @@ impl Connections {
     ghost use Rattle.registry_server.specs.Lives.{LivesBut, LivesOn, LivesThrough};
     ghost use Rattle.registry_server.specs.TurnTelling.{TellsTurn};
 
-    /// No connection; they may take so much together. The time is 0. It fails only for want of memory.
-    pub fn new(alloc: Global, bounds: Bounds) -> Result<Connections, AllocError>
-        ensures none { IfOk result (λ connections. connected connections ≡ none bounds) }
+    /// No connection; they may take so much together, and these are the settings of all. The time is 0. It
+    /// fails only for want of memory.
+    pub fn new(alloc: Global, settings: Settings, bounds: Bounds) -> Result<Connections, AllocError>
+        ensures none { IfOk result (λ connections. connected connections ≡ none settings bounds) }
         ensures time { IfOk result (λ connections. connections.time ≡ 0) }
     {
         let fields = FieldRoom::new(alloc)?;
@@ -84,6 +87,7 @@ impl Connections {
             connections: Vec::new(alloc),
             next: 0,
             bounds,
+            settings,
             time: 0,
             fields,
             sums: Sums { over: 0, going: 0 },
@@ -335,7 +339,8 @@ impl Connections {
         ensures honest { K.is_honest service.new → K.is_honest service.old }
         ensures takes { IfSome result (λ turn. TakesTurn turn.number turn.step
             (λ c c'. (K.is_honest service.new
-            → Happens (acted turn.step) c (K.state service.old) c' (K.state service.new))
+            → Happens (connected self.old).settings (acted turn.step) c (K.state service.old)
+            c' (K.state service.new))
             × (coming_len c' ≤ coming_len c))
             (connected self.old).slots (connected self.new).slots
             × (connected self.new ≡ with_slots (connected self.old) (connected self.new).slots)
@@ -360,6 +365,7 @@ impl Connections {
         let turn = self.connections[at].answer_next(
             alloc,
             service,
+            self.settings,
             &mut self.fields,
             &mut self.sums,
         );

@@ -1,6 +1,7 @@
 //! What any list of a conversation's calls comes to.
 
 ghost use Rattle.std.specs.Prelude.{List, ◌++◌};
+ghost use Rattle.registry_model.specs.declared.settings.Settings.{Settings};
 ghost use Rattle.registry_model.specs.Keeping.{State};
 ghost use Rattle.registry_server.specs.Shown.{Shown, begun};
 ghost use Rattle.registry_server.specs.ConversationEvents.{Event, Passes, Accounts, heard, went};
@@ -11,6 +12,7 @@ ghost use Rattle.registry_server.specs.ConversationEvents.{Event, Passes, Accoun
 /// and what was said of the next request. Once it has ended, its bytes and the service's states are those of
 /// a connection that was served to this end.
 pub fn a_conversation_is_served()
-    ensures { (events : List Event) (s : State) (c : Shown) (s' : State) → Passes events begun s c s'
-        → Accounts (heard events) (went events ++ c.going) s s' c }
+    ensures { (settings : Settings) (events : List Event) (s : State) (c : Shown) (s' : State)
+        → Passes settings events begun s c s'
+        → Accounts settings (heard events) (went events ++ c.going) s s' c }
 {}

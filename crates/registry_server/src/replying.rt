@@ -16,7 +16,7 @@ use httparse::spans::{HeaderSpan, RequestSpans};
 use registry_http::WriteFault;
 use registry_http::persistence::closes;
 use registry_http::target::{is_head, verb};
-use registry_model::Keeper;
+use registry_model::{Keeper, Settings};
 use registry_outbox::outbox::Outbox;
 use registry_outbox::report::{Asked, failure_code};
 use registry_service::Service;
@@ -43,6 +43,7 @@ fn told(written: Result<(), WriteFault>, closing: bool) -> Result<bool, WriteFau
 pub fn reply_to<K: Keeper>(
     alloc: Global,
     service: &mut Service<K>,
+    settings: Settings,
     taken: &[u8],
     fields: &[HeaderSpan],
     spans: &RequestSpans,
@@ -55,7 +56,7 @@ pub fn reply_to<K: Keeper>(
     ensures closing { (i : Item) → IsTaken taken.now fields.now spans.now i
         → IfOk result (λ closing. closing ≡ closes i) }
     ensures replies { K.is_honest service.new → (i : Item) → IsTaken taken.now fields.now spans.now i
-        → (a : Answer) × Does (K.state service.old) (ask_in i.head i.body) a (K.state service.new)
+        → (a : Answer) × Does (K.state service.old) (ask_in settings i.head i.body) a (K.state service.new)
         × SendsReply result (Some (left outbox.old)) (Some (left outbox.new)) (reply_for i a)
         × Reported outbox.new.report (left outbox.old) (left outbox.new) (λ r. TellsAnswer r i a) }
 {
@@ -74,7 +75,7 @@ pub fn reply_to<K: Keeper>(
             return told(written, closing);
         }
     }
-    let (reply, asked) = answer(alloc, service, head, found, spans, body);
+    let (reply, asked) = answer(alloc, service, settings, head, found, spans, body);
     let status = reply.status.code();
     let written = outbox.put_reply(reply, is_head(spans.method.of(head)), closing);
     outbox.tell(status, asked, body.len(), before);

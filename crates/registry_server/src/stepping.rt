@@ -14,7 +14,7 @@ use httparse::spans::RequestSpans;
 use registry_http::framing::Framing;
 use registry_http::head::{Parsed, parse_head};
 use registry_http::{End, FramingRefusal};
-use registry_model::Keeper;
+use registry_model::{Keeper, Settings};
 use registry_service::Service;
 use std::alloc::Global;
 
@@ -76,6 +76,7 @@ impl Conversation {
         &mut self,
         alloc: Global,
         service: &mut Service<K>,
+        settings: Settings,
         room: &mut FieldRoom,
     ) -> Step
         ensures honest { K.is_honest service.new → K.is_honest service.old }
@@ -84,14 +85,22 @@ impl Conversation {
         ensures leads { LeadsOn result (shown self.old) (shown self.new) }
         ensures acts { K.is_honest service.new → (b said : Text)
             → HoldsWhole (shown self.old).taken (shown self.old).unread b said
-            → Tells result b said (shown self.old) (K.state service.old) (K.state service.new)
+            → Tells settings result b said (shown self.old) (K.state service.old) (K.state service.new)
             (shown self.new) self.old.outbox.report self.new.outbox.report }
     {
         let Some(spans) = self.taken_head(room) else {
             return self.refuse(FramingRefusal::UnreadableHead);
         };
         let taken = self.buffer.before();
-        match reply_to(alloc, service, taken, &room.spans, &spans, &mut self.outbox) {
+        match reply_to(
+            alloc,
+            service,
+            settings,
+            taken,
+            &room.spans,
+            &spans,
+            &mut self.outbox,
+        ) {
             Ok(closing) => {
                 self.close_if(closing);
                 Step::Answered
@@ -107,6 +116,7 @@ impl Conversation {
         &mut self,
         alloc: Global,
         service: &mut Service<K>,
+        settings: Settings,
         room: &mut FieldRoom,
         part: Part,
     ) -> Step
@@ -116,11 +126,11 @@ impl Conversation {
         ensures leads { LeadsOn result (shown self.old) (shown self.new) }
         ensures acts { K.is_honest service.new → (b said : Text)
             → HoldsAs (Phase.Body part) (shown self.old).taken (shown self.old).unread b said
-            → Tells result b said (shown self.old) (K.state service.old) (K.state service.new)
+            → Tells settings result b said (shown self.old) (K.state service.old) (K.state service.new)
             (shown self.new) self.old.outbox.report self.new.outbox.report }
     {
         match take_body(&mut self.buffer, &mut room.spans, part) {
-            Taken::Whole => self.reply(alloc, service, room),
+            Taken::Whole => self.reply(alloc, service, settings, room),
             Taken::Missing(next) => {
                 self.phase = Phase::Body(next);
                 self.wait(End::Cut)
@@ -135,6 +145,7 @@ impl Conversation {
         &mut self,
         alloc: Global,
         service: &mut Service<K>,
+        settings: Settings,
         room: &mut FieldRoom,
         awaits: bool,
         part: Part,
@@ -146,11 +157,11 @@ impl Conversation {
         ensures leads { LeadsOn result (shown self.old) (shown self.new) }
         ensures acts { K.is_honest service.new → (b : Text)
             → HoldsAs (Phase.Body part) (shown self.old).taken (shown self.old).unread b (continue_if awaits)
-            → Tells result b [] (shown self.old) (K.state service.old) (K.state service.new)
+            → Tells settings result b [] (shown self.old) (K.state service.old) (K.state service.new)
             (shown self.new) self.old.outbox.report self.new.outbox.report }
     {
         if !awaits {
-            return self.go_on(alloc, service, room, part);
+            return self.go_on(alloc, service, settings, room, part);
         }
         match self.outbox.put_continue() {
             Ok(()) => {
@@ -168,6 +179,7 @@ impl Conversation {
         &mut self,
         alloc: Global,
         service: &mut Service<K>,
+        settings: Settings,
         room: &mut FieldRoom,
         heading: Heading,
     ) -> Step
@@ -179,17 +191,31 @@ impl Conversation {
         ensures leads { LeadsOn result (shown self.old) (shown self.new) }
         ensures acts { K.is_honest service.new → (b : Text)
             → BeginsAt heading b → (shown self.old).taken ≡ [] → (shown self.old).unread ≡ b
-            → Tells result b [] (shown self.old) (K.state service.old) (K.state service.new)
+            → Tells settings result b [] (shown self.old) (K.state service.old) (K.state service.new)
             (shown self.new) self.old.outbox.report self.new.outbox.report }
     {
         self.exchange.note_head(self.buffer.behind());
         self.buffer.pass(heading.len);
         match heading.framing {
             Framing::Length(count) => {
-                self.begin_body(alloc, service, room, heading.awaits, Part::Length(count))
+                self.begin_body(
+                    alloc,
+                    service,
+                    settings,
+                    room,
+                    heading.awaits,
+                    Part::Length(count),
+                )
             }
             Framing::Chunked => {
-                self.begin_body(alloc, service, room, heading.awaits, Part::Line(0))
+                self.begin_body(
+                    alloc,
+                    service,
+                    settings,
+                    room,
+                    heading.awaits,
+                    Part::Line(0),
+                )
             }
             Framing::Refused(refusal) => self.refuse(refusal),
         }
@@ -200,6 +226,7 @@ impl Conversation {
         &mut self,
         alloc: Global,
         service: &mut Service<K>,
+        settings: Settings,
         room: &mut FieldRoom,
     ) -> Step
         requires { (shown self.old).phase ≡ Phase.Head }
@@ -208,11 +235,11 @@ impl Conversation {
         ensures fewer { coming_len (shown self.new) ≤ coming_len (shown self.old) }
         ensures leads { LeadsOn result (shown self.old) (shown self.new) }
         ensures acts { K.is_honest service.new → (b said : Text) → Holds (shown self.old) b said
-            → Tells result b said (shown self.old) (K.state service.old) (K.state service.new)
+            → Tells settings result b said (shown self.old) (K.state service.old) (K.state service.new)
             (shown self.new) self.old.outbox.report self.new.outbox.report }
     {
         match find_head(self.buffer.behind(), &mut room.spans) {
-            FoundHead::Whole(heading) => self.take_head(alloc, service, room, heading),
+            FoundHead::Whole(heading) => self.take_head(alloc, service, settings, room, heading),
             FoundHead::NotYet => {
                 let unread = self.buffer.behind();
                 let none = unread.is_empty();
@@ -237,6 +264,7 @@ impl Conversation {
         &mut self,
         alloc: Global,
         service: &mut Service<K>,
+        settings: Settings,
         room: &mut FieldRoom,
     ) -> Step
         ensures honest { K.is_honest service.new → K.is_honest service.old }
@@ -246,20 +274,20 @@ impl Conversation {
         ensures over { (e : End) → (shown self.old).phase ≡ Phase.Ended e
             → (result ≡ Step.Ended e) × (shown self.new ≡ shown self.old) × (service.new ≡ service.old) }
         ensures acts { K.is_honest service.new → (b said : Text) → Holds (shown self.old) b said
-            → Acts result b said (shown self.old) (K.state service.old) (K.state service.new)
+            → Acts settings result b said (shown self.old) (K.state service.old) (K.state service.new)
             (shown self.new) }
         ensures tells { K.is_honest service.new → (b said : Text) → Holds (shown self.old) b said
-            → Tells result b said (shown self.old) (K.state service.old) (K.state service.new)
+            → Tells settings result b said (shown self.old) (K.state service.old) (K.state service.new)
             (shown self.new) None self.new.outbox.report }
     {
         match self.phase {
             Phase::Head => {
                 self.outbox.report = None;
-                self.begin(alloc, service, room)
+                self.begin(alloc, service, settings, room)
             }
             Phase::Body(part) => {
                 self.outbox.report = None;
-                self.go_on(alloc, service, room, part)
+                self.go_on(alloc, service, settings, room, part)
             }
             Phase::Ended(end) => Step::Ended(end),
         }

@@ -11,7 +11,7 @@ use crate::{Conversation, FieldRoom};
 use registry_http::fixed_text::write_refusal;
 use registry_http::outgoing::send;
 use registry_http::{End, FramingRefusal};
-use registry_model::Keeper;
+use registry_model::{Keeper, Settings};
 use registry_outbox::Outgoing;
 use registry_service::Service;
 use std::alloc::Global;
@@ -68,6 +68,7 @@ fn send_out<W: Write>(conversation: &mut Conversation, writer: &mut W) -> Result
 fn serve_requests<R: Read, W: Write, K: Keeper>(
     alloc: Global,
     service: &mut Service<K>,
+    settings: Settings,
     conversation: &mut Conversation,
     room: &mut FieldRoom,
     reader: &mut R,
@@ -76,6 +77,7 @@ fn serve_requests<R: Read, W: Write, K: Keeper>(
     requires { shown conversation.old ≡ begun }
     ensures honest { K.is_honest service.new → K.is_honest service.old }
     ensures serves { K.is_honest service.new → Serves result (record {
+      settings = settings;
       left = R.remaining reader.old;
       left' = R.remaining reader.new;
       held = W.contents writer.old;
@@ -86,7 +88,7 @@ fn serve_requests<R: Read, W: Write, K: Keeper>(
 {
     let mut reads = MOST_READS;
     'turns: loop {
-        let step = conversation.answer_next(alloc, service, room);
+        let step = conversation.answer_next(alloc, service, settings, room);
         match send_out(conversation, writer) {
             Ok(()) => {}
             Err(written) => return End::WriteFailed { written },
@@ -109,8 +111,8 @@ fn serve_requests<R: Read, W: Write, K: Keeper>(
     }
 }
 
-/// Serves one connection to its end: reads requests, answers them one after the other, and writes
-/// the replies (RFC 9112; OCI Distribution Specification 1.1).
+/// Serves one connection with these settings to its end: reads requests, answers them one after the other,
+/// and writes the replies (RFC 9112; OCI Distribution Specification 1.1).
 ///
 /// With all bytes that the reader gives, `Closed`, `Cut` and `Refused` come as those bytes spell requests,
 /// however they were cut into reads; what is written are the texts of the replies and then that of a refusal.
@@ -123,11 +125,13 @@ fn serve_requests<R: Read, W: Write, K: Keeper>(
 pub fn serve_connection<R: Read, W: Write, K: Keeper>(
     alloc: Global,
     service: &mut Service<K>,
+    settings: Settings,
     reader: &mut R,
     writer: &mut W,
 ) -> End
     ensures honest { K.is_honest service.new → K.is_honest service.old }
     ensures serves { K.is_honest service.new → Serves result (record {
+      settings = settings;
       left = R.remaining reader.old;
       left' = R.remaining reader.new;
       held = W.contents writer.old;
@@ -141,7 +145,15 @@ pub fn serve_connection<R: Read, W: Write, K: Keeper>(
             // Both are let go in one place.
             let mut room = room;
             let mut conversation = Conversation::new(alloc);
-            serve_requests(alloc, service, &mut conversation, &mut room, reader, writer)
+            serve_requests(
+                alloc,
+                service,
+                settings,
+                &mut conversation,
+                &mut room,
+                reader,
+                writer,
+            )
         }
         Err(_) => refuse(writer, FramingRefusal::NoBufferMemory),
     }

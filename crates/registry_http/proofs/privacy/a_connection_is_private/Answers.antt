@@ -2,4 +2,4 @@ use Rattle.registry_http.proofs.PrivacyLemmas.{private_run}
 use Rattle.registry_http.proofs.privacy.a_connection_is_private.Goals as goal
 
 pub returns : goal.returns
-returns c = λ s items texts s' r. private_run s items texts s' r
+returns c = λ settings s items texts s' r. private_run settings s items texts s' r

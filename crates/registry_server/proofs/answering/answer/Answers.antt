@@ -43,7 +43,7 @@ returns-in-Err g c = record {
     endpoint = inr (c.unread-asked.ensures.endpoint, (c.spent.result, c.unread.ensures));
     repository = subst (λ (o : Option (String Global)). IfSome o (λ (n : String Global). name_of (form_if (path_text h.target)) ≡ Some (string_bytes n))) (sym c.unread-asked.ensures.repository) tt;
   };
-  does = λ honest h at. wanting (g.K.Keeper.state c.args.service.now) (ask_in h c.args.body.now) (answer_of c.unread.result) c.spent.result c.unread.ensures c.spent.ensures;
+  does = λ honest h at. wanting (g.K.Keeper.state c.args.service.now) (ask_in c.args.settings h c.args.body.now) (answer_of c.unread.result) c.spent.result c.unread.ensures c.spent.ensures;
   carries = λ other. whole (answer_of c.unread.result) c.spent.result c.unread.ensures;
   honest = λ honest. honest;
 }

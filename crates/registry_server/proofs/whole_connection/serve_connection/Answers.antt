@@ -11,5 +11,5 @@ returns-in-Ok g c = record { honest = c.serve_requests.ensures.honest; serves = 
 pub returns-in-Err : goal.returns-in-Err
 returns-in-Err g c = record {
   honest = λ honest. honest;
-  serves = λ honest. memory_serves [] [] _ (starts _ _ _) _ _ _ _ (λ tail. inl refl) refl c.refuse.ensures;
+  serves = λ honest. memory_serves [] [] _ (starts _ _ _ _) _ _ _ _ (λ tail. inl refl) refl c.refuse.ensures;
 }

@@ -9,7 +9,7 @@ pub turns-init : goal.turns-init
 turns-init g c =
     record {
       honest = λ h. h;
-      stands = λ h. at_first (shown c.args.conversation.now) (g.R.Read.remaining c.args.reader.now) (g.W.Write.contents c.args.writer.now) (g.K.Keeper.state c.args.service.now) c.requires;
+      stands = λ h. at_first c.args.settings (shown c.args.conversation.now) (g.R.Read.remaining c.args.reader.now) (g.W.Write.contents c.args.writer.now) (g.K.Keeper.state c.args.service.now) c.requires;
     }
 
 pub returns-in-Err-clause-serves : goal.returns-in-Err-clause-serves
@@ -17,6 +17,7 @@ returns-in-Err-clause-serves g c =
     λ honest.
     broke_off c.answer_next-step.result (shown c.turns.conversation) (shown c.answer_next-step.new.self)
     (record {
+      settings = c.args.settings;
       left = g.R.Read.remaining c.args.reader.now;
       left' = g.R.Read.remaining c.turns.reader;
       held = g.W.Write.contents c.args.writer.now;
@@ -37,6 +38,7 @@ turns-preserved-in-Answered g c =
       honest = λ h. c.turns.invariant.honest (c.answer_next-step.ensures.honest h);
       stands = λ honest. went_on c.answer_next-step.result (step.Answered) (shown c.turns.conversation) (shown c.answer_next-step.new.self) (shown c.send_out.new.conversation)
           (record {
+            settings = c.args.settings;
             left = g.R.Read.remaining c.args.reader.now;
             left' = g.R.Read.remaining c.turns.reader;
             held = g.W.Write.contents c.args.writer.now;
@@ -58,6 +60,7 @@ turns-preserved-in-Interim g c =
       honest = λ h. c.turns.invariant.honest (c.answer_next-step.ensures.honest h);
       stands = λ honest. went_on c.answer_next-step.result (step.Interim) (shown c.turns.conversation) (shown c.answer_next-step.new.self) (shown c.send_out.new.conversation)
           (record {
+            settings = c.args.settings;
             left = g.R.Read.remaining c.args.reader.now;
             left' = g.R.Read.remaining c.turns.reader;
             held = g.W.Write.contents c.args.writer.now;
@@ -77,6 +80,7 @@ pub returns-in-Ended-clause-serves : goal.returns-in-Ended-clause-serves
 returns-in-Ended-clause-serves g c =
     λ honest. went_on c.answer_next-step.result (step.Ended c.in-Ended.end) (shown c.turns.conversation) (shown c.answer_next-step.new.self) (shown c.send_out.new.conversation)
     (record {
+      settings = c.args.settings;
       left = g.R.Read.remaining c.args.reader.now;
       left' = g.R.Read.remaining c.turns.reader;
       held = g.W.Write.contents c.args.writer.now;
@@ -94,6 +98,7 @@ returns-in-Ended-clause-serves g c =
 pub returns-then-reads-eq0-clause-serves : goal.returns-then-reads-eq0-clause-serves
 returns-then-reads-eq0-clause-serves g c =
     λ honest. not_heard (shown c.send_out.new.conversation) (shown c.send_out.new.conversation) (record {
+      settings = c.args.settings;
       left = g.R.Read.remaining c.args.reader.now;
       left' = g.R.Read.remaining c.turns.reader;
       held = g.W.Write.contents c.args.writer.now;
@@ -103,6 +108,7 @@ returns-then-reads-eq0-clause-serves g c =
     }) (g.R.Read.remaining c.turns.reader)
     (went_on c.answer_next-step.result (step.Waits) (shown c.turns.conversation) (shown c.answer_next-step.new.self) (shown c.send_out.new.conversation)
     (record {
+      settings = c.args.settings;
       left = g.R.Read.remaining c.args.reader.now;
       left' = g.R.Read.remaining c.turns.reader;
       held = g.W.Write.contents c.args.writer.now;
@@ -123,6 +129,7 @@ turns-preserved g c =
     record {
       honest = λ h. c.turns.invariant.honest (c.answer_next-step.ensures.honest h);
       stands = λ honest. heard (shown c.send_out.new.conversation) (shown c.read_from.new.self) (record {
+        settings = c.args.settings;
         left = g.R.Read.remaining c.args.reader.now;
         left' = g.R.Read.remaining c.turns.reader;
         held = g.W.Write.contents c.args.writer.now;
@@ -132,6 +139,7 @@ turns-preserved g c =
       }) (g.R.Read.remaining c.read_from.new.reader)
           (went_on c.answer_next-step.result (step.Waits) (shown c.turns.conversation) (shown c.answer_next-step.new.self) (shown c.send_out.new.conversation)
           (record {
+            settings = c.args.settings;
             left = g.R.Read.remaining c.args.reader.now;
             left' = g.R.Read.remaining c.turns.reader;
             held = g.W.Write.contents c.args.writer.now;
@@ -151,6 +159,7 @@ turns-preserved g c =
 pub returns-in-Err-read_from-clause-serves : goal.returns-in-Err-read_from-clause-serves
 returns-in-Err-read_from-clause-serves g c =
     λ honest. not_heard (shown c.send_out.new.conversation) (shown c.send_out.new.conversation) (record {
+      settings = c.args.settings;
       left = g.R.Read.remaining c.args.reader.now;
       left' = g.R.Read.remaining c.turns.reader;
       held = g.W.Write.contents c.args.writer.now;
@@ -160,6 +169,7 @@ returns-in-Err-read_from-clause-serves g c =
     }) (g.R.Read.remaining c.read_from.new.reader)
     (went_on c.answer_next-step.result (step.Waits) (shown c.turns.conversation) (shown c.answer_next-step.new.self) (shown c.send_out.new.conversation)
     (record {
+      settings = c.args.settings;
       left = g.R.Read.remaining c.args.reader.now;
       left' = g.R.Read.remaining c.turns.reader;
       held = g.W.Write.contents c.args.writer.now;

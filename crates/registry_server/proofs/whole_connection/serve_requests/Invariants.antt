@@ -9,6 +9,7 @@ abbrev pub invariant-turns : goal.invariant-turns
 invariant-turns g l = record {
   honest : g.K.Keeper.is_honest l.service → g.K.Keeper.is_honest l.fn.service;
   stands : g.K.Keeper.is_honest l.service → Stands (shown l.conversation) (record {
+    settings = l.fn.settings;
     left = g.R.Read.remaining l.fn.reader;
     left' = g.R.Read.remaining l.reader;
     held = g.W.Write.contents l.fn.writer;

@@ -36,8 +36,8 @@ returns g c =
       number = ap (λ (x : Slot). x.number) settles;
       acts = (
         λ honest.
-            subst (λ (k : Shown). Happens (acted step) old s k s') (sym same) (
-            subst (λ (o : Shown). Happens (acted step) o s mid s') begins (
+            subst (λ (k : Shown). Happens c.args.settings (acted step) old s k s') (sym same) (
+            subst (λ (o : Shown). Happens c.args.settings (acted step) o s mid s') begins (
               λ e ended. let all = c.answer_next-step.ensures.over e ended in (all.0, all.1, ap (λ x. g.K.Keeper.state x) all.2),
               c.answer_next-step.ensures.finished,
               c.answer_next-step.ensures.acts honest,
@@ -52,8 +52,8 @@ returns g c =
           ∙ ap (λ (x : Conversation). with_one (shown x) (without_one old c.args.sums.now)) c.deref-2.ensures
           ∙ ap (λ (k : Shown). with_one k (without_one old c.args.sums.now)) (sym same);
       tells = λ honest b said x.
-          subst (λ (k : Shown). Tells step b said old s s' k None c.take_report-report.result) (sym same)
-          (subst (λ (q : Option Report). Tells step b said old s s' mid None q) (sym report)
-          (subst (λ (o : Shown). Tells step b said o s s' mid None c.answer_next-step.new.self.outbox.report) begins
+          subst (λ (k : Shown). Tells c.args.settings step b said old s s' k None c.take_report-report.result) (sym same)
+          (subst (λ (q : Option Report). Tells c.args.settings step b said old s s' mid None q) (sym report)
+          (subst (λ (o : Shown). Tells c.args.settings step b said o s s' mid None c.answer_next-step.new.self.outbox.report) begins
           (c.answer_next-step.ensures.tells honest b said (subst (λ (o : Shown). Holds o b said) (sym begins) x))));
     }

@@ -24,7 +24,7 @@ returns-in-Some c =
     let items = c.args.self.now.connections.items in
     let y = c.give_back.new.self in
     record {
-      same = ap (λ (ys : List Slot). record { slots = ys; next = c.args.self.now.next; bounds = c.args.self.now.bounds })
+      same = ap (λ (ys : List Slot). record { slots = ys; next = c.args.self.now.next; bounds = c.args.self.now.bounds; settings = c.args.self.now.settings })
           (unchanged c.in-Some.at items c.index_mut.result.now y c.index_mut.ensures.value c.give_back.ensures.same);
       lives = record {
         time = refl;

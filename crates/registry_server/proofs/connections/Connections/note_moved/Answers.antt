@@ -29,7 +29,7 @@ returns-in-Some c =
     c.in-Some.ensures.found
     (ap (λ (s : Slot). s.number) c.note_moved.ensures.same) c.note_moved.ensures.lives in
     record {
-      same = ap (λ (ys : List Slot). record { slots = ys; next = c.args.self.now.next; bounds = c.args.self.now.bounds })
+      same = ap (λ (ys : List Slot). record { slots = ys; next = c.args.self.now.next; bounds = c.args.self.now.bounds; settings = c.args.self.now.settings })
           (unchanged c.in-Some.at items c.index_mut.result.now y c.index_mut.ensures.value c.note_moved.ensures.same);
       lives = record { time = refl; is = but.is; others = but.others };
     }

@@ -32,7 +32,7 @@ returns c =
     let u = c.args.self.now in
     let items = u.connections.items in
     let but = came_life u.next items c.push.new.self.items _ c.in-Ok-push.ensures.items refl (opened u.next (slots_of items) u.numbered) in
-    let came = opens u.bounds u.next items c.push.new.self.items _ (omega (arith, c.len.ensures, c.if-len-self.false)) u.numbered c.in-Ok-push.ensures.items
+    let came = opens u.settings u.bounds u.next items c.push.new.self.items _ (omega (arith, c.len.ensures, c.if-len-self.false)) u.numbered c.in-Ok-push.ensures.items
     (λ i. record { number = u.next; conversation = (ap shown c.in-Ok.ensures.ok ∙ c.new.ensures) i; stirred = false }) in
     record {
       opens = came;

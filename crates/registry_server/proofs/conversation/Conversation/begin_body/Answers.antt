@@ -18,7 +18,7 @@ returns-then-not-awaits g c = record {
   leads = c.go_on.ensures.leads;
   acts = λ honest b x.
       let none : continue_if c.args.awaits ≡ [] = ap continue_if c.if-not-awaits.true in
-      subst (λ (said : Text). Tells c.go_on.result b said (shown c.args.self.now) (g.K.Keeper.state c.args.service.now) (g.K.Keeper.state c.go_on.new.service)
+      subst (λ (said : Text). Tells c.args.settings c.go_on.result b said (shown c.args.self.now) (g.K.Keeper.state c.args.service.now) (g.K.Keeper.state c.go_on.new.service)
       (shown c.go_on.new.self) c.args.self.now.outbox.report c.go_on.new.self.outbox.report) none
       (c.go_on.ensures.acts honest b (continue_if c.args.awaits) x);
 }
@@ -54,7 +54,7 @@ returns-in-Err g c = record {
       let old = c.args.self.now in
       let sent = subst (λ (y : Text). (c.in-Err.fault.written < length y) × (left c.put_continue.new.self ≡ left old.outbox ++ take c.in-Err.fault.written y))
       (sym (ap continue_if c.if-not-awaits.false)) c.in-Err.ensures.sends in
-      part_ends c.end.result _ b [] (shown old).going _ _ (with_going (shown old) (left c.put_continue.new.self)) (shown c.end.new.self) _ _ c.end.ensures.step c.end.ensures.ends (
+      part_ends c.args.settings c.end.result _ b [] (shown old).going _ _ (with_going (shown old) (left c.put_continue.new.self)) (shown c.end.new.self) _ _ c.end.ensures.step c.end.ensures.ends (
         continuing (continue_if c.args.awaits) refl (λ tail. subst (λ (y : Text). IsBefore (b ++ tail) y) (sym x.3) (before_there x.0 b x.1 tail x.2))
             sent.0 sent.1 refl,
         c.end.ensures.report ∙ c.put_continue.ensures.report,

@@ -34,7 +34,7 @@ returns-in-Missing g c =
       leads = leads_waited c.wait.result _ (shown c.args.self.now) _ (shown c.wait.new.self) c.wait.ensures.waits refl (omega (arith, c.take_body.ensures.fewer));
       acts = λ honest b said x.
           let it = c.in-Missing.ensures.takes (framing x.0) (print_request x.0) x.1 x.4 in
-          waited_cut c.wait.result b said _ (shown c.wait.new.self) _ _ _ c.wait.ensures.waits c.wait.ensures.report (cut_there x.0 b x.1 x.2 it.1)
+          waited_cut c.args.settings c.wait.result b said _ (shown c.wait.new.self) _ _ _ c.wait.ensures.waits c.wait.ensures.report (cut_there x.0 b x.1 x.2 it.1)
           (subst (λ (y : Text). IsBefore b y) (sym x.3) (inl (x.0, x.1, x.2.begins, x.2.few, refl))) (x.0, x.1, x.2, x.3, it.0);
     }
 
@@ -45,6 +45,6 @@ returns-in-Refused g c = record {
   fewer = none_left (shown c.args.self.now) (shown c.refuse.new.self) c.refuse.ensures.refuses.none_held;
   leads = leads_refused c.refuse.result _ (shown c.args.self.now) _ (shown c.refuse.new.self) c.refuse.ensures.refuses;
   acts = λ honest b said x.
-      refused c.refuse.result c.in-Refused.refusal b said _ (shown c.refuse.new.self) _ _ _ c.refuse.ensures.refuses c.refuse.ensures.tells
+      refused c.args.settings c.refuse.result c.in-Refused.refusal b said _ (shown c.refuse.new.self) _ _ _ c.refuse.ensures.refuses c.refuse.ensures.tells
       (body_never c.args.part _ _ b said c.in-Refused.refusal x (c.in-Refused.ensures.takes (framing x.0) (print_request x.0) x.1 x.4));
 }

@@ -44,7 +44,7 @@ returns-in-Ok g c = record {
       let sent = c.in-Ok.ensures.replies honest i there in
       let told = subst (λ (q : Option Report). Reported q (shown mid).going (shown c.close_if.new.self).going (λ r. TellsAnswer r i sent.0)) (sym c.close_if.ensures.report)
       (subst (λ (x : Text). Reported c.reply_to.new.outbox.report (shown mid).going x (λ r. TellsAnswer r i sent.0)) (sym c.close_if.ensures.going) sent.3) in
-      answered_first _ _ (shown mid).going b said v mid.outbox.report c.close_if.new.self.outbox.report sent.0 _ _ c.in-Ok.closing (shown c.close_if.new.self) sent.1
+      answered_first c.args.settings _ _ (shown mid).going b said v mid.outbox.report c.close_if.new.self.outbox.report sent.0 _ _ c.in-Ok.closing (shown c.close_if.new.self) sent.1
       (c.close_if.ensures.going ∙ sent.2) (c.in-Ok.ensures.closing i there) c.close_if.ensures.next told;
 }
 
@@ -66,7 +66,7 @@ returns-in-Err g c = record {
       (subst (λ (x : Text). IsTaken x c.taken_head.new.room.spans.items c.in-Some.spans i) (sym c.before-taken.ensures)
       (item_taken (shown mid).taken (shown mid).unread b said v c.taken_head.new.room.spans.items c.in-Some.spans found.0 read)) in
       let sent = c.in-Err.ensures.replies honest i there in
-      part_ends c.end.result _ b said (shown mid).going _ _ (with_going (shown mid) (left c.reply_to.new.outbox)) (shown c.end.new.self) mid.outbox.report c.end.new.self.outbox.report c.end.ensures.step c.end.ensures.ends
-      (replied_in_part _ _ (shown mid).going b said v mid.outbox.report c.end.new.self.outbox.report _ sent.0 _ _ _ sent.1 sent.2.0 sent.2.1
+      part_ends c.args.settings c.end.result _ b said (shown mid).going _ _ (with_going (shown mid) (left c.reply_to.new.outbox)) (shown c.end.new.self) mid.outbox.report c.end.new.self.outbox.report c.end.ensures.step c.end.ensures.ends
+      (replied_in_part c.args.settings _ _ (shown mid).going b said v mid.outbox.report c.end.new.self.outbox.report _ sent.0 _ _ _ sent.1 sent.2.0 sent.2.1
       (subst (λ (q : Option Report). Reported q (shown mid).going (left c.reply_to.new.outbox) (λ r. TellsAnswer r i sent.0)) (sym c.end.ensures.report) sent.3));
 }

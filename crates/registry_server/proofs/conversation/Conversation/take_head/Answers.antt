@@ -39,7 +39,7 @@ returns-in-Refused g c = record {
   fewer = none_left (shown c.args.self.now) (shown c.refuse.new.self) c.refuse.ensures.refuses.none_held;
   leads = leads_refused c.refuse.result _ (shown c.args.self.now) _ (shown c.refuse.new.self) c.refuse.ensures.refuses;
   acts = λ honest b begins none all.
-      refused c.refuse.result c.in-Refused.refusal b [] _ (shown c.refuse.new.self) _ _ _ c.refuse.ensures.refuses c.refuse.ensures.tells
+      refused c.args.settings c.refuse.result c.in-Refused.refusal b [] _ (shown c.refuse.new.self) _ _ _ c.refuse.ensures.refuses c.refuse.ensures.tells
       (subst (λ (said : Text). IsRefusedThere b said c.in-Refused.refusal) (none_before c.args.heading b begins c.in-Refused.refusal c.in-Refused.is)
       (refused_at c.args.heading b begins c.in-Refused.refusal c.in-Refused.is));
 }
