@@ -73,17 +73,23 @@ buffer = with_default (codes "536870912") (within 134217728 most (option (codes 
 abbrev pub idle : Rule
 idle = with_default (codes "60") (within 1 86400 (option (codes "idle")))
 
+abbrev pub login : Rule
+login = option (codes "login")
+
+abbrev pub health : Rule
+health = flag (codes "health")
+
 abbrev pub subcommand : Text → List Rule → Shape
 subcommand word options = record (new_shape word) { rules = options }
 
 abbrev pub serve : Shape
 serve = subcommand (codes "serve")
     (required db ∷ listen ∷ connections ∷ at_once ∷ buffer ∷ idle ∷ orders ∷ flag (codes "log")
-    ∷ flag (codes "stop-at-eof") ∷ [])
+    ∷ flag (codes "stop-at-eof") ∷ login ∷ health ∷ [])
 
 abbrev pub stdio : Shape
 stdio = subcommand (codes "stdio")
-    (db ∷ flag (codes "memory") ∷ repeated (codes "repo") ∷ repeated (codes "grant") ∷ [])
+    (db ∷ flag (codes "memory") ∷ repeated (codes "repo") ∷ repeated (codes "grant") ∷ login ∷ health ∷ [])
 
 -- over a database that no server holds
 abbrev pub over_database : Text → Shape

@@ -88,6 +88,19 @@ const JSON: SubOption<'static> = SubOption {
     help: "As one JSON array",
 };
 
+/// Where clients log in.
+const LOGIN: SubOption<'static> = SubOption {
+    word: "login",
+    takes: Takes::One("SCHEME"),
+    help: "Change passwords for tokens at /token, for clients that come by http or https",
+};
+
+const HEALTH: SubOption<'static> = SubOption {
+    word: "health",
+    takes: Takes::Nothing,
+    help: "Answer GET /healthz",
+};
+
 pub const STDIO: &[SubOption<'static>] = &[
     DATABASE,
     SubOption {
@@ -105,6 +118,8 @@ pub const STDIO: &[SubOption<'static>] = &[
         takes: Takes::Many("TOKEN=NAME=LEVEL"),
         help: "Give a token a level on a repository: 1 pull, 2 push, 3 delete",
     },
+    LOGIN,
+    HEALTH,
 ];
 
 /// Of one that serves connections within limits.
@@ -170,6 +185,8 @@ pub const SERVE: &[SubOption<'static>] = &[
         takes: Takes::Nothing,
         help: "End when the other end of standard input is closed",
     },
+    LOGIN,
+    HEALTH,
 ];
 
 pub const STOP: &[SubOption<'static>] = &[SubOption {

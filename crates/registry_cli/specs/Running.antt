@@ -1,6 +1,7 @@
 -- What words come to. `over` and `at` are as in `registry_tasks.specs.Opened`.
 use Rattle.std.specs.Prelude.{◌≡◌, ◌≢◌, ℕ, ◌⊎◌, ⊤, List, Result}
 use Rattle.oci_types.specs.Text.{Text}
+use Rattle.registry_model.specs.declared.settings.Settings.{Settings}
 use Rattle.registry_orders.specs.declared.failure.Failure.{Failure}
 use Rattle.registry_orders.specs.declared.failure.Failure.TheVariants.{OutOfMemory}
 use Rattle.registry_orders.specs.declared.limits.Limits.{Limits}
@@ -18,20 +19,20 @@ use Rattle.registry_tasks.specs.Sockets.{ServesAddress}
 use Rattle.registry_tasks.specs.Sending.{IsSent}
 use Rattle.registry_tasks.specs.Opened.{Opened, output_of, RunsAt, RunsTokenOrder, LacksTokenOf, RunsCheck, RunsStored, EndsMigration}
 
--- connections over sockets, over a registry that is opened
-abbrev pub RunsServer : Limits → Opened → ℕ → Output → Type 0
-RunsServer limits over status o =
+-- connections over sockets with these settings, over a registry that is opened
+abbrev pub RunsServer : Settings → Limits → Opened → ℕ → Output → Type 0
+RunsServer settings limits over status o =
     (result : Result (Unit {0}) Failure) × (status ≡ status_if result)
-    × ServesAddress (ServesTogether limits.at_once) over result o
+    × ServesAddress (ServesTogether settings limits.at_once) over result o
 
 -- what a task comes to: a registry over memory that is set up so is served; or the one at the path is, by one
 -- connection or over sockets, or is taken over, or is looked at for what is wrong; or an order is carried out
 -- or sent, or the line that ends a server is
 abbrev pub RunsTask : (Text → Opened) → Task → ℕ → Streams → Type 0
-RunsTask at (task.Memory setup) status e = ServesMemory setup status e
-RunsTask at (task.Stored path) status e = RunsStored (at path.now) status e
-RunsTask at (task.Server path address connections limits beside) status e =
-    (e.left' ≡ e.left) × RunsServer limits (at path.now) status (output_of e)
+RunsTask at (task.Memory setup settings) status e = ServesMemory settings setup status e
+RunsTask at (task.Stored path settings) status e = RunsStored settings (at path.now) status e
+RunsTask at (task.Server path address connections limits beside settings) status e =
+    (e.left' ≡ e.left) × RunsServer settings limits (at path.now) status (output_of e)
 RunsTask at (task.Order place order) status e =
     (e.left' ≡ e.left) × RunsAt at place order status (output_of e)
 RunsTask at (task.TokenOrder place source order) status e =

@@ -7,7 +7,7 @@ ghost use Rattle.registry_loop.specs.Together.{ServesTogether};
 ghost use Rattle.registry_orders.specs.Failures.{IsOfServing};
 
 use registry_loop::Gathering;
-use registry_model::Keeper;
+use registry_model::{Keeper, Settings};
 use registry_opening::Opener;
 use registry_orders::Failure;
 use registry_service::Service;
@@ -22,16 +22,17 @@ fn serve_gathered<K: Keeper, O: Opener<K>, G: Gathering>(
     path: &str,
     kept: K,
     gathering: &mut G,
+    settings: Settings,
     at_once: usize,
 ) -> Result<(), Failure>
     requires opened { K.is_honest kept → O.opens opener.now path.now (K.state kept) }
     ensures served { OnOk result (Over K.is_honest K.state (O.opens opener.now path.now)
-        (ServesTogether at_once)) }
+        (ServesTogether settings at_once)) }
     ensures fails { IfErr result IsOfServing }
 {
     let mut service = Service::new(kept);
     for _ in 0..u64::MAX {
-        match gathering.serve_all(alloc, &mut service, at_once) {
+        match gathering.serve_all(alloc, &mut service, settings, at_once) {
             Ok(true) => {
                 opener.close(service.into_keeper());
                 return Ok(());
@@ -47,24 +48,26 @@ fn serve_gathered<K: Keeper, O: Opener<K>, G: Gathering>(
     Ok(())
 }
 
-/// Says on standard output that connections are taken, and serves those who come together, at most so many at
-/// once. The error is that the registry is not opened again, that nobody can come, or that the line cannot be
-/// written.
+/// Says on standard output that connections are taken, and serves those who come together with these
+/// settings, at most so many at once. The error is that the registry is not opened again, that nobody can
+/// come, or that the line cannot be written.
 pub fn serve_together<K: Keeper, O: Opener<K>, G: Gathering, W: Write>(
     alloc: Global,
     opener: &O,
     path: &str,
     kept: K,
     gathering: &mut G,
+    settings: Settings,
     at_once: usize,
     out: &mut W,
 ) -> Result<(), Failure>
     requires opened { K.is_honest kept → O.opens opener.now path.now (K.state kept) }
-    ensures { ServesAddress (ServesTogether at_once) (Over K.is_honest K.state (O.opens opener.now path.now))
+    ensures { ServesAddress (ServesTogether settings at_once)
+        (Over K.is_honest K.state (O.opens opener.now path.now))
         result (output (W.contents out.old) (W.contents out.new)) }
 {
     match announce(out) {
-        Ok(()) => serve_gathered(alloc, opener, path, kept, gathering, at_once),
+        Ok(()) => serve_gathered(alloc, opener, path, kept, gathering, settings, at_once),
         Err(failure) => {
             opener.close(kept);
             Err(failure)

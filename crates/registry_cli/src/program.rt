@@ -9,7 +9,7 @@ ghost use Rattle.registry_orders.specs.Outputs.{output};
 use crate::gathering::serve_together;
 use registry_checking::Watch;
 use registry_loop::{Crowd, Doors};
-use registry_model::Keeper;
+use registry_model::{Keeper, Settings};
 use registry_opening::Opener;
 use registry_orders::cause::say_at;
 use registry_orders::failure::say;
@@ -41,6 +41,7 @@ struct Serving<'a> {
     connections: u64,
     limits: Limits,
     beside: Beside<'a>,
+    settings: Settings,
 }
 
 /// Serves so many connections that are taken at a listener, together. A server that is to end with standard
@@ -57,7 +58,7 @@ fn serve_many<K: Keeper, O: Opener<K>, W: Write, E: Write>(
     err: &mut E,
 ) -> Result<(), Failure>
     requires opened { K.is_honest kept → O.opens opener.now path.now (K.state kept) }
-    ensures { ServesAddress (ServesTogether serving.entry.limits.at_once)
+    ensures { ServesAddress (ServesTogether serving.entry.settings serving.entry.limits.at_once)
         (Over K.is_honest K.state (O.opens opener.now path.now))
         result (output (W.contents out.old) (W.contents out.new)) }
 {
@@ -71,7 +72,12 @@ fn serve_many<K: Keeper, O: Opener<K>, W: Write, E: Write>(
         watched: serving.beside.stop_at_eof.then_some(STANDARD_INPUT),
     };
     match Crowd::new(alloc, rt, rt, log, doors, limits, connections) {
-        Ok(mut crowd) => serve_together(alloc, opener, path, kept, &mut crowd, at_once, out),
+        Ok(mut crowd) => {
+            let settings = serving.settings;
+            serve_together(
+                alloc, opener, path, kept, &mut crowd, settings, at_once, out,
+            )
+        }
         Err(error) => {
             opener.close(kept);
             match error.kind() {
@@ -94,7 +100,7 @@ fn serve_bound<K: Keeper, O: Opener<K>, W: Write, E: Write>(
     err: &mut E,
 ) -> Result<(), Failure>
     requires opened { K.is_honest kept → O.opens opener.now path.now (K.state kept) }
-    ensures { ServesAddress (ServesTogether serving.entry.limits.at_once)
+    ensures { ServesAddress (ServesTogether serving.entry.settings serving.entry.limits.at_once)
         (Over K.is_honest K.state (O.opens opener.now path.now))
         result (output (W.contents out.old) (W.contents out.new)) }
 {
@@ -119,7 +125,8 @@ fn run_server<K: Keeper, O: Opener<K>, W: Write, E: Write>(
     out: &mut W,
     err: &mut E,
 ) -> u8
-    ensures runs { RunsServer serving.entry.limits (OverAt K.is_honest K.state (O.opens opener.now) path.now)
+    ensures runs { RunsServer serving.entry.settings serving.entry.limits
+        (OverAt K.is_honest K.state (O.opens opener.now) path.now)
         result (output (W.contents out.old) (W.contents out.new)) }
     ensures failed { 0 < result → 3 ≤ result }
     ensures status { result ≤ 4 }
@@ -165,20 +172,24 @@ fn run_task<K: Keeper, O: Opener<K> + Watch, R: Read, W: Write, E: Write>(
 {
     let alloc = rt.alloc();
     match task {
-        Task::Memory(setup) => serve_memory(alloc, &setup, reader, out, err),
-        Task::Stored { path } => run_stored(alloc, opener, path, reader, out, err),
+        Task::Memory { setup, settings } => serve_memory(alloc, settings, &setup, reader, out, err),
+        Task::Stored { path, settings } => {
+            run_stored(alloc, opener, path, settings, reader, out, err)
+        }
         Task::Server {
             path,
             address,
             connections,
             limits,
             beside,
+            settings,
         } => {
             let serving = Serving {
                 address,
                 connections,
                 limits,
                 beside,
+                settings,
             };
             run_server(rt, opener, path, serving, out, err)
         }

@@ -2,7 +2,7 @@
 
 use crate::requests::Request;
 use anyhow::{Result, bail};
-use registry_model::Keeper;
+use registry_model::{Keeper, Settings};
 use registry_server::{Conversation, FieldRoom, Step, serve_connection};
 use registry_service::Service;
 use std::alloc::Global;
@@ -81,7 +81,7 @@ fn connected<K: Keeper, R: Read>(
     reader: &mut R,
 ) -> Result<Answer> {
     let mut bytes = Vec::with_capacity(alloc, ROOM)?;
-    let end = serve_connection(alloc, registry, reader, &mut bytes);
+    let end = serve_connection(alloc, registry, Settings::profile(), reader, &mut bytes);
     let end = format!(in alloc; "{end:?}")?;
     Ok(Answer { bytes, end })
 }
@@ -120,7 +120,7 @@ fn turns<K: Keeper>(
     bytes: &mut Vec<u8>,
 ) -> Result<Step> {
     for _ in 0..MOST_TURNS {
-        let step = conversation.answer_next(alloc, registry, room);
+        let step = conversation.answer_next(alloc, registry, Settings::profile(), room);
         let going = conversation.outgoing();
         bytes.extend_from_slice(going.head)?;
         bytes.extend_from_slice(going.body)?;

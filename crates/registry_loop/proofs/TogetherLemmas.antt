@@ -1,6 +1,7 @@
 -- Connections that are served together, from none on.
 use Rattle.std.proofs.Common.{ℕ, [], ◌∷◌, inl, inr, refl, sym, subst}
 use Rattle.registry_model.specs.Keeping.{State}
+use Rattle.registry_model.specs.declared.settings.Settings.{Settings}
 use Rattle.registry_model.specs.Team.{orders}
 use Rattle.registry_model.specs.Runs.{did}
 use Rattle.registry_server.specs.Open.{Open, none}
@@ -11,26 +12,26 @@ use Rattle.registry_server.proofs.CallLemmas.{leads_none, leads_then}
 use Rattle.order_carrying.specs.Answering.{IsOneStep}
 use Rattle.registry_loop.specs.Together.{ServesWithin, ServesTogether, LeadsBeside, bounds_of}
 
-pub within_from : (at_once buffer : ℕ) (s : State) (u : Open) (s' : State) → Leads (none (bounds_of at_once buffer)) s u s'
-    → ServesWithin at_once buffer s s'
-within_from at_once buffer s u s' x =
+pub within_from : (settings : Settings) (at_once buffer : ℕ) (s : State) (u : Open) (s' : State) → Leads (none settings (bounds_of at_once buffer)) s u s'
+    → ServesWithin settings at_once buffer s s'
+within_from settings at_once buffer s u s' x =
     let bounds = bounds_of at_once buffer in
     record {
       events = x.0;
       last = u;
       passes = x.1;
-      ledger = all_are_served x.0 bounds s u s' x.1;
-      within = λ front back e v t y. all_within front bounds s v t y;
+      ledger = all_are_served settings x.0 bounds s u s' x.1;
+      within = λ front back e v t y. all_within front settings bounds s v t y;
     }
 
-pub within_none : (at_once buffer : ℕ) (s : State) → ServesWithin at_once buffer s s
-within_none at_once buffer s =
-    let u = none (bounds_of at_once buffer) in
-    within_from at_once buffer s u s (leads_none u s)
+pub within_none : (settings : Settings) (at_once buffer : ℕ) (s : State) → ServesWithin settings at_once buffer s s
+within_none settings at_once buffer s =
+    let u = none settings (bounds_of at_once buffer) in
+    within_from settings at_once buffer s u s (leads_none u s)
 
 -- with any buffer
-pub together_none : (at_once : ℕ) (s : State) → ServesTogether at_once s s
-together_none at_once s = (0, within_none at_once 0 s)
+pub together_none : (settings : Settings) (at_once : ℕ) (s : State) → ServesTogether settings at_once s s
+together_none settings at_once s = (0, within_none settings at_once 0 s)
 
 -- ---- orders, which leave all connections as they are
 

@@ -8,7 +8,7 @@ ghost use Rattle.registry_loop.specs.Together.{bounds_of, most_silence};
 use crate::doors::Doors;
 use crate::gathering::Gathering;
 use crate::sockets::{EVENTS, Sockets};
-use registry_model::Keeper;
+use registry_model::{Keeper, Settings};
 use registry_orders::Limits;
 use registry_server::{Bounds, Connections};
 use registry_service::Service;
@@ -259,9 +259,14 @@ impl<'a, T: Clock, E: Write> Gathering for Crowd<'a, T, E> {
         &mut self,
         alloc: Global,
         service: &mut Service<K>,
+        settings: Settings,
         at_once: usize,
     ) -> io::Result<bool> {
-        let mut connections = Connections::new(alloc, bounds_for(at_once, self.limits.buffer))?;
+        let mut connections = Connections::new(
+            alloc,
+            settings,
+            bounds_for(at_once, self.limits.buffer),
+        )?;
         self.serve_rounds(alloc, &mut connections, service, at_once)
     }
 }

@@ -41,7 +41,8 @@ fn patience_at_door(peer: &Peer, pressing: bool) -> u64 {
 }
 
 /// Whether its place is given to another who waits for one. Nothing is there to be read of it, and nothing is
-/// to go out. Amid a request the time counts from when the request began, too: who rested before is not hurried.
+/// to go out. Amid a request the time counts from when the request began, too: who rested before is not
+/// hurried.
 pub fn gives_way(peer: &Peer, connections: &Connections, pressing: bool, now: Duration) -> bool {
     let patience = patience_at_door(peer, pressing);
     let begun = now.saturating_sub(peer.began) >= Duration::from_millis(patience);

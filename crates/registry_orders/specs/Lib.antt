@@ -2,6 +2,7 @@ pub mod Failures
 pub mod Levels
 pub mod Options
 pub mod Limits
+pub mod Settings
 pub mod Splitting
 pub mod Setting
 pub mod Reading

@@ -10,6 +10,7 @@ use Rattle.registry_orders.specs.Limits.{AreLimitsIn}
 use Rattle.registry_orders.specs.Options.{texts_of, HasFlag, IsNumberOf, SpellsSetup}
 use Rattle.registry_orders.specs.Orders.{HasValue, IsOrderIn, IsTokenOrderIn}
 use Rattle.registry_orders.specs.Places.{IsPlaceIn}
+use Rattle.registry_orders.specs.Settings.{AreSettingsIn}
 use Rattle.registry_orders.specs.Tokens.{IsTokenFrom}
 
 -- where a server takes orders, whether it says each request, and whether it ends at the end of standard
@@ -21,17 +22,19 @@ pub record IsBesideIn (options : List Row) (b : Beside) : Type 0 where
 
 -- the word of the subcommand, and the options that it was given, say what the task is
 abbrev pub IsTaskIn : Text → List Row → Task → Type 0
-IsTaskIn word options (Memory setup) =
+IsTaskIn word options (Memory setup settings) =
     (word ≡ codes "stdio") × HasFlag options (codes "memory") × (first_of (codes "db") options ≡ None)
     × SpellsSetup (texts_of (codes "repo") options) (texts_of (codes "grant") options) setup
-IsTaskIn word options (Stored path) =
+    × AreSettingsIn options settings
+IsTaskIn word options (Stored path settings) =
     (word ≡ codes "stdio") × ¬ (HasFlag options (codes "memory")) × HasValue options (codes "db") path.now
     × (texts_of (codes "repo") options ≡ []) × (texts_of (codes "grant") options ≡ [])
-IsTaskIn word options (Server path address connections limits beside) =
+    × AreSettingsIn options settings
+IsTaskIn word options (Server path address connections limits beside settings) =
     (word ≡ codes "serve") × HasValue options (codes "db") path.now
     × HasValue options (codes "listen") address.now
     × IsNumberOf (one_of (codes "connections") options) connections × AreLimitsIn options limits
-    × IsBesideIn options beside
+    × IsBesideIn options beside × AreSettingsIn options settings
 IsTaskIn word options (Order place order) = IsPlaceIn options place × IsOrderIn word options order
 IsTaskIn word options (TokenOrder place source order) =
     IsPlaceIn options place × IsTokenFrom options source × IsTokenOrderIn word options order

@@ -38,6 +38,8 @@ pub enum Cause {
     NoRightToPort,
     /// The options of `stdio` do not go together.
     StdioOptions,
+    /// The scheme by which clients log in is none.
+    LoginOptions,
     /// A token is given twice, or not at all.
     TokenOptions,
     /// The place of an order is given twice, or not at all.
@@ -82,6 +84,7 @@ impl Cause {
             Cause::StdioOptions => {
                 "wants --db PATH, or --memory with --repo NAME=QUOTA and --grant TOKEN=NAME=LEVEL"
             }
+            Cause::LoginOptions => "wants --login http or --login https",
             Cause::TokenOptions => "wants one of --token TOKEN and --token-file PATH",
             Cause::PlaceOptions => "wants one of --db PATH and --orders PATH",
             Cause::NoFile => "no such file",

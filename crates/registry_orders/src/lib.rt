@@ -16,6 +16,7 @@ pub mod listing;
 pub mod options;
 pub mod orders;
 pub mod place;
+mod settings;
 pub mod tasks;
 pub mod tokens;
 pub mod unread;

@@ -11,18 +11,24 @@ use crate::limits::{Limits, limits_given};
 use crate::options::Setup;
 use crate::orders::{Order, TokenOrder, read_order, read_token_order};
 use crate::place::{Place, place_given};
+use crate::settings::settings_given;
 use crate::tokens::{TokenSource, is_token_given, token_source};
 use clap::ArgMatches;
+use registry_model::Settings;
 use std::alloc::Global;
 
 /// What there is to do.
 #[derive(Drop)]
 pub enum Task<'a> {
-    /// Serve standard input over a registry in memory.
-    Memory(Setup),
-    /// Serve standard input over the registry at a path.
+    /// Serve standard input over a registry in memory, with these settings.
+    Memory {
+        setup: Setup,
+        settings: Settings,
+    },
+    /// Serve standard input over the registry at a path, with these settings.
     Stored {
         path: &'a str,
+        settings: Settings,
     },
     /// Serve an address over the registry at a path, so many connections, within these limits.
     Server {
@@ -31,6 +37,7 @@ pub enum Task<'a> {
         connections: u64,
         limits: Limits,
         beside: Beside<'a>,
+        settings: Settings,
     },
     /// Carry out an order, here or by a server.
     Order {
@@ -65,11 +72,14 @@ fn stdio_task<'a>(alloc: Global, matches: &ArgMatches<'a>) -> Result<Task<'a>, F
     let repos = texts_given(matches, "repo").unwrap_or(&[]);
     let grants = texts_given(matches, "grant").unwrap_or(&[]);
     let memory = is_given(matches, "memory");
+    let settings = settings_given(matches)?;
     match text_given(matches, "db") {
-        Some(path) if !memory && repos.is_empty() && grants.is_empty() => Ok(Task::Stored { path }),
+        Some(path) if !memory && repos.is_empty() && grants.is_empty() => {
+            Ok(Task::Stored { path, settings })
+        }
         None if memory => {
             let setup = Setup::read(alloc, repos, grants)?;
-            Ok(Task::Memory(setup))
+            Ok(Task::Memory { setup, settings })
         }
         _ => Err(Failure::InvalidOptions),
     }
@@ -87,12 +97,14 @@ fn serve_task<'a>(matches: &ArgMatches<'a>) -> Result<Task<'a>, Failure>
     let connections = number_given(matches, "connections")?;
     let limits = limits_given(matches)?;
     let beside = beside_given(matches);
+    let settings = settings_given(matches)?;
     Ok(Task::Server {
         path,
         address,
         connections,
         limits,
         beside,
+        settings,
     })
 }
 

@@ -7,6 +7,7 @@ ghost use Rattle.registry_orders.specs.Reading.{IsToldOfWords};
 use crate::cause::Cause;
 use crate::failure::Failure;
 use crate::place::place_given;
+use crate::settings::settings_given;
 use clap::{ArgMatches, Error};
 
 /// What the command line was answered.
@@ -20,9 +21,10 @@ pub enum Told<'a> {
 
 /// Which options a subcommand wants that got others. Where both the place and the token of an order are a
 /// mistake, the place is told. A subcommand that is no order has one place, which `clap` wants, as it wants
-/// all that `serve` does.
+/// all that `serve` does but a scheme that is one.
 fn wanted(word: &str, matches: &ArgMatches) -> Option<Cause> {
     match word {
+        "stdio" | "serve" if settings_given(matches).is_err() => Some(Cause::LoginOptions),
         "stdio" => Some(Cause::StdioOptions),
         "serve" => None,
         _ if place_given(matches).is_err() => Some(Cause::PlaceOptions),

@@ -22,40 +22,7 @@ use Rattle.registry_tasks.specs.Checking.{IsOfCheck}
 use Rattle.registry_tasks.specs.Failures.{status_after}
 use Rattle.registry_server.specs.Accepting.{Streams}
 use Rattle.registry_tasks.specs.Program.{GivesUp, IsUntouched, ServesFrom, ServesMemory, ServesSetUp, ServesStored, Tells}
-
-pub served : (setup : Setup) (w : World) (status : ℕ) (e : Streams) → world_by setup ≡ Ok w → ServesFrom w status e → ServesMemory setup status e
-served setup w status e m s = inr (subst (λ r. MatchResult r (λ w. ServesFrom w status e) (λ f. GivesUp f status e)) (sym m) s)
-
-refused : (setup : Setup) (f : Failure) (status : ℕ) (e : Streams) → world_by setup ≡ Err f → GivesUp f status e → ServesMemory setup status e
-refused setup f status e m g = inr (subst (λ r. MatchResult r (λ w. ServesFrom w status e) (λ f. GivesUp f status e)) (sym m) g)
-
-pub stopped : (setup : Setup) (f : Failure) (s : State) (status : ℕ) (e : Streams) → SetsUp (world_by setup) (Err f) s → s.spent ≡ false → GivesUp f status e → ServesMemory setup status e
-stopped setup failure.OutOfMemory s status e m spent g = inl g
-stopped setup failure.StorageFailure s status e m spent g = absurd (let x : true ≡ false = sym m ∙ spent in cc)
-stopped setup failure.NoRepo s status e m spent g = refused setup failure.NoRepo status e m g
-stopped setup failure.NoGrant s status e m spent g = refused setup failure.NoGrant status e m g
-stopped setup failure.RepoThere s status e m spent g = refused setup failure.RepoThere status e m g
-stopped setup failure.InvalidName s status e m spent g = refused setup failure.InvalidName status e m g
-stopped setup failure.InvalidToken s status e m spent g = refused setup failure.InvalidToken status e m g
-stopped setup failure.InvalidOptions s status e m spent g = refused setup failure.InvalidOptions status e m g
-stopped setup (failure.Schema n) s status e m spent g = refused setup (failure.Schema n) status e m g
-stopped setup failure.NotARegistry s status e m spent g = refused setup failure.NotARegistry status e m g
-stopped setup failure.Damaged s status e m spent g = refused setup failure.Damaged status e m g
-stopped setup failure.ConnectionFailure s status e m spent g = refused setup failure.ConnectionFailure status e m g
-
--- maps that began with nothing were set up
-pub set_up_served : (setup : Setup) (status : ℕ) (e : Streams) (first : State) → first ≡ keeps no_world
-    → ServesSetUp {K = MapKeeper} (λ k. ⊤) (λ k. state_of k.repos k.grants) first setup status e → ServesMemory setup status e
-set_up_served setup status e first empty s =
-    go (world_of s.middle.repos s.middle.grants) (world_of s.last.repos s.last.grants) s.begun (s.says tt).0 (s.says tt).1
-  where
-    go : (w w' : World) (begun : Result (Unit {0}) Failure) → SetsUp (world_from first.world setup) begun (keeps w)
-        → MatchResult begun (λ v. ServesStored status e (keeps w) (keeps w')) (λ f. GivesUp f status e) → ServesMemory setup status e
-    go w w' (Ok v) made serves =
-        served setup w status e (subst (λ (x : State). world_from x.world setup ≡ Ok w) empty made)
-        (record { end = serves.0; last = keeps w'; ends = serves.1; serves = serves.2 })
-    go w w' (Err f) made g =
-        stopped setup f (keeps w) status e (subst (λ (x : State). SetsUp (world_from x.world setup) (Err f) (keeps w)) empty made) refl g
+use Rattle.registry_model.specs.declared.settings.Settings.{Settings}
 
 -- a failed connection is told by 3 or 4
 pub connection_status : (f : Failure) → IsOfConnection f → 3 ≤ status_of f
@@ -116,28 +83,6 @@ serving_of_opening failure.InvalidName is = is
 serving_of_opening failure.InvalidToken is = is
 serving_of_opening failure.InvalidOptions is = is
 
-after_serving : (w : World) (status : ℕ) (e : Streams) → ServesFrom w status e → 0 < status → status < 4 → ⊥
-after_serving w status e s more less = go s.end s.ends
-  where
-    go : (end : End) → status ≡ status_after end false → ⊥
-    go ending.Closed i = omega arith
-    go ending.Cut i = omega arith
-    go (ending.Refused r) i = omega arith
-    go ending.ReadFailed i = omega arith
-    go (ending.WriteFailed n) i = omega arith
-
--- over memory, status 1, 2 and 3 say that nothing was done
-pub untouched_memory : (setup : Setup) (status : ℕ) (e : Streams) → ServesMemory setup status e → 0 < status → status < 4 → IsUntouched e
-untouched_memory setup status e p more less = go p
-  where
-    by : (r : Result World Failure) → MatchResult r (λ w. ServesFrom w status e) (λ f. GivesUp f status e) → IsUntouched e
-    by (Ok w) s = absurd (after_serving w status e s more less)
-    by (Err f) g = g.1
-
-    go : ServesMemory setup status e → IsUntouched e
-    go (inl g) = g.1
-    go (inr m) = by (world_by setup) m
-
 -- and so they do where something is told of the words
 pub untouched_telling : (status : ℕ) (e : Streams) → Tells status e → 0 < status → status < 4 → IsUntouched e
 untouched_telling status e t more less = go t.1
@@ -174,27 +119,84 @@ setup_fault setup f e = go (with_repos no_world setup.repos.items) (repos_fault 
     go (Ok w) first e = levels_fault setup.grants.items w f e
     go (Err x) first e = first e
 
-serving_read : (w : World) (status : ℕ) (e : Streams) → ServesFrom w status e → status ≢ 2
-serving_read w status e s two = go s.end s.ends
-  where
-    go : (end : End) → status ≡ status_after end false → ⊥
-    go ending.Closed i = omega arith
-    go ending.Cut i = omega arith
-    go (ending.Refused r) i = omega arith
-    go ending.ReadFailed i = omega arith
-    go (ending.WriteFailed n) i = omega arith
-
-pub memory_read : (setup : Setup) (status : ℕ) (e : Streams) → ServesMemory setup status e → status ≢ 2
-memory_read setup status e (inl g) two = let three : status ≡ 3 = g.0 in omega arith
-memory_read setup status e (inr m) two = go (world_by setup) (setup_fault setup) m
-  where
-    go : (r : Result World Failure) → ((f : Failure) → r ≡ Err f → status_of f ≡ 1)
-        → MatchResult r (λ w. ServesFrom w status e) (λ f. GivesUp f status e) → ⊥
-    go (Ok w) fault s = serving_read w status e s two
-    go (Err f) fault g = let one : status ≡ 1 = g.0 ∙ fault f refl in omega arith
-
 pub opening_status : (f : Failure) → IsOfOpening f → 3 ≤ status_of f
 opening_status f is = serving_status f (serving_of_opening f is)
 
 pub opening_read : (f : Failure) → IsOfOpening f → status_of f ≢ 2
 opening_read f is two = let more : 3 ≤ status_of f = serving_status f (serving_of_opening f is) in omega arith
+
+module _ (settings : Settings) where
+  pub served : (setup : Setup) (w : World) (status : ℕ) (e : Streams) → world_by setup ≡ Ok w → ServesFrom settings w status e → ServesMemory settings setup status e
+  served setup w status e m s = inr (subst (λ r. MatchResult r (λ w. ServesFrom settings w status e) (λ f. GivesUp f status e)) (sym m) s)
+
+  refused : (setup : Setup) (f : Failure) (status : ℕ) (e : Streams) → world_by setup ≡ Err f → GivesUp f status e → ServesMemory settings setup status e
+  refused setup f status e m g = inr (subst (λ r. MatchResult r (λ w. ServesFrom settings w status e) (λ f. GivesUp f status e)) (sym m) g)
+
+  pub stopped : (setup : Setup) (f : Failure) (s : State) (status : ℕ) (e : Streams) → SetsUp (world_by setup) (Err f) s → s.spent ≡ false → GivesUp f status e → ServesMemory settings setup status e
+  stopped setup failure.OutOfMemory s status e m spent g = inl g
+  stopped setup failure.StorageFailure s status e m spent g = absurd (let x : true ≡ false = sym m ∙ spent in cc)
+  stopped setup failure.NoRepo s status e m spent g = refused setup failure.NoRepo status e m g
+  stopped setup failure.NoGrant s status e m spent g = refused setup failure.NoGrant status e m g
+  stopped setup failure.RepoThere s status e m spent g = refused setup failure.RepoThere status e m g
+  stopped setup failure.InvalidName s status e m spent g = refused setup failure.InvalidName status e m g
+  stopped setup failure.InvalidToken s status e m spent g = refused setup failure.InvalidToken status e m g
+  stopped setup failure.InvalidOptions s status e m spent g = refused setup failure.InvalidOptions status e m g
+  stopped setup (failure.Schema n) s status e m spent g = refused setup (failure.Schema n) status e m g
+  stopped setup failure.NotARegistry s status e m spent g = refused setup failure.NotARegistry status e m g
+  stopped setup failure.Damaged s status e m spent g = refused setup failure.Damaged status e m g
+  stopped setup failure.ConnectionFailure s status e m spent g = refused setup failure.ConnectionFailure status e m g
+
+  -- maps that began with nothing were set up
+  pub set_up_served : (setup : Setup) (status : ℕ) (e : Streams) (first : State) → first ≡ keeps no_world
+      → ServesSetUp {K = MapKeeper} (λ k. ⊤) (λ k. state_of k.repos k.grants) first settings setup status e → ServesMemory settings setup status e
+  set_up_served setup status e first empty s =
+      go (world_of s.middle.repos s.middle.grants) (world_of s.last.repos s.last.grants) s.begun (s.says tt).0 (s.says tt).1
+    where
+      go : (w w' : World) (begun : Result (Unit {0}) Failure) → SetsUp (world_from first.world setup) begun (keeps w)
+          → MatchResult begun (λ v. ServesStored settings status e (keeps w) (keeps w')) (λ f. GivesUp f status e) → ServesMemory settings setup status e
+      go w w' (Ok v) made serves =
+          served setup w status e (subst (λ (x : State). world_from x.world setup ≡ Ok w) empty made)
+          (record { end = serves.0; last = keeps w'; ends = serves.1; serves = serves.2 })
+      go w w' (Err f) made g =
+          stopped setup f (keeps w) status e (subst (λ (x : State). SetsUp (world_from x.world setup) (Err f) (keeps w)) empty made) refl g
+
+  after_serving : (w : World) (status : ℕ) (e : Streams) → ServesFrom settings w status e → 0 < status → status < 4 → ⊥
+  after_serving w status e s more less = go s.end s.ends
+    where
+      go : (end : End) → status ≡ status_after end false → ⊥
+      go ending.Closed i = omega arith
+      go ending.Cut i = omega arith
+      go (ending.Refused r) i = omega arith
+      go ending.ReadFailed i = omega arith
+      go (ending.WriteFailed n) i = omega arith
+
+  -- over memory, status 1, 2 and 3 say that nothing was done
+  pub untouched_memory : (setup : Setup) (status : ℕ) (e : Streams) → ServesMemory settings setup status e → 0 < status → status < 4 → IsUntouched e
+  untouched_memory setup status e p more less = go p
+    where
+      by : (r : Result World Failure) → MatchResult r (λ w. ServesFrom settings w status e) (λ f. GivesUp f status e) → IsUntouched e
+      by (Ok w) s = absurd (after_serving w status e s more less)
+      by (Err f) g = g.1
+
+      go : ServesMemory settings setup status e → IsUntouched e
+      go (inl g) = g.1
+      go (inr m) = by (world_by setup) m
+
+  serving_read : (w : World) (status : ℕ) (e : Streams) → ServesFrom settings w status e → status ≢ 2
+  serving_read w status e s two = go s.end s.ends
+    where
+      go : (end : End) → status ≡ status_after end false → ⊥
+      go ending.Closed i = omega arith
+      go ending.Cut i = omega arith
+      go (ending.Refused r) i = omega arith
+      go ending.ReadFailed i = omega arith
+      go (ending.WriteFailed n) i = omega arith
+
+  pub memory_read : (setup : Setup) (status : ℕ) (e : Streams) → ServesMemory settings setup status e → status ≢ 2
+  memory_read setup status e (inl g) two = let three : status ≡ 3 = g.0 in omega arith
+  memory_read setup status e (inr m) two = go (world_by setup) (setup_fault setup) m
+    where
+      go : (r : Result World Failure) → ((f : Failure) → r ≡ Err f → status_of f ≡ 1)
+          → MatchResult r (λ w. ServesFrom settings w status e) (λ f. GivesUp f status e) → ⊥
+      go (Ok w) fault s = serving_read w status e s two
+      go (Err f) fault g = let one : status ≡ 1 = g.0 ∙ fault f refl in omega arith

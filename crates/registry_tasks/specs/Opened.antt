@@ -3,6 +3,7 @@
 use Rattle.std.specs.Prelude.{◌≡◌, ℕ, ◌⊎◌, ⊤, Option}
 use Rattle.oci_types.specs.Text.{Text}
 use Rattle.registry_model.specs.Keeping.{State}
+use Rattle.registry_model.specs.declared.settings.Settings.{Settings}
 use Rattle.registry_orders.specs.declared.failure.Failure.{Failure}
 use Rattle.registry_orders.specs.declared.orders.Order.{Order}
 use Rattle.registry_orders.specs.declared.orders.TokenOrder.{TokenOrder}
@@ -76,10 +77,10 @@ abbrev pub LacksTokenOf : TokenSource → ℕ → Streams → Type 0
 LacksTokenOf Input status e = IsWithoutToken status (output_of e)
 LacksTokenOf (File path) status e = (e.left' ≡ e.left) × IsWithoutToken status (output_of e)
 
--- one connection over a registry that is opened
-abbrev pub RunsStored : Opened → ℕ → Streams → Type 0
-RunsStored over status e =
-    (IsNotOpened status (output_of e) × (e.left' ≡ e.left)) ⊎ over (ServesStored status e)
+-- one connection with these settings over a registry that is opened
+abbrev pub RunsStored : Settings → Opened → ℕ → Streams → Type 0
+RunsStored settings over status e =
+    (IsNotOpened status (output_of e) × (e.left' ≡ e.left)) ⊎ over (ServesStored settings status e)
 
 -- the registry of schema 1 is taken over; or it is not opened
 abbrev pub EndsMigration : ℕ → Type 0

@@ -4,6 +4,7 @@ use Rattle.std.specs.Io.KnownBytes.{Appends}
 use Rattle.oci_types.specs.Text.{Text}
 use Rattle.registry_model.specs.World.{World}
 use Rattle.registry_model.specs.Keeping.{State}
+use Rattle.registry_model.specs.declared.settings.Settings.{Settings}
 use Rattle.registry_model.specs.Doing.{keeps}
 use Rattle.registry_http.specs.Serving.{Serves}
 use Rattle.registry_http.specs.declared.ending.End.{End}
@@ -28,34 +29,35 @@ pub record IsUntouched (e : Streams) : Type 0 where
 abbrev pub GivesUp : Failure → ℕ → Streams → Type 0
 GivesUp f status e = (status ≡ status_of f) × IsUntouched e
 
--- one connection was served from this world on; in memory no storage fails
-pub record ServesFrom (w : World) (status : ℕ) (e : Streams) : Type 0 where
+-- one connection with these settings was served from this world on; in memory no storage fails
+pub record ServesFrom (settings : Settings) (w : World) (status : ℕ) (e : Streams) : Type 0 where
   pub end : End
   pub last : State
   pub ends : status ≡ status_after end false
-  pub serves : Serves end (traffic_of e (keeps w) last)
+  pub serves : Serves end (traffic_of settings e (keeps w) last)
 
 -- a registry over memory that begins so serves one connection; or what it begins with is refused; or memory
 -- was wanting
-abbrev pub ServesMemory : Setup → ℕ → Streams → Type 0
-ServesMemory setup status e =
+abbrev pub ServesMemory : Settings → Setup → ℕ → Streams → Type 0
+ServesMemory settings setup status e =
     GivesUp OutOfMemory status e
-    ⊎ MatchResult (world_by setup) (λ w. ServesFrom w status e) (λ f. GivesUp f status e)
+    ⊎ MatchResult (world_by setup) (λ w. ServesFrom settings w status e) (λ f. GivesUp f status e)
 
 -- one connection was served over a registry that was opened; its storage may fail
-abbrev pub ServesStored : ℕ → Streams → State → State → Type 0
-ServesStored status e s s' =
-    (end : End) × (status ≡ status_after end s'.spent) × Serves end (traffic_of e s s')
+abbrev pub ServesStored : Settings → ℕ → Streams → State → State → Type 0
+ServesStored settings status e s s' =
+    (end : End) × (status ≡ status_after end s'.spent) × Serves end (traffic_of settings e s s')
 
 -- A registry over a keeper of the type K was set up from this state on, or why not; and then one connection
 -- was served: as far as the storage has returned what was written.
 pub record ServesSetUp {K : Type 0} (is_honest : K → Type 0) (state : K → State) (first : State)
-    (setup : Setup) (status : ℕ) (e : Streams) : Type 0 where
+    (settings : Settings) (setup : Setup) (status : ℕ) (e : Streams) : Type 0 where
   pub begun : Result (Unit {0}) Failure
   pub middle : K
   pub last : K
   pub says : is_honest last → SetsUp (world_from first.world setup) begun (state middle)
-      × MatchResult begun (λ v. ServesStored status e (state middle) (state last)) (λ f. GivesUp f status e)
+      × MatchResult begun (λ v. ServesStored settings status e (state middle) (state last))
+      (λ f. GivesUp f status e)
 
 -- help, the version or what is wrong with the words was told, on standard output only with status 0; or
 -- writing it there failed; or memory was wanting

@@ -51,8 +51,8 @@ fn handed_over() -> io::Result<TcpListener> {
     }
 }
 
-/// Listens at an address, with room for many that wait. Asked again of a socket that listens, `listen` changes
-/// the length of its queue alone (POSIX.1-2017); where it fails, that stays as it was.
+/// Listens at an address, with room for many that wait. Asked again of a socket that listens, `listen`
+/// changes the length of its queue alone (POSIX.1-2017); where it fails, that stays as it was.
 fn bind(rt: &HostRuntime, address: &str) -> io::Result<TcpListener> {
     let listener = TcpListener::bind(rt, address)?;
     let _ = set_queue(listener.as_raw_fd(), QUEUE);

@@ -8,7 +8,7 @@ ghost use Rattle.registry_orders.specs.Outputs.{output, IsSilent};
 use crate::sending::send_order;
 use crate::stdio::serve_from;
 use order_carrying::{Ended, carry_out};
-use registry_model::Keeper;
+use registry_model::{Keeper, Settings};
 use registry_opening::Opener;
 use registry_orders::cause::{explain, say_at};
 use registry_orders::{Failure, Order, Place};
@@ -84,16 +84,17 @@ pub fn run_order_at<K: Keeper, O: Opener<K>, W: Write, E: Write>(
     }
 }
 
-/// Opens the registry at a path, and serves one connection over it.
+/// Opens the registry at a path, and serves one connection over it with these settings.
 pub fn run_stored<K: Keeper, O: Opener<K>, R: Read, W: Write, E: Write>(
     alloc: Global,
     opener: &O,
     path: &str,
+    settings: Settings,
     reader: &mut R,
     out: &mut W,
     err: &mut E,
 ) -> u8
-    ensures runs { RunsStored (OverAt K.is_honest K.state (O.opens opener.now) path.now) result
+    ensures runs { RunsStored settings (OverAt K.is_honest K.state (O.opens opener.now) path.now) result
         (streams (R.remaining reader.old) (R.remaining reader.new)
         (W.contents out.old) (W.contents out.new)) }
     ensures failed { 0 < result → 3 ≤ result }
@@ -101,7 +102,7 @@ pub fn run_stored<K: Keeper, O: Opener<K>, R: Read, W: Write, E: Write>(
 {
     match opener.open(path) {
         Ok(kept) => {
-            let ended = serve_from(alloc, kept, reader, out, err);
+            let ended = serve_from(alloc, kept, settings, reader, out, err);
             end_at(opener, path, ended, err)
         }
         Err(failure) => say_at(err, failure, path, opener.cause(path, failure)),

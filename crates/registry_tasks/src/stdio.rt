@@ -7,7 +7,7 @@ ghost use Rattle.registry_tasks.specs.Program.{streams, ServesMemory, ServesSetU
 use order_carrying::Ended;
 use registry_http::End;
 use registry_maps::MapKeeper;
-use registry_model::Keeper;
+use registry_model::{Keeper, Settings};
 use registry_orders::Failure;
 use registry_orders::failure::{of_command, say};
 use registry_orders::options::{GrantOption, RepoOption, Setup};
@@ -94,24 +94,25 @@ fn ended(end: End, spent: bool) -> Result<(), Failure>
     }
 }
 
-/// Serves one connection over the service, and says on standard error what failed. The status is 0;
-/// 4 where reading or writing failed; 3 where the service is spent at the end. A connection that was
-/// cut or refused is no failure.
+/// Serves one connection over the service with these settings, and says on standard error what failed. The
+/// status is 0; 4 where reading or writing failed; 3 where the service is spent at the end. A connection that
+/// was cut or refused is no failure.
 pub fn serve_stdio<R: Read, W: Write, E: Write, K: Keeper>(
     alloc: Global,
     service: &mut Service<K>,
+    settings: Settings,
     reader: &mut R,
     out: &mut W,
     err: &mut E,
 ) -> u8
     ensures honest { K.is_honest service.new → K.is_honest service.old }
-    ensures serves { K.is_honest service.new → ServesStored result
+    ensures serves { K.is_honest service.new → ServesStored settings result
         (streams (R.remaining reader.old) (R.remaining reader.new) (W.contents out.old) (W.contents out.new))
         (K.state service.old) (K.state service.new) }
     ensures failed { 0 < result → 3 ≤ result }
     ensures status { result ≤ 4 }
 {
-    let end = serve_connection(alloc, service, reader, out);
+    let end = serve_connection(alloc, service, settings, reader, out);
     match ended(end, service.spent()) {
         Ok(()) => 0,
         Err(failure) => say(err, failure),
@@ -122,57 +123,68 @@ pub fn serve_stdio<R: Read, W: Write, E: Write, K: Keeper>(
 fn serve_set_up<R: Read, W: Write, E: Write, K: Keeper + Drop>(
     alloc: Global,
     keeper: K,
+    settings: Settings,
     setup: &Setup,
     reader: &mut R,
     out: &mut W,
     err: &mut E,
 ) -> u8
-    ensures { ServesSetUp K.is_honest K.state (K.state keeper) setup.now result
+    ensures { ServesSetUp K.is_honest K.state (K.state keeper) settings setup.now result
         (streams (R.remaining reader.old) (R.remaining reader.new)
         (W.contents out.old) (W.contents out.new)) }
 {
     let mut service = Service::new(keeper);
     match set_up(alloc, &mut service, setup) {
-        Ok(()) => serve_stdio(alloc, &mut service, reader, out, err),
+        Ok(()) => serve_stdio(alloc, &mut service, settings, reader, out, err),
         Err(failure) => say(err, failure),
     }
 }
 
-/// Serves one connection over a registry in memory that begins with this setup, and says on standard
-/// error what failed. The status is that of `serve_stdio`; or that of the command that was refused, 1,
-/// or of want of memory, 3, and then nothing was read or written.
+/// Serves one connection over a registry in memory that begins with this setup, with these settings, and
+/// says on standard error what failed. The status is that of `serve_stdio`; or that of the command that was
+/// refused, 1, or of want of memory, 3, and then nothing was read or written.
 pub fn serve_memory<R: Read, W: Write, E: Write>(
     alloc: Global,
+    settings: Settings,
     setup: &Setup,
     reader: &mut R,
     out: &mut W,
     err: &mut E,
 ) -> u8
-    ensures serves { ServesMemory setup.now result
+    ensures serves { ServesMemory settings setup.now result
         (streams (R.remaining reader.old) (R.remaining reader.new)
         (W.contents out.old) (W.contents out.new)) }
 {
     // That maps are a keeper is proved anew at each call that is generic in one, so there is one such call.
-    serve_set_up(alloc, MapKeeper::new(alloc), setup, reader, out, err)
+    serve_set_up(
+        alloc,
+        MapKeeper::new(alloc),
+        settings,
+        setup,
+        reader,
+        out,
+        err,
+    )
 }
 
 /// Serves one connection over a keeper, as `serve_stdio` does, and hands the keeper back.
 pub fn serve_from<R: Read, W: Write, E: Write, K: Keeper>(
     alloc: Global,
     keeper: K,
+    settings: Settings,
     reader: &mut R,
     out: &mut W,
     err: &mut E,
 ) -> Ended<K>
     ensures honest { K.is_honest result.keeper → K.is_honest keeper }
-    ensures serves { K.is_honest result.keeper → ServesStored result.status
+    ensures serves { K.is_honest result.keeper → ServesStored settings result.status
         (streams (R.remaining reader.old) (R.remaining reader.new) (W.contents out.old) (W.contents out.new))
         (K.state keeper) (K.state result.keeper) }
     ensures failed { 0 < result.status → 3 ≤ result.status }
     ensures status { result.status ≤ 4 }
 {
     let mut service = Service::new(keeper);
-    let status = serve_stdio(alloc, &mut service, reader, out, err);
+    let status = serve_stdio(alloc, &mut service, settings, reader, out, err);
     Ended {
         keeper: service.into_keeper(),
         status,

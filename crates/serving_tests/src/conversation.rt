@@ -6,6 +6,7 @@ use crate::texts::{
     BAD_REQUEST, CONTINUE, HELLO, IN_CHUNKS, PUSH, THREE_REPLIES, THREE_REQUESTS, filled,
 };
 use registry_http::{End, FramingRefusal};
+use registry_model::Settings;
 use registry_server::{Conversation, FieldRoom, Step, Wants};
 use std::alloc::Global;
 use std::process::Abort;
@@ -43,8 +44,12 @@ fn new_talk(rt: &impl Abort, alloc: Global) -> Talk {
 
 /// A turn, after which nothing goes out.
 fn step(alloc: Global, talk: &mut Talk) -> Step {
-    talk.conversation
-        .answer_next(alloc, &mut talk.registry, &mut talk.room)
+    talk.conversation.answer_next(
+        alloc,
+        &mut talk.registry,
+        Settings::profile(),
+        &mut talk.room,
+    )
 }
 
 /// Some bytes go out, if there are so many.

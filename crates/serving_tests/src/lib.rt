@@ -16,6 +16,8 @@ mod interleaved;
 #[cfg(test)]
 mod listing;
 #[cfg(test)]
+mod login;
+#[cfg(test)]
 mod messages;
 #[cfg(test)]
 mod model;

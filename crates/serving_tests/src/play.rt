@@ -1,6 +1,7 @@
 //! What happens to connections and what must come of it, as data.
 
 use crate::setting::{Registry, empty, same};
+use registry_model::Settings;
 use registry_server::{Bounds, Connections, Receipt, Refusal, Step, Turn, Wants};
 use std::alloc::Global;
 use std::process::Abort;
@@ -81,7 +82,7 @@ pub fn new_play(
         going,
     };
     Play {
-        connections: Connections::new(alloc, bounds).expect(rt, "memory"),
+        connections: Connections::new(alloc, Settings::profile(), bounds).expect(rt, "memory"),
         registry,
     }
 }

@@ -5,7 +5,9 @@ use crate::texts::{ABC, BLOB_UNKNOWN, CREATED, DELETED, FOUND, HELLO, filled};
 use oci_types::{RepoName, Token};
 use registry_http::reply_text::body_bytes;
 use registry_http::write_head;
-use registry_model::{AdminCommand, Body, Level, Query, Quota, Request, Route, Verb};
+use registry_model::{
+    AdminCommand, Body, Level, Query, Quota, Reply, Request, Resource, Route, Settings, Verb,
+};
 use registry_service::{Outcome, Step};
 use std::alloc::Global;
 use std::process::Abort;
@@ -99,6 +101,10 @@ fn request<'a>(
     body: &'a [u8],
 ) -> Step<'a> {
     Step::Request(Request {
+        settings: Settings::profile(),
+        resource: Resource::Registry,
+        host: None,
+        basic: None,
         token: Some(token),
         method,
         route,
@@ -152,24 +158,25 @@ fn outcomes(rt: &impl Abort, alloc: Global, steps: &[Step]) -> Vec<Outcome> {
     registry.run(alloc, steps).expect(rt, "outcomes")
 }
 
+/// The text of a reply to GET.
+pub fn reply_text(rt: &impl Abort, alloc: Global, reply: &Reply) -> Vec<u8> {
+    let mut text = Vec::new(alloc);
+    assert!(rt; !matches!(reply.body, Body::Unsent(_)));
+    assert!(rt; write_head(reply, false, &mut text).is_ok());
+    text.extend_from_slice(body_bytes(&reply.body))
+        .expect(rt, "memory");
+    text
+}
+
 /// The text of an outcome: of its reply, or of why a command was not carried out; empty where it was.
 fn outcome_text(rt: &impl Abort, alloc: Global, outcome: &Outcome) -> Vec<u8> {
-    let mut text = Vec::new(alloc);
     match outcome {
-        Outcome::Reply(reply) => {
-            assert!(rt; !matches!(reply.body, Body::Unsent(_)));
-            assert!(rt; write_head(reply, false, &mut text).is_ok());
-            text.extend_from_slice(body_bytes(&reply.body))
-                .expect(rt, "memory");
-        }
-        Outcome::Admin(Ok(())) => {}
-        Outcome::Admin(Err(fault)) => {
-            let fault = format!(in alloc; "{fault:?}").expect(rt, "memory");
-            text.extend_from_slice(fault.as_bytes())
-                .expect(rt, "memory");
-        }
+        Outcome::Reply(reply) => reply_text(rt, alloc, reply),
+        Outcome::Admin(Ok(())) => Vec::new(alloc),
+        Outcome::Admin(Err(fault)) => format!(in alloc; "{fault:?}")
+            .expect(rt, "memory")
+            .into_bytes(),
     }
-    text
 }
 
 /// This is told of an outcome. All that is found is `abc`.

@@ -5,7 +5,7 @@ use crate::texts::filled;
 use oci_types::{RepoName, Token};
 use registry_http::End;
 use registry_maps::MapKeeper;
-use registry_model::{AdminCommand, Level, Quota};
+use registry_model::{AdminCommand, Level, Quota, Settings};
 use registry_server::serve_connection;
 use registry_service::Service;
 use std::alloc::Global;
@@ -86,7 +86,7 @@ pub fn connect<R: Read, W: Write>(
     reader: &mut R,
     writer: &mut W,
 ) -> End {
-    serve_connection(alloc, registry, reader, writer)
+    serve_connection(alloc, registry, Settings::profile(), reader, writer)
 }
 
 /// A connection of these reads ends so, and this is answered.

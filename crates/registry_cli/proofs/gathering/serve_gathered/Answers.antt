@@ -19,7 +19,7 @@ returns-clause-served g c = record {
   says = λ honest. (
     g.K.Keeper.state c.loop.service,
     c.loop.invariant honest,
-    together_none c.args.at_once (g.K.Keeper.state c.loop.service),
+    together_none c.args.settings c.args.at_once (g.K.Keeper.state c.loop.service),
   );
 }
 

@@ -9,10 +9,10 @@ pub returns-in-Memory : goal.returns-in-Memory
 returns-in-Memory g c = record {
   runs =
       let e = streams (g.R.Read.remaining c.args.reader.now) (g.R.Read.remaining c.serve_memory.new.reader) (g.W.Write.contents c.args.out.now) (g.W.Write.contents c.serve_memory.new.out) in
-      inl (memory_read c.in-Memory.setup c.serve_memory.result e c.serve_memory.ensures.serves, rw c.in-Memory.is c.serve_memory.ensures.serves);
+      inl (memory_read c.in-Memory.settings c.in-Memory.setup c.serve_memory.result e c.serve_memory.ensures.serves, rw c.in-Memory.is c.serve_memory.ensures.serves);
   refused = λ more less.
       let e = streams (g.R.Read.remaining c.args.reader.now) (g.R.Read.remaining c.serve_memory.new.reader) (g.W.Write.contents c.args.out.now) (g.W.Write.contents c.serve_memory.new.out) in
-      inl (untouched_memory c.in-Memory.setup c.serve_memory.result e c.serve_memory.ensures.serves more (omega arith));
+      inl (untouched_memory c.in-Memory.settings c.in-Memory.setup c.serve_memory.result e c.serve_memory.ensures.serves more (omega arith));
   status = search rules;
 }
 

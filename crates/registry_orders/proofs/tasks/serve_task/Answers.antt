@@ -13,3 +13,9 @@ returns-in_err-limits c = record {
   read = IfOk-from_err c.from_residual-in_err-limits.result _ c.from_residual-in_err-limits.ensures.0;
   refused = words_failed c.from_residual-in_err-limits.result _ c.in_err-limits.ensures.refused c.from_residual-in_err-limits.ensures.1;
 }
+
+pub returns-in_err-settings : goal.returns-in_err-settings
+returns-in_err-settings c = record {
+  read = IfOk-from_err c.from_residual-in_err-settings.result _ c.from_residual-in_err-settings.ensures.0;
+  refused = words_failed c.from_residual-in_err-settings.result _ c.in_err-settings.ensures.refused c.from_residual-in_err-settings.ensures.1;
+}
