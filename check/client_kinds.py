@@ -6,14 +6,10 @@ import shutil
 import tempfile
 
 from executables import TOP
-from serving import LOGINS, must, run, until
+from serving import must, run, until
 from layout import MEDIA, digest, top_of
 
 ACCEPTED = ("manifest.v1+json", "index.v1+json")
-
-
-def login(name):
-    return f"{name}:{LOGINS[name][0]}"
 
 
 class Client:
@@ -47,6 +43,10 @@ class Client:
     def at(self, where):
         return f"docker://{self.front.host}/{where}"
 
+    def if_plain(self, word):
+        """The word, where the registry is reached without TLS."""
+        return [] if self.front.authority else [word]
+
     def push_index(self, layout, where):
         return self.push(layout, where)
 
@@ -62,7 +62,8 @@ class Skopeo(Client):
 
     def given(self, end, user):
         """How an end of a copy, `src` or `dest`, is reached."""
-        return [f"--{end}-creds", login(user)] if user else [f"--{end}-no-creds"]
+        login = [f"--{end}-creds", self.front.login(user)] if user else [f"--{end}-no-creds"]
+        return [*self.if_plain(f"--{end}-tls-verify=false"), *login]
 
     def push(self, layout, where, user="u1"):
         return self.run("skopeo", "copy", "--all", *self.given("dest", user), f"oci:{layout.folder}:v1", self.at(where))
@@ -95,6 +96,10 @@ class Storing(Client):
     def call(self, *words):
         return self.run(*self.head, *words)
 
+    def reach(self, user):
+        """How the registry is reached, with a name and a password or as nobody."""
+        return [*self.if_plain("--tls-verify=false"), *(["--creds", self.front.login(user)] if user else [])]
+
     def load(self, layout):
         """Takes a layout into its storage; the image's id."""
         # (as a relative path: a whole one becomes a name, and may be none)
@@ -103,12 +108,11 @@ class Storing(Client):
 
     def push(self, layout, where, user="u1"):
         self.image = self.load(layout)
-        return self.call("push", "--digestfile", self.digests, "--creds", login(user), self.image, self.at(where))
+        return self.call("push", "--digestfile", self.digests, *self.reach(user), self.image, self.at(where))
 
     def pull(self, where, user="u1"):
         self.call("rmi", "--all", "--force")
-        creds = ["--creds", login(user)] if user else []
-        ran = self.call("pull", *creds, self.at(where))
+        ran = self.call("pull", *self.reach(user), self.at(where))
         self.image = ran.text.splitlines()[-1]
         return ran
 
@@ -119,18 +123,24 @@ class Storing(Client):
             return it.read().strip()
 
     def pass_on(self, layout, source, target):
-        return self.call("push", "--creds", login("u1"), self.image, self.at(target))
+        return self.call("push", *self.reach("u1"), self.image, self.at(target))
 
     def push_index(self, layout, where):
         listed = f"localhost/{self.name}-two"
         self.call("manifest", "create", listed)
         self.call("manifest", "add", "--all", listed, f"oci:{layout.folder}:v1")
-        return self.call("manifest", "push", "--all", "--creds", login("u1"), listed, self.at(where))
-
+        return self.call("manifest", "push", "--all", *self.reach("u1"), listed, self.at(where))
 
     def has(self, name):
         """The id of an image of this name in its storage."""
         return self.call("images", "--quiet", "--no-trunc", name).text
+
+    def login(self, user):
+        words = [*self.if_plain("--tls-verify=false"), "--username", user, "--password-stdin", self.front.host]
+        return self.run(*self.head, "login", *words, given=self.front.logins[user][0].encode())
+
+    def logout(self):
+        return self.call("logout", self.front.host)
 
 
 class Podman(Storing):
@@ -163,7 +173,7 @@ class Ctr(Client):
     def begin(self):
         self.socket = start_containerd(self.front)
         # ctr takes `localhost` for a host without TLS unless it is told otherwise
-        self.hosts = self.told(f'  ca = "{self.front.authority}"\n')
+        self.hosts = self.if_plain("--plain-http") or self.told(f'  ca = "{self.front.authority}"\n')
         until(lambda: self.call("version").returncode == 0, "containerd")
 
     def told(self, more):
@@ -175,7 +185,7 @@ class Ctr(Client):
         return ["--hosts-dir", folder]
 
     def reach(self, user):
-        return [*self.hosts, *(["--user", login(user)] if user else [])]
+        return [*self.hosts, *(["--user", self.front.login(user)] if user else [])]
 
     def call(self, *words):
         return self.run("ctr", "--address", self.socket, *words, seconds=60)
@@ -211,7 +221,7 @@ class Curl(Client):
         words = ["curl", "-sS", "-X", method, "-w", "\n%{http_code}", "-H", f"Content-Type: application/{kind}"]
         words += ["--cacert", self.front.authority] if self.front.authority else []
         words += ["-H", "Accept: " + ", ".join(map(MEDIA.format, ACCEPTED))]
-        words += ["--oauth2-bearer", LOGINS[user][1]] if user else []
+        words += ["--oauth2-bearer", self.front.logins[user][1]] if user else []
         words += ["--data-binary", "@-"] if body is not None else []
         ran = self.run(*words, f"{self.front.url}/v2/{path}", given=body or b"")
         ran.content, _, status = ran.stdout.rpartition(b"\n")
@@ -270,7 +280,7 @@ class Oras(Client):
         must("go", "build", "-o", self.program, f"{TOP}/check/oras_copy.go", env=env, seconds=900)
 
     def call(self, way, where, user, *more):
-        given = login(user).encode() if user else b""
+        given = self.front.login(user).encode() if user else b""
         return self.run(self.program, way, f"{self.front.plain_host}/{where}", *more, given=given, seconds=60)
 
     def push(self, layout, where, user="u1"):
@@ -303,7 +313,7 @@ class Docker(Client):
         until(lambda: self.run("docker", "version").returncode == 0, "dockerd")
 
     def login(self, user):
-        return self.run("docker", "login", "--username", user, "--password-stdin", self.front.host, given=LOGINS[user][0].encode())
+        return self.run("docker", "login", "--username", user, "--password-stdin", self.front.host, given=self.front.logins[user][0].encode())
 
     def pull(self, where):
         return self.run("docker", "pull", f"{self.front.host}/{where}")

@@ -4,17 +4,20 @@
     python3 check/clients.py [straight] [nginx] [CLIENT..]    one of the two ways, or both; these clients, or all
 
 *straight* (check/straight.py): those that can be given a token push, pull, are refused, and push twelve layers; eight
-push and pull at once; skopeo carries what buildah and podman keep.
-*nginx*: nginx is started with a certificate that is made here, and `registry serve` behind it, both in a folder that
-is taken away again. Each client pushes and pulls, mounts, is refused as a stranger and where a layer or a quota is too
-large; then skopeo and ctr straight, and buildah and podman through nginx, push and pull at the same time.
+push and pull at once; skopeo carries what buildah and podman keep. Then, to a server with `--login http`
+(check/logins.py), all push and pull by a name and a password, which is the token; docker logs in and pulls; and each
+is refused with a wrong password.
+*nginx*: nginx is started with a certificate that is made here, and behind it `registry serve` with the options of the
+service, both in a folder that is taken away again. Each client pushes and pulls, mounts, is refused as a stranger and
+where a layer or a quota is too large; then skopeo and ctr straight, and buildah and podman through nginx, push and
+pull at the same time; and ctr straight, and oras-go through nginx, among more clients than the server has places for
+(check/crowded.py).
 
 What arrived is compared by digests; clients that are not installed are named. Every wait has an end, which is wrong
 where it is reached. The status is 3 where nginx or openssl is wanting, after what goes without them.
 (Where it runs as root, skopeo, buildah and podman note in /var/lib/containers/cache where they have seen blobs.)
 deploy/install-clients.sh installs what is looked for. `make check-clients` calls this.
 """
-import base64
 import json
 import os
 import shutil
@@ -23,18 +26,16 @@ import tempfile
 from concurrent.futures import ThreadPoolExecutor
 
 from asking import MIB, Check, is_there, say
-from client_kinds import CLIENTS, Curl, Docker, Skopeo, login
+from client_kinds import CLIENTS, Curl, Docker, Skopeo
+from crowded import push_in_a_crowd
 from executables import REGISTRY
 from front import Front
 from layout import Layout
-from serving import end, must
+from logins import log_in
+from serving import basic, end, must
 from straight import all_at_once, go_straight
 
 WAYS = ["straight", "nginx"]
-
-
-def basic(user):
-    return {"Authorization": "Basic " + base64.b64encode(user.encode()).decode()}
 
 
 def look_at_the_front(front):
@@ -43,22 +44,29 @@ def look_at_the_front(front):
         status, fields, _ = front.ask("/v2/", at=f"{scheme}://{host}")
         wanted = f'Bearer realm="{scheme}://{host}/token",service="firkhen"'
         say((status, fields["WWW-Authenticate"]) == (401, wanted), f"the challenge names {scheme} and the host", fields["WWW-Authenticate"])
-    status, fields, body = front.ask("/token?service=firkhen", fields=basic(login("u1")))
-    said = json.loads(body)
-    say((status, said["token"], said["access_token"], fields["Cache-Control"]) == (200, "t1", "t1", "no-store"), "a name and password get their token")
+    # by the table of nginx; and by the server, of which a password is the token
+    for given, what in ((front.login("u1"), "a name and password get their token"), ("nobody:t1", "so does the token itself")):
+        status, fields, body = front.ask("/token?service=firkhen", fields=basic(given))
+        said = json.loads(body)
+        say((status, said["token"], said["access_token"], fields.get_all("Cache-Control")) == (200, "t1", "t1", ["no-store"]), what)
     # nginx compares words without regard to case, and base64 differs by it
-    for other in (login("u1").upper(), login("u1") + "x", "u1:", "u1:" + login("u2")[3:], ""):
+    for other in (front.login("u1").upper(), front.login("u1") + "x", "u1:", ""):
         status, fields, _ = front.ask("/token", fields=basic(other) if other else None)
         say((status, fields["WWW-Authenticate"]) == (401, 'Basic realm="firkhen"'), f"`{other}` gets none")
-    at = basic(login("u1"))["Authorization"][6:]
+    at = basic(front.login("u1"))["Authorization"][6:]
     status, _, _ = front.ask("/token", fields={"Authorization": "Basic " + at.swapcase()})
     say(status == 401, "nor do its letters in the other case")
+    # the password of another is its own token, which nobody has
+    _, _, body = front.ask("/token", fields=basic("u1:" + front.login("u2")[3:]))
+    token = json.loads(body)["token"]
+    say(token == "p2" and front.read("/v2/", token)[0] == 401, "and the password of another name opens nothing")
     say(front.ask("/token", "POST", body=b"")[0] == 405, "a POST for a token is told to try GET")
     status, fields, _ = front.ask("/v2/team/app/blobs/uploads/", "POST", {"Authorization": "Bearer t1"}, b"")
     say(status == 202 and fields["Location"].startswith(f"https://{front.host}/v2/team/app/blobs/uploads/"), "a Location is whole", str(fields["Location"]))
     mode = os.stat(f"{front.room}/firkhen/tokens.conf").st_mode & 0o777
     say(mode == 0o600, "the table of tokens is read with mode 0600")
-    say(front.ask("/healthz")[::2] == (200, b"ok\n"), "/healthz is well")
+    status, fields, body = front.ask("/healthz")
+    say((status, fields["Content-Type"], body) == (200, "text/plain", b"ok\n"), "/healthz is well")
 
 
 def look_at_docker(front, image):
@@ -105,7 +113,7 @@ def pull_eight_at_once(front, image):
 
 def push_in_dockers_form(front, image):
     """What is not taken: Docker's own manifests."""
-    words = ["--format", "v2s2", "--dest-creds", login("u1"), f"oci:{image.folder}:v1", f"docker://{front.host}/team/app:docker"]
+    words = ["--format", "v2s2", "--dest-creds", front.login("u1"), f"oci:{image.folder}:v1", f"docker://{front.host}/team/app:docker"]
     ran = Skopeo(front).run("skopeo", "copy", *words)
     say(ran.returncode != 0 and "manifest invalid" in ran.text, "skopeo: a manifest in Docker's own form is refused as such", ran.text[-600:])
 
@@ -156,6 +164,7 @@ def go_through_nginx(only):
                 push_in_dockers_form(front, image)
             if not only:
                 all_at_once(front)
+                push_in_a_crowd(front)
             stop_the_server(front)
         look_at_the_quota(front)
 
@@ -169,6 +178,7 @@ def main():
     lacking = [it for it in ("nginx", "openssl") if shutil.which(it, path=os.environ["PATH"] + ":/usr/sbin") is None]
     if "straight" in ways:
         go_straight(only)
+        log_in(only)
     if "nginx" in ways and not lacking:
         go_through_nginx(only)
     if "nginx" in ways and lacking:

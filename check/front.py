@@ -1,10 +1,11 @@
 """The server behind nginx with the configuration of deploy/nginx, in a folder, on ports that are free."""
 import os
+import re
 import shutil
 import ssl
 
 from executables import TOP
-from serving import LOGINS, Serving, free_port, listens, must, until
+from serving import Serving, free_port, listens, must, until
 
 NGINX = f"{TOP}/deploy/nginx"
 
@@ -23,11 +24,17 @@ http {{
 """
 
 
+def shipped_options():
+    """The further words of the service, as they are installed."""
+    with open(f"{TOP}/deploy/firkhen.default", encoding="utf-8") as it:
+        return re.search(r'^OPTIONS="(.*)"$', it.read(), re.MULTILINE)[1].split()
+
+
 class Front(Serving):
     """Made with all its repositories, tokens and names; `with` starts and ends both. Clients go to nginx, whose record has the
     requests."""
 
-    options, record = [], "access.log"
+    options, record = shipped_options(), "access.log"
     mount, too_large = ["POST /v2/team/lib/blobs/uploads/?", "mount=sha256", "201 "], ["413 "]
 
     def __init__(self, room):
@@ -56,7 +63,7 @@ class Front(Serving):
         must("openssl", "req", "-x509", "-newkey", "ec", "-pkeyopt", "ec_paramgen_curve:P-256", "-nodes", "-days", 2, "-keyout", key, "-out", self.authority, *names)
         shutil.copy(f"{NGINX}/locations.conf", f"{self.room}/firkhen")
         tokens = must("cat", f"{NGINX}/tokens.conf") + "\n"
-        for name, (password, token) in LOGINS.items():
+        for name, (password, token) in self.logins.items():
             tokens += must(f"{NGINX}/token-line", name, given=f"{password}\n{token}\n".encode()) + "\n"
         self.write("firkhen/tokens.conf", tokens, 0o600)
         with open(f"{NGINX}/site.conf", encoding="utf-8") as it:

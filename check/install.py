@@ -2,8 +2,8 @@
 """Looks at what `make install` and `make deb` make, in a folder that is taken away again.
 
 The files and their modes; that a second installation leaves the administrator's files as they are; that the man
-page and the completion say what --help says, line by line; the unit, by systemd-analyze; and that the package has
-the same files. Tools that are not installed are named. `make check-install` calls this.
+page and the completion say what --help says, line by line; that the service's further words are options of `serve`;
+the unit, by systemd-analyze; and that the package has the same files. Tools that are not installed are named. `make check-install` calls this.
 """
 import glob
 import os
@@ -122,6 +122,19 @@ def look_at_the_completion(room, told):
     say(offered("registry", "rev") == {"revoke"}, "a word that is begun is ended")
 
 
+def look_at_the_options(room, told):
+    """Of the service: its file has what the unit has where the file is not there, and `serve` takes it."""
+    found = {}
+    for path, line in (("etc/default/firkhen", r'^OPTIONS="(.*)"$'), ("usr/lib/systemd/system/firkhen.service", r'^Environment=.*"OPTIONS=(.*)"$')):
+        with open(f"{room}/{path}", encoding="utf-8") as it:
+            found[path] = (re.findall(line, it.read(), re.MULTILINE) or [None])[0]
+    words = next(iter(found.values()))
+    say(words is not None and len(set(found.values())) == 1, "the unit and its file have the same further words", str(found))
+    options = re.findall(r"--[a-z-]+", words or "")
+    taken = re.findall(r"--[a-z-]+", told["serve"])
+    say(set(options) <= set(taken), f"serve takes {' '.join(options)}", str(taken))
+
+
 def look_at_the_unit(room):
     if not has("systemd-analyze"):
         return
@@ -167,6 +180,7 @@ def main():
         look_at_files(room)
         look_at_the_man_page(room, told)
         look_at_the_completion(room, told)
+        look_at_the_options(room, told)
         look_at_the_unit(room)
     look_at_the_package()
     print(f"{say.wrong} wrong" if say.wrong else "what is installed is as it should be")

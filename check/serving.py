@@ -1,4 +1,5 @@
 """A server over a file in a folder, on a port that is free, and what is started and run beside it."""
+import base64
 import copy
 import json
 import os
@@ -11,7 +12,8 @@ import urllib.request
 
 from executables import REGISTRY
 
-# a password in base64 may have + and /, which are more than themselves in a pattern
+# the password and the token of each user (a password in base64 may have + and /, which are more than themselves in a
+# pattern)
 LOGINS = {"u1": ("p1>>>???", "t1"), "u2": ("p2", "t2")}
 QUOTAS = {"team/app": 1 << 40, "team/lib": 1 << 40, "team/other": 1 << 40, "team/small": 100_000}
 GRANTS = [("t1", "team/app"), ("t1", "team/lib"), ("t1", "team/small"), ("t2", "team/other")]
@@ -74,19 +76,26 @@ def end(process):
         process.wait()
 
 
+def basic(login):
+    """The field that a name and a password, with a colon between them, are sent in (RFC 7617)."""
+    return {"Authorization": "Basic " + base64.b64encode(login.encode()).decode()}
+
+
 class Serving:
     """Made with all its repositories and tokens. `with` starts it, and ends it with all that was started beside it.
     `host` and `url` are where clients go: here straight to the server."""
 
     # what its certificate is compared with, where it has one
     authority, trust = "", None
+    # who logs in, and how
+    logins = LOGINS
     # the record of requests, and what its lines have of a mount and of a blob that is too large
     options, record = ["--log"], "registry.log"
     mount, too_large = ["POST /v2/team/lib/blobs/uploads/ 201 "], [" 413 "]
 
     def __init__(self, room):
         self.room, self.db, self.inner, self.processes = room, f"{room}/registry.db", free_port(), []
-        self.host = f"127.0.0.1:{self.inner}"
+        self.host = self.plain_host = f"127.0.0.1:{self.inner}"
         self.url = f"http://{self.host}"
         for name, quota in QUOTAS.items():
             must(REGISTRY, "repo", "--db", self.db, "--name", name, "--quota", quota)
@@ -107,10 +116,14 @@ class Serving:
     def begin(self):
         self.start_server()
 
+    def login(self, user):
+        """A name and a password, with a colon between them."""
+        return f"{user}:{self.logins[user][0]}"
+
     def straight(self):
         """The same, for clients that go straight to the server."""
         it = copy.copy(self)
-        it.host = f"127.0.0.1:{self.inner}"
+        it.host = it.plain_host = f"127.0.0.1:{self.inner}"
         it.url, it.authority, it.trust = f"http://{it.host}", "", None
         return it
 

@@ -1,7 +1,8 @@
 """Real clients straight to the server, with a token and without TLS: one after the other, and several at once.
 
 curl, skopeo and ctr can be given a token, and docker, which only pulls. buildah and podman have a name and password
-alone, and look for a place that changes them for a token: they go through nginx, or skopeo carries what they keep.
+alone, and look for a place that changes them for a token, which a server has with --login (check/logins.py). Here it
+has none, and skopeo carries what they keep.
 """
 import json
 import os
@@ -12,7 +13,7 @@ from concurrent.futures import ThreadPoolExecutor
 from asking import MIB, Check, is_there, say
 from client_kinds import Buildah, Ctr, Curl, Docker, Podman, Skopeo
 from layout import Layout
-from serving import LOGINS, Serving
+from serving import Serving
 
 # what a client says that is to ask `registry`, the realm of the challenge, for a token
 NO_PLACE = "unsupported protocol scheme"
@@ -21,7 +22,7 @@ LAYERS = 12
 
 class StraightSkopeo(Skopeo):
     def given(self, end, user):
-        token = [f"--{end}-registry-token", LOGINS[user][1]] if user else [f"--{end}-no-creds"]
+        token = [f"--{end}-registry-token", self.front.logins[user][1]] if user else [f"--{end}-no-creds"]
         return [f"--{end}-tls-verify=false", *token]
 
 
@@ -31,7 +32,7 @@ class StraightCtr(Ctr):
     def begin(self):
         super().begin()
         field = f'  [host."{self.front.url}".header]\n    authorization = "Bearer {{}}"\n'
-        self.folders = {user: self.told(field.format(token)) for user, (_, token) in LOGINS.items()}
+        self.folders = {user: self.told(field.format(token)) for user, (_, token) in self.front.logins.items()}
         self.folders[None] = self.told("")
 
     def reach(self, user):
@@ -93,7 +94,7 @@ def carry_what_others_keep(serving):
         client, seed = kind(serving), f"kept-{kind.name}"
         image, where = Layout(f"{serving.room}/{seed}", seed, MIB), f"team/app:{seed}"
         name = client.load(image)
-        ran = client.call("push", "--tls-verify=false", "--creds", "u1:p1", name, client.at(where))
+        ran = client.call("push", *client.reach("u1"), name, client.at(where))
         lost = ran.returncode != 0 and NO_PLACE in ran.text
         say(lost, f"{kind.name}: straight it finds no place that gives tokens", ran.text[-600:])
         kept = f"containers-storage:[vfs@{client.folder}+{client.folder}-run]"
@@ -117,7 +118,7 @@ def pull_by_docker(serving):
     docker.begin()
     os.makedirs(f"{serving.room}/docker", exist_ok=True)
     for user, wanted in (("u2", "denied"), ("u1", "Downloaded newer image")):
-        serving.write("docker/config.json", json.dumps({"auths": {serving.host: {"registrytoken": LOGINS[user][1]}}}))
+        serving.write("docker/config.json", json.dumps({"auths": {serving.host: {"registrytoken": serving.logins[user][1]}}}))
         ran = docker.pull(where)
         what = f"pull of {LAYERS} layers" if user == "u1" else "a stranger's pull is refused, and says why"
         say(wanted in ran.text and (ran.returncode == 0) == (user == "u1"), f"docker: {what}", ran.text[-600:])

@@ -109,7 +109,8 @@ def completion(told):
     yield "  case $before in"
     yield '    --db | --orders | --token-file) compopt -o filenames; mapfile -t COMPREPLY < <(compgen -f -- "$word"); return ;;'
     yield "    --level) options='1 2 3' ;;"
-    yield f"    {' | '.join(sorted(valued - {'--db', '--orders', '--token-file', '--level'}))}) return ;;"
+    yield "    --login) options='http https' ;;"
+    yield f"    {' | '.join(sorted(valued - {'--db', '--orders', '--token-file', '--level', '--login'}))}) return ;;"
     yield "  esac"
     yield f"  if ((COMP_CWORD == 1)); then options='{names} {' '.join(long_options(told.options))}'; fi"
     yield '  if [ -z "$options" ]; then\n    case ${COMP_WORDS[1]} in'
