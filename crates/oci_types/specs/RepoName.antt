@@ -7,7 +7,6 @@ use Rattle.oci_types.specs.Byte.{is_lowercase_or_digit}
 use Rattle.oci_types.specs.Language.{Language, IsIn, both, either, many, some, one, byte}
 use Rattle.oci_types.specs.declared.repo_name.Place.{Place}
 use Rattle.oci_types.specs.declared.repo_name.Place.TheVariants.{Start, Word, Underscore, Dashes, Outside}
-use Rattle.oci_types.specs.declared.repo_name.TheConstants.{LONGEST_REPO_NAME}
 
 -- `[a-z0-9]+`
 abbrev pub word : Language
@@ -27,7 +26,7 @@ path = both component (many (both (byte 47) component))
 
 -- a repository name: a path of at most 255 bytes
 abbrev pub IsRepoName : Text → Type 0
-IsRepoName t = IsIn path t × (length t ≤ LONGEST_REPO_NAME)
+IsRepoName t = IsIn path t × (length t ≤ 255)
 
 -- ---- the test
 
@@ -54,4 +53,4 @@ abbrev pub is_path : Text → Bool
 is_path t = is_end (fold place_after Start t)
 
 abbrev pub is_repo_name : Text → Bool
-is_repo_name t = nat_le (length t) LONGEST_REPO_NAME && is_path t
+is_repo_name t = nat_le (length t) 255 && is_path t

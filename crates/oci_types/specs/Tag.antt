@@ -4,7 +4,6 @@ use Rattle.std.specs.List.{list_all}
 use Rattle.oci_types.specs.Text.{Text}
 use Rattle.oci_types.specs.Byte.{is_alphanumeric}
 use Rattle.oci_types.specs.Language.{Language, IsIn, both, many, one}
-use Rattle.oci_types.specs.declared.tag.TheConstants.{LONGEST_TAG}
 
 -- `[a-zA-Z0-9_]`
 abbrev pub is_tag_start : ℕ → Bool
@@ -20,7 +19,7 @@ tag_characters = both (one is_tag_start) (many (one is_tag_character))
 
 -- a tag: such a text of at most 128 bytes
 abbrev pub IsTag : Text → Type 0
-IsTag t = IsIn tag_characters t × (length t ≤ LONGEST_TAG)
+IsTag t = IsIn tag_characters t × (length t ≤ 128)
 
 -- ---- the test
 
@@ -30,4 +29,4 @@ are_tag_characters [] = false
 are_tag_characters (b ∷ t) = is_tag_start b && list_all is_tag_character t
 
 abbrev pub is_tag : Text → Bool
-is_tag t = nat_le (length t) LONGEST_TAG && are_tag_characters t
+is_tag t = nat_le (length t) 128 && are_tag_characters t

@@ -6,7 +6,6 @@ use Rattle.oci_types.specs.Byte.{is_alphanumeric}
 use Rattle.oci_types.specs.Language.{Language, IsIn, both, many, some, one, byte}
 use Rattle.oci_types.specs.declared.token.Place.{Place}
 use Rattle.oci_types.specs.declared.token.Place.TheVariants.{Start, Character, Padding, Outside}
-use Rattle.oci_types.specs.declared.token.TheConstants.{LONGEST_TOKEN}
 
 -- `[A-Za-z0-9._~+/-]`
 abbrev pub is_token_character : ℕ → Bool
@@ -18,7 +17,7 @@ b64token = both (some (one is_token_character)) (many (byte 61))
 
 -- a token: such a text of at most 200 bytes
 abbrev pub IsToken : Text → Type 0
-IsToken t = IsIn b64token t × (length t ≤ LONGEST_TOKEN)
+IsToken t = IsIn b64token t × (length t ≤ 200)
 
 -- ---- the test
 
@@ -40,4 +39,4 @@ abbrev pub is_b64token : Text → Bool
 is_b64token t = is_end (fold place_after Start t)
 
 abbrev pub is_token : Text → Bool
-is_token t = nat_le (length t) LONGEST_TOKEN && is_b64token t
+is_token t = nat_le (length t) 200 && is_b64token t

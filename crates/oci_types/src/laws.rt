@@ -7,6 +7,10 @@ ghost use Rattle.std.specs.Fmt.{decimal};
 ghost use Rattle.oci_types.specs.SessionNumber.{session_number_of};
 ghost use Rattle.oci_types.specs.Tag.{IsTag, is_tag};
 ghost use Rattle.oci_types.specs.Token.{IsToken, is_token};
+ghost use Rattle.oci_types.specs.declared.repo_name.TheConstants.{LONGEST_REPO_NAME};
+ghost use Rattle.oci_types.specs.declared.session.TheConstants.{LARGEST_SESSION_NUMBER};
+ghost use Rattle.oci_types.specs.declared.tag.TheConstants.{LONGEST_TAG};
+ghost use Rattle.oci_types.specs.declared.token.TheConstants.{LONGEST_TOKEN};
 
 use crate::Verdict;
 
@@ -45,6 +49,14 @@ pub fn token_grammar()
 pub fn session_number_decimal()
     ensures { (t : List ℕ) (n : ℕ)
         → (session_number_of t ≡ Some n) ↔ ((t ≡ decimal n) × (1 ≤ n) × (n < 2 ^ 63)) }
+{}
+
+/// The limits of words, which the definitions have as numbers, are what callers know them by.
+pub fn limits_of_words()
+    ensures repo_name { LONGEST_REPO_NAME ≡ 255 }
+    ensures tag { LONGEST_TAG ≡ 128 }
+    ensures token { LONGEST_TOKEN ≡ 200 }
+    ensures session { LARGEST_SESSION_NUMBER ≡ 9223372036854775807 }
 {}
 
 /// The digest texts of bytes are digests.

@@ -9,6 +9,8 @@ ghost use Rattle.registry_model.specs.declared.level.Level.{Level};
 ghost use Rattle.registry_model.specs.declared.grant.Grant.{Grant};
 ghost use Rattle.registry_model.specs.Lookups.{AreLevelsOn, AreLevelsOver};
 ghost use Rattle.registry_model.specs.Ask.{Ask};
+ghost use Rattle.registry_model.specs.Limits.{largest, largest_blob, largest_manifest, most_sessions};
+ghost use Rattle.registry_model.specs.declared.limits.TheConstants.{LARGEST_BLOB, LARGEST_MANIFEST, MOST_SESSIONS, LARGEST_QUOTA};
 ghost use Rattle.registry_model.specs.Heads.{as_head, as_get, without_content};
 ghost use Rattle.registry_model.specs.Login.{profile, login_answer, health_answer};
 ghost use Rattle.registry_model.specs.Decision.{refuses};
@@ -39,6 +41,14 @@ pub fn head_is_get_without_its_content()
     ensures reply { (w : World) (q : Ask)
         → without_content (reply_to w (as_head q)) ≡ without_content (reply_to w (as_get q)) }
     ensures world { (w : World) (q : Ask) → after_request w (as_head q) ≡ after_request w (as_get q) }
+{}
+
+/// The limits that callers know are the numbers of the definitions.
+pub fn limits_are_these()
+    ensures blob { LARGEST_BLOB ≡ largest_blob }
+    ensures manifest { LARGEST_MANIFEST ≡ largest_manifest }
+    ensures sessions { MOST_SESSIONS ≡ most_sessions }
+    ensures quota { LARGEST_QUOTA ≡ largest }
 {}
 
 /// With the profile's settings a request is answered, and does, what it did where there was nothing to

@@ -1,9 +1,11 @@
 //! What an operator may choose. The default is the profile: every byte of a reply is then as if there were
 //! nothing to choose.
 ghost use Rattle.std.specs.Prelude.{◌≡◌};
+ghost use Rattle.registry_model.specs.Limits.{most_body};
 ghost use Rattle.registry_model.specs.Login.{profile, resource_at};
 
 use crate::Resource;
+use crate::limits::LARGEST_BLOB;
 
 /// The scheme of a URL by which clients reach a registry (RFC 9110, section 4.2).
 #[derive(Clone, Copy)]
@@ -31,6 +33,13 @@ impl Settings {
             login: None,
             health: false,
         }
+    }
+
+    /// The most bytes of a request's body: those of a blob.
+    pub fn most_body(&self) -> u64
+        ensures { result ≡ most_body self.now }
+    {
+        LARGEST_BLOB
     }
 
     /// What a path names, percent-decoded.
