@@ -151,14 +151,13 @@ replies_take w [] (suc n) = refl
 replies_take w (q ∷ requests) (suc n) = λ i. reply_to w q ∷ replies_take (after_request w q) requests n i
 
 -- without want of memory the team is answered in order, up to the first storage failure
-answered_first : (s : State) (steps : List Step) (outcomes : List Outcome) (s' : State) → TakesAll s steps outcomes s' → (team : Team) → NoneMissed outcomes
+answered_first : (s : State) (steps : List Step) (outcomes : List Outcome) (s' : State) → TakesAll s steps outcomes s' → (team : Team) → NoneMissed team steps outcomes
     → asked team steps outcomes ≡ take (length (asked team steps outcomes)) (requests_of team steps)
 answered_first s [] [] s' r team none = refl
 answered_first s [] (o ∷ outcomes) s' r team none = absurd r
 answered_first s (st ∷ steps) [] s' r team none = absurd r
 answered_first s (asks q ∷ steps) (told a ∷ outcomes) s' r team none =
-    by_kind (course_of_answer a) (All-head (λ o. course o ≢ missed) (told a) outcomes none)
-    (answered_first r.0 steps outcomes s' r.2 team (All-tail (λ o. course o ≢ missed) (told a) outcomes none))
+    by_kind (course_of_answer a) none.0 (answered_first r.0 steps outcomes s' r.2 team none.1)
   where
     request : asked team steps outcomes ≡ take (length (asked team steps outcomes)) (requests_of team steps) → (b : Bool) → is_own team q.token ≡ b
         → map (λ p. p.0) (own team ((asks q, told a) ∷ kept steps outcomes))
@@ -166,22 +165,27 @@ answered_first s (asks q ∷ steps) (told a ∷ outcomes) s' r team none =
     request later true e = rw e (λ i. q ∷ later i)
     request later false e = rw e later
 
-    by_kind : (k : Course) → k ≢ missed → asked team steps outcomes ≡ take (length (asked team steps outcomes)) (requests_of team steps)
+    -- one for which memory was wanting is nothing that the team asked
+    left_out : ((is_own team q.token ≡ true) → missed ≢ missed) → asked team steps outcomes ≡ take (length (asked team steps outcomes)) (requests_of team steps) → (b : Bool) → is_own team q.token ≡ b
+        → asked team steps outcomes ≡ take (length (asked team steps outcomes)) (requests_of team (asks q ∷ steps))
+    left_out never later true e = absurd (never e refl)
+    left_out never later false e = rw e later
+
+    by_kind : (k : Course) → ((is_own team q.token ≡ true) → k ≢ missed) → asked team steps outcomes ≡ take (length (asked team steps outcomes)) (requests_of team steps)
         → map (λ p. p.0) (own team (kept_as k (asks q) (told a) (kept steps outcomes)))
         ≡ take (length (map (λ p. p.0) (own team (kept_as k (asks q) (told a) (kept steps outcomes))))) (requests_of team (asks q ∷ steps))
     by_kind answered d later = request later (is_own team q.token) refl
-    by_kind missed d later = absurd (d refl)
+    by_kind missed d later = left_out d later (is_own team q.token) refl
     by_kind lost d later = refl
 answered_first s (orders a ∷ steps) (did x ∷ outcomes) s' r team none =
-    by_kind (course_of_result x) (All-head (λ o. course o ≢ missed) (did x) outcomes none)
-    (answered_first r.0 steps outcomes s' r.2 team (All-tail (λ o. course o ≢ missed) (did x) outcomes none))
+    by_kind (course_of_result x) (answered_first r.0 steps outcomes s' r.2 team none)
   where
-    by_kind : (k : Course) → k ≢ missed → asked team steps outcomes ≡ take (length (asked team steps outcomes)) (requests_of team steps)
+    by_kind : (k : Course) → asked team steps outcomes ≡ take (length (asked team steps outcomes)) (requests_of team steps)
         → map (λ p. p.0) (own team (kept_as k (orders a) (did x) (kept steps outcomes)))
         ≡ take (length (map (λ p. p.0) (own team (kept_as k (orders a) (did x) (kept steps outcomes))))) (requests_of team steps)
-    by_kind answered d later = later
-    by_kind missed d later = absurd (d refl)
-    by_kind lost d later = refl
+    by_kind answered later = later
+    by_kind missed later = later
+    by_kind lost later = refl
 answered_first s (asks q ∷ steps) (did x ∷ outcomes) s' r team none = absurd r.1
 answered_first s (orders a ∷ steps) (told x ∷ outcomes) s' r team none = absurd r.1
 
@@ -204,7 +208,7 @@ module _ (s t : State) (steps others : List Step) (outcomes results : List Outco
       ∙ replies_take (view t.world team) (asked team others results) n
       ∙ ap (take n) (sym ((run_says t others results t' q).private team yours beside))
 
-  pub same_asked : NoneMissed outcomes → NoneMissed results → requests_of team steps ≡ requests_of team others → (n : ℕ)
+  pub same_asked : NoneMissed team steps outcomes → NoneMissed team others results → requests_of team steps ≡ requests_of team others → (n : ℕ)
       → n ≤ length (asked team steps outcomes) → n ≤ length (asked team others results)
       → take n (answers_to team steps outcomes) ≡ take n (answers_to team others results)
   same_asked none never e n fits room = same_front n

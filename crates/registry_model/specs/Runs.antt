@@ -1,5 +1,5 @@
 -- Steps one after the other, and what a team is told among them (profile).
-use Rattle.std.specs.Prelude.{◌≡◌, ◌≢◌, false, if◌then◌else◌, List, [], ◌∷◌, map, length, All, ⊤, Result}
+use Rattle.std.specs.Prelude.{◌≡◌, ◌≢◌, true, false, if◌then◌else◌, List, [], ◌∷◌, map, length, All, ⊤, Result}
 use Rattle.registry_model.specs.declared.admin.AdminFault.{AdminFault}
 use Rattle.registry_model.specs.World.{World}
 use Rattle.registry_model.specs.Answer.{Answer}
@@ -115,9 +115,12 @@ asked team steps outcomes = map (λ p. p.0) (own team (kept steps outcomes))
 abbrev pub answers_to : Team → List Step → List Outcome → List Answer
 answers_to team steps outcomes = map (λ p. p.1) (own team (kept steps outcomes))
 
--- no step failed for want of memory
-abbrev pub NoneMissed : List Outcome → Type 0
-NoneMissed outcomes = All (λ o. course o ≢ missed) outcomes
+-- no request of the team failed for want of memory
+abbrev pub NoneMissed : Team → List Step → List Outcome → Type 0
+NoneMissed team (asks q ∷ steps) (o ∷ outcomes) =
+    (is_own team q.token ≡ true → course o ≢ missed) × NoneMissed team steps outcomes
+NoneMissed team (orders a ∷ steps) (o ∷ outcomes) = NoneMissed team steps outcomes
+NoneMissed team steps outcomes = ⊤
 
 -- the replies to requests, one after the other
 abbrev pub replies : World → List Ask → List Answer

@@ -131,7 +131,7 @@ pub fn a_run_is_private()
 /// Two registries, whatever else they hold and do, over whatever keepers: where they agree on what a
 /// team sees, and the steps of each are the team's own or aside, the team is told the same by both as
 /// long as it asks the same. So it is of its requests that were answered; and of all its requests,
-/// where memory was not wanting, up to the first storage failure in either.
+/// where memory was wanting for none of them, up to the first storage failure in either.
 pub fn two_registries_tell_a_team_the_same()
     ensures whole { (s t : State) (steps others : List Step) (outcomes results : List Outcome) (s' t' : State)
         → TakesAll s steps outcomes s' → TakesAll t others results t'
@@ -152,7 +152,8 @@ pub fn two_registries_tell_a_team_the_same()
         → (team : Team) → IsTeamOf s.world team → IsTeamOf t.world team
         → view s.world team ≡ view t.world team
         → All (OwnOrAside s.world steps team) steps → All (OwnOrAside t.world others team) others
-        → NoneMissed outcomes → NoneMissed results → requests_of team steps ≡ requests_of team others
+        → NoneMissed team steps outcomes → NoneMissed team others results
+        → requests_of team steps ≡ requests_of team others
         → (n : ℕ) → n ≤ length (asked team steps outcomes) → n ≤ length (asked team others results)
         → take n (answers_to team steps outcomes) ≡ take n (answers_to team others results) }
 {}
