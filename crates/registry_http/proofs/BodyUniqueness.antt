@@ -8,10 +8,12 @@ use Rattle.httparse.specs.Grammar.{ChunkLine, print_chunk_line, chunk_size, Read
 use Rattle.httparse.proofs.ChunkLemmas.{chunk_line_unique}
 use Rattle.httparse.proofs.GrammarLemmas.{section_unique}
 use Rattle.oci_types.specs.Text.{Text}
+use Rattle.registry_model.specs.Limits.{most_body}
+use Rattle.registry_model.specs.declared.settings.Settings.{Settings}
 use Rattle.registry_http.specs.declared.ending.FramingRefusal.{FramingRefusal}
 use Rattle.registry_http.specs.declared.framing.Framing.{Framing}
 use Rattle.registry_http.specs.declared.framing.Framing.TheVariants as framed
-use Rattle.registry_http.specs.Chunks.{limit, Chunk, IsChunk, IsLast, print_chunk, print_chunks, data_of, LineIsCut, LineIsRefused, HasBadEnd, ChunkIsCut, ChunkIsRefused, TrailerIsCut, TrailerIsRefused, BehindChunks, BehindLast, ChunkedBody, IsChunkedBody, print_body}
+use Rattle.registry_http.specs.Chunks.{Chunk, IsChunk, IsLast, print_chunk, print_chunks, data_of, LineIsCut, LineIsRefused, HasBadEnd, ChunkIsCut, ChunkIsRefused, TrailerIsCut, TrailerIsRefused, BehindChunks, BehindLast, ChunkedBody, IsChunkedBody, print_body}
 use Rattle.registry_http.specs.Spelling.{IsBody, BodyIsCut, BodyIsRefused}
 
 pub same_front : (a b x y : Text) → length a ≡ length b → a ++ x ≡ b ++ y → (a ≡ b) × (x ≡ y)
@@ -42,7 +44,7 @@ line_served b l rest r reads short (e, inr never) = never (drop 1024 b) l rest (
 pub opened : (c : Chunk) (y : Text) → print_chunk c ++ y ≡ print_chunk_line c.line ++ (c.carried ++ (13 ∷ 10 ∷ y))
 opened c y = simp append_assoc
 
-module _ (total : ℕ) (c : Chunk) (y : Text) (is : IsChunk c) (fits : total + length c.carried ≤ limit) where
+module _ (settings : Settings) (total : ℕ) (c : Chunk) (y : Text) (is : IsChunk c) (fits : total + length c.carried ≤ most_body settings) where
   chunk_reads : ReadsChunkLine (print_chunk c ++ y) c.line (c.carried ++ (13 ∷ 10 ∷ y))
   chunk_reads = (is.line, opened c y)
 
@@ -58,13 +60,13 @@ module _ (total : ℕ) (c : Chunk) (y : Text) (is : IsChunk c) (fits : total + l
   second_byte : get_or (c.carried ++ (13 ∷ 10 ∷ y)) (length c.carried + 1) 0 ≡ 10
   second_byte = get_or-append-add c.carried (13 ∷ 10 ∷ y) 1 0
 
-  pub chunk_whole : ChunkIsCut total (print_chunk c ++ y) → ⊥
+  pub chunk_whole : ChunkIsCut settings total (print_chunk c ++ y) → ⊥
   chunk_whole (inl cut) = line_whole (print_chunk c ++ y) c.line _ chunk_reads cut
   chunk_whole (inr (l, rest, sized, cut)) =
       let same = same_line l rest sized.begins.reads in
       omega (arith, cut.0, size_of l same.0, ap length same.1, length-append c.carried (13 ∷ 10 ∷ y))
 
-  pub chunk_served : (r : FramingRefusal) → ChunkIsRefused total (print_chunk c ++ y) r → ⊥
+  pub chunk_served : (r : FramingRefusal) → ChunkIsRefused settings total (print_chunk c ++ y) r → ⊥
   chunk_served r (inl bad) = line_served (print_chunk c ++ y) c.line _ r chunk_reads is.short bad
   chunk_served r (inr (inl (l, rest, begins, over, e))) = omega (arith, over, size_of l (same_line l rest begins.reads).0)
   chunk_served r (inr (inr (l, rest, sized, (e, bad)))) =
@@ -75,18 +77,18 @@ module _ (total : ℕ) (c : Chunk) (y : Text) (is : IsChunk c) (fits : total + l
       good (inl x) = x.1 first_byte
       good (inr x) = x.2 second_byte
 
-module _ (total : ℕ) (u : ChunkLine) (y : Text) (is : IsLast u) (fits : total ≤ limit) where
+module _ (settings : Settings) (total : ℕ) (u : ChunkLine) (y : Text) (is : IsLast u) (fits : total ≤ most_body settings) where
   last_reads : ReadsChunkLine (print_chunk_line u ++ y) u y
   last_reads = (is.line, refl)
 
   zero_size : (l : ChunkLine) (rest : Text) → ReadsChunkLine (print_chunk_line u ++ y) l rest → chunk_size l ≡ 0
   zero_size l rest reads = ap chunk_size (chunk_line_unique (print_chunk_line u ++ y) l u rest y reads last_reads).0 ∙ is.zero
 
-  pub last_whole : ChunkIsCut total (print_chunk_line u ++ y) → ⊥
+  pub last_whole : ChunkIsCut settings total (print_chunk_line u ++ y) → ⊥
   last_whole (inl cut) = line_whole (print_chunk_line u ++ y) u y last_reads cut
   last_whole (inr (l, rest, sized, cut)) = omega (arith, sized.some, zero_size l rest sized.begins.reads)
 
-  pub last_served : (r : FramingRefusal) → ChunkIsRefused total (print_chunk_line u ++ y) r → ⊥
+  pub last_served : (r : FramingRefusal) → ChunkIsRefused settings total (print_chunk_line u ++ y) r → ⊥
   last_served r (inl bad) = line_served (print_chunk_line u ++ y) u y r last_reads is.short bad
   last_served r (inr (inl (l, rest, begins, over, e))) = omega (arith, over, zero_size l rest begins.reads)
   last_served r (inr (inr (l, rest, sized, bad))) = omega (arith, sized.some, zero_size l rest sized.begins.reads)
@@ -136,10 +138,10 @@ chunks_unique (x ∷ xs) (y ∷ ys) u v r q each others last end e =
     ((λ i. one.0 i ∷ rest.0 i), rest.1, rest.2)
 
 -- what holds of no chunk and of no last line does not hold behind chunks
-module _ (P : ℕ → Text → Type 0)
-    (no_chunk : (total : ℕ) (c : Chunk) (y : Text) → IsChunk c → total + length c.carried ≤ limit → P total (print_chunk c ++ y) → ⊥)
-    (no_last : (total : ℕ) (u : ChunkLine) (y : Text) → IsLast u → total ≤ limit → P total (print_chunk_line u ++ y) → ⊥) where
-  pub none_behind : (total : ℕ) (xs ws : List Chunk) (u : ChunkLine) (r rest : Text) → All IsChunk xs → All IsChunk ws → IsLast u → total + length (data_of xs) ≤ limit
+module _ (settings : Settings) (P : ℕ → Text → Type 0)
+    (no_chunk : (total : ℕ) (c : Chunk) (y : Text) → IsChunk c → total + length c.carried ≤ most_body settings → P total (print_chunk c ++ y) → ⊥)
+    (no_last : (total : ℕ) (u : ChunkLine) (y : Text) → IsLast u → total ≤ most_body settings → P total (print_chunk_line u ++ y) → ⊥) where
+  pub none_behind : (total : ℕ) (xs ws : List Chunk) (u : ChunkLine) (r rest : Text) → All IsChunk xs → All IsChunk ws → IsLast u → total + length (data_of xs) ≤ most_body settings
       → print_chunks xs ++ (print_chunk_line u ++ r) ≡ print_chunks ws ++ rest → P (total + length (data_of ws)) rest → ⊥
   none_behind total [] [] u r rest each others last fits e h =
       no_last (total + 0) u r last (omega arith) (subst (P (total + 0)) (sym e) h)
@@ -183,56 +185,57 @@ body_opened x r =
     append_assoc (print_chunks x.chunks ++ print_chunk_line x.zero) (print_section x.fields x.last) r
     ∙ append_assoc (print_chunks x.chunks) (print_chunk_line x.zero) (print_section x.fields x.last ++ r)
 
-chunked_unique : (r q : Text) (x y : ChunkedBody) → IsChunkedBody x → IsChunkedBody y → print_body x ++ r ≡ print_body y ++ q → (x ≡ y) × (r ≡ q)
-chunked_unique r q x y p s e =
-    let front = chunks_unique x.chunks y.chunks x.zero y.zero _ _ p.each s.each p.zero s.zero (sym (body_opened x r) ∙ e ∙ body_opened y q) in
-    let section = section_unique _ x.fields y.fields x.last y.last r q (p.fields, refl) (s.fields, front.2) in
-    ((λ i. record { chunks = front.0 i; zero = front.1 i; fields = section.0 i; last = section.1 i }), section.2)
+module _ (settings : Settings) where
+  chunked_unique : (r q : Text) (x y : ChunkedBody) → IsChunkedBody settings x → IsChunkedBody settings y → print_body x ++ r ≡ print_body y ++ q → (x ≡ y) × (r ≡ q)
+  chunked_unique r q x y p s e =
+      let front = chunks_unique x.chunks y.chunks x.zero y.zero _ _ p.each s.each p.zero s.zero (sym (body_opened x r) ∙ e ∙ body_opened y q) in
+      let section = section_unique _ x.fields y.fields x.last y.last r q (p.fields, refl) (s.fields, front.2) in
+      ((λ i. record { chunks = front.0 i; zero = front.1 i; fields = section.0 i; last = section.1 i }), section.2)
 
--- P holds nowhere behind the chunks of a body, and Q not behind the line that ends them
-module _ (x : ChunkedBody) (r : Text) (is : IsChunkedBody x) (Q : Text → Type 0)
-    (no_trailer : Q (print_section x.fields x.last ++ r) → ⊥) where
-  none_behind_last : BehindLast Q (print_body x ++ r) → ⊥
-  none_behind_last w =
-      let text = sym (body_opened x r) ∙ w.whole ∙ append_assoc (print_chunks w.chunks) (print_chunk_line w.zero) w.rest in
-      let same = chunks_unique x.chunks w.chunks x.zero w.zero _ _ is.each w.each is.zero w.is_last text in
-      no_trailer (subst Q (sym same.2) w.here)
+  -- P holds nowhere behind the chunks of a body, and Q not behind the line that ends them
+  module _ (x : ChunkedBody) (r : Text) (is : IsChunkedBody settings x) (Q : Text → Type 0)
+      (no_trailer : Q (print_section x.fields x.last ++ r) → ⊥) where
+    none_behind_last : BehindLast settings Q (print_body x ++ r) → ⊥
+    none_behind_last w =
+        let text = sym (body_opened x r) ∙ w.whole ∙ append_assoc (print_chunks w.chunks) (print_chunk_line w.zero) w.rest in
+        let same = chunks_unique x.chunks w.chunks x.zero w.zero _ _ is.each w.each is.zero w.is_last text in
+        no_trailer (subst Q (sym same.2) w.here)
 
-none_in_chunks : (x : ChunkedBody) (r : Text) → IsChunkedBody x → (P : ℕ → Text → Type 0)
-    → ((total : ℕ) (c : Chunk) (y : Text) → IsChunk c → total + length c.carried ≤ limit → P total (print_chunk c ++ y) → ⊥)
-    → ((total : ℕ) (u : ChunkLine) (y : Text) → IsLast u → total ≤ limit → P total (print_chunk_line u ++ y) → ⊥)
-    → BehindChunks P (print_body x ++ r) → ⊥
-none_in_chunks x r is P no_chunk no_last w =
-    none_behind P no_chunk no_last 0 x.chunks w.chunks x.zero (print_section x.fields x.last ++ r) w.rest is.each w.each is.zero
-    (omega (arith, is.within)) (sym (body_opened x r) ∙ w.whole) (subst (λ n. P n w.rest) (omega arith) w.here)
+  none_in_chunks : (x : ChunkedBody) (r : Text) → IsChunkedBody settings x → (P : ℕ → Text → Type 0)
+      → ((total : ℕ) (c : Chunk) (y : Text) → IsChunk c → total + length c.carried ≤ most_body settings → P total (print_chunk c ++ y) → ⊥)
+      → ((total : ℕ) (u : ChunkLine) (y : Text) → IsLast u → total ≤ most_body settings → P total (print_chunk_line u ++ y) → ⊥)
+      → BehindChunks settings P (print_body x ++ r) → ⊥
+  none_in_chunks x r is P no_chunk no_last w =
+      none_behind settings P no_chunk no_last 0 x.chunks w.chunks x.zero (print_section x.fields x.last ++ r) w.rest is.each w.each is.zero
+      (omega (arith, is.within)) (sym (body_opened x r) ∙ w.whole) (subst (λ n. P n w.rest) (omega arith) w.here)
 
-pub body_unique : (f : Framing) (a b c d x y : Text) → IsBody f a b → IsBody f c d → a ++ x ≡ c ++ y → (a ≡ c) × (b ≡ d) × (x ≡ y)
-body_unique (framed.Length n) a b c d x y p q e =
-    let size : length a ≡ length c = ap length p.0 ∙ p.1 ∙ sym q.1 ∙ sym (ap length q.0) in
-    let same = same_front a c x y size e in
-    (same.0, sym p.0 ∙ same.0 ∙ q.0, same.1)
-body_unique framed.Chunked a b c d x y p q e =
-    let same = chunked_unique x y p.0 q.0 p.1 q.1 (ap (λ t. t ++ x) (sym p.2) ∙ e ∙ ap (λ t. t ++ y) q.2) in
-    (p.2 ∙ ap print_body same.0 ∙ sym q.2, p.3 ∙ ap (λ (k : ChunkedBody). data_of k.chunks) same.0 ∙ sym q.3, same.1)
-body_unique (framed.Refused r) a b c d x y p q e = absurd p
+  pub body_unique : (f : Framing) (a b c d x y : Text) → IsBody settings f a b → IsBody settings f c d → a ++ x ≡ c ++ y → (a ≡ c) × (b ≡ d) × (x ≡ y)
+  body_unique (framed.Length n) a b c d x y p q e =
+      let size : length a ≡ length c = ap length p.0 ∙ p.1 ∙ sym q.1 ∙ sym (ap length q.0) in
+      let same = same_front a c x y size e in
+      (same.0, sym p.0 ∙ same.0 ∙ q.0, same.1)
+  body_unique framed.Chunked a b c d x y p q e =
+      let same = chunked_unique x y p.0 q.0 p.1 q.1 (ap (λ t. t ++ x) (sym p.2) ∙ e ∙ ap (λ t. t ++ y) q.2) in
+      (p.2 ∙ ap print_body same.0 ∙ sym q.2, p.3 ∙ ap (λ (k : ChunkedBody). data_of k.chunks) same.0 ∙ sym q.3, same.1)
+  body_unique (framed.Refused r) a b c d x y p q e = absurd p
 
-pub body_whole : (f : Framing) (a b x : Text) → IsBody f a b → BodyIsCut f (a ++ x) → ⊥
-body_whole (framed.Length n) a b x p short = omega (arith, p.1, ap length p.0, length-append a x)
-body_whole framed.Chunked a b x p cut = chunked (subst (λ t. BodyIsCut framed.Chunked (t ++ x)) p.2 cut)
-  where
-    chunked : BodyIsCut framed.Chunked (print_body p.0 ++ x) → ⊥
-    chunked (inl w) = none_in_chunks p.0 x p.1 ChunkIsCut (λ total c y is fits h. chunk_whole total c y is fits h) (λ total u y is fits h. last_whole total u y is fits h) w
-    chunked (inr w) = none_behind_last p.0 x p.1 TrailerIsCut (trailer_whole p.0.fields p.0.last x (p.1.fields, refl) p.1.short p.1.few) w
-body_whole (framed.Refused r) a b x p short = p
+  pub body_whole : (f : Framing) (a b x : Text) → IsBody settings f a b → BodyIsCut settings f (a ++ x) → ⊥
+  body_whole (framed.Length n) a b x p short = omega (arith, p.1, ap length p.0, length-append a x)
+  body_whole framed.Chunked a b x p cut = chunked (subst (λ t. BodyIsCut settings framed.Chunked (t ++ x)) p.2 cut)
+    where
+      chunked : BodyIsCut settings framed.Chunked (print_body p.0 ++ x) → ⊥
+      chunked (inl w) = none_in_chunks p.0 x p.1 (ChunkIsCut settings) (λ total c y is fits h. chunk_whole settings total c y is fits h) (λ total u y is fits h. last_whole settings total u y is fits h) w
+      chunked (inr w) = none_behind_last p.0 x p.1 TrailerIsCut (trailer_whole p.0.fields p.0.last x (p.1.fields, refl) p.1.short p.1.few) w
+  body_whole (framed.Refused r) a b x p short = p
 
-pub body_served : (f : Framing) (a b x : Text) (r : FramingRefusal) → IsBody f a b → BodyIsRefused f (a ++ x) r → ⊥
-body_served (framed.Length n) a b x r p refused = refused
-body_served framed.Chunked a b x r p refused = chunked (subst (λ t. BodyIsRefused framed.Chunked (t ++ x) r) p.2 refused)
-  where
-    chunked : BodyIsRefused framed.Chunked (print_body p.0 ++ x) r → ⊥
-    chunked (inl w) =
-        none_in_chunks p.0 x p.1 (λ total rest. ChunkIsRefused total rest r) (λ total c y is fits h. chunk_served total c y is fits r h)
-        (λ total u y is fits h. last_served total u y is fits r h) w
-    chunked (inr w) =
-        none_behind_last p.0 x p.1 (λ rest. TrailerIsRefused rest r) (trailer_served p.0.fields p.0.last x (p.1.fields, refl) p.1.short p.1.few r) w
-body_served (framed.Refused s) a b x r p refused = p
+  pub body_served : (f : Framing) (a b x : Text) (r : FramingRefusal) → IsBody settings f a b → BodyIsRefused settings f (a ++ x) r → ⊥
+  body_served (framed.Length n) a b x r p refused = refused
+  body_served framed.Chunked a b x r p refused = chunked (subst (λ t. BodyIsRefused settings framed.Chunked (t ++ x) r) p.2 refused)
+    where
+      chunked : BodyIsRefused settings framed.Chunked (print_body p.0 ++ x) r → ⊥
+      chunked (inl w) =
+          none_in_chunks p.0 x p.1 (λ total rest. ChunkIsRefused settings total rest r) (λ total c y is fits h. chunk_served settings total c y is fits r h)
+          (λ total u y is fits h. last_served settings total u y is fits r h) w
+      chunked (inr w) =
+          none_behind_last p.0 x p.1 (λ rest. TrailerIsRefused rest r) (trailer_served p.0.fields p.0.last x (p.1.fields, refl) p.1.short p.1.few r) w
+  body_served (framed.Refused s) a b x r p refused = p

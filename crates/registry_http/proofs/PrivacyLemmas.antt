@@ -17,7 +17,7 @@ use Rattle.registry_http.specs.Privacy.{step_of, texts_of, IsPrivateRun}
 -- answers whose texts these are, and which the steps come to
 record Told (settings : Settings) (s : State) (items : List Item) (texts : List Text) (s' : State) : Type 0 where
   answers : List Answer
-  are_texts : texts ≡ texts_of items answers
+  are_texts : texts ≡ texts_of settings items answers
   takes : TakesAll s (map (step_of settings) items) (map told answers) s'
 
 told_by : (settings : Settings) (s : State) (items : List Item) (texts : List Text) (s' : State) → Run settings s items texts s' → Told settings s items texts s'

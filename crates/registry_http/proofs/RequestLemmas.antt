@@ -7,6 +7,7 @@ use Rattle.httparse.specs.declared.spans.RequestSpans.{RequestSpans}
 use Rattle.std.proofs.Math.Seq.{take-append-add}
 use Rattle.httparse.proofs.GrammarLemmas.{request_unique}
 use Rattle.oci_types.specs.Text.{Text}
+use Rattle.registry_model.specs.declared.settings.Settings.{Settings}
 use Rattle.registry_http.specs.Spelling.{HeadIsCut, HeadIsUnreadable, BeginsWithHead}
 use Rattle.registry_http.specs.Expecting.{IsBefore}
 use Rattle.registry_http.specs.Reading.{HeadIsRead}
@@ -31,11 +32,11 @@ none_empty b e h rest x =
     let size = ap length (sym e ∙ x.reads.1) in
     omega (arith, request_some h, length-append (print_request h) rest, size)
 
-pub before_empty : (b : Text) → b ≡ [] → IsBefore b []
-before_empty b e = inr (λ h rest x few. none_empty b e h rest x, refl)
+pub before_empty : (settings : Settings) (b : Text) → b ≡ [] → IsBefore settings b []
+before_empty settings b e = inr (λ h rest x few. none_empty b e h rest x, refl)
 
-pub before_cut : (b : Text) → HeadIsCut b → IsBefore b []
-before_cut b cut = inr (λ h rest x few. cut.2 h rest x.reads, refl)
+pub before_cut : (settings : Settings) (b : Text) → HeadIsCut b → IsBefore settings b []
+before_cut settings b cut = inr (λ h rest x few. cut.2 h rest x.reads, refl)
 
 pub head_readable : (b : Text) → HeadIsUnreadable b → (h : RequestHead) (rest : Text) → BeginsWithHead b h rest → length h.fields ≤ 64 → ⊥
 head_readable b (inl (inl y)) h rest x few =
@@ -48,5 +49,5 @@ head_readable b (inr (other, behind, y, many)) h rest x few =
     let same = request_unique b h other rest behind x.reads y.reads in
     omega (arith, many, few, ap (λ (k : RequestHead). length k.fields) same.0)
 
-pub before_unreadable : (b : Text) → HeadIsUnreadable b → IsBefore b []
-before_unreadable b bad = inr (λ h rest x few. head_readable b bad h rest x few, refl)
+pub before_unreadable : (settings : Settings) (b : Text) → HeadIsUnreadable b → IsBefore settings b []
+before_unreadable settings b bad = inr (λ h rest x few. head_readable b bad h rest x few, refl)

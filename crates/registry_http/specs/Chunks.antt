@@ -1,17 +1,14 @@
--- Bodies in chunks: how they are spelled, and where they cannot be read (RFC 9112, section 7.1; the limits
--- are the profile's).
+-- Bodies in chunks: how they are spelled, and where they cannot be read (RFC 9112, section 7.1; the limit of
+-- a body is the settings', and the others are the profile's).
 use Rattle.std.specs.Prelude.{◌≡◌, ◌≢◌, ℕ, ◌+◌, ◌<◌, ◌≤◌, ◌⊎◌, List, [], ◌∷◌, ◌++◌, length, take, slice_index, All}
 use Rattle.std.specs.List.{flat_map}
 use Rattle.httparse.specs.Grammar.{ChunkLine, print_chunk_line, IsChunkLine, ReadsChunkLine, HasNoChunkLine, NeverHasChunkLine, MayBecomeChunkLine, chunk_size, Field, IsField, LineEnd, print_section, ReadsSection, HasNoSection, NeverHasSection, MayBecomeSection}
 use Rattle.oci_types.specs.Text.{Text}
-use Rattle.registry_model.specs.Limits.{largest_blob}
+use Rattle.registry_model.specs.Limits.{most_body}
+use Rattle.registry_model.specs.declared.settings.Settings.{Settings}
 use Rattle.registry_http.specs.Limits.{longest_head, most_fields, longest_chunk_line}
 use Rattle.registry_http.specs.declared.ending.FramingRefusal.{FramingRefusal}
 use Rattle.registry_http.specs.declared.ending.FramingRefusal.TheVariants.{UnreadableChunk, ChunksTooLarge}
-
--- the most bytes of a body
-abbrev pub limit : ℕ
-limit = largest_blob
 
 -- ---- the line of a chunk
 
@@ -86,40 +83,43 @@ pub record IsLast (l : ChunkLine) : Type 0 where
 -- ---- where a chunk cannot be read, behind chunks of so many bytes
 
 -- a chunk's line that the limit allows, and then rest
-pub record BeginsWithSize (total : ℕ) (b : Text) (l : ChunkLine) (rest : Text) : Type 0 where
+pub record BeginsWithSize (settings : Settings) (total : ℕ) (b : Text) (l : ChunkLine) (rest : Text)
+    : Type 0 where
   pub begins : BeginsWithLine b l rest
   pub some : 0 < chunk_size l
-  pub within : total + chunk_size l ≤ limit
+  pub within : total + chunk_size l ≤ most_body settings
 
-abbrev pub ChunkIsCut : ℕ → Text → Type 0
-ChunkIsCut total b =
+abbrev pub ChunkIsCut : Settings → ℕ → Text → Type 0
+ChunkIsCut settings total b =
     LineIsCut b
-    ⊎ ((l : ChunkLine) × (rest : Text) × BeginsWithSize total b l rest × DataIsCut (chunk_size l) rest)
+    ⊎ ((l : ChunkLine) × (rest : Text) × BeginsWithSize settings total b l rest
+    × DataIsCut (chunk_size l) rest)
 
 -- the line comes first, then the limit, then the line end behind the data
-abbrev pub ChunkIsRefused : ℕ → Text → FramingRefusal → Type 0
-ChunkIsRefused total b r =
+abbrev pub ChunkIsRefused : Settings → ℕ → Text → FramingRefusal → Type 0
+ChunkIsRefused settings total b r =
     LineIsRefused b r
     ⊎ (((l : ChunkLine) × (rest : Text) × BeginsWithLine b l rest
-    × (limit < total + chunk_size l) × (r ≡ ChunksTooLarge))
-    ⊎ ((l : ChunkLine) × (rest : Text) × BeginsWithSize total b l rest × DataIsRefused (chunk_size l) rest r))
+    × (most_body settings < total + chunk_size l) × (r ≡ ChunksTooLarge))
+    ⊎ ((l : ChunkLine) × (rest : Text) × BeginsWithSize settings total b l rest
+    × DataIsRefused (chunk_size l) rest r))
 
 -- chunks, within the limit, and then a rest of which P holds
-pub record BehindChunks (P : ℕ → Text → Type 0) (b : Text) : Type 0 where
+pub record BehindChunks (settings : Settings) (P : ℕ → Text → Type 0) (b : Text) : Type 0 where
   pub chunks : List Chunk
   pub rest : Text
   pub whole : b ≡ print_chunks chunks ++ rest
   pub each : All IsChunk chunks
-  pub within : length (data_of chunks) ≤ limit
+  pub within : length (data_of chunks) ≤ most_body settings
   pub here : P (length (data_of chunks)) rest
 
 -- the input ends inside a chunk behind others
-abbrev pub SomeChunkIsCut : Text → Type 0
-SomeChunkIsCut b = BehindChunks ChunkIsCut b
+abbrev pub SomeChunkIsCut : Settings → Text → Type 0
+SomeChunkIsCut settings b = BehindChunks settings (ChunkIsCut settings) b
 
 -- the first chunk that cannot be read
-abbrev pub SomeChunkIsRefused : Text → FramingRefusal → Type 0
-SomeChunkIsRefused b r = BehindChunks (λ total rest. ChunkIsRefused total rest r) b
+abbrev pub SomeChunkIsRefused : Settings → Text → FramingRefusal → Type 0
+SomeChunkIsRefused settings b r = BehindChunks settings (λ total rest. ChunkIsRefused settings total rest r) b
 
 -- ---- the trailer
 
@@ -157,29 +157,30 @@ print_data b = print_chunks b.chunks ++ print_chunk_line b.zero
 abbrev pub print_body : ChunkedBody → Text
 print_body b = print_data b ++ print_section b.fields b.last
 
-pub record IsChunkedBody (b : ChunkedBody) : Type 0 where
+pub record IsChunkedBody (settings : Settings) (b : ChunkedBody) : Type 0 where
   pub each : All IsChunk b.chunks
-  pub within : length (data_of b.chunks) ≤ limit
+  pub within : length (data_of b.chunks) ≤ most_body settings
   pub zero : IsLast b.zero
   pub fields : All IsField b.fields
   pub few : length b.fields ≤ most_fields
   pub short : length (print_section b.fields b.last) ≤ longest_head
 
 -- chunks, within the limit, the line that ends them, and a rest of which P holds
-pub record BehindLast (P : Text → Type 0) (b : Text) : Type 0 where
+pub record BehindLast (settings : Settings) (P : Text → Type 0) (b : Text) : Type 0 where
   pub chunks : List Chunk
   pub zero : ChunkLine
   pub rest : Text
   pub whole : b ≡ (print_chunks chunks ++ print_chunk_line zero) ++ rest
   pub each : All IsChunk chunks
-  pub within : length (data_of chunks) ≤ limit
+  pub within : length (data_of chunks) ≤ most_body settings
   pub is_last : IsLast zero
   pub here : P rest
 
 -- the input ends inside a body that is not refused
-abbrev pub ChunksAreCut : Text → Type 0
-ChunksAreCut b = SomeChunkIsCut b ⊎ BehindLast TrailerIsCut b
+abbrev pub ChunksAreCut : Settings → Text → Type 0
+ChunksAreCut settings b = SomeChunkIsCut settings b ⊎ BehindLast settings TrailerIsCut b
 
 -- the first chunk that cannot be read, or the trailer
-abbrev pub ChunksAreRefused : Text → FramingRefusal → Type 0
-ChunksAreRefused b r = SomeChunkIsRefused b r ⊎ BehindLast (λ rest. TrailerIsRefused rest r) b
+abbrev pub ChunksAreRefused : Settings → Text → FramingRefusal → Type 0
+ChunksAreRefused settings b r =
+    SomeChunkIsRefused settings b r ⊎ BehindLast settings (λ rest. TrailerIsRefused rest r) b

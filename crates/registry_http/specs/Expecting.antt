@@ -3,6 +3,7 @@ use Rattle.std.specs.Prelude.{◌≡◌, ℕ, ◌≤◌, ◌⊎◌, ◌==◌, Bo
 use Rattle.std.specs.Str.{str_eq_ignore_ascii_case}
 use Rattle.httparse.specs.Grammar.{RequestHead}
 use Rattle.oci_types.specs.Text.{Text}
+use Rattle.registry_model.specs.declared.settings.Settings.{Settings}
 use Rattle.registry_http.specs.Limits.{most_fields}
 use Rattle.registry_http.specs.Fields.{NamedValue, fields_of, values, first}
 use Rattle.registry_http.specs.Framing.{framing}
@@ -32,13 +33,13 @@ abbrev pub continue_if : Bool → Text
 continue_if awaits = if awaits then continue_text else []
 
 -- what is written before the body of a request with this head is read
-abbrev pub text_before : RequestHead → Text
-text_before h = continue_if (awaits_by h.minor (fields_of h) (framing h))
+abbrev pub text_before : Settings → RequestHead → Text
+text_before settings h = continue_if (awaits_by h.minor (fields_of h) (framing settings h))
 
 -- what is written for a request that is not answered: what stands before its body, where its head is whole
-abbrev pub IsBefore : Text → Text → Type 0
-IsBefore b text =
+abbrev pub IsBefore : Settings → Text → Text → Type 0
+IsBefore settings b text =
     ((h : RequestHead) × (rest : Text) × BeginsWithHead b h rest
-    × (length h.fields ≤ most_fields) × (text ≡ text_before h))
+    × (length h.fields ≤ most_fields) × (text ≡ text_before settings h))
     ⊎ (((h : RequestHead) (rest : Text) → BeginsWithHead b h rest → length h.fields ≤ most_fields → ⊥)
     × (text ≡ []))

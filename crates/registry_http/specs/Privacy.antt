@@ -14,15 +14,15 @@ abbrev pub step_of : Settings → Item → Step
 step_of settings i = asks (ask_in settings i.head i.body)
 
 -- the text of each request's answer
-abbrev pub texts_of : List Item → List Answer → List Text
-texts_of [] answers = []
-texts_of (i ∷ items) [] = []
-texts_of (i ∷ items) (a ∷ answers) = text_for i a ∷ texts_of items answers
+abbrev pub texts_of : Settings → List Item → List Answer → List Text
+texts_of settings [] answers = []
+texts_of settings (i ∷ items) [] = []
+texts_of settings (i ∷ items) (a ∷ answers) = text_for settings i a ∷ texts_of settings items answers
 
 -- the texts are those of answers, one for each request, of which the laws of a run hold: among them that a
 -- team is told what it would be told alone
 pub record IsPrivateRun (settings : Settings) (s : State) (items : List Item) (texts : List Text) (s' : State)
     : Type 0 where
   pub answers : List Answer
-  pub are_texts : texts ≡ texts_of items answers
+  pub are_texts : texts ≡ texts_of settings items answers
   pub says : RunSays s (map (step_of settings) items) (map told answers) s'

@@ -24,13 +24,13 @@ abbrev pub reply_for : Item → Answer → Text
 reply_for i a = reply_text (is_head (verb_of i.head.method)) (closes i) a
 
 -- what is written for a request that is answered
-abbrev pub text_for : Item → Answer → Text
-text_for i a = text_before i.head ++ reply_for i a
+abbrev pub text_for : Settings → Item → Answer → Text
+text_for settings i a = text_before settings i.head ++ reply_for i a
 
 -- a request is answered as the definitions say, and the text is that of the answer
 abbrev pub Replies : Settings → State → Item → Text → State → Type 0
 Replies settings s i text s' =
-    (a : Answer) × Does s (ask_in settings i.head i.body) a s' × (text ≡ text_for i a)
+    (a : Answer) × Does s (ask_in settings i.head i.body) a s' × (text ≡ text_for settings i a)
 
 -- requests are answered, one after the other
 abbrev pub Run : Settings → State → List Item → List Text → State → Type 0
@@ -62,19 +62,20 @@ pub record Traffic : Type 0 where
   pub state' : State
 
 -- behind these requests, which b begins with, stands a request of which this is written, or none does
-abbrev pub Leftover : Text → List Item → Text → Type 0
-Leftover b [] text = IsBefore b text
-Leftover b (i ∷ items) text =
-    (rest : Text) × (b ≡ print_item i ++ rest) × MatchBool (closes i) (text ≡ []) (Leftover rest items text)
+abbrev pub Leftover : Settings → Text → List Item → Text → Type 0
+Leftover settings b [] text = IsBefore settings b text
+Leftover settings b (i ∷ items) text =
+    (rest : Text) × (b ≡ print_item i ++ rest)
+    × MatchBool (closes i) (text ≡ []) (Leftover settings rest items text)
 
 -- b spells requests and this end, and what was written are the replies to them, what stands before the body
 -- of a request that is cut or refused there, and the end's own text
 pub record Answers (b : Text) (end : End) (t : Traffic) : Type 0 where
   pub items : List Item
   pub texts : List Text
-  pub spells : Spells b items end
+  pub spells : Spells t.settings b items end
   pub before : Text
-  pub leftover : Leftover b items before
+  pub leftover : Leftover t.settings b items before
   pub run : Run t.settings t.state items texts t.state'
   pub written : Appends t.held t.held' (joined texts ++ (before ++ end_text end))
 
@@ -83,30 +84,30 @@ pub record StopsForMemory (b : Text) (t : Traffic) : Type 0 where
   pub items : List Item
   pub texts : List Text
   pub rest : Text
-  pub front : Front b items rest
+  pub front : Front t.settings b items rest
   pub before : Text
-  pub is_before : (before ≡ []) ⊎ IsBefore rest before
+  pub is_before : (before ≡ []) ⊎ IsBefore t.settings rest before
   pub run : Run t.settings t.state items texts t.state'
   pub written : Appends t.held t.held' (joined texts ++ (before ++ refusal_text NoBufferMemory))
 
 -- behind so much of a request's text a refusal is written: the request is refused, or memory is wanting
-abbrev pub IsRefusedBehind : Text → Text → FramingRefusal → Type 0
-IsRefusedBehind rest before r =
-    (IsRefused rest r × IsBefore rest before)
-    ⊎ ((r ≡ NoBufferMemory) × ((before ≡ []) ⊎ IsBefore rest before))
+abbrev pub IsRefusedBehind : Settings → Text → Text → FramingRefusal → Type 0
+IsRefusedBehind settings rest before r =
+    (IsRefused settings rest r × IsBefore settings rest before)
+    ⊎ ((r ≡ NoBufferMemory) × ((before ≡ []) ⊎ IsBefore settings rest before))
 
 -- the text in hand, with what was written before it of the same request
 pub data InHand (rest before text : Text) (t : Traffic) (items : List Item) (texts : List Text) : Type 0 where
   -- the reply of a request that was answered by it
-  replying : (i : Item) → (rest' : Text) → rest ≡ print_item i ++ rest' → IsRequest i
-      → before ≡ text_before i.head
+  replying : (i : Item) → (rest' : Text) → rest ≡ print_item i ++ rest' → IsRequest t.settings i
+      → before ≡ text_before t.settings i.head
       → Run t.settings t.state (items ++ i ∷ []) (texts ++ (before ++ text) ∷ []) t.state'
       → InHand rest before text t items texts
   -- a refusal's
-  refusing : (r : FramingRefusal) → text ≡ refusal_text r → IsRefusedBehind rest before r
+  refusing : (r : FramingRefusal) → text ≡ refusal_text r → IsRefusedBehind t.settings rest before r
       → Run t.settings t.state items texts t.state' → InHand rest before text t items texts
   -- what stands before a body, which was not read then
-  continuing : before ≡ [] → IsBefore rest text → Run t.settings t.state items texts t.state'
+  continuing : before ≡ [] → IsBefore t.settings rest text → Run t.settings t.state items texts t.state'
       → InHand rest before text t items texts
 
 -- a write failed: the texts before went out whole, and of the text in hand the first n bytes
@@ -114,7 +115,7 @@ pub record StopsAtWrite (b : Text) (n : ℕ) (t : Traffic) : Type 0 where
   pub items : List Item
   pub texts : List Text
   pub rest : Text
-  pub front : Front b items rest
+  pub front : Front t.settings b items rest
   pub before : Text
   pub text : Text
   pub short : n < length text

@@ -1,8 +1,9 @@
 -- What the bytes on a connection spell: requests, one after the other, and an end (RFC 9112, sections 2, 3
--- and 6; the limits are the profile's).
+-- and 6; the limit of a body is the settings', and the others are the profile's).
 use Rattle.std.specs.Prelude.{◌≡◌, ◌<◌, ◌≤◌, ◌⊎◌, Bool, true, false, List, [], ◌∷◌, ◌++◌, length, take}
 use Rattle.httparse.specs.Grammar.{RequestHead, print_request, IsRequestHead, ReadsRequest, HasNoRequest, NeverHasRequest, EndsInTarget, MayBecomeRequest}
 use Rattle.oci_types.specs.Text.{Text}
+use Rattle.registry_model.specs.declared.settings.Settings.{Settings}
 use Rattle.registry_http.specs.Limits.{longest_head, most_fields}
 use Rattle.registry_http.specs.Fields.{fields_of, closes_by}
 use Rattle.registry_http.specs.Framing.{framing}
@@ -23,18 +24,18 @@ pub record Item : Type 0 where
   pub body : Text
 
 -- a body framed so is spelled by these bytes and carries those
-abbrev pub IsBody : Framing → Text → Text → Type 0
-IsBody (framed.Length n) coded body = (coded ≡ body) × (length body ≡ n)
-IsBody framed.Chunked coded body =
-    (b : ChunkedBody) × IsChunkedBody b × (coded ≡ print_body b) × (body ≡ data_of b.chunks)
-IsBody (framed.Refused r) coded body = ⊥
+abbrev pub IsBody : Settings → Framing → Text → Text → Type 0
+IsBody settings (framed.Length n) coded body = (coded ≡ body) × (length body ≡ n)
+IsBody settings framed.Chunked coded body =
+    (b : ChunkedBody) × IsChunkedBody settings b × (coded ≡ print_body b) × (body ≡ data_of b.chunks)
+IsBody settings (framed.Refused r) coded body = ⊥
 
 -- the head is in the grammar and within the limits, and the body is framed as the head says
-pub record IsRequest (i : Item) : Type 0 where
+pub record IsRequest (settings : Settings) (i : Item) : Type 0 where
   pub head : IsRequestHead i.head
   pub short : length (print_request i.head) ≤ longest_head
   pub few : length i.head.fields ≤ most_fields
-  pub body : IsBody (framing i.head) i.coded i.body
+  pub body : IsBody settings (framing settings i.head) i.coded i.body
 
 -- the bytes of a request
 abbrev pub print_item : Item → Text
@@ -51,15 +52,15 @@ pub record BeginsWithHead (b : Text) (h : RequestHead) (rest : Text) : Type 0 wh
   pub reads : ReadsRequest b h rest
   pub short : length (print_request h) ≤ longest_head
 
-abbrev pub BodyIsCut : Framing → Text → Type 0
-BodyIsCut (framed.Length n) b = length b < n
-BodyIsCut framed.Chunked b = ChunksAreCut b
-BodyIsCut (framed.Refused r) b = ⊥
+abbrev pub BodyIsCut : Settings → Framing → Text → Type 0
+BodyIsCut settings (framed.Length n) b = length b < n
+BodyIsCut settings framed.Chunked b = ChunksAreCut settings b
+BodyIsCut settings (framed.Refused r) b = ⊥
 
-abbrev pub BodyIsRefused : Framing → Text → FramingRefusal → Type 0
-BodyIsRefused (framed.Length n) b r = ⊥
-BodyIsRefused framed.Chunked b r = ChunksAreRefused b r
-BodyIsRefused (framed.Refused s) b r = r ≡ s
+abbrev pub BodyIsRefused : Settings → Framing → Text → FramingRefusal → Type 0
+BodyIsRefused settings (framed.Length n) b r = ⊥
+BodyIsRefused settings framed.Chunked b r = ChunksAreRefused settings b r
+BodyIsRefused settings (framed.Refused s) b r = r ≡ s
 
 -- as many bytes as a head may have hold no whole one, or never will
 abbrev pub HoldsNoHead : Text → Type 0
@@ -78,26 +79,26 @@ abbrev pub HeadIsCut : Text → Type 0
 HeadIsCut b = (0 < length b) × (length b < longest_head) × HasNoRequest b × MayBecomeRequest b
 
 -- the input ends inside a request that is not refused
-abbrev pub IsCut : Text → Type 0
-IsCut b =
+abbrev pub IsCut : Settings → Text → Type 0
+IsCut settings b =
     HeadIsCut b
     ⊎ ((h : RequestHead) × (rest : Text) × BeginsWithHead b h rest
-    × (length h.fields ≤ most_fields) × BodyIsCut (framing h) rest)
+    × (length h.fields ≤ most_fields) × BodyIsCut settings (framing settings h) rest)
 
 -- a request stands there that is refused, whatever bytes follow
-abbrev pub IsRefused : Text → FramingRefusal → Type 0
-IsRefused b r =
+abbrev pub IsRefused : Settings → Text → FramingRefusal → Type 0
+IsRefused settings b r =
     ((r ≡ UnreadableHead) × HeadIsUnreadable b)
     ⊎ ((h : RequestHead) × (rest : Text) × BeginsWithHead b h rest
-    × (length h.fields ≤ most_fields) × BodyIsRefused (framing h) rest r)
+    × (length h.fields ≤ most_fields) × BodyIsRefused settings (framing settings h) rest r)
 
 -- no further request is read, and why
-abbrev pub Ends : Text → End → Type 0
-Ends b Closed = b ≡ []
-Ends b Cut = IsCut b
-Ends b (Refused r) = IsRefused b r
-Ends b ReadFailed = ⊥
-Ends b (WriteFailed n) = ⊥
+abbrev pub Ends : Settings → Text → End → Type 0
+Ends settings b Closed = b ≡ []
+Ends settings b Cut = IsCut settings b
+Ends settings b (Refused r) = IsRefused settings b r
+Ends settings b ReadFailed = ⊥
+Ends settings b (WriteFailed n) = ⊥
 
 -- ---- all requests
 
@@ -107,18 +108,18 @@ Then true items end P = (items ≡ []) × (end ≡ Closed)
 Then false items end P = P
 
 -- b is these requests, one after the other, and then what the end says
-abbrev pub Spells : Text → List Item → End → Type 0
-Spells b [] end = Ends b end
-Spells b (i ∷ items) end =
-    (rest : Text) × IsRequest i × (b ≡ print_item i ++ rest)
-    × Then (closes i) items end (Spells rest items end)
+abbrev pub Spells : Settings → Text → List Item → End → Type 0
+Spells settings b [] end = Ends settings b end
+Spells settings b (i ∷ items) end =
+    (rest : Text) × IsRequest settings i × (b ≡ print_item i ++ rest)
+    × Then (closes i) items end (Spells settings rest items end)
 
 -- b is these requests, each of which leaves the connection open, and then rest
-abbrev pub Front : Text → List Item → Text → Type 0
-Front b [] rest = b ≡ rest
-Front b (i ∷ items) rest =
-    (behind : Text) × IsRequest i × (b ≡ print_item i ++ behind) × (closes i ≡ false)
-    × Front behind items rest
+abbrev pub Front : Settings → Text → List Item → Text → Type 0
+Front settings b [] rest = b ≡ rest
+Front settings b (i ∷ items) rest =
+    (behind : Text) × IsRequest settings i × (b ≡ print_item i ++ behind) × (closes i ≡ false)
+    × Front settings behind items rest
 
 -- ---- the end is one
 

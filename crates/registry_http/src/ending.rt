@@ -17,11 +17,11 @@ pub enum FramingRefusal {
     UnknownTransferEncoding,
     /// More than one `Content-Length`, or one that is not 1 to 19 digits.
     InvalidContentLength,
-    /// A body of more than 67,108,864 bytes.
+    /// A body of more bytes than the settings allow.
     LengthTooLarge,
     /// A chunk line, the end of a chunk or the trailer cannot be read.
     UnreadableChunk,
-    /// Chunks of more than 67,108,864 bytes together.
+    /// Chunks of more bytes together than the settings allow.
     ChunksTooLarge,
     /// No memory for the connection's buffer.
     NoBufferMemory,

@@ -2,7 +2,7 @@ use Rattle.registry_http.proofs.SpellingUniqueness.{one_spelling}
 use Rattle.registry_http.proofs.spelling.spelling_is_unique.Goals as goal
 
 pub returns-clause-items : goal.returns-clause-items
-returns-clause-items c = λ b items others e f s z. (one_spelling b items others e f s z).0
+returns-clause-items c = λ settings b items others e f s z. (one_spelling settings b items others e f s z).0
 
 pub returns-clause-end : goal.returns-clause-end
-returns-clause-end c = λ b items others e f s z. (one_spelling b items others e f s z).1
+returns-clause-end c = λ settings b items others e f s z. (one_spelling settings b items others e f s z).1
