@@ -8,6 +8,7 @@ use Rattle.httparse.specs.declared.spans.HeaderSpan.{HeaderSpan}
 use Rattle.httparse.specs.declared.spans.RequestSpans.{RequestSpans}
 use Rattle.httparse.proofs.GrammarLemmas.{request_unique}
 use Rattle.oci_types.specs.Text.{Text}
+use Rattle.registry_model.specs.declared.settings.Settings.{Settings}
 use Rattle.registry_http.specs.Framing.{framing}
 use Rattle.registry_http.specs.Expecting.{continue_if, text_before, IsBefore}
 use Rattle.registry_http.specs.Reading.{HeadIsRead, IsHeadAt}
@@ -33,56 +34,56 @@ there_on h b v more x = record {
   few = x.few;
 }
 
-pub before_there : (h : RequestHead) (b v tail : Text) → HeadIsThere h b v → IsBefore (b ++ tail) (text_before h)
-before_there h b v tail x =
+pub before_there : (settings : Settings) (h : RequestHead) (b v tail : Text) → HeadIsThere h b v → IsBefore settings (b ++ tail) (text_before settings h)
+before_there settings h b v tail x =
     let on = there_on h b v tail x in
     inl (h, v ++ tail, on.begins, on.few, refl)
 
-pub before_here : (h : RequestHead) (b v : Text) → HeadIsThere h b v → IsBefore b (text_before h)
-before_here h b v x = inl (h, v, x.begins, x.few, refl)
+pub before_here : (settings : Settings) (h : RequestHead) (b v : Text) → HeadIsThere h b v → IsBefore settings b (text_before settings h)
+before_here settings h b v x = inl (h, v, x.begins, x.few, refl)
 
-pub cut_there : (h : RequestHead) (b v : Text) → HeadIsThere h b v → BodyIsCut (framing h) v → IsCut b
-cut_there h b v x cut = inr (h, v, x.begins, x.few, cut)
+pub cut_there : (settings : Settings) (h : RequestHead) (b v : Text) → HeadIsThere h b v → BodyIsCut settings (framing settings h) v → IsCut settings b
+cut_there settings h b v x cut = inr (h, v, x.begins, x.few, cut)
 
-pub refused_there : (h : RequestHead) (b v tail : Text) (r : FramingRefusal) → HeadIsThere h b v → BodyIsRefused (framing h) (v ++ tail) r → IsRefused (b ++ tail) r
-refused_there h b v tail r x bad =
+pub refused_there : (settings : Settings) (h : RequestHead) (b v tail : Text) (r : FramingRefusal) → HeadIsThere h b v → BodyIsRefused settings (framing settings h) (v ++ tail) r → IsRefused settings (b ++ tail) r
+refused_there settings h b v tail r x bad =
     let on = there_on h b v tail x in
     inr (h, v ++ tail, on.begins, on.few, bad)
 
 -- ---- more bytes come
 
-pub holds_on : (p : Phase) (taken unread b said more : Text) → HoldsAs p taken unread b said → HoldsAs p taken (unread ++ more) (b ++ more) said
-holds_on Head taken unread b said more x = (x.0, ap (λ (y : Text). y ++ more) x.1, x.2)
-holds_on (Body part) taken unread b said more x =
-    (x.0, x.1 ++ more, there_on x.0 b x.1 more x.2, x.3, part_on part (framing x.0) (print_request x.0) x.1 taken unread more x.4)
-holds_on (Ended e) taken unread b said more x = absurd x
+pub holds_on : (settings : Settings) (p : Phase) (taken unread b said more : Text) → HoldsAs settings p taken unread b said → HoldsAs settings p taken (unread ++ more) (b ++ more) said
+holds_on settings Head taken unread b said more x = (x.0, ap (λ (y : Text). y ++ more) x.1, x.2)
+holds_on settings (Body part) taken unread b said more x =
+    (x.0, x.1 ++ more, there_on x.0 b x.1 more x.2, x.3, part_on settings part (framing settings x.0) (print_request x.0) x.1 taken unread more x.4)
+holds_on settings (Ended e) taken unread b said more x = absurd x
 
 -- what was put out stands before the body, whatever bytes follow
-pub said_there : (p : Phase) (taken unread b said tail : Text) → HoldsAs p taken unread b said → (said ≡ []) ⊎ IsBefore (b ++ tail) said
-said_there Head taken unread b said tail x = inl x.2
-said_there (Body part) taken unread b said tail x = inr (subst (λ (y : Text). IsBefore (b ++ tail) y) (sym x.3) (before_there x.0 b x.1 tail x.2))
-said_there (Ended e) taken unread b said tail x = absurd x
+pub said_there : (settings : Settings) (p : Phase) (taken unread b said tail : Text) → HoldsAs settings p taken unread b said → (said ≡ []) ⊎ IsBefore settings (b ++ tail) said
+said_there settings Head taken unread b said tail x = inl x.2
+said_there settings (Body part) taken unread b said tail x = inr (subst (λ (y : Text). IsBefore settings (b ++ tail) y) (sym x.3) (before_there settings x.0 b x.1 tail x.2))
+said_there settings (Ended e) taken unread b said tail x = absurd x
 
 -- ---- a head that is taken
 
-pub head_taken : (heading : Heading) (b t u t' : Text) (x : BeginsAt heading b) → t ≡ [] → u ≡ b → t' ≡ t ++ take heading.len u → t' ≡ print_request x.head
-head_taken heading b t u t' x none all kept =
+pub head_taken : (settings : Settings) (heading : Heading) (b t u t' : Text) (x : BeginsAt settings heading b) → t ≡ [] → u ≡ b → t' ≡ t ++ take heading.len u → t' ≡ print_request x.head
+head_taken settings heading b t u t' x none all kept =
     kept ∙ ap (λ (y : Text). y ++ take heading.len u) none ∙ ap (take heading.len) (all ∙ x.there.begins.reads.1)
     ∙ take_at (print_request x.head) (drop heading.len b) heading.len (sym x.len)
 
-pub length_begins : (heading : Heading) (b t u t' u' : Text) (n : ℕ) (x : BeginsAt heading b) → heading.framing ≡ framed.Length n → t ≡ [] → u ≡ b
-    → t' ≡ t ++ take heading.len u → u' ≡ drop heading.len u → HoldsAs (Body (Length n)) t' u' b (continue_if heading.awaits)
-length_begins heading b t u t' u' n x is none all kept rest = (
+pub length_begins : (settings : Settings) (heading : Heading) (b t u t' u' : Text) (n : ℕ) (x : BeginsAt settings heading b) → heading.framing ≡ framed.Length n → t ≡ [] → u ≡ b
+    → t' ≡ t ++ take heading.len u → u' ≡ drop heading.len u → HoldsAs settings (Body (Length n)) t' u' b (continue_if heading.awaits)
+length_begins settings heading b t u t' u' n x is none all kept rest = (
   x.head,
   drop heading.len b,
   x.there,
   ap continue_if x.awaits,
-  (sym x.framed ∙ is, head_taken heading b t u t' x none all kept, rest ∙ ap (drop heading.len) all),
+  (sym x.framed ∙ is, head_taken settings heading b t u t' x none all kept, rest ∙ ap (drop heading.len) all),
 )
 
-pub chunks_begin : (heading : Heading) (b t u t' u' : Text) (x : BeginsAt heading b) → heading.framing ≡ framed.Chunked → t ≡ [] → u ≡ b
-    → t' ≡ t ++ take heading.len u → u' ≡ drop heading.len u → HoldsAs (Body (Line 0)) t' u' b (continue_if heading.awaits)
-chunks_begin heading b t u t' u' x is none all kept rest = (
+pub chunks_begin : (settings : Settings) (heading : Heading) (b t u t' u' : Text) (x : BeginsAt settings heading b) → heading.framing ≡ framed.Chunked → t ≡ [] → u ≡ b
+    → t' ≡ t ++ take heading.len u → u' ≡ drop heading.len u → HoldsAs settings (Body (Line 0)) t' u' b (continue_if heading.awaits)
+chunks_begin settings heading b t u t' u' x is none all kept rest = (
   x.head,
   drop heading.len b,
   x.there,
@@ -95,15 +96,15 @@ chunks_begin heading b t u t' u' x is none all kept rest = (
       within = omega arith;
       carried = omega arith;
       whole = sym (rest ∙ ap (drop heading.len) all);
-      kept = head_taken heading b t u t' x none all kept ∙ sym (append-nil (print_request x.head));
+      kept = head_taken settings heading b t u t' x none all kept ∙ sym (append-nil (print_request x.head));
     },
   ),
 )
 
 -- ---- a request that was taken
 
-module _ (taken unread b said : Text) (w : HoldsWhole taken unread b said) where
-  pub item_request : IsRequest (record { head = w.head; coded = w.body.coded; body = w.body.body })
+module _ (settings : Settings) (taken unread b said : Text) (w : HoldsWhole settings taken unread b said) where
+  pub item_request : IsRequest settings (record { head = w.head; coded = w.body.coded; body = w.body.body })
   item_request = record { head = w.there.begins.reads.0; short = w.there.begins.short; few = w.there.few; body = w.body.is_body }
 
   pub item_begins : b ≡ (print_request w.head ++ w.body.coded) ++ unread

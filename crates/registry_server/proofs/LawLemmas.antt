@@ -86,7 +86,7 @@ module _ (settings : Settings) where
     rest : Text
     said : Text
     progress : Progress rest said (on_way all later out s s')
-    holds : Holds c rest said
+    holds : Holds settings c rest said
 
   abbrev StandsAs : Phase → Text → Text → Text → State → State → Shown → Type 0
   StandsAs Head all later out s s' c = Open all later out s s' c
@@ -96,11 +96,11 @@ module _ (settings : Settings) where
   abbrev Stands : Text → Text → Text → State → State → Shown → Type 0
   Stands all later out s s' c = StandsAs c.phase all later out s s' c
 
-  still_open : (p : Phase) (all later out rest said : Text) (s s' : State) (c : Shown) → c.phase ≡ p → HoldsAs p c.taken c.unread rest said
+  still_open : (p : Phase) (all later out rest said : Text) (s s' : State) (c : Shown) → c.phase ≡ p → HoldsAs settings p c.taken c.unread rest said
       → Progress rest said (on_way all later out s s') → StandsAs p all later out s s' c
-  still_open Head all later out rest said s s' c e h q = record { rest = rest; said = said; progress = q; holds = subst (λ (x : Phase). HoldsAs x c.taken c.unread rest said) (sym e) h }
+  still_open Head all later out rest said s s' c e h q = record { rest = rest; said = said; progress = q; holds = subst (λ (x : Phase). HoldsAs settings x c.taken c.unread rest said) (sym e) h }
   still_open (Body part) all later out rest said s s' c e h q =
-      record { rest = rest; said = said; progress = q; holds = subst (λ (x : Phase). HoldsAs x c.taken c.unread rest said) (sym e) h }
+      record { rest = rest; said = said; progress = q; holds = subst (λ (x : Phase). HoldsAs settings x c.taken c.unread rest said) (sym e) h }
   still_open (Ended e) all later out rest said s s' c same h q = absurd h
 
   is_over : (e : End) (all later out : Text) (s s' : State) (c : Shown) → c.phase ≡ Ended e → ServedTo e (traffic settings all out s s')
@@ -129,7 +129,7 @@ module _ (settings : Settings) where
         put : out ++ c.going ≡ (out ++ going) ++ reply_for x.item x.answer
         put = put_on out going c.going (reply_for x.item x.answer) x.put
 
-        by_close : (f : Bool) → closes x.item ≡ f → MatchBool f (c.phase ≡ Ended Closed) (Holds c x.rest []) → Stands all later (out ++ c.going) s0 s' c
+        by_close : (f : Bool) → closes x.item ≡ f → MatchBool f (c.phase ≡ Ended Closed) (Holds settings c x.rest []) → Stands all later (out ++ c.going) s0 s' c
         by_close true e ends =
             is_over Closed all later (out ++ c.going) s0 s' c ends
             (off_end Closed (on_way all later (out ++ c.going) s0 s') (Some []) (closed b before (on_way all later (out ++ going) s0 s) p x.item x.rest x.begins x.request x.before_is x.answer s' x.does (Some (out ++ c.going)) e put))
@@ -144,7 +144,7 @@ module _ (settings : Settings) where
         (subst (λ (t : State). Progress b before (on_way all later (out ++ going) s0 t)) (sym same) p)
 
     -- what stands before the body is put
-    interim : PutsInterim b before going s s' c → Stands all later (out ++ c.going) s0 s' c
+    interim : PutsInterim settings b before going s s' c → Stands all later (out ++ c.going) s0 s' c
     interim x =
         still_open c.phase all later (out ++ c.going) b x.first s0 s' c refl x.holds
         (subst (λ (t : State). Progress b x.first (on_way all later (out ++ c.going) s0 t)) (sym x.same)
@@ -152,7 +152,7 @@ module _ (settings : Settings) where
         (subst (λ (y : Text). Progress b (y ++ x.first) (on_way all later (out ++ (going ++ x.first)) s0 s)) x.unsaid
         (first_on all later out b before x.first going s0 s p))))
 
-    waits : WaitsForMore b before going s s' c → Stands all later (out ++ c.going) s0 s' c
+    waits : WaitsForMore settings b before going s s' c → Stands all later (out ++ c.going) s0 s' c
     waits x = still_open c.phase all later (out ++ c.going) b before s0 s' c refl x.holds (nothing_put x.put x.same)
 
     puts_part : (n : ℕ) → PutsPart settings n b before going s s' c.going → Serves (WriteFailed n) (on_way all later (out ++ c.going) s0 s')
@@ -172,7 +172,7 @@ module _ (settings : Settings) where
     ends Closed done x =
         off_end Closed (on_way all later (out ++ c.going) s0 s') (Some [])
         (at_end b before (on_way all later (out ++ c.going) s0 s') (nothing_put x.3 x.4) Closed (done x.0) x.1
-        (subst (λ (y : Text). IsBefore b y) (sym x.2) (before_empty b x.1)) refl)
+        (subst (λ (y : Text). IsBefore settings b y) (sym x.2) (before_empty settings b x.1)) refl)
     ends Cut done x =
         off_end Cut (on_way all later (out ++ c.going) s0 s') (Some [])
         (at_end b before (on_way all later (out ++ c.going) s0 s') (nothing_put x.3 x.4) Cut (done x.0) x.1 x.2 refl)
@@ -253,13 +253,13 @@ module _ (settings : Settings) where
   kept_on bytes es all out s0 s c c' open_still (inl e) y =
       subst (λ (k : Shown). StandsBefore es all out s0 s k) (sym e.0)
       (still_open c.phase all (heard_if c.finished es) (out ++ c.going) (y.rest ++ bytes) y.said s0 s (with_more c bytes) refl
-      (subst (λ (k : Shown). Holds k (y.rest ++ bytes) y.said) e.0 (e.1 y.rest y.said y.holds))
+      (subst (λ (k : Shown). Holds settings k (y.rest ++ bytes) y.said) e.0 (e.1 settings y.rest y.said y.holds))
       (more_came y.rest y.said (on_way all (heard_if c.finished (came bytes ∷ es)) (out ++ c.going) s0 s) bytes (Some (heard_if c.finished es)) y.progress
       (heard_on_came c.finished bytes es open_still)))
   kept_on bytes es all out s0 s c c' open_still (inr lacks) y =
       is_over lacks.end all (heard_if c'.finished es) (out ++ c'.going) s0 s c' lacks.ended
       (told lacks.end NoBufferMemory (Some c.going) (Some c'.going) (traffic settings all (out ++ c'.going) s0 s) lacks.sends (memory_serves y.rest y.said (on_way all (heard_if c.finished (came bytes ∷ es)) (out ++ c.going) s0 s) y.progress lacks.end NoBufferMemory (Some [])
-      (Some (out ++ c'.going)) (λ tail. said_there c.phase c.taken c.unread y.rest y.said tail y.holds) refl
+      (Some (out ++ c'.going)) (λ tail. said_there settings c.phase c.taken c.unread y.rest y.said tail y.holds) refl
       (sends_on lacks.end NoBufferMemory out c.going c'.going lacks.sends)))
 
   came_on : (bytes : Text) (es : List Event) (all out : Text) (s0 s s' : State) (c c' : Shown) → Happens settings (came bytes) c s c' s'
@@ -307,7 +307,7 @@ module _ (settings : Settings) where
     texts = y.progress.texts;
     rest = y.rest;
     said = y.said;
-    front = subst (λ (b : Text). Front b y.progress.items y.rest) (sym (y.progress.consumed ∙ append-nil y.progress.read)) y.progress.front;
+    front = subst (λ (b : Text). Front settings b y.progress.items y.rest) (sym (y.progress.consumed ∙ append-nil y.progress.read)) y.progress.front;
     run = y.progress.run;
     put = y.progress.written;
     holds = y.holds;

@@ -67,22 +67,22 @@ went_on (sent text) calls = refl
 -- ---- where each connection stands
 
 -- calls are still to come for the connection n, on which all comes in the end, and out went so far
-record Kept (all : Text) (calls : List Call) (out : Text) (rs : List Replied) (n : ℕ) (u : Open) : Type 0 where
+record Kept (settings : Settings) (all : Text) (calls : List Call) (out : Text) (rs : List Replied) (n : ℕ) (u : Open) : Type 0 where
   conversation : Shown
-  stands : StandsBefore calls all out rs conversation
+  stands : StandsBefore settings calls all out rs conversation
   there : IfSome (conversation_of n u.slots) (λ c. c ≡ conversation)
   -- a number that is still to be given
   unused : u.next ≤ n → (conversation ≡ begun) × (conversation_of n u.slots ≡ None)
 
-abbrev KeptAll : (ℕ → Text) → List Event → (ℕ → Text) → List Entry → Open → Type 0
-KeptAll all es out ledger u = (n : ℕ) → Kept (all n) (calls_of n es) (out n) (replies_of n ledger) n u
+abbrev KeptAll : Settings → (ℕ → Text) → List Event → (ℕ → Text) → List Entry → Open → Type 0
+KeptAll settings all es out ledger u = (n : ℕ) → Kept settings (all n) (calls_of n es) (out n) (replies_of n ledger) n u
 
 -- another connection's calls
-kept_past : (all : Text) (calls calls' : List Call) (out : Text) (rs rs' : List Replied) (n : ℕ) (u u' : Open) → calls ≡ calls' → rs' ≡ rs
-    → conversation_of n u'.slots ≡ conversation_of n u.slots → (u'.next ≤ n → u.next ≤ n) → Kept all calls out rs n u → Kept all calls' out rs' n u'
-kept_past all calls calls' out rs rs' n u u' e f same le k = record {
+kept_past : (settings : Settings) (all : Text) (calls calls' : List Call) (out : Text) (rs rs' : List Replied) (n : ℕ) (u u' : Open) → calls ≡ calls' → rs' ≡ rs
+    → conversation_of n u'.slots ≡ conversation_of n u.slots → (u'.next ≤ n → u.next ≤ n) → Kept settings all calls out rs n u → Kept settings all calls' out rs' n u'
+kept_past settings all calls calls' out rs rs' n u u' e f same le k = record {
   conversation = k.conversation;
-  stands = subst (λ (cs : List Call). StandsBefore cs all out rs' k.conversation) e (subst (λ (l : List Replied). StandsBefore calls all out l k.conversation) (sym f) k.stands);
+  stands = subst (λ (cs : List Call). StandsBefore settings cs all out rs' k.conversation) e (subst (λ (l : List Replied). StandsBefore settings calls all out l k.conversation) (sym f) k.stands);
   there = subst (λ (o : Option Shown). IfSome o (λ c. c ≡ k.conversation)) (sym same) k.there;
   unused = λ h. ((k.unused (le h)).0, same ∙ (k.unused (le h)).1);
 }
@@ -166,7 +166,7 @@ module _ (settings : Settings) where
     ledger : List Entry
     same : u.settings ≡ settings
     writes : Writes s0 ledger s
-    kept : KeptAll all es out ledger u
+    kept : KeptAll settings all es out ledger u
 
   comes_on : (all : ℕ → Text) (n : ℕ) (es : List Event) (out : ℕ → Text) (s0 s : State) (u u' : Open) → Opens n u u'
       → Stage all (comes n ∷ es) out s0 s u → Stage all es out s0 s u'
@@ -175,7 +175,7 @@ module _ (settings : Settings) where
       next_is : u'.next ≡ n + 1
       next_is = ap (λ (v : Open). v.next) x.is
 
-      by : (m : ℕ) → (m ≡ n) ⊎ (m ≡ n → ⊥) → Kept (all m) (calls_of m es) (out m) (replies_of m g.ledger) m u'
+      by : (m : ℕ) → (m ≡ n) ⊎ (m ≡ n → ⊥) → Kept settings (all m) (calls_of m es) (out m) (replies_of m g.ledger) m u'
       by m (inl e) =
           let k = g.kept m in
           let first = k.unused (omega (arith, e, x.number)) in
@@ -186,14 +186,14 @@ module _ (settings : Settings) where
             unused = λ h. absurd (omega (arith, e, next_is, h));
           }
       by m (inr ne) =
-          kept_past (all m) (calls_of m es) (calls_of m es) (out m) (replies_of m g.ledger) (replies_of m g.ledger) m u u' refl refl (x.only.others m ne)
+          kept_past settings (all m) (calls_of m es) (calls_of m es) (out m) (replies_of m g.ledger) (replies_of m g.ledger) m u u' refl refl (x.only.others m ne)
           (λ h. omega (arith, next_is, x.number, h)) (g.kept m)
 
   goes_on : (all : ℕ → Text) (n : ℕ) (es : List Event) (out : ℕ → Text) (s0 s : State) (u u' : Open) (c : Option Shown) → Only n c None u.slots u'.slots → u'.next ≡ u.next → u'.settings ≡ u.settings
       → Stage all (goes n ∷ es) out s0 s u → Stage all es out s0 s u'
   goes_on all n es out s0 s u u' c only next alike g = record { ledger = g.ledger; same = alike ∙ g.same; writes = g.writes; kept = λ m. by m (cases_eq m n) }
     where
-      by : (m : ℕ) → (m ≡ n) ⊎ (m ≡ n → ⊥) → Kept (all m) (calls_of m es) (out m) (replies_of m g.ledger) m u'
+      by : (m : ℕ) → (m ≡ n) ⊎ (m ≡ n → ⊥) → Kept settings (all m) (calls_of m es) (out m) (replies_of m g.ledger) m u'
       by m (inl e) =
           let k = g.kept m in
           let gone : conversation_of m u'.slots ≡ None = subst (λ (i : ℕ). conversation_of i u'.slots ≡ None) (sym e) only.is in
@@ -204,7 +204,7 @@ module _ (settings : Settings) where
             unused = λ h. ((k.unused (omega (arith, next, h))).0, gone);
           }
       by m (inr ne) =
-          kept_past (all m) (calls_of m es) (calls_of m es) (out m) (replies_of m g.ledger) (replies_of m g.ledger) m u u' refl refl (only.others m ne)
+          kept_past settings (all m) (calls_of m es) (calls_of m es) (out m) (replies_of m g.ledger) (replies_of m g.ledger) m u u' refl refl (only.others m ne)
           (λ h. omega (arith, next, h)) (g.kept m)
 
   took_on : (all : ℕ → Text) (step : Step) (outcome : Outcome) (es : List Event) (out : ℕ → Text) (s0 s s' : State) (u : Open) → Takes s step outcome s'
@@ -213,7 +213,7 @@ module _ (settings : Settings) where
     ledger = g.ledger ++ took step outcome ∷ [];
     same = g.same;
     writes = entry_more s0 g.ledger s (took step outcome) s' g.writes x;
-    kept = λ m. kept_past (all m) (calls_of m es) (calls_of m es) (out m) (replies_of m g.ledger) (replies_of m (g.ledger ++ took step outcome ∷ [])) m u u refl
+    kept = λ m. kept_past settings (all m) (calls_of m es) (calls_of m es) (out m) (replies_of m g.ledger) (replies_of m (g.ledger ++ took step outcome ∷ [])) m u u refl
         (took_replies m g.ledger step outcome) refl (λ h. h) (g.kept m);
   }
 
@@ -226,7 +226,7 @@ module _ (settings : Settings) where
     kept = λ m. by m (cases_eq m n);
   }
     where
-      k : Kept (all n) (calls_of n (on n call ∷ es)) (out n) (replies_of n g.ledger) n u
+      k : Kept settings (all n) (calls_of n (on n call ∷ es)) (out n) (replies_of n g.ledger) n u
       k = g.kept n
 
       same : x.before ≡ k.conversation
@@ -235,25 +235,25 @@ module _ (settings : Settings) where
       turn : NextBefore settings (calls_of n es) (all n) (out n ++ went_by call) (replies_of n g.ledger) s s' x.after
       turn =
           call_on settings call (calls_of n es) (all n) (out n) (replies_of n g.ledger) s s' x.before x.after (subst (λ (z : Settings). Does z call x.before s x.after s') g.same x.does)
-          (subst (λ (calls : List Call). StandsBefore calls (all n) (out n) (replies_of n g.ledger) x.before) (own_call n call es)
-          (subst (λ (c : Shown). StandsBefore (calls_of n (on n call ∷ es)) (all n) (out n) (replies_of n g.ledger) c) (sym same) k.stands))
+          (subst (λ (calls : List Call). StandsBefore settings calls (all n) (out n) (replies_of n g.ledger) x.before) (own_call n call es)
+          (subst (λ (c : Shown). StandsBefore settings (calls_of n (on n call ∷ es)) (all n) (out n) (replies_of n g.ledger) c) (sym same) k.stands))
 
-      own : Kept (all n) (calls_of n es) (with_text out n (went_by call) n) (replies_of n (g.ledger ++ entries n turn.more)) n u'
+      own : Kept settings (all n) (calls_of n es) (with_text out n (went_by call) n) (replies_of n (g.ledger ++ entries n turn.more)) n u'
       own = record {
         conversation = x.after;
         stands =
-            subst (λ (o : Text). StandsBefore (calls_of n es) (all n) o (replies_of n (g.ledger ++ entries n turn.more)) x.after) (sym (own_text out n (went_by call)))
-            (subst (λ (l : List Replied). StandsBefore (calls_of n es) (all n) (out n ++ went_by call) l x.after) (sym (own_replies n g.ledger turn.more)) turn.stands);
+            subst (λ (o : Text). StandsBefore settings (calls_of n es) (all n) o (replies_of n (g.ledger ++ entries n turn.more)) x.after) (sym (own_text out n (went_by call)))
+            (subst (λ (l : List Replied). StandsBefore settings (calls_of n es) (all n) (out n ++ went_by call) l x.after) (sym (own_replies n g.ledger turn.more)) turn.stands);
         there = subst (λ (o : Option Shown). IfSome o (λ c. c ≡ x.after)) (sym x.only.is) refl;
         unused = λ h. given n u x.before ((x.after ≡ begun) × (conversation_of n u'.slots ≡ None)) x.only.was (k.unused (omega (arith, next, h))).1;
       }
 
-      by : (m : ℕ) → (m ≡ n) ⊎ (m ≡ n → ⊥) → Kept (all m) (calls_of m es) (with_text out n (went_by call) m) (replies_of m (g.ledger ++ entries n turn.more)) m u'
+      by : (m : ℕ) → (m ≡ n) ⊎ (m ≡ n → ⊥) → Kept settings (all m) (calls_of m es) (with_text out n (went_by call) m) (replies_of m (g.ledger ++ entries n turn.more)) m u'
       by m (inl e) =
-          subst (λ (i : ℕ). Kept (all i) (calls_of i es) (with_text out n (went_by call) i) (replies_of i (g.ledger ++ entries n turn.more)) i u') (sym e) own
+          subst (λ (i : ℕ). Kept settings (all i) (calls_of i es) (with_text out n (went_by call) i) (replies_of i (g.ledger ++ entries n turn.more)) i u') (sym e) own
       by m (inr ne) =
-          subst (λ (o : Text). Kept (all m) (calls_of m es) o (replies_of m (g.ledger ++ entries n turn.more)) m u') (sym (other_text out n (went_by call) m ne))
-          (kept_past (all m) (calls_of m (on n call ∷ es)) (calls_of m es) (out m) (replies_of m g.ledger) (replies_of m (g.ledger ++ entries n turn.more)) m u u'
+          subst (λ (o : Text). Kept settings (all m) (calls_of m es) o (replies_of m (g.ledger ++ entries n turn.more)) m u') (sym (other_text out n (went_by call) m ne))
+          (kept_past settings (all m) (calls_of m (on n call ∷ es)) (calls_of m es) (out m) (replies_of m g.ledger) (replies_of m (g.ledger ++ entries n turn.more)) m u u'
           (other_call n m call es (λ e. ne (sym e))) (other_replies n m g.ledger turn.more (λ e. ne (sym e))) (x.only.others m ne) (λ h. omega (arith, next, h)) (g.kept m))
 
   one_event : (all : ℕ → Text) (e : Event) (es : List Event) (out : ℕ → Text) (s0 s s' : State) (u u' : Open) → Happens e u s u' s'
@@ -274,7 +274,7 @@ module _ (settings : Settings) where
     writes = refl;
     kept = λ n. record {
       conversation = begun;
-      stands = at_first begun (heard (calls_of n events)) refl refl refl refl;
+      stands = at_first settings begun (heard (calls_of n events)) refl refl refl refl;
       there = tt;
       unused = λ h. (refl, refl);
     };
@@ -303,10 +303,11 @@ module _ (settings : Settings) where
             record {
               conversation = k.conversation;
               there = k.there;
-              accounts = subst (λ (o : Text). AccountsAs k.conversation.phase (heard (calls_of n events)) (o ++ k.conversation.going) (replies_of n g.ledger) k.conversation) (is n)
-                  (accounts k.conversation.phase (heard (calls_of n events)) (out n ++ k.conversation.going) (replies_of n g.ledger) k.conversation
-                  (subst (λ (l : Text). StandsAs k.conversation.phase (heard (calls_of n events)) l (out n ++ k.conversation.going) (replies_of n g.ledger) k.conversation)
-                  (heard_none k.conversation.finished) k.stands));
+              accounts = subst (λ (z : Settings). AccountsAs z k.conversation.phase (heard (calls_of n events)) (went (calls_of n events) ++ k.conversation.going) (replies_of n g.ledger) k.conversation) (sym g.same)
+                  (subst (λ (o : Text). AccountsAs settings k.conversation.phase (heard (calls_of n events)) (o ++ k.conversation.going) (replies_of n g.ledger) k.conversation) (is n)
+                  (accounts settings k.conversation.phase (heard (calls_of n events)) (out n ++ k.conversation.going) (replies_of n g.ledger) k.conversation
+                  (subst (λ (l : Text). StandsAs settings k.conversation.phase (heard (calls_of n events)) l (out n ++ k.conversation.going) (replies_of n g.ledger) k.conversation)
+                  (heard_none k.conversation.finished) k.stands)));
             };
       }
 

@@ -8,7 +8,9 @@ use Rattle.std.proofs.lemmas.List.{take-append-drop}
 use Rattle.httparse.specs.Grammar.{ChunkLine, print_chunk_line, print_section}
 use Rattle.httparse.proofs.ChunkLemmas.{ReadsChunkLine-append}
 use Rattle.oci_types.specs.Text.{Text}
-use Rattle.registry_http.specs.Chunks.{limit, chunk_end, BeginsWithLine, BeginsWithSize, LineIsCut, HoldsNoLine, HasBadEnd, HasGoodEnd, DataIsCut, Chunk, IsChunk, print_chunk, print_chunks, data_of, ChunkIsCut, ChunkIsRefused, BehindChunks, BehindLast, TrailerIsCut, TrailerIsRefused, HoldsNoTrailer, ChunkedBody}
+use Rattle.registry_model.specs.Limits.{most_body}
+use Rattle.registry_model.specs.declared.settings.Settings.{Settings}
+use Rattle.registry_http.specs.Chunks.{chunk_end, BeginsWithLine, BeginsWithSize, LineIsCut, HoldsNoLine, HasBadEnd, HasGoodEnd, DataIsCut, Chunk, IsChunk, print_chunk, print_chunks, data_of, ChunkIsCut, ChunkIsRefused, BehindChunks, BehindLast, TrailerIsCut, TrailerIsRefused, HoldsNoTrailer, ChunkedBody}
 use Rattle.registry_http.specs.Spelling.{IsBody, BodyIsCut, BodyIsRefused}
 use Rattle.registry_http.specs.Taking.{LineIsRead, TrailerIsRead}
 use Rattle.registry_http.specs.declared.framing.Framing.{Framing}
@@ -29,8 +31,8 @@ on_tail v p u tail e = ap (λ (x : Text). x ++ tail) e ∙ append_assoc p u tail
 line_on : (b : Text) (l : ChunkLine) (rest tail : Text) → BeginsWithLine b l rest → BeginsWithLine (b ++ tail) l (rest ++ tail)
 line_on b l rest tail h = record { reads = ReadsChunkLine-append b l rest tail h.reads; short = h.short }
 
-total_on : (total : ℕ) (front v t u more : Text) → BehindTotal total front v t u → BehindTotal total front (v ++ more) t (u ++ more)
-total_on total front v t u more p = record {
+total_on : (settings : Settings) (total : ℕ) (front v t u more : Text) → BehindTotal settings total front v t u → BehindTotal settings total front (v ++ more) t (u ++ more)
+total_on settings total front v t u more p = record {
   chunks = p.chunks;
   each = p.each;
   within = p.within;
@@ -39,18 +41,18 @@ total_on total front v t u more p = record {
   kept = p.kept;
 }
 
-pub part_on : (part : Part) (framing : Framing) (front v t u more : Text) → IsPart part framing front v t u
-    → IsPart part framing front (v ++ more) t (u ++ more)
-part_on (Length n) framing front v t u more x = (x.0, x.1, ap (λ (y : Text). y ++ more) x.2)
-part_on (Line total) framing front v t u more x = (x.0, total_on total front v t u more x.1)
-part_on (Data total size) framing front v t u more x =
+pub part_on : (settings : Settings) (part : Part) (framing : Framing) (front v t u more : Text) → IsPart settings part framing front v t u
+    → IsPart settings part framing front (v ++ more) t (u ++ more)
+part_on settings (Length n) framing front v t u more x = (x.0, x.1, ap (λ (y : Text). y ++ more) x.2)
+part_on settings (Line total) framing front v t u more x = (x.0, total_on settings total front v t u more x.1)
+part_on settings (Data total size) framing front v t u more x =
     let p = x.1 in (
       x.0,
       record {
         earlier = p.earlier;
         line = p.line;
         rest = p.rest ++ more;
-        so_far = total_on p.earlier front v t p.rest more p.so_far;
+        so_far = total_on settings p.earlier front v t p.rest more p.so_far;
         begins = line_on p.rest p.line u more p.begins;
         some = p.some;
         sized = p.sized;
@@ -58,7 +60,7 @@ part_on (Data total size) framing front v t u more x =
         within = p.within;
       },
     )
-part_on Trailer framing front v t u more x =
+part_on settings Trailer framing front v t u more x =
     let p = x.1 in (
       x.0,
       record {
@@ -74,16 +76,16 @@ part_on Trailer framing front v t u more x =
 
 -- ---- a body of a stated length
 
-pub length_cut : (n : ℕ) (framing : Framing) (front v t u : Text) → IsPart (Length n) framing front v t u → length u < n → BodyIsCut framing v
-length_cut n framing front v t u x short =
-    subst (λ (f : Framing). BodyIsCut f v) (sym x.0) (subst (λ (y : Text). length y < n) x.2 short)
+pub length_cut : (settings : Settings) (n : ℕ) (framing : Framing) (front v t u : Text) → IsPart settings (Length n) framing front v t u → length u < n → BodyIsCut settings framing v
+length_cut settings n framing front v t u x short =
+    subst (λ (f : Framing). BodyIsCut settings f v) (sym x.0) (subst (λ (y : Text). length y < n) x.2 short)
 
-pub length_whole : (n : ℕ) (framing : Framing) (front v t u t' u' : Text) → IsPart (Length n) framing front v t u → n ≤ length u
-    → t' ≡ t ++ take n u → u' ≡ drop n u → BodyIsWhole framing front v t' u'
-length_whole n framing front v t u t' u' x enough kept rest = record {
+pub length_whole : (settings : Settings) (n : ℕ) (framing : Framing) (front v t u t' u' : Text) → IsPart settings (Length n) framing front v t u → n ≤ length u
+    → t' ≡ t ++ take n u → u' ≡ drop n u → BodyIsWhole settings framing front v t' u'
+length_whole settings n framing front v t u t' u' x enough kept rest = record {
   coded = take n u;
   body = take n u;
-  is_body = subst (λ (f : Framing). IsBody f (take n u) (take n u)) (sym x.0) (refl, omega (arith, length-take n u));
+  is_body = subst (λ (f : Framing). IsBody settings f (take n u) (take n u)) (sym x.0) (refl, omega (arith, length-take n u));
   whole = sym x.2 ∙ sym (take-append-drop n u) ∙ ap (λ (y : Text). take n u ++ y) (sym rest);
   kept = kept ∙ ap (λ (y : Text). y ++ take n u) x.1;
 }
@@ -91,9 +93,9 @@ length_whole n framing front v t u t' u' x enough kept rest = record {
 -- ---- the line of a chunk
 
 -- what stands behind whole chunks
-at_chunk : (total : ℕ) (front v t u : Text) (p : BehindTotal total front v t u) (P : ℕ → Text → Type 0) (w y : Text)
-    → w ≡ print_chunks p.chunks ++ y → P total y → BehindChunks P w
-at_chunk total front v t u p P w y e h = record {
+at_chunk : (settings : Settings) (total : ℕ) (front v t u : Text) (p : BehindTotal settings total front v t u) (P : ℕ → Text → Type 0) (w y : Text)
+    → w ≡ print_chunks p.chunks ++ y → P total y → BehindChunks settings P w
+at_chunk settings total front v t u p P w y e h = record {
   chunks = p.chunks;
   rest = y;
   whole = e;
@@ -102,29 +104,29 @@ at_chunk total front v t u p P w y e h = record {
   here = subst (λ (n : ℕ). P n y) p.carried h;
 }
 
-chunk_cut : (total : ℕ) (framing : Framing) (front v t u : Text) → framing ≡ framed.Chunked → BehindTotal total front v t u
-    → ChunkIsCut total u → BodyIsCut framing v
-chunk_cut total framing front v t u e p cut =
-    subst (λ (f : Framing). BodyIsCut f v) (sym e) (inl (at_chunk total front v t u p ChunkIsCut v u p.whole cut))
+chunk_cut : (settings : Settings) (total : ℕ) (framing : Framing) (front v t u : Text) → framing ≡ framed.Chunked → BehindTotal settings total front v t u
+    → ChunkIsCut settings total u → BodyIsCut settings framing v
+chunk_cut settings total framing front v t u e p cut =
+    subst (λ (f : Framing). BodyIsCut settings f v) (sym e) (inl (at_chunk settings total front v t u p (ChunkIsCut settings) v u p.whole cut))
 
-chunk_never : (total : ℕ) (framing : Framing) (front v t u : Text) (r : FramingRefusal) → framing ≡ framed.Chunked → BehindTotal total front v t u
-    → ((tail : Text) → ChunkIsRefused total (u ++ tail) r) → (tail : Text) → BodyIsRefused framing (v ++ tail) r
-chunk_never total framing front v t u r e p bad tail =
-    subst (λ (f : Framing). BodyIsRefused f (v ++ tail) r) (sym e)
-    (inl (at_chunk total front v t u p (λ n y. ChunkIsRefused n y r) (v ++ tail) (u ++ tail) (on_tail v (print_chunks p.chunks) u tail p.whole) (bad tail)))
+chunk_never : (settings : Settings) (total : ℕ) (framing : Framing) (front v t u : Text) (r : FramingRefusal) → framing ≡ framed.Chunked → BehindTotal settings total front v t u
+    → ((tail : Text) → ChunkIsRefused settings total (u ++ tail) r) → (tail : Text) → BodyIsRefused settings framing (v ++ tail) r
+chunk_never settings total framing front v t u r e p bad tail =
+    subst (λ (f : Framing). BodyIsRefused settings f (v ++ tail) r) (sym e)
+    (inl (at_chunk settings total front v t u p (λ n y. ChunkIsRefused settings n y r) (v ++ tail) (u ++ tail) (on_tail v (print_chunks p.chunks) u tail p.whole) (bad tail)))
 
-pub line_cut : (total : ℕ) (framing : Framing) (front v t u : Text) → IsPart (Line total) framing front v t u → LineIsCut u → BodyIsCut framing v
-line_cut total framing front v t u x cut = chunk_cut total framing front v t u x.0 x.1 (inl cut)
+pub line_cut : (settings : Settings) (total : ℕ) (framing : Framing) (front v t u : Text) → IsPart settings (Line total) framing front v t u → LineIsCut u → BodyIsCut settings framing v
+line_cut settings total framing front v t u x cut = chunk_cut settings total framing front v t u x.0 x.1 (inl cut)
 
-pub line_never : (total : ℕ) (framing : Framing) (front v t u : Text) → IsPart (Line total) framing front v t u
-    → ((tail : Text) → HoldsNoLine (u ++ tail)) → (tail : Text) → BodyIsRefused framing (v ++ tail) UnreadableChunk
-line_never total framing front v t u x never =
-    chunk_never total framing front v t u UnreadableChunk x.0 x.1 (λ tail. inl (refl, never tail))
+pub line_never : (settings : Settings) (total : ℕ) (framing : Framing) (front v t u : Text) → IsPart settings (Line total) framing front v t u
+    → ((tail : Text) → HoldsNoLine (u ++ tail)) → (tail : Text) → BodyIsRefused settings framing (v ++ tail) UnreadableChunk
+line_never settings total framing front v t u x never =
+    chunk_never settings total framing front v t u UnreadableChunk x.0 x.1 (λ tail. inl (refl, never tail))
 
-pub line_over : (total : ℕ) (framing : Framing) (front v t u : Text) (line : LineFound) → IsPart (Line total) framing front v t u
-    → LineIsRead u line → limit - total < line.size → (tail : Text) → BodyIsRefused framing (v ++ tail) ChunksTooLarge
-line_over total framing front v t u line x read over =
-    chunk_never total framing front v t u ChunksTooLarge x.0 x.1
+pub line_over : (settings : Settings) (total : ℕ) (framing : Framing) (front v t u : Text) (line : LineFound) → IsPart settings (Line total) framing front v t u
+    → LineIsRead u line → most_body settings - total < line.size → (tail : Text) → BodyIsRefused settings framing (v ++ tail) ChunksTooLarge
+line_over settings total framing front v t u line x read over =
+    chunk_never settings total framing front v t u ChunksTooLarge x.0 x.1
     (λ tail. inr (inl (read.text, drop line.len u ++ tail, line_on u read.text _ tail read.begins, omega (arith, read.size), refl)))
 
 pub line_fits : (u : Text) (line : LineFound) → LineIsRead u line → line.len ≤ length u
@@ -132,9 +134,9 @@ line_fits u line read =
     let size = ap length read.begins.reads.1 in
     omega (arith, length-append (print_chunk_line read.text) (drop line.len u), read.len)
 
-pub line_last : (total : ℕ) (framing : Framing) (front v t u t' u' : Text) (line : LineFound) → IsPart (Line total) framing front v t u
-    → LineIsRead u line → line.size ≡ 0 → t' ≡ t → u' ≡ drop line.len u → IsPart Trailer framing front v t' u'
-line_last total framing front v t u t' u' line x read none kept rest =
+pub line_last : (settings : Settings) (total : ℕ) (framing : Framing) (front v t u t' u' : Text) (line : LineFound) → IsPart settings (Line total) framing front v t u
+    → LineIsRead u line → line.size ≡ 0 → t' ≡ t → u' ≡ drop line.len u → IsPart settings Trailer framing front v t' u'
+line_last settings total framing front v t u t' u' line x read none kept rest =
     let p = x.1 in
     let text = print_chunk_line read.text in (
       x.0,
@@ -150,16 +152,16 @@ line_last total framing front v t u t' u' line x read none kept rest =
       },
     )
 
-pub line_size : (total : ℕ) (framing : Framing) (front v t u t' u' : Text) (line : LineFound) → IsPart (Line total) framing front v t u
-    → LineIsRead u line → 0 < line.size → line.size ≤ limit - total → t' ≡ t → u' ≡ drop line.len u
-    → IsPart (Data (total + line.size) line.size) framing front v t' u'
-line_size total framing front v t u t' u' line x read some small kept rest = (
+pub line_size : (settings : Settings) (total : ℕ) (framing : Framing) (front v t u t' u' : Text) (line : LineFound) → IsPart settings (Line total) framing front v t u
+    → LineIsRead u line → 0 < line.size → line.size ≤ most_body settings - total → t' ≡ t → u' ≡ drop line.len u
+    → IsPart settings (Data (total + line.size) line.size) framing front v t' u'
+line_size settings total framing front v t u t' u' line x read some small kept rest = (
   x.0,
   record {
     earlier = total;
     line = read.text;
     rest = u;
-    so_far = subst (λ (y : Text). BehindTotal total front v y u) (sym kept) x.1;
+    so_far = subst (λ (y : Text). BehindTotal settings total front v y u) (sym kept) x.1;
     begins = subst (λ (y : Text). BeginsWithLine u read.text y) (sym rest) read.begins;
     some = some;
     sized = read.size;
@@ -170,31 +172,31 @@ line_size total framing front v t u t' u' line x read some small kept rest = (
 
 -- ---- the data of a chunk
 
-sized : (total size : ℕ) (front v t u y : Text) (p : BehindSize total size front v t u) → BeginsWithSize p.earlier (print_chunk_line p.line ++ y) p.line y
-sized total size front v t u y p = record {
+sized : (settings : Settings) (total size : ℕ) (front v t u y : Text) (p : BehindSize settings total size front v t u) → BeginsWithSize settings p.earlier (print_chunk_line p.line ++ y) p.line y
+sized settings total size front v t u y p = record {
   begins = record { reads = (p.begins.reads.0, refl); short = p.begins.short };
   some = omega (arith, p.some, p.sized);
   within = omega (arith, p.within, p.sum, p.sized);
 }
 
 -- the line and what stands behind it
-behind_line : (total size : ℕ) (front v t u tail : Text) (p : BehindSize total size front v t u) → p.rest ++ tail ≡ print_chunk_line p.line ++ (u ++ tail)
-behind_line total size front v t u tail p = on_tail p.rest (print_chunk_line p.line) u tail p.begins.reads.1
+behind_line : (settings : Settings) (total size : ℕ) (front v t u tail : Text) (p : BehindSize settings total size front v t u) → p.rest ++ tail ≡ print_chunk_line p.line ++ (u ++ tail)
+behind_line settings total size front v t u tail p = on_tail p.rest (print_chunk_line p.line) u tail p.begins.reads.1
 
-pub data_cut : (total size : ℕ) (framing : Framing) (front v t u : Text) → IsPart (Data total size) framing front v t u → DataIsCut size u → BodyIsCut framing v
-data_cut total size framing front v t u x cut =
+pub data_cut : (settings : Settings) (total size : ℕ) (framing : Framing) (front v t u : Text) → IsPart settings (Data total size) framing front v t u → DataIsCut size u → BodyIsCut settings framing v
+data_cut settings total size framing front v t u x cut =
     let p = x.1 in
-    chunk_cut p.earlier framing front v t p.rest x.0 p.so_far
-    (subst (λ (y : Text). ChunkIsCut p.earlier y) (sym p.begins.reads.1)
-    (inr (p.line, u, sized total size front v t u u p, subst (λ (n : ℕ). DataIsCut n u) p.sized cut)))
+    chunk_cut settings p.earlier framing front v t p.rest x.0 p.so_far
+    (subst (λ (y : Text). ChunkIsCut settings p.earlier y) (sym p.begins.reads.1)
+    (inr (p.line, u, sized settings total size front v t u u p, subst (λ (n : ℕ). DataIsCut n u) p.sized cut)))
 
-pub data_never : (total size : ℕ) (framing : Framing) (front v t u : Text) → IsPart (Data total size) framing front v t u
-    → ((tail : Text) → HasBadEnd size (u ++ tail)) → (tail : Text) → BodyIsRefused framing (v ++ tail) UnreadableChunk
-data_never total size framing front v t u x bad =
+pub data_never : (settings : Settings) (total size : ℕ) (framing : Framing) (front v t u : Text) → IsPart settings (Data total size) framing front v t u
+    → ((tail : Text) → HasBadEnd size (u ++ tail)) → (tail : Text) → BodyIsRefused settings framing (v ++ tail) UnreadableChunk
+data_never settings total size framing front v t u x bad =
     let p = x.1 in
-    chunk_never p.earlier framing front v t p.rest UnreadableChunk x.0 p.so_far
-    (λ tail. subst (λ (y : Text). ChunkIsRefused p.earlier y UnreadableChunk) (sym (behind_line total size front v t u tail p))
-    (inr (inr (p.line, u ++ tail, sized total size front v t u (u ++ tail) p, (refl, subst (λ (n : ℕ). HasBadEnd n (u ++ tail)) p.sized (bad tail))))))
+    chunk_never settings p.earlier framing front v t p.rest UnreadableChunk x.0 p.so_far
+    (λ tail. subst (λ (y : Text). ChunkIsRefused settings p.earlier y UnreadableChunk) (sym (behind_line settings total size front v t u tail p))
+    (inr (inr (p.line, u ++ tail, sized settings total size front v t u (u ++ tail) p, (refl, subst (λ (n : ℕ). HasBadEnd n (u ++ tail)) p.sized (bad tail))))))
 
 pub data_fits : (size : ℕ) (u : Text) → HasGoodEnd size u → size ≤ length u
 data_fits size u good = omega (arith, good.0)
@@ -221,9 +223,9 @@ three size u w u' good rest last =
     sym (take-append-drop size u) ∙ ap (λ (y : Text). take size u ++ y) (sym rest ∙ sym (take-append-drop 2 w) ∙ ap (λ (y : Text). y ++ drop 2 w) two ∙ ap (λ (y : Text). chunk_end ++ y) (sym last))
     ∙ sym (append_assoc (take size u) chunk_end u')
 
-pub data_whole : (total size : ℕ) (framing : Framing) (front v t u t' w t'' u' : Text) → IsPart (Data total size) framing front v t u → HasGoodEnd size u
-    → t' ≡ t ++ take size u → w ≡ drop size u → t'' ≡ t' → u' ≡ drop 2 w → IsPart (Line total) framing front v t'' u'
-data_whole total size framing front v t u t' w t'' u' x good kept rest same last =
+pub data_whole : (settings : Settings) (total size : ℕ) (framing : Framing) (front v t u t' w t'' u' : Text) → IsPart settings (Data total size) framing front v t u → HasGoodEnd size u
+    → t' ≡ t ++ take size u → w ≡ drop size u → t'' ≡ t' → u' ≡ drop 2 w → IsPart settings (Line total) framing front v t'' u'
+data_whole settings total size framing front v t u t' w t'' u' x good kept rest same last =
     let p = x.1 in
     let cs = p.so_far.chunks in
     let c : Chunk = record { line = p.line; carried = take size u } in
@@ -259,20 +261,20 @@ data_shorter size t u t' w t'' u' kept rest same last =
 
 -- ---- the trailer
 
-at_last : (front v t u : Text) (p : BehindZero front v t u) (P : Text → Type 0) (w y : Text)
-    → w ≡ (print_chunks p.chunks ++ print_chunk_line p.zero) ++ y → P y → BehindLast P w
-at_last front v t u p P w y e h =
+at_last : (settings : Settings) (front v t u : Text) (p : BehindZero settings front v t u) (P : Text → Type 0) (w y : Text)
+    → w ≡ (print_chunks p.chunks ++ print_chunk_line p.zero) ++ y → P y → BehindLast settings P w
+at_last settings front v t u p P w y e h =
     record { chunks = p.chunks; zero = p.zero; rest = y; whole = e; each = p.each; within = p.within; is_last = p.is_last; here = h }
 
-pub trailer_cut : (framing : Framing) (front v t u : Text) → IsPart Trailer framing front v t u → TrailerIsCut u → BodyIsCut framing v
-trailer_cut framing front v t u x cut =
-    subst (λ (f : Framing). BodyIsCut f v) (sym x.0) (inr (at_last front v t u x.1 TrailerIsCut v u x.1.whole cut))
+pub trailer_cut : (settings : Settings) (framing : Framing) (front v t u : Text) → IsPart settings Trailer framing front v t u → TrailerIsCut u → BodyIsCut settings framing v
+trailer_cut settings framing front v t u x cut =
+    subst (λ (f : Framing). BodyIsCut settings f v) (sym x.0) (inr (at_last settings front v t u x.1 TrailerIsCut v u x.1.whole cut))
 
-pub trailer_never : (framing : Framing) (front v t u : Text) → IsPart Trailer framing front v t u → ((tail : Text) → HoldsNoTrailer (u ++ tail))
-    → (tail : Text) → BodyIsRefused framing (v ++ tail) UnreadableChunk
-trailer_never framing front v t u x never tail =
-    subst (λ (f : Framing). BodyIsRefused f (v ++ tail) UnreadableChunk) (sym x.0)
-    (inr (at_last front v t u x.1 (λ y. TrailerIsRefused y UnreadableChunk) (v ++ tail) (u ++ tail)
+pub trailer_never : (settings : Settings) (framing : Framing) (front v t u : Text) → IsPart settings Trailer framing front v t u → ((tail : Text) → HoldsNoTrailer (u ++ tail))
+    → (tail : Text) → BodyIsRefused settings framing (v ++ tail) UnreadableChunk
+trailer_never settings framing front v t u x never tail =
+    subst (λ (f : Framing). BodyIsRefused settings f (v ++ tail) UnreadableChunk) (sym x.0)
+    (inr (at_last settings front v t u x.1 (λ y. TrailerIsRefused y UnreadableChunk) (v ++ tail) (u ++ tail)
     (on_tail v (print_chunks x.1.chunks ++ print_chunk_line x.1.zero) u tail x.1.whole) (refl, never tail)))
 
 pub trailer_fits : (u : Text) (len : ℕ) → TrailerIsRead u len → len ≤ length u
@@ -280,9 +282,9 @@ trailer_fits u len read =
     let size = ap length read.begins.reads.1 in
     omega (arith, length-append (print_section read.fields read.last) (drop len u), read.len_is)
 
-pub trailer_whole : (framing : Framing) (front v t u t' u' : Text) (len : ℕ) → IsPart Trailer framing front v t u → TrailerIsRead u len
-    → t' ≡ t → u' ≡ drop len u → BodyIsWhole framing front v t' u'
-trailer_whole framing front v t u t' u' len x read kept rest =
+pub trailer_whole : (settings : Settings) (framing : Framing) (front v t u t' u' : Text) (len : ℕ) → IsPart settings Trailer framing front v t u → TrailerIsRead u len
+    → t' ≡ t → u' ≡ drop len u → BodyIsWhole settings framing front v t' u'
+trailer_whole settings framing front v t u t' u' len x read kept rest =
     let p = x.1 in
     let before = print_chunks p.chunks ++ print_chunk_line p.zero in
     let section = print_section read.fields read.last in
@@ -290,7 +292,7 @@ trailer_whole framing front v t u t' u' len x read kept rest =
     record {
       coded = before ++ section;
       body = data_of p.chunks;
-      is_body = subst (λ (f : Framing). IsBody f (before ++ section) (data_of p.chunks)) (sym x.0) (
+      is_body = subst (λ (f : Framing). IsBody settings f (before ++ section) (data_of p.chunks)) (sym x.0) (
         body,
         record { each = p.each; within = p.within; zero = p.is_last; fields = read.begins.reads.0; few = read.few; short = read.begins.short },
         refl,

@@ -39,7 +39,7 @@ pub record Open (c : Shown) (t : Traffic) : Type 0 where
   pub rest : Text
   pub said : Text
   pub progress : Progress rest said t
-  pub holds : Holds c rest said
+  pub holds : Holds t.settings c rest said
   pub told : c.going ≡ []
   pub at_end : c.finished ≡ true → IsAtEnd t.left'
 
@@ -51,12 +51,12 @@ StandsAs (Ended e) c t = Finishes e c.going t
 abbrev pub Stands : Shown → Traffic → Type 0
 Stands c t = StandsAs c.phase c t
 
-still_open : (q : Phase) (rest said : Text) (t : Traffic) (c : Shown) → c.phase ≡ q → HoldsAs q c.taken c.unread rest said → Progress rest said t
+still_open : (q : Phase) (rest said : Text) (t : Traffic) (c : Shown) → c.phase ≡ q → HoldsAs t.settings q c.taken c.unread rest said → Progress rest said t
     → c.going ≡ [] → (c.finished ≡ true → IsAtEnd t.left') → StandsAs q c t
 still_open Head rest said t c e h p none done =
-    record { rest = rest; said = said; progress = p; holds = subst (λ (x : Phase). HoldsAs x c.taken c.unread rest said) (sym e) h; told = none; at_end = done }
+    record { rest = rest; said = said; progress = p; holds = subst (λ (x : Phase). HoldsAs t.settings x c.taken c.unread rest said) (sym e) h; told = none; at_end = done }
 still_open (Body part) rest said t c e h p none done =
-    record { rest = rest; said = said; progress = p; holds = subst (λ (x : Phase). HoldsAs x c.taken c.unread rest said) (sym e) h; told = none; at_end = done }
+    record { rest = rest; said = said; progress = p; holds = subst (λ (x : Phase). HoldsAs t.settings x c.taken c.unread rest said) (sym e) h; told = none; at_end = done }
 still_open (Ended end) rest said t c e h p none done = absurd h
 
 is_over : (e : End) (c : Shown) (t : Traffic) → c.phase ≡ Ended e → Finishes e c.going t → Stands c t
@@ -66,8 +66,8 @@ is_over e c t same x = subst (λ (q : Phase). StandsAs q c t) (sym same) x
 pub record Waiting (c : Shown) (t : Traffic) : Type 0 where
   pub open_still : Open c t
   pub goes_on : c.finished ≡ false
-  pub cut : (open_still.rest ≡ []) ⊎ IsCut open_still.rest
-  pub before_is : IsBefore open_still.rest open_still.said
+  pub cut : (open_still.rest ≡ []) ⊎ IsCut t.settings open_still.rest
+  pub before_is : IsBefore t.settings open_still.rest open_still.said
 
 abbrev pub StepsTo : Step → Shown → Traffic → Type 0
 StepsTo step.Answered c t = Stands c t
@@ -132,7 +132,7 @@ module _ (b said : Text) (t : Traffic) (p : Progress b said t) (s' : State) (c :
         (subst (λ (y : Text). Appends t.held' w (take n y)) x.put a);
   }
     where
-      by_close : (f : Bool) → closes x.item ≡ f → MatchBool f (c.phase ≡ Ended Closed) (Holds c x.rest []) → (w : Option Text)
+      by_close : (f : Bool) → closes x.item ≡ f → MatchBool f (c.phase ≡ Ended Closed) (Holds t.settings c x.rest []) → (w : Option Text)
           → Appends t.held' w (reply_for x.item x.answer) → Stands (with_going c []) (record t { held' = w; state' = s' })
       by_close true e ends w a =
           is_over Closed (with_going c []) (record t { held' = w; state' = s' }) ends (record {
@@ -147,7 +147,7 @@ module _ (b said : Text) (t : Traffic) (p : Progress b said t) (s' : State) (c :
   unsaid : said ≡ [] → Progress b [] t
   unsaid none = subst (λ (y : Text). Progress b y t) none p
 
-  interim : PutsInterim b said [] t.state' s' c → Turned step.Interim c (record t { state' = s' })
+  interim : PutsInterim t.settings b said [] t.state' s' c → Turned step.Interim c (record t { state' = s' })
   interim x = record {
     whole = λ w a.
         still_open c.phase b x.first (record t { held' = w; state' = s' }) (with_going c []) refl x.holds
@@ -165,7 +165,7 @@ module _ (b said : Text) (t : Traffic) (p : Progress b said t) (s' : State) (c :
       subst (λ (s : State). Progress b said (record t { held' = w; state' = s })) (sym same)
       (quiet b said t w p (subst (λ (y : Text). Appends t.held' w y) none a))
 
-  waits : WaitsForMore b said [] t.state' s' c → Turned step.Waits c (record t { state' = s' })
+  waits : WaitsForMore t.settings b said [] t.state' s' c → Turned step.Waits c (record t { state' = s' })
   waits x = record {
     whole = λ w a. record {
       open_still = record { rest = b; said = said; progress = now x.put x.same w a; holds = x.holds; told = refl; at_end = done };
@@ -192,7 +192,7 @@ module _ (b said : Text) (t : Traffic) (p : Progress b said t) (s' : State) (c :
   ends : (e : End) → EndsAs t.settings e b said [] t.state' s' c → Finishes e c.going (record t { state' = s' })
   ends Closed x = record {
     whole = λ w a.
-        at_end b said (record t { held' = w; state' = s' }) (now x.3 x.4 w a) Closed (done x.0) x.1 (subst (λ (y : Text). IsBefore b y) (sym x.2) (before_empty b x.1)) refl;
+        at_end b said (record t { held' = w; state' = s' }) (now x.3 x.4 w a) Closed (done x.0) x.1 (subst (λ (y : Text). IsBefore t.settings b y) (sym x.2) (before_empty t.settings b x.1)) refl;
     part = λ n w short a. absurd (none_short n c.going x.3 short);
   }
   ends Cut x = record {
@@ -263,18 +263,18 @@ module _ (c c' : Shown) (t : Traffic) (l : Option Text) (x : Waiting c t) where
   lacks (Refused r) s =
       all_of (Refused r) (refusal_text NoBufferMemory) c'.going (record t { left' = l }) (s.1 ∙ ap (λ (g : Text). g ++ refusal_text NoBufferMemory) y.told)
       (λ w a. memory_serves y.rest y.said t y.progress (Refused r) NoBufferMemory l w
-      (λ tail. said_there c.phase c.taken c.unread y.rest y.said tail y.holds) refl (s.0, a))
+      (λ tail. said_there t.settings c.phase c.taken c.unread y.rest y.said tail y.holds) refl (s.0, a))
       (λ n w short a. memory_serves y.rest y.said t y.progress (WriteFailed n) NoBufferMemory l w
-      (λ tail. said_there c.phase c.taken c.unread y.rest y.said tail y.holds) refl (short, a))
+      (λ tail. said_there t.settings c.phase c.taken c.unread y.rest y.said tail y.holds) refl (short, a))
   lacks ReadFailed s = absurd s
   lacks (WriteFailed m) s =
       cut_short m (refusal_text NoBufferMemory) c'.going (record t { left' = l }) (s.1 ∙ ap (λ (g : Text). g ++ take m (refusal_text NoBufferMemory)) y.told) s.0
       (λ n w less sent. memory_serves y.rest y.said t y.progress (WriteFailed n) NoBufferMemory l w
-      (λ tail. said_there c.phase c.taken c.unread y.rest y.said tail y.holds) refl (less, sent))
+      (λ tail. said_there t.settings c.phase c.taken c.unread y.rest y.said tail y.holds) refl (less, sent))
 
   received : (bytes : Text) → Consumes t.left' l bytes → Comes bytes c c' → Stands c' (record t { left' = l })
   received bytes taken e =
-      still_open c'.phase (y.rest ++ bytes) y.said (record t { left' = l }) c' refl (e.1 y.rest y.said y.holds)
+      still_open c'.phase (y.rest ++ bytes) y.said (record t { left' = l }) c' refl (e.1 t.settings y.rest y.said y.holds)
       (came y.rest y.said t bytes l y.progress taken) (ap (λ (k : Shown). k.going) e.0 ∙ y.told) (not_done (ap (λ (k : Shown). k.finished) e.0))
 
   none_came : Consumes t.left' l [] → Progress y.rest y.said (record t { left' = l })

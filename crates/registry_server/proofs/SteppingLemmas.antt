@@ -117,7 +117,7 @@ with_two c a b = ap (λ (u : Text). record c { unread = u }) (append_assoc c.unr
 
 pub comes : (old new : Shown) (bytes : Text) → new ≡ with_more old bytes → Comes bytes old new
 comes old new bytes e =
-    (e, λ b said holds. subst (λ (k : Shown). Holds k (b ++ bytes) said) (sym e) (holds_on old.phase old.taken old.unread b said bytes holds))
+    (e, λ settings b said holds. subst (λ (k : Shown). Holds settings k (b ++ bytes) said) (sym e) (holds_on settings old.phase old.taken old.unread b said bytes holds))
 
 pub was_received : (old new : Shown) (bytes : Text) → new ≡ with_more old bytes → Receives bytes old new
 was_received old new bytes e = inl (comes old new bytes e)
@@ -185,51 +185,51 @@ none_awaited false false = refl
 never_awaits : (minor : ℕ) (fields : List NamedValue) (r : FramingRefusal) → continue_if (awaits_by minor fields (framed.Refused r)) ≡ []
 never_awaits minor fields r = none_awaited (minor == 1) (expects_if (first (values (codes "expect") fields)))
 
-module _ (heading : Heading) (b : Text) (x : BeginsAt heading b) where
-  pub refused_at : (r : FramingRefusal) → heading.framing ≡ framed.Refused r → IsRefusedThere b (text_before x.head) r
+module _ (settings : Settings) (heading : Heading) (b : Text) (x : BeginsAt settings heading b) where
+  pub refused_at : (r : FramingRefusal) → heading.framing ≡ framed.Refused r → IsRefusedThere settings b (text_before settings x.head) r
   refused_at r is tail = (
-    refused_there x.head b (drop heading.len b) tail r x.there (subst (λ (f : Framing). BodyIsRefused f (drop heading.len b ++ tail) r) (sym is ∙ x.framed) refl),
-    before_there x.head b (drop heading.len b) tail x.there,
+    refused_there settings x.head b (drop heading.len b) tail r x.there (subst (λ (f : Framing). BodyIsRefused settings f (drop heading.len b ++ tail) r) (sym is ∙ x.framed) refl),
+    before_there settings x.head b (drop heading.len b) tail x.there,
   )
 
   -- no client waits where the body is refused
-  pub none_before : (r : FramingRefusal) → heading.framing ≡ framed.Refused r → text_before x.head ≡ []
+  pub none_before : (r : FramingRefusal) → heading.framing ≡ framed.Refused r → text_before settings x.head ≡ []
   none_before r is = ap (λ (f : Framing). continue_if (awaits_by x.head.minor (fields_of x.head) f)) (sym x.framed ∙ is) ∙ never_awaits x.head.minor (fields_of x.head) r
 
 -- what is held between two requests
-pub held_at_head : (c : Shown) (b said : Text) → c.phase ≡ phase.Head → Holds c b said → HoldsAs phase.Head c.taken c.unread b said
-held_at_head c b said e x = subst (λ (p : Phase). HoldsAs p c.taken c.unread b said) e x
+pub held_at_head : (settings : Settings) (c : Shown) (b said : Text) → c.phase ≡ phase.Head → Holds settings c b said → HoldsAs settings phase.Head c.taken c.unread b said
+held_at_head settings c b said e x = subst (λ (p : Phase). HoldsAs settings p c.taken c.unread b said) e x
 
 -- a body that was taken so far is refused
-pub body_never : (part : Part) (taken unread b said : Text) (r : FramingRefusal) (x : HoldsAs (phase.Body part) taken unread b said)
-    → ((tail : Text) → BodyIsRefused (framing x.0) (x.1 ++ tail) r) → IsRefusedThere b said r
-body_never part taken unread b said r x bad tail =
-    (refused_there x.0 b x.1 tail r x.2 (bad tail), subst (λ (y : Text). IsBefore (b ++ tail) y) (sym x.3) (before_there x.0 b x.1 tail x.2))
+pub body_never : (settings : Settings) (part : Part) (taken unread b said : Text) (r : FramingRefusal) (x : HoldsAs settings (phase.Body part) taken unread b said)
+    → ((tail : Text) → BodyIsRefused settings (framing settings x.0) (x.1 ++ tail) r) → IsRefusedThere settings b said r
+body_never settings part taken unread b said r x bad tail =
+    (refused_there settings x.0 b x.1 tail r x.2 (bad tail), subst (λ (y : Text). IsBefore settings (b ++ tail) y) (sym x.3) (before_there settings x.0 b x.1 tail x.2))
 
 module _ (settings : Settings) where
   -- ---- a refusal
 
   refuse_ends : (e : End) (r : FramingRefusal) (b before : Text) (old new : Shown) (s : State) (was now : Option Report) → SendsRefusal e r (Some old.going) (Some new.going)
-      → new.phase ≡ phase.Ended e → IsRefusedThere b before r → Reported now old.going new.going (λ q. TellsRefusal q r)
+      → new.phase ≡ phase.Ended e → IsRefusedThere settings b before r → Reported now old.going new.going (λ q. TellsRefusal q r)
       → TellsAs settings (step.Ended e) b before old.going s s new was now
   refuse_ends Closed r b before old new s was now x over bad told = absurd x
   refuse_ends Cut r b before old new s was now x over bad told = absurd x
   refuse_ends (Refused q) r b before old new s was now x over bad told = (
-    (over, (subst (λ (k : FramingRefusal). IsRefusedThere b before k) (sym x.0) bad, x.1 ∙ ap (λ (k : FramingRefusal). old.going ++ refusal_text k) (sym x.0), refl)),
+    (over, (subst (λ (k : FramingRefusal). IsRefusedThere settings b before k) (sym x.0) bad, x.1 ∙ ap (λ (k : FramingRefusal). old.going ++ refusal_text k) (sym x.0), refl)),
     subst (λ (k : FramingRefusal). Reported now old.going new.going (λ p. TellsRefusal p k)) (sym x.0) told,
   )
   refuse_ends ReadFailed r b before old new s was now x over bad told = absurd x
   refuse_ends (WriteFailed n) r b before old new s was now x over bad told = ((over, refusing r bad x.0 x.1 refl), told)
 
   pub refused : (found : Step) (r : FramingRefusal) (b before : Text) (old new : Shown) (s : State) (was now : Option Report) → Refuses found r old new
-      → Reported now old.going new.going (λ q. TellsRefusal q r) → IsRefusedThere b before r → TellsAs settings found b before old.going s s new was now
+      → Reported now old.going new.going (λ q. TellsRefusal q r) → IsRefusedThere settings b before r → TellsAs settings found b before old.going s s new was now
   refused found r b before old new s was now x told bad =
       subst (λ (k : Step). TellsAs settings k b before old.going s s new was now) (sym x.found_is) (refuse_ends x.end r b before old new s was now x.sends x.ended bad told)
 
   -- ---- more bytes are missing
 
-  pub waited_cut : (found : Step) (b before : Text) (old new : Shown) (s : State) (was now : Option Report) → Waited found Cut old new → now ≡ was → IsCut b → IsBefore b before
-      → Holds old b before → TellsAs settings found b before old.going s s new was now
+  pub waited_cut : (found : Step) (b before : Text) (old new : Shown) (s : State) (was now : Option Report) → Waited found Cut old new → now ≡ was → IsCut settings b → IsBefore settings b before
+      → Holds settings old b before → TellsAs settings found b before old.going s s new was now
   waited_cut found b before old new s was now w kept cut is holds = by_flag old.finished refl w
     where
       by_flag : (f : Bool) → old.finished ≡ f
@@ -244,7 +244,7 @@ module _ (settings : Settings) where
           (record { goes_on = e; cut = inr cut; before_is = is; holds = holds; put = refl; same = refl }, kept))
 
   pub waited_closed : (found : Step) (b before : Text) (old new : Shown) (s : State) (was now : Option Report) → Waited found Closed old new → now ≡ was → b ≡ [] → before ≡ []
-      → IsBefore b before → Holds old b before → TellsAs settings found b before old.going s s new was now
+      → IsBefore settings b before → Holds settings old b before → TellsAs settings found b before old.going s s new was now
   waited_closed found b before old new s was now w kept none unsaid is holds = by_flag old.finished refl w
     where
       by_flag : (f : Bool) → old.finished ≡ f
@@ -268,11 +268,11 @@ module _ (settings : Settings) where
 
   -- ---- a request was answered
 
-  module _ (taken unread going b said : Text) (w : HoldsWhole taken unread b said) (was now : Option Report) where
+  module _ (taken unread going b said : Text) (w : HoldsWhole settings taken unread b said) (was now : Option Report) where
     pub answered_first : (a : Answer) (s s' : State) (closing : Bool) (new : Shown) → Does s (ask_in settings w.head w.body.body) a s'
         → new.going ≡ going ++ reply_for (record { head = w.head; coded = w.body.coded; body = w.body.body }) a
         → closing ≡ closes (record { head = w.head; coded = w.body.coded; body = w.body.body })
-        → MatchBool closing (new.phase ≡ phase.Ended Closed) (Holds new unread [])
+        → MatchBool closing (new.phase ≡ phase.Ended Closed) (Holds settings new unread [])
         → Reported now going new.going (λ r. TellsAnswer r (record { head = w.head; coded = w.body.coded; body = w.body.body }) a)
         → TellsAs settings step.Answered b said going s s' new was now
     answered_first a s s' closing new does put same next told = (
@@ -280,12 +280,12 @@ module _ (settings : Settings) where
         item = record { head = w.head; coded = w.body.coded; body = w.body.body };
         rest = unread;
         answer = a;
-        request = item_request taken unread b said w;
-        begins = item_begins taken unread b said w;
+        request = item_request settings taken unread b said w;
+        begins = item_begins settings taken unread b said w;
         before_is = w.said_is;
         does = does;
         put = put;
-        goes_on = subst (λ (f : Bool). MatchBool f (new.phase ≡ phase.Ended Closed) (Holds new unread [])) same next;
+        goes_on = subst (λ (f : Bool). MatchBool f (new.phase ≡ phase.Ended Closed) (Holds settings new unread [])) same next;
       },
       told,
     )
@@ -297,26 +297,26 @@ module _ (settings : Settings) where
         → Reported now going going' (λ r. TellsAnswer r (record { head = w.head; coded = w.body.coded; body = w.body.body }) a)
         → (part : PutsPart settings n b said going s s' going') × PartTold settings n b said going s s' going' part was now
     replied_in_part n a s s' going' does short put told = (
-      replying (record { head = w.head; coded = w.body.coded; body = w.body.body }) unread a (item_request taken unread b said w) (item_begins taken unread b said w)
+      replying (record { head = w.head; coded = w.body.coded; body = w.body.body }) unread a (item_request settings taken unread b said w) (item_begins settings taken unread b said w)
           w.said_is does short put,
       told,
     )
 
-  module _ (found : Step) (b said : Text) (old new : Shown) (s : State) (was now : Option Report) (x : Holds old b said) (h : HoldsAs phase.Head old.taken old.unread b said) where
+  module _ (found : Step) (b said : Text) (old new : Shown) (s : State) (was now : Option Report) (x : Holds settings old b said) (h : HoldsAs settings phase.Head old.taken old.unread b said) where
     pub nothing_came : Waited found Closed old new → now ≡ was → old.unread ≡ [] → Tells settings found b said old s s new was now
     nothing_came w kept none =
         let all : b ≡ [] = sym h.1 ∙ none in
-        waited_closed found b said old new s was now w kept all h.2 (subst (λ (y : Text). IsBefore b y) (sym h.2) (before_empty b all)) x
+        waited_closed found b said old new s was now w kept all h.2 (subst (λ (y : Text). IsBefore settings b y) (sym h.2) (before_empty settings b all)) x
 
     pub head_cut : Waited found Cut old new → now ≡ was → (old.unread ≡ [] → ⊥) → (old.unread ≡ []) ⊎ HeadIsCut old.unread → Tells settings found b said old s s new was now
     head_cut w kept some (inl none) = absurd (some none)
     head_cut w kept some (inr cut) =
         let here = subst HeadIsCut h.1 cut in
-        waited_cut found b said old new s was now w kept (inl here) (subst (λ (y : Text). IsBefore b y) (sym h.2) (before_cut b here)) x
+        waited_cut found b said old new s was now w kept (inl here) (subst (λ (y : Text). IsBefore settings b y) (sym h.2) (before_cut settings b here)) x
 
     pub head_never : Refuses found UnreadableHead old new → Reported now old.going new.going (λ q. TellsRefusal q UnreadableHead)
         → ((tail : Text) → HeadIsUnreadable (old.unread ++ tail)) → Tells settings found b said old s s new was now
     head_never w told never =
         refused found UnreadableHead b said old new s was now w told
         (λ tail. let bad = subst (λ (y : Text). HeadIsUnreadable (y ++ tail)) h.1 (never tail) in
-        (inl (refl, bad), subst (λ (y : Text). IsBefore (b ++ tail) y) (sym h.2) (before_unreadable (b ++ tail) bad)))
+        (inl (refl, bad), subst (λ (y : Text). IsBefore settings (b ++ tail) y) (sym h.2) (before_unreadable settings (b ++ tail) bad)))

@@ -33,7 +33,7 @@ Happens settings ended c s c' s' = (c' ≡ with_finished c) × (s' ≡ s)
 Happens settings (acted found) c s c' s' =
     ((e : End) → c.phase ≡ Ended e → (found ≡ step.Ended e) × (c' ≡ c) × (s' ≡ s))
     × (c'.finished ≡ c.finished)
-    × ((b said : Text) → Holds c b said → Acts settings found b said c s s' c')
+    × ((b said : Text) → Holds settings c b said → Acts settings found b said c s s' c')
 Happens settings (sent text) c s c' s' =
     (c.going ≡ text ++ c'.going) × (c' ≡ with_going c c'.going) × (s' ≡ s)
 
@@ -72,10 +72,10 @@ pub record SoFar (settings : Settings) (b out : Text) (s s' : State) (c : Shown)
   pub texts : List Text
   pub rest : Text
   pub said : Text
-  pub front : Front b items rest
+  pub front : Front settings b items rest
   pub run : Run settings s items texts s'
   pub put : out ≡ joined texts ++ said
-  pub holds : Holds c rest said
+  pub holds : Holds settings c rest said
 
 -- the bytes that came and were put out, and the service's states
 abbrev pub traffic : Settings → Text → Text → State → State → Traffic

@@ -93,7 +93,7 @@ replies_of n (took step outcome ∷ ledger) = replies_of n ledger
 pub record Explains (calls : List Call) (replies : List Replied) (n : ℕ) (u : Open) : Type 0 where
   pub conversation : Shown
   pub there : IfSome (conversation_of n u.slots) (λ c. c ≡ conversation)
-  pub accounts : Accounts (heard calls) (went calls ++ conversation.going) replies conversation
+  pub accounts : Accounts u.settings (heard calls) (went calls ++ conversation.going) replies conversation
 
 -- one ledger of all that the service did, in the order in which it took effect, explains its states and every
 -- connection

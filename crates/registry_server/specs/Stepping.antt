@@ -31,48 +31,51 @@ pub record AnswersFirst (settings : Settings) (b before going : Text) (s s' : St
   pub item : Item
   pub rest : Text
   pub answer : Answer
-  pub request : IsRequest item
+  pub request : IsRequest settings item
   pub begins : b ≡ print_item item ++ rest
-  pub before_is : before ≡ text_before item.head
+  pub before_is : before ≡ text_before settings item.head
   pub does : Does s (ask_in settings item.head item.body) answer s'
   pub put : new.going ≡ going ++ reply_for item answer
-  pub goes_on : MatchBool (closes item) (new.phase ≡ phase.Ended Closed) (Holds new rest [])
+  pub goes_on : MatchBool (closes item) (new.phase ≡ phase.Ended Closed) (Holds settings new rest [])
 
 -- b holds no whole request, and none that is refused; nothing is done
-pub record WaitsForMore (b before going : Text) (s s' : State) (new : Shown) : Type 0 where
+pub record WaitsForMore (settings : Settings) (b before going : Text) (s s' : State) (new : Shown)
+    : Type 0 where
   pub goes_on : new.finished ≡ false
-  pub cut : (b ≡ []) ⊎ IsCut b
-  pub before_is : IsBefore b before
-  pub holds : Holds new b before
+  pub cut : (b ≡ []) ⊎ IsCut settings b
+  pub before_is : IsBefore settings b before
+  pub holds : Holds settings new b before
   pub put : new.going ≡ going
   pub same : s' ≡ s
 
 -- the head that b begins with was taken, and before its body, which takes turns of its own, first was put
-pub record PutsInterim (b before going : Text) (s s' : State) (new : Shown) : Type 0 where
+pub record PutsInterim (settings : Settings) (b before going : Text) (s s' : State) (new : Shown)
+    : Type 0 where
   pub first : Text
   pub unsaid : before ≡ []
-  pub first_is : (tail : Text) → IsBefore (b ++ tail) first
-  pub holds : Holds new b first
+  pub first_is : (tail : Text) → IsBefore settings (b ++ tail) first
+  pub holds : Holds settings new b first
   pub put : new.going ≡ going ++ first
   pub same : s' ≡ s
 
 -- the request is refused, whatever bytes follow
-abbrev pub IsRefusedThere : Text → Text → FramingRefusal → Type 0
-IsRefusedThere b before r = (tail : Text) → IsRefused (b ++ tail) r × IsBefore (b ++ tail) before
+abbrev pub IsRefusedThere : Settings → Text → Text → FramingRefusal → Type 0
+IsRefusedThere settings b before r =
+    (tail : Text) → IsRefused settings (b ++ tail) r × IsBefore settings (b ++ tail) before
 
 -- memory was wanting for the text in hand: its first n bytes are put out
 pub data PutsPart (settings : Settings) (n : ℕ) (b before going : Text) (s s' : State) (going' : Text)
     : Type 0 where
   -- the reply of a request that took effect
-  replying : (i : Item) (rest : Text) (a : Answer) → IsRequest i → b ≡ print_item i ++ rest
-      → before ≡ text_before i.head → Does s (ask_in settings i.head i.body) a s'
+  replying : (i : Item) (rest : Text) (a : Answer) → IsRequest settings i → b ≡ print_item i ++ rest
+      → before ≡ text_before settings i.head → Does s (ask_in settings i.head i.body) a s'
       → n < length (reply_for i a) → going' ≡ going ++ take n (reply_for i a)
       → PutsPart settings n b before going s s' going'
   -- a refusal's
-  refusing : (r : FramingRefusal) → IsRefusedThere b before r → n < length (refusal_text r)
+  refusing : (r : FramingRefusal) → IsRefusedThere settings b before r → n < length (refusal_text r)
       → going' ≡ going ++ take n (refusal_text r) → s' ≡ s → PutsPart settings n b before going s s' going'
   -- what stands before a body
-  continuing : (text : Text) → before ≡ [] → ((tail : Text) → IsBefore (b ++ tail) text)
+  continuing : (text : Text) → before ≡ [] → ((tail : Text) → IsBefore settings (b ++ tail) text)
       → n < length text → going' ≡ going ++ take n text → s' ≡ s
       → PutsPart settings n b before going s s' going'
 
@@ -81,16 +84,16 @@ abbrev pub EndsAs : Settings → End → Text → Text → Text → State → St
 EndsAs settings Closed b before going s s' new =
     (new.finished ≡ true) × (b ≡ []) × (before ≡ []) × (new.going ≡ going) × (s' ≡ s)
 EndsAs settings Cut b before going s s' new =
-    (new.finished ≡ true) × IsCut b × IsBefore b before × (new.going ≡ going) × (s' ≡ s)
+    (new.finished ≡ true) × IsCut settings b × IsBefore settings b before × (new.going ≡ going) × (s' ≡ s)
 EndsAs settings (Refused r) b before going s s' new =
-    IsRefusedThere b before r × (new.going ≡ going ++ refusal_text r) × (s' ≡ s)
+    IsRefusedThere settings b before r × (new.going ≡ going ++ refusal_text r) × (s' ≡ s)
 EndsAs settings ReadFailed b before going s s' new = ⊥
 EndsAs settings (WriteFailed n) b before going s s' new = PutsPart settings n b before going s s' new.going
 
 abbrev pub ActsAs : Settings → Step → Text → Text → Text → State → State → Shown → Type 0
 ActsAs settings step.Answered b before going s s' new = AnswersFirst settings b before going s s' new
-ActsAs settings step.Interim b before going s s' new = PutsInterim b before going s s' new
-ActsAs settings step.Waits b before going s s' new = WaitsForMore b before going s s' new
+ActsAs settings step.Interim b before going s s' new = PutsInterim settings b before going s s' new
+ActsAs settings step.Waits b before going s s' new = WaitsForMore settings b before going s s' new
 ActsAs settings (step.Ended e) b before going s s' new =
     (new.phase ≡ phase.Ended e) × EndsAs settings e b before going s s' new
 
@@ -129,7 +132,8 @@ pub record LacksMemory (old new : Shown) : Type 0 where
 abbrev pub Comes : Text → Shown → Shown → Type 0
 Comes bytes old new =
     (new ≡ with_more old bytes)
-    × ((b said : Text) → Holds old b said → Holds new (b ++ bytes) said)
+    × ((settings : Settings) (b said : Text) → Holds settings old b said
+    → Holds settings new (b ++ bytes) said)
 
 -- the same; or no memory
 abbrev pub Receives : Text → Shown → Shown → Type 0

@@ -18,4 +18,5 @@ pub record TellsTurn (n : ℕ) (found : Step) (report : Option Report) (u : Open
   pub new : Shown
   pub was : conversation_of n u.slots ≡ Some old
   pub is : conversation_of n u'.slots ≡ Some new
-  pub tells : (b said : Text) → Holds old b said → Tells u.settings found b said old s s' new None report
+  pub tells : (b said : Text) → Holds u.settings old b said
+      → Tells u.settings found b said old s s' new None report

@@ -146,7 +146,7 @@ impl Connection {
         ensures sums { sums.new ≡ with_other (slot_of self.old).conversation
             (slot_of self.new).conversation sums.old }
         ensures tells { K.is_honest service.new → (b said : Text)
-            → Holds (slot_of self.old).conversation b said
+            → Holds settings (slot_of self.old).conversation b said
             → Tells settings result.step b said (slot_of self.old).conversation (K.state service.old)
             (K.state service.new) (slot_of self.new).conversation None result.report }
     {

@@ -6,6 +6,7 @@ use registry_http::expecting::awaits;
 use registry_http::framing::{Framing, framing_of};
 use registry_http::head::{Parsed, parse_head};
 use registry_http::limits::MOST_FIELDS;
+use registry_model::Settings;
 
 /// A head at the front of the unread bytes: how long it is, and what follows from its fields.
 #[derive(Clone, Copy)]
@@ -26,10 +27,10 @@ pub enum FoundHead {
 }
 
 /// Looks for the head of a request at the front of the unread bytes (RFC 9112, section 2.1; the limits
-/// are the profile's).
-pub fn find_head(unread: &[u8], fields: &mut [HeaderSpan]) -> FoundHead
+/// are the profile's, and for its body that of the settings).
+pub fn find_head(unread: &[u8], fields: &mut [HeaderSpan], settings: Settings) -> FoundHead
     requires { length fields.old ≡ 8192 }
-    ensures { FindsHead result unread.now }
+    ensures { FindsHead settings result unread.now }
 {
     let spans = match parse_head(unread, fields) {
         Parsed::Whole(spans) => spans,
@@ -41,7 +42,7 @@ pub fn find_head(unread: &[u8], fields: &mut [HeaderSpan]) -> FoundHead
     }
     let head = &unread[..spans.len];
     let found = &fields[..spans.headers];
-    let framing = framing_of(head, found, spans.version, spans.path.of(head));
+    let framing = framing_of(head, found, spans.version, spans.path.of(head), settings);
     FoundHead::Whole(Heading {
         len: spans.len,
         framing,

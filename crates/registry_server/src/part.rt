@@ -1,5 +1,6 @@
 ghost use Rattle.std.specs.Prelude.{◌≡◌, length};
 ghost use Rattle.registry_http.specs.Buffering.{before, behind};
+ghost use Rattle.registry_model.specs.declared.settings.Settings.{Settings};
 ghost use Rattle.registry_server.specs.Parts.{FindsEnd, TakesFrom, TakesAll, LetsGo, IsSmaller};
 
 use httparse::spans::HeaderSpan;
@@ -7,7 +8,7 @@ use registry_http::FramingRefusal;
 use registry_http::buffer::Buffer;
 use registry_http::chunk::{FoundLine, find_line};
 use registry_http::trailer::{FoundTrailer, find_trailer};
-use registry_model::LARGEST_BLOB;
+use registry_model::Settings;
 
 /// What is missing next of a body whose head was taken (RFC 9112, sections 6.3 and 7.1).
 #[derive(Clone, Copy)]
@@ -76,10 +77,10 @@ fn find_end(unread: &[u8], size: usize) -> FoundEnd
 
 /// Takes a body of so many bytes.
 fn take_length(buffer: &mut Buffer, count: usize) -> Took
-    ensures takes { TakesFrom (Part.Length count) result
+    ensures takes { (settings : Settings) → TakesFrom settings (Part.Length count) result
         (before buffer.old) (behind buffer.old) (before buffer.new) (behind buffer.new) }
     ensures fewer { LetsGo (before buffer.old) (behind buffer.old) (before buffer.new) (behind buffer.new) }
-    ensures smaller { IsSmaller (Part.Length count) result }
+    ensures smaller { (settings : Settings) → IsSmaller settings (Part.Length count) result }
 {
     if buffer.behind().len() < count {
         return Took::NotYet;
@@ -88,19 +89,21 @@ fn take_length(buffer: &mut Buffer, count: usize) -> Took
     Took::Whole
 }
 
-/// Takes the line of a chunk, behind chunks that carry `total` bytes.
-fn take_line(buffer: &mut Buffer, total: usize) -> Took
-    ensures takes { TakesFrom (Part.Line total) result
+/// Takes the line of a chunk, behind chunks that carry `total` bytes: with it they carry no more than the
+/// settings allow.
+fn take_line(buffer: &mut Buffer, total: usize, settings: Settings) -> Took
+    ensures takes { TakesFrom settings (Part.Line total) result
         (before buffer.old) (behind buffer.old) (before buffer.new) (behind buffer.new) }
     ensures fewer { LetsGo (before buffer.old) (behind buffer.old) (before buffer.new) (behind buffer.new) }
-    ensures smaller { IsSmaller (Part.Line total) result }
+    ensures smaller { IsSmaller settings (Part.Line total) result }
 {
     let line = match find_line(buffer.behind()) {
         FoundLine::Whole(line) => line,
         FoundLine::NotYet => return Took::NotYet,
         FoundLine::Never => return Took::Never(FramingRefusal::UnreadableChunk),
     };
-    let room = LARGEST_BLOB.saturating_sub(total as u64);
+    let most = settings.most_body();
+    let room = most.saturating_sub(total as u64);
     if line.size > room {
         return Took::Never(FramingRefusal::ChunksTooLarge);
     }
@@ -117,10 +120,10 @@ fn take_line(buffer: &mut Buffer, total: usize) -> Took
 
 /// Takes the data of a chunk, and CR LF behind it.
 fn take_data(buffer: &mut Buffer, total: usize, size: usize) -> Took
-    ensures takes { TakesFrom (Part.Data total size) result
+    ensures takes { (settings : Settings) → TakesFrom settings (Part.Data total size) result
         (before buffer.old) (behind buffer.old) (before buffer.new) (behind buffer.new) }
     ensures fewer { LetsGo (before buffer.old) (behind buffer.old) (before buffer.new) (behind buffer.new) }
-    ensures smaller { IsSmaller (Part.Data total size) result }
+    ensures smaller { (settings : Settings) → IsSmaller settings (Part.Data total size) result }
 {
     match find_end(buffer.behind(), size) {
         FoundEnd::Whole => {}
@@ -135,10 +138,10 @@ fn take_data(buffer: &mut Buffer, total: usize, size: usize) -> Took
 /// Takes the trailer.
 fn take_trailer(buffer: &mut Buffer, fields: &mut [HeaderSpan]) -> Took
     requires { length fields.old ≡ 8192 }
-    ensures takes { TakesFrom Part.Trailer result
+    ensures takes { (settings : Settings) → TakesFrom settings Part.Trailer result
         (before buffer.old) (behind buffer.old) (before buffer.new) (behind buffer.new) }
     ensures fewer { LetsGo (before buffer.old) (behind buffer.old) (before buffer.new) (behind buffer.new) }
-    ensures smaller { IsSmaller Part.Trailer result }
+    ensures smaller { (settings : Settings) → IsSmaller settings Part.Trailer result }
 {
     match find_trailer(buffer.behind(), fields) {
         FoundTrailer::Whole(len) => {
@@ -151,16 +154,16 @@ fn take_trailer(buffer: &mut Buffer, fields: &mut [HeaderSpan]) -> Took
 }
 
 /// Takes a part off the unread bytes, if it is whole.
-fn take_part(buffer: &mut Buffer, fields: &mut [HeaderSpan], part: Part) -> Took
+fn take_part(buffer: &mut Buffer, fields: &mut [HeaderSpan], part: Part, settings: Settings) -> Took
     requires { length fields.old ≡ 8192 }
-    ensures takes { TakesFrom part result
+    ensures takes { TakesFrom settings part result
         (before buffer.old) (behind buffer.old) (before buffer.new) (behind buffer.new) }
     ensures fewer { LetsGo (before buffer.old) (behind buffer.old) (before buffer.new) (behind buffer.new) }
-    ensures smaller { IsSmaller part result }
+    ensures smaller { IsSmaller settings part result }
 {
     match part {
         Part::Length(count) => take_length(buffer, count),
-        Part::Line(total) => take_line(buffer, total),
+        Part::Line(total) => take_line(buffer, total, settings),
         Part::Data { total, size } => take_data(buffer, total, size),
         Part::Trailer => take_trailer(buffer, fields),
     }
@@ -168,15 +171,20 @@ fn take_part(buffer: &mut Buffer, fields: &mut [HeaderSpan], part: Part) -> Took
 
 /// Takes what has come of a body off the unread bytes, from this part on: each byte once, however
 /// often it is called.
-pub fn take_body(buffer: &mut Buffer, fields: &mut [HeaderSpan], part: Part) -> Taken
+pub fn take_body(
+    buffer: &mut Buffer,
+    fields: &mut [HeaderSpan],
+    part: Part,
+    settings: Settings,
+) -> Taken
     requires { length fields.old ≡ 8192 }
-    ensures takes { TakesAll part result
+    ensures takes { TakesAll settings part result
         (before buffer.old) (behind buffer.old) (before buffer.new) (behind buffer.new) }
     ensures fewer { LetsGo (before buffer.old) (behind buffer.old) (before buffer.new) (behind buffer.new) }
 {
     let mut next = part;
     'parts: loop {
-        match take_part(buffer, fields, next) {
+        match take_part(buffer, fields, next, settings) {
             Took::Next(more) => next = more,
             Took::Whole => return Taken::Whole,
             Took::NotYet => return Taken::Missing(next),

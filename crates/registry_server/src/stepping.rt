@@ -3,6 +3,7 @@
 ghost use Rattle.std.specs.Prelude.{◌≡◌, ◌≤◌, [], length, None, IfSome, IfNone};
 ghost use Rattle.std.specs.Bool.{MatchBool};
 ghost use Rattle.oci_types.specs.Text.{Text};
+ghost use Rattle.registry_model.specs.declared.settings.Settings.{Settings};
 ghost use Rattle.registry_http.specs.Expecting.{continue_if};
 
 use crate::heading::{FoundHead, Heading, find_head};
@@ -44,8 +45,9 @@ impl Conversation {
         ensures finished { (shown self.new).finished ≡ (shown self.old).finished }
         ensures rest { coming_len (shown self.new) ≡ length (shown self.old).unread }
         ensures report { self.new.outbox.report ≡ self.old.outbox.report }
-        ensures next { MatchBool closing ((shown self.new).phase ≡ Phase.Ended End.Closed)
-            (Holds (shown self.new) (shown self.old).unread []) }
+        ensures next { (settings : Settings)
+            → MatchBool closing ((shown self.new).phase ≡ Phase.Ended End.Closed)
+            (Holds settings (shown self.new) (shown self.old).unread []) }
     {
         self.buffer.forget();
         if closing {
@@ -59,8 +61,8 @@ impl Conversation {
     fn taken_head(&self, room: &mut FieldRoom) -> Option<RequestSpans>
         ensures found { IfSome result (λ spans.
             Parses (Parsed.Whole spans) (shown self.now).taken room.new.spans.items) }
-        ensures none { IfNone result ((b said : Text)
-            → HoldsWhole (shown self.now).taken (shown self.now).unread b said → ⊥) }
+        ensures none { IfNone result ((settings : Settings) (b said : Text)
+            → HoldsWhole settings (shown self.now).taken (shown self.now).unread b said → ⊥) }
     {
         let taken = self.buffer.before();
         match parse_head(taken, &mut room.spans) {
@@ -84,7 +86,7 @@ impl Conversation {
         ensures fewer { coming_len (shown self.new) ≤ coming_len (shown self.old) }
         ensures leads { LeadsOn result (shown self.old) (shown self.new) }
         ensures acts { K.is_honest service.new → (b said : Text)
-            → HoldsWhole (shown self.old).taken (shown self.old).unread b said
+            → HoldsWhole settings (shown self.old).taken (shown self.old).unread b said
             → Tells settings result b said (shown self.old) (K.state service.old) (K.state service.new)
             (shown self.new) self.old.outbox.report self.new.outbox.report }
     {
@@ -125,11 +127,11 @@ impl Conversation {
         ensures fewer { coming_len (shown self.new) ≤ coming_len (shown self.old) }
         ensures leads { LeadsOn result (shown self.old) (shown self.new) }
         ensures acts { K.is_honest service.new → (b said : Text)
-            → HoldsAs (Phase.Body part) (shown self.old).taken (shown self.old).unread b said
+            → HoldsAs settings (Phase.Body part) (shown self.old).taken (shown self.old).unread b said
             → Tells settings result b said (shown self.old) (K.state service.old) (K.state service.new)
             (shown self.new) self.old.outbox.report self.new.outbox.report }
     {
-        match take_body(&mut self.buffer, &mut room.spans, part) {
+        match take_body(&mut self.buffer, &mut room.spans, part, settings) {
             Taken::Whole => self.reply(alloc, service, settings, room),
             Taken::Missing(next) => {
                 self.phase = Phase::Body(next);
@@ -156,7 +158,8 @@ impl Conversation {
         ensures fewer { coming_len (shown self.new) ≤ coming_len (shown self.old) }
         ensures leads { LeadsOn result (shown self.old) (shown self.new) }
         ensures acts { K.is_honest service.new → (b : Text)
-            → HoldsAs (Phase.Body part) (shown self.old).taken (shown self.old).unread b (continue_if awaits)
+            → HoldsAs settings (Phase.Body part) (shown self.old).taken (shown self.old).unread b
+            (continue_if awaits)
             → Tells settings result b [] (shown self.old) (K.state service.old) (K.state service.new)
             (shown self.new) self.old.outbox.report self.new.outbox.report }
     {
@@ -190,7 +193,7 @@ impl Conversation {
         ensures fewer { coming_len (shown self.new) ≤ coming_len (shown self.old) }
         ensures leads { LeadsOn result (shown self.old) (shown self.new) }
         ensures acts { K.is_honest service.new → (b : Text)
-            → BeginsAt heading b → (shown self.old).taken ≡ [] → (shown self.old).unread ≡ b
+            → BeginsAt settings heading b → (shown self.old).taken ≡ [] → (shown self.old).unread ≡ b
             → Tells settings result b [] (shown self.old) (K.state service.old) (K.state service.new)
             (shown self.new) self.old.outbox.report self.new.outbox.report }
     {
@@ -234,11 +237,11 @@ impl Conversation {
         ensures finished { (shown self.new).finished ≡ (shown self.old).finished }
         ensures fewer { coming_len (shown self.new) ≤ coming_len (shown self.old) }
         ensures leads { LeadsOn result (shown self.old) (shown self.new) }
-        ensures acts { K.is_honest service.new → (b said : Text) → Holds (shown self.old) b said
+        ensures acts { K.is_honest service.new → (b said : Text) → Holds settings (shown self.old) b said
             → Tells settings result b said (shown self.old) (K.state service.old) (K.state service.new)
             (shown self.new) self.old.outbox.report self.new.outbox.report }
     {
-        match find_head(self.buffer.behind(), &mut room.spans) {
+        match find_head(self.buffer.behind(), &mut room.spans, settings) {
             FoundHead::Whole(heading) => self.take_head(alloc, service, settings, room, heading),
             FoundHead::NotYet => {
                 let unread = self.buffer.behind();
@@ -273,10 +276,10 @@ impl Conversation {
         ensures leads { LeadsOn result (shown self.old) (shown self.new) }
         ensures over { (e : End) → (shown self.old).phase ≡ Phase.Ended e
             → (result ≡ Step.Ended e) × (shown self.new ≡ shown self.old) × (service.new ≡ service.old) }
-        ensures acts { K.is_honest service.new → (b said : Text) → Holds (shown self.old) b said
+        ensures acts { K.is_honest service.new → (b said : Text) → Holds settings (shown self.old) b said
             → Acts settings result b said (shown self.old) (K.state service.old) (K.state service.new)
             (shown self.new) }
-        ensures tells { K.is_honest service.new → (b said : Text) → Holds (shown self.old) b said
+        ensures tells { K.is_honest service.new → (b said : Text) → Holds settings (shown self.old) b said
             → Tells settings result b said (shown self.old) (K.state service.old) (K.state service.new)
             (shown self.new) None self.new.outbox.report }
     {

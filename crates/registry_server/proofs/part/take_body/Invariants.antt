@@ -7,10 +7,10 @@ use Rattle.registry_server.proofs.part.take_body.Given as goal
 -- the parts before the next were taken
 abbrev pub invariant-parts : goal.invariant-parts
 invariant-parts l = record {
-  taken : (framing : Framing) (front v : Text) → IsPart l.fn.part framing front v (before l.fn.buffer) (behind l.fn.buffer)
-      → IsPart l.next framing front v (before l.buffer) (behind l.buffer);
+  taken : (framing : Framing) (front v : Text) → IsPart l.fn.settings l.fn.part framing front v (before l.fn.buffer) (behind l.fn.buffer)
+      → IsPart l.fn.settings l.next framing front v (before l.buffer) (behind l.buffer);
   fewer : LetsGo (before l.fn.buffer) (behind l.fn.buffer) (before l.buffer) (behind l.buffer);
 }
 
 abbrev pub decreases-parts : goal.decreases-parts
-decreases-parts l = rank l.next
+decreases-parts l = rank l.fn.settings l.next

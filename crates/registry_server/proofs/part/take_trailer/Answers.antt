@@ -9,24 +9,24 @@ use Rattle.registry_server.proofs.part.take_trailer.Goals as goal
 
 pub returns-in-Whole : goal.returns-in-Whole
 returns-in-Whole c = record {
-  takes = λ framing front v x.
-      trailer_whole framing front v _ _ _ _ c.in-Whole.len x
+  takes = λ settings framing front v x.
+      trailer_whole settings framing front v _ _ _ _ c.in-Whole.len x
       (subst (λ (y : Text). TrailerIsRead y c.in-Whole.len) c.behind.ensures c.in-Whole.ensures) c.skip.ensures.before c.skip.ensures.behind;
   fewer = omega (arith, ap length c.skip.ensures.before, ap length c.skip.ensures.behind, length-drop c.in-Whole.len (behind c.args.buffer.now));
-  smaller = tt;
+  smaller = λ settings. tt;
 }
 
 pub returns-in-NotYet : goal.returns-in-NotYet
 returns-in-NotYet c = record {
-  takes = λ framing front v x. (x, trailer_cut framing front v _ _ x (subst TrailerIsCut c.behind.ensures c.in-NotYet.ensures));
+  takes = λ settings framing front v x. (x, trailer_cut settings framing front v _ _ x (subst TrailerIsCut c.behind.ensures c.in-NotYet.ensures));
   fewer = omega arith;
-  smaller = tt;
+  smaller = λ settings. tt;
 }
 
 pub returns-in-Never : goal.returns-in-Never
 returns-in-Never c = record {
-  takes = λ framing front v x. trailer_never framing front v _ _ x
+  takes = λ settings framing front v x. trailer_never settings framing front v _ _ x
       (λ tail. subst (λ (y : Text). HoldsNoTrailer (y ++ tail)) c.behind.ensures (c.in-Never.ensures tail));
   fewer = omega arith;
-  smaller = tt;
+  smaller = λ settings. tt;
 }

@@ -55,5 +55,5 @@ returns g c =
           subst (λ (k : Shown). Tells c.args.settings step b said old s s' k None c.take_report-report.result) (sym same)
           (subst (λ (q : Option Report). Tells c.args.settings step b said old s s' mid None q) (sym report)
           (subst (λ (o : Shown). Tells c.args.settings step b said o s s' mid None c.answer_next-step.new.self.outbox.report) begins
-          (c.answer_next-step.ensures.tells honest b said (subst (λ (o : Shown). Holds o b said) (sym begins) x))));
+          (c.answer_next-step.ensures.tells honest b said (subst (λ (o : Shown). Holds c.args.settings o b said) (sym begins) x))));
     }

@@ -60,7 +60,7 @@ returns g c =
     c.args.self.now.numbered c.answer_next-turn.ensures.number
     ((c.answer_next-turn.ensures.acts.0, c.answer_next-turn.ensures.fewer), c.answer_next-turn.ensures.acts.1) m in
     let said = turned c.args.self.now.next c.answer_next-turn.result.number c.in-Some.at c.answer_next-turn.result.step
-    (λ k k'. g.K.Keeper.is_honest c.answer_next-turn.new.service → (b said : Text) → Holds k b said
+    (λ k k'. g.K.Keeper.is_honest c.answer_next-turn.new.service → (b said : Text) → Holds c.args.self.now.settings k b said
     → Tells c.args.self.now.settings c.answer_next-turn.result.step b said k (g.K.Keeper.state c.args.service.now) (g.K.Keeper.state c.answer_next-turn.new.service) k' None c.answer_next-turn.result.report)
     items _ c.index_mut.result.now y c.index_mut.ensures.value f
     c.args.self.now.numbered c.answer_next-turn.ensures.number (c.answer_next-turn.ensures.tells, c.answer_next-turn.ensures.acts.1) m in

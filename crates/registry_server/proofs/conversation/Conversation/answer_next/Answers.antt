@@ -25,7 +25,7 @@ returns-in-Body g c =
       leads = c.go_on.ensures.leads;
       over = λ e ended. absurd (let both = sym c.in-Body.is ∙ ended in cc);
       acts = λ honest b said x.
-          (c.go_on.ensures.acts honest b said (subst (λ (p : Phase). HoldsAs p old.taken old.unread b said) c.in-Body.is x)).0;
+          (c.go_on.ensures.acts honest b said (subst (λ (p : Phase). HoldsAs c.args.settings p old.taken old.unread b said) c.in-Body.is x)).0;
       tells = λ honest b said x.
-          c.go_on.ensures.acts honest b said (subst (λ (p : Phase). HoldsAs p old.taken old.unread b said) c.in-Body.is x);
+          c.go_on.ensures.acts honest b said (subst (λ (p : Phase). HoldsAs c.args.settings p old.taken old.unread b said) c.in-Body.is x);
     }

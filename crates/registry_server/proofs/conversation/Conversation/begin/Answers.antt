@@ -19,7 +19,7 @@ returns-then-none g c = record {
       (ap (λ (p : Phase). listens_as p false) c.requires) (le_of_eq refl);
   acts = λ honest b said x.
       let old = shown c.args.self.now in
-      nothing_came c.args.settings c.wait.result b said old _ _ _ _ x (held_at_head old b said c.requires x) c.wait.ensures.waits c.wait.ensures.report
+      nothing_came c.args.settings c.wait.result b said old _ _ _ _ x (held_at_head c.args.settings old b said c.requires x) c.wait.ensures.waits c.wait.ensures.report
       (sym c.behind-unread.ensures ∙ empty_from _ _ c.is_empty-none.ensures c.if-none.true);
 }
 
@@ -33,7 +33,7 @@ returns-else-none g c = record {
       (ap (λ (p : Phase). listens_as p false) c.requires) (le_of_eq refl);
   acts = λ honest b said x.
       let old = shown c.args.self.now in
-      head_cut c.args.settings c.wait-else-none.result b said old _ _ _ _ x (held_at_head old b said c.requires x) c.wait-else-none.ensures.waits c.wait-else-none.ensures.report
+      head_cut c.args.settings c.wait-else-none.result b said old _ _ _ _ x (held_at_head c.args.settings old b said c.requires x) c.wait-else-none.ensures.waits c.wait-else-none.ensures.report
       (λ none. some_from _ _ c.is_empty-none.ensures c.if-none.false (c.behind-unread.ensures ∙ none))
       (subst (λ (y : Text). (y ≡ []) ⊎ HeadIsCut y) c.behind.ensures c.in-NotYet.ensures);
 }
@@ -46,7 +46,7 @@ returns-in-Never g c = record {
   leads = leads_refused c.refuse.result _ (shown c.args.self.now) (shown c.args.self.now) (shown c.refuse.new.self) c.refuse.ensures.refuses;
   acts = λ honest b said x.
       let old = shown c.args.self.now in
-      head_never c.args.settings c.refuse.result b said old _ _ _ _ x (held_at_head old b said c.requires x) c.refuse.ensures.refuses c.refuse.ensures.tells
+      head_never c.args.settings c.refuse.result b said old _ _ _ _ x (held_at_head c.args.settings old b said c.requires x) c.refuse.ensures.refuses c.refuse.ensures.tells
       (λ tail. subst (λ (y : Text). HeadIsUnreadable (y ++ tail)) c.behind.ensures (c.in-Never.ensures tail));
 }
 
@@ -58,8 +58,8 @@ returns-in-Whole g c = record {
   leads = c.take_head.ensures.leads;
   acts = λ honest b said x.
       let old = shown c.args.self.now in
-      let held = held_at_head old b said c.requires x in
-      let begins = subst (BeginsAt c.in-Whole.heading) (c.behind.ensures ∙ held.1) c.in-Whole.ensures in
+      let held = held_at_head c.args.settings old b said c.requires x in
+      let begins = subst (BeginsAt c.args.settings c.in-Whole.heading) (c.behind.ensures ∙ held.1) c.in-Whole.ensures in
       subst (λ (y : Text). Tells c.args.settings c.take_head.result b y old (g.K.Keeper.state c.args.service.now) (g.K.Keeper.state c.take_head.new.service) (shown c.take_head.new.self)
       c.args.self.now.outbox.report c.take_head.new.self.outbox.report)
       (sym held.2) (c.take_head.ensures.acts honest b begins held.0 held.1);

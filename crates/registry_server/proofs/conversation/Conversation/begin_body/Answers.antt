@@ -33,7 +33,7 @@ returns-in-Ok g c = record {
     record {
       first = continue_if c.args.awaits;
       unsaid = refl;
-      first_is = λ tail. subst (λ (y : Text). IsBefore (b ++ tail) y) (sym x.3) (before_there x.0 b x.1 tail x.2);
+      first_is = λ tail. subst (λ (y : Text). IsBefore c.args.settings (b ++ tail) y) (sym x.3) (before_there c.args.settings x.0 b x.1 tail x.2);
       holds = x;
       put = subst (λ (y : Text). left c.put_continue.new.self ≡ left c.args.self.now.outbox ++ y) (sym (ap continue_if c.if-not-awaits.false)) c.in-Ok.ensures.sends;
       same = refl;
@@ -55,7 +55,7 @@ returns-in-Err g c = record {
       let sent = subst (λ (y : Text). (c.in-Err.fault.written < length y) × (left c.put_continue.new.self ≡ left old.outbox ++ take c.in-Err.fault.written y))
       (sym (ap continue_if c.if-not-awaits.false)) c.in-Err.ensures.sends in
       part_ends c.args.settings c.end.result _ b [] (shown old).going _ _ (with_going (shown old) (left c.put_continue.new.self)) (shown c.end.new.self) _ _ c.end.ensures.step c.end.ensures.ends (
-        continuing (continue_if c.args.awaits) refl (λ tail. subst (λ (y : Text). IsBefore (b ++ tail) y) (sym x.3) (before_there x.0 b x.1 tail x.2))
+        continuing (continue_if c.args.awaits) refl (λ tail. subst (λ (y : Text). IsBefore c.args.settings (b ++ tail) y) (sym x.3) (before_there c.args.settings x.0 b x.1 tail x.2))
             sent.0 sent.1 refl,
         c.end.ensures.report ∙ c.put_continue.ensures.report,
       );

@@ -20,7 +20,7 @@ returns-in-Whole g c = record {
         behind = x.1;
         there = x.2;
         said_is = x.3;
-        body = c.in-Whole.ensures.takes (framing x.0) (print_request x.0) x.1 x.4;
+        body = c.in-Whole.ensures.takes (framing c.args.settings x.0) (print_request x.0) x.1 x.4;
       });
 }
 
@@ -33,9 +33,9 @@ returns-in-Missing g c =
       fewer = le_trans same.1 c.take_body.ensures.fewer;
       leads = leads_waited c.wait.result _ (shown c.args.self.now) _ (shown c.wait.new.self) c.wait.ensures.waits refl (omega (arith, c.take_body.ensures.fewer));
       acts = λ honest b said x.
-          let it = c.in-Missing.ensures.takes (framing x.0) (print_request x.0) x.1 x.4 in
-          waited_cut c.args.settings c.wait.result b said _ (shown c.wait.new.self) _ _ _ c.wait.ensures.waits c.wait.ensures.report (cut_there x.0 b x.1 x.2 it.1)
-          (subst (λ (y : Text). IsBefore b y) (sym x.3) (inl (x.0, x.1, x.2.begins, x.2.few, refl))) (x.0, x.1, x.2, x.3, it.0);
+          let it = c.in-Missing.ensures.takes (framing c.args.settings x.0) (print_request x.0) x.1 x.4 in
+          waited_cut c.args.settings c.wait.result b said _ (shown c.wait.new.self) _ _ _ c.wait.ensures.waits c.wait.ensures.report (cut_there c.args.settings x.0 b x.1 x.2 it.1)
+          (subst (λ (y : Text). IsBefore c.args.settings b y) (sym x.3) (inl (x.0, x.1, x.2.begins, x.2.few, refl))) (x.0, x.1, x.2, x.3, it.0);
     }
 
 pub returns-in-Refused : goal.returns-in-Refused
@@ -46,5 +46,5 @@ returns-in-Refused g c = record {
   leads = leads_refused c.refuse.result _ (shown c.args.self.now) _ (shown c.refuse.new.self) c.refuse.ensures.refuses;
   acts = λ honest b said x.
       refused c.args.settings c.refuse.result c.in-Refused.refusal b said _ (shown c.refuse.new.self) _ _ _ c.refuse.ensures.refuses c.refuse.ensures.tells
-      (body_never c.args.part _ _ b said c.in-Refused.refusal x (c.in-Refused.ensures.takes (framing x.0) (print_request x.0) x.1 x.4));
+      (body_never c.args.settings c.args.part _ _ b said c.in-Refused.refusal x (c.in-Refused.ensures.takes (framing c.args.settings x.0) (print_request x.0) x.1 x.4));
 }

@@ -19,7 +19,7 @@ returns-in_default g c = record {
   finished = c.refuse.ensures.refuses.finished;
   fewer = none_left (shown c.args.self.now) (shown c.refuse.new.self) c.refuse.ensures.refuses.none_held;
   leads = leads_refused c.refuse.result _ (shown c.args.self.now) _ (shown c.refuse.new.self) c.refuse.ensures.refuses;
-  acts = λ honest b said w. absurd (c.in_default.ensures.none b said w);
+  acts = λ honest b said w. absurd (c.in_default.ensures.none c.args.settings b said w);
 }
 
 pub returns-in-Ok : goal.returns-in-Ok
@@ -40,12 +40,12 @@ returns-in-Ok g c = record {
       let read = found.1 in
       let there = subst (λ (y : List HeaderSpan). IsTaken c.before-taken.result.now y c.in-Some.spans i) (sym c.deref.ensures.value)
       (subst (λ (x : Text). IsTaken x c.taken_head.new.room.spans.items c.in-Some.spans i) (sym c.before-taken.ensures)
-      (item_taken (shown mid).taken (shown mid).unread b said v c.taken_head.new.room.spans.items c.in-Some.spans found.0 read)) in
+      (item_taken c.args.settings (shown mid).taken (shown mid).unread b said v c.taken_head.new.room.spans.items c.in-Some.spans found.0 read)) in
       let sent = c.in-Ok.ensures.replies honest i there in
       let told = subst (λ (q : Option Report). Reported q (shown mid).going (shown c.close_if.new.self).going (λ r. TellsAnswer r i sent.0)) (sym c.close_if.ensures.report)
       (subst (λ (x : Text). Reported c.reply_to.new.outbox.report (shown mid).going x (λ r. TellsAnswer r i sent.0)) (sym c.close_if.ensures.going) sent.3) in
       answered_first c.args.settings _ _ (shown mid).going b said v mid.outbox.report c.close_if.new.self.outbox.report sent.0 _ _ c.in-Ok.closing (shown c.close_if.new.self) sent.1
-      (c.close_if.ensures.going ∙ sent.2) (c.in-Ok.ensures.closing i there) c.close_if.ensures.next told;
+      (c.close_if.ensures.going ∙ sent.2) (c.in-Ok.ensures.closing i there) (c.close_if.ensures.next c.args.settings) told;
 }
 
 pub returns-in-Err : goal.returns-in-Err
@@ -64,7 +64,7 @@ returns-in-Err g c = record {
       let read = found.1 in
       let there = subst (λ (y : List HeaderSpan). IsTaken c.before-taken.result.now y c.in-Some.spans i) (sym c.deref.ensures.value)
       (subst (λ (x : Text). IsTaken x c.taken_head.new.room.spans.items c.in-Some.spans i) (sym c.before-taken.ensures)
-      (item_taken (shown mid).taken (shown mid).unread b said v c.taken_head.new.room.spans.items c.in-Some.spans found.0 read)) in
+      (item_taken c.args.settings (shown mid).taken (shown mid).unread b said v c.taken_head.new.room.spans.items c.in-Some.spans found.0 read)) in
       let sent = c.in-Err.ensures.replies honest i there in
       part_ends c.args.settings c.end.result _ b said (shown mid).going _ _ (with_going (shown mid) (left c.reply_to.new.outbox)) (shown c.end.new.self) mid.outbox.report c.end.new.self.outbox.report c.end.ensures.step c.end.ensures.ends
       (replied_in_part c.args.settings _ _ (shown mid).going b said v mid.outbox.report c.end.new.self.outbox.report _ sent.0 _ _ _ sent.1 sent.2.0 sent.2.1

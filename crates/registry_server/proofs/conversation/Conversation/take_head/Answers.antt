@@ -16,7 +16,7 @@ returns-in-Length g c =
       leads = leads_from c.begin_body.result (shown c.args.self.now) _ (shown c.begin_body.new.self) (omega (arith, few)) c.begin_body.ensures.leads;
       acts = λ honest b begins none all.
           c.begin_body.ensures.acts honest b
-          (length_begins c.args.heading b _ _ _ _ _ begins c.in-Length.is none all c.pass.ensures.before c.pass.ensures.behind);
+          (length_begins c.args.settings c.args.heading b _ _ _ _ _ begins c.in-Length.is none all c.pass.ensures.before c.pass.ensures.behind);
     }
 
 pub returns-in-Chunked : goal.returns-in-Chunked
@@ -29,7 +29,7 @@ returns-in-Chunked g c =
       leads = leads_from c.begin_body-in-Chunked.result (shown c.args.self.now) _ (shown c.begin_body-in-Chunked.new.self) (omega (arith, few)) c.begin_body-in-Chunked.ensures.leads;
       acts = λ honest b begins none all.
           c.begin_body-in-Chunked.ensures.acts honest b
-          (chunks_begin c.args.heading b _ _ _ _ begins c.in-Chunked.is none all c.pass.ensures.before c.pass.ensures.behind);
+          (chunks_begin c.args.settings c.args.heading b _ _ _ _ begins c.in-Chunked.is none all c.pass.ensures.before c.pass.ensures.behind);
     }
 
 pub returns-in-Refused : goal.returns-in-Refused
@@ -40,6 +40,6 @@ returns-in-Refused g c = record {
   leads = leads_refused c.refuse.result _ (shown c.args.self.now) _ (shown c.refuse.new.self) c.refuse.ensures.refuses;
   acts = λ honest b begins none all.
       refused c.args.settings c.refuse.result c.in-Refused.refusal b [] _ (shown c.refuse.new.self) _ _ _ c.refuse.ensures.refuses c.refuse.ensures.tells
-      (subst (λ (said : Text). IsRefusedThere b said c.in-Refused.refusal) (none_before c.args.heading b begins c.in-Refused.refusal c.in-Refused.is)
-      (refused_at c.args.heading b begins c.in-Refused.refusal c.in-Refused.is));
+      (subst (λ (said : Text). IsRefusedThere c.args.settings b said c.in-Refused.refusal) (none_before c.args.settings c.args.heading b begins c.in-Refused.refusal c.in-Refused.is)
+      (refused_at c.args.settings c.args.heading b begins c.in-Refused.refusal c.in-Refused.is));
 }
