@@ -1,11 +1,14 @@
 -- What the version that is found says of a database, and how it is refused.
 use Rattle.std.proofs.Common.{◌≡◌, ◌≢◌, ◌⊎◌, ◌∙◌, inl, inr, ℤ, pos, List, [], ◌∷◌, Some, Ok, Err, Result, IfOk, IfErr, refl, sym, ap, subst}
-use Rattle.std.specs.Prelude.{IsErrAnd}
+use Rattle.std.specs.Prelude.{IsErrAnd, ⊤}
 use Rattle.sqlite.specs.declared.types.Value.TheVariants.{Int}
 use Rattle.sqlite.specs.Order.{Row}
 use Rattle.sqlite.specs.Effect.{Database}
 use Rattle.sqlite.specs.Listing.{understood}
+use Rattle.sqlite_trees.specs.declared.store.Store.{Ghosts}
+use Rattle.sqlite.specs.Tree.{Trees}
 use Rattle.sqlite.specs.State.{State, IsUnchanged}
+use Rattle.sqlite.specs.Held.{Held, state}
 use Rattle.sqlite_schema.specs.Names.{same_name}
 use Rattle.sqlite_tied.specs.Compute.{everything}
 use Rattle.store_schema.specs.OldSchema.{old_schema}
@@ -19,7 +22,7 @@ use Rattle.store_opening.proofs.OpeningLemmas.{knows_version as knows_new, same_
 use Rattle.store_migration.specs.OldFile.{HoldsOldRegistry, olds_in, old_world_in}
 use Rattle.store_migration.specs.declared.rewrite.MovedRows.{MovedRows}
 use Rattle.store_migration.specs.Rewriting.{counts}
-use Rattle.store_migration.specs.Migrating.{IsRefused, NamesNeither, IsTold}
+use Rattle.store_migration.specs.Migrating.{IsRefused, MigratedTo, NamesNeither, IsTold}
 
 -- ---- a registry of schema 1, and one of schema 2
 
@@ -133,6 +136,21 @@ module _ (old mid new : State) (u : IsUnchanged old mid) where
   back_read idle holds done open_now =
       let it = done (idle_read old mid idle u) (old_read old mid u holds) open_now in
       (it.0 ∙ u.0.now_is, it.1 ∙ u.0.committed_is)
+
+-- and a crash leaves of it what it leaves of what was there
+abbrev LeftOf : Database → Trees → Type 0
+LeftOf d trees = (trees ≡ d.trees) ⊎ MigratedTo (old_world_in d) trees
+
+module _ {S : Type 0} (g : Ghosts S) (old mid new : Held S) (u : IsUnchanged (state g old) (state g mid)) (idle : IsIdle (state g old)) (holds : HoldsOldRegistry (state g old).now) where
+  pub crash_done : (IsIdle (state g mid) → HoldsOldRegistry (state g mid).now → (trees : Trees) → (state g new).may_leave trees → MigratedTo (old_world_in (state g mid).now) trees × LeftOf (state g mid).now trees)
+      → (trees : Trees) → (state g new).may_leave trees → MigratedTo (old_world_in (state g old).now) trees × LeftOf (state g old).now trees
+  crash_done crash trees may =
+      subst (λ (d : Database). MigratedTo (old_world_in d) trees × LeftOf d trees) u.0.now_is (crash (idle_read (state g old) (state g mid) idle u) (old_read (state g old) (state g mid) u holds) trees may)
+
+  pub crash_undone : (IsIdle (state g mid) → HoldsOldRegistry (state g mid).now → (trees : Trees) → (state g new).may_leave trees → ⊤ × LeftOf (state g mid).now trees)
+      → (trees : Trees) → (state g new).may_leave trees → ⊤ × LeftOf (state g old).now trees
+  crash_undone crash trees may =
+      subst (λ (d : Database). ⊤ × LeftOf d trees) u.0.now_is (crash (idle_read (state g old) (state g mid) idle u) (old_read (state g old) (state g mid) u holds) trees may)
 
 -- or the reading failed
 pub left_back : (old mid : State) → IsIdle old → LeavesAsWas old mid → IsBack old mid

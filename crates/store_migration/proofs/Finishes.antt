@@ -1,16 +1,25 @@
 -- Once no row is left in the tables of schema 1 and the version is raised, the tables are a registry's.
-use Rattle.std.proofs.Common.{◌≡◌, ◌∙◌, ℕ, List, [], ◌∷◌, length, true, false, refl, sym, ap, subst}
+use Rattle.std.proofs.Common.{◌≡◌, ◌∙◌, ◌⊎◌, inl, inr, ℕ, List, [], ◌∷◌, length, true, false, refl, sym, ap, subst}
 use Rattle.std.specs.List.{AllByRecursion}
 use Rattle.sqlite.specs.Order.{Row}
 use Rattle.sqlite.specs.Effect.{Database}
-use Rattle.sqlite.specs.State.{State, Shows}
+use Rattle.sqlite_trees.specs.declared.store.Store.{Ghosts}
+use Rattle.sqlite.specs.Tree.{Trees}
+use Rattle.sqlite.specs.State.{State, HasCleanDisk, Shows, Survives}
+use Rattle.sqlite.specs.Held.{Held, state}
 use Rattle.registry_model.specs.World.{World}
 use Rattle.store_schema.specs.OldSchema.{old_blobs_table, old_manifests_table, old_sessions_table}
 use Rattle.store_schema.specs.Layout.{tree_of}
 use Rattle.store_statements.specs.Tables.{Tables, IsEmptyBeside}
 use Rattle.store_statements.specs.Changes.{changed}
 use Rattle.store_statements.specs.Known.{trees_of, rows_beside}
-use Rattle.store_statements.specs.Held.{IsReady, Becomes, SettlesOn, held, tables_in, beside_in}
+use Rattle.store_statements.specs.Registry.{Agree}
+use Rattle.store_statements.specs.World.{world_of}
+use Rattle.store_statements.specs.Held.{IsReady, Becomes, SettlesOn, HoldsTables, held, tables_in, beside_in, reopened}
+use Rattle.store_statements.proofs.CleanBefore.{was_clean}
+use Rattle.store_statements.proofs.Crashes.{CrashLaw, left_open, none_more}
+use Rattle.store_opening.specs.Opening.{IsIdle}
+use Rattle.store_migration.specs.Migrating.{MigratedTo}
 use Rattle.store_statements.proofs.Transactions.{commits, makes}
 use Rattle.store_migration.specs.OldTables.{OldTables, no_old_tables}
 use Rattle.store_migration.specs.Both.{world_of_both, AreBoth}
@@ -68,3 +77,28 @@ all_counted first second third b m s blobs manifests p q r = λ i. record {
 -- and once it is committed it is settled
 pub settles : (mid end : State) (w : World) → IsReady mid × StandsFor (held mid) w → Shows mid end mid.now mid.now false → SettlesOn end w
 settles mid end w it shows = makes end (held mid) w (commits mid end (held mid) (it.0, refl) shows) (it.1.world, it.1.registry)
+
+-- ---- what a crash leaves
+
+again : (db : Database) (w : World) → HoldsTables db → Agree (tables_in db) → world_of (tables_in db) ≡ w → SettlesOn (reopened db) w
+again db w holds agree world = (record { is_open = refl; autocommit = refl; committed = refl; holds = holds; agree = agree }, world)
+
+-- what was committed
+pub left_done : {S : Type 0} (g : Ghosts S) → CrashLaw g → (end : Held S) (w : World) → SettlesOn (state g end) w → (trees : Trees) → (state g end).may_leave trees → MigratedTo w trees
+left_done g law end w it trees may = ((state g end).now, left_open g law end it.0.is_open it.0.committed trees may, again (state g end).now w it.0.holds it.0.agree it.1)
+
+module _ {S : Type 0} (g : Ghosts S) (law : CrashLaw g) (old : Held S) (idle : IsIdle (state g old)) where
+  -- nothing was committed
+  pub left_unmade : (trees : Trees) → (state g old).may_leave trees → trees ≡ (state g old).now.trees
+  left_unmade trees may = left_open g law old idle.is_open idle.committed trees may
+
+  pub left_given_up : (new : State) → Survives (state g old) new (λ _. ⊥) → HasCleanDisk new → (trees : Trees) → new.may_leave trees → trees ≡ (state g old).now.trees
+  left_given_up new it clean trees may = left_unmade trees (none_more (it.crash clean trees may))
+
+  -- the commit failed, and may have been made
+  pub left_tried : (mid new : State) (w : World) → Survives (state g old) mid (λ _. ⊥) → Survives mid new (λ db. db ≡ mid.now.trees) → HasCleanDisk new → IsReady mid × StandsFor (held mid) w
+      → (trees : Trees) → new.may_leave trees → (trees ≡ (state g old).now.trees) ⊎ MigratedTo w trees
+  left_tried mid new w worked tried clean it trees may = elim (tried.crash clean trees may) [
+    | inl earlier ↦ inl (left_given_up mid worked (was_clean tried clean) trees earlier)
+    | inr e ↦ inr (mid.now, e, again mid.now w it.0.holds it.1.registry.agree it.1.world)
+  ]

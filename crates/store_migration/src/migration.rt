@@ -9,7 +9,7 @@ ghost use Rattle.store_opening.specs.Opening.{IsIdle, KnowsVersion, HoldsRegistr
 ghost use Rattle.store_opening.specs.Asking.{IsWanting, IsWantingOr, IsUnnumbered, IsOfSchema, ShowsAlone};
 ghost use Rattle.store_migration.specs.OldFile.{HoldsOldRegistry, olds_in, old_world_in};
 ghost use Rattle.store_migration.specs.Rewriting.{counts};
-ghost use Rattle.store_migration.specs.Migrating.{number_of, IsRefused, NamesNeither, IsTold};
+ghost use Rattle.store_migration.specs.Migrating.{number_of, CrashMigrates, IsRefused, NamesNeither, IsTold};
 
 use crate::Watch;
 use crate::rewrite::{MovedRows, rewrite};
@@ -55,6 +55,7 @@ fn take_over<S: Alter, W: Watch>(
     ensures free { HasCleanDisk (state S.Store conn.new)
         → OnOk result (AreFree (state S.Store conn.old).now.schema names_of_two) }
     ensures unnumbered { IfErr result IsUnnumbered }
+    ensures crash { CrashMigrates S.Store conn.old conn.new result }
     ensures survives { Lasts S.Store conn.old conn.new }
 {
     if !conn.is_autocommit() {
@@ -114,6 +115,7 @@ pub fn migrate_open<S: Alter, W: Watch>(
     ensures left { HasCleanDisk (state S.Store conn.new) → IsIdle (state S.Store conn.old)
         → (IsOfSchema (state S.Store conn.old) (pos 1) → ⊥)
         → IsBack (state S.Store conn.old) (state S.Store conn.new) }
+    ensures crash { CrashMigrates S.Store conn.old conn.new result }
     ensures survives { Lasts S.Store conn.old conn.new }
 {
     match only_known(read_version(conn)) {

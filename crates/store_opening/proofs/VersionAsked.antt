@@ -14,9 +14,11 @@ use Rattle.sqlite_resolve.specs.Lowering.{Checked, and_then}
 use Rattle.sqlite_resolve.specs.Compile.{first, returning, meaning, planned, compiled, command, with_command}
 use Rattle.sqlite.specs.Listing.{understood, reads_listing, if_select, is_select, listing_schema}
 use Rattle.sqlite_resolve.specs.declared.error.CompileError.TheVariants.{NoSuchTable}
-use Rattle.std.specs.Prelude.{IfOk, IfErr, OnOk, if◌then◌else◌}
+use Rattle.std.specs.Prelude.{IfOk, IfErr, IsSome, OnOk, if◌then◌else◌}
 use Rattle.std.proofs.Common.{inl, inr}
-use Rattle.sqlite.specs.State.{State, IsUnchanged, Shown, ShowsRows, FailsToQuery, FailsToShow, IsNotRun, IsStatement}
+use Rattle.sqlite.specs.Tree.{Trees}
+use Rattle.sqlite.proofs.StateLemmas.{survives_weaker}
+use Rattle.sqlite.specs.State.{State, Survives, CommitsShowing, IsUnchanged, Shown, ShowsRows, FailsToQuery, FailsToShow, IsNotRun, IsStatement}
 use Rattle.sqlite.specs.Clock.{timed}
 use Rattle.sqlite.specs.declared.error.Error.{Error}
 use Rattle.sqlite.specs.Order.{Row}
@@ -101,6 +103,13 @@ unchanged_asked old new (Err e) h = tt
 pub leaves_asked : (old new : State) (r : Answer) → IfOk r (λ rows. Shown version_find [] old new rows.items) → IfErr r (FailsToQuery version_find [] old new) → LeavesAsWas old new
 leaves_asked old new (Ok rows) told failed = answered old new rows.items told
 leaves_asked old new (Err e) told failed = unanswered old new e failed
+
+never_committed : (s : State) (db : Trees) → CommitsShowing version_find [] s db → ⊥
+unfolding CommitsShowing
+never_committed s db h = absurd (let bad = subst IsSome (version_plain s.now.schema h.0 h.1.is) h.2 in cc)
+
+pub asked_quietly : (old new : State) → Survives old new (CommitsShowing version_find [] old) → Survives old new (λ _. ⊥)
+asked_quietly old new it = survives_weaker old new (CommitsShowing version_find [] old) (λ _. ⊥) (λ clean db may. never_committed old db may) it
 
 -- what was committed is what is there, where nothing was begun
 pub back_left : (old new : State) → old.now ≡ old.committed → LeavesAsWas old new → IsBack old new

@@ -4,7 +4,7 @@ ghost use Rattle.std.specs.List.Sorted.{IsPermutation};
 ghost use Rattle.sqlite.specs.State.{HasCleanDisk, IsUnchanged};
 ghost use Rattle.sqlite.specs.Held.{state};
 ghost use Rattle.sqlite.specs.Order.{column};
-ghost use Rattle.store_statements.specs.Clauses.{Lasts};
+ghost use Rattle.store_statements.specs.Clauses.{LastsUncommitted};
 ghost use Rattle.store_statements.specs.Held.{LeavesAsWas, held};
 ghost use Rattle.store_opening.specs.Opening.{KnowsVersion, versions_in};
 ghost use Rattle.store_opening.specs.Asking.{IsWanting, IsWantingOr, IsFailing, IsUnnumbered, ShowsAlone, AnswersVersion, IsOfSchema};
@@ -38,7 +38,7 @@ fn version_rows<S: Alter>(conn: &mut Connection<S>) -> Result<Vec<Row>, Error>
         → LeavesAsWas (state S.Store conn.old) (state S.Store conn.new) }
     ensures answered { HasCleanDisk (state S.Store conn.new)
         → IfOk result (λ rows. AnswersVersion (state S.Store conn.old) rows.items) }
-    ensures survives { Lasts S.Store conn.old conn.new }
+    ensures survives { LastsUncommitted S.Store conn.old conn.new }
 {
     conn.query_all("SELECT version FROM registry_schema", &[])
 }
@@ -74,7 +74,7 @@ pub fn read_version<S: Alter>(conn: &mut Connection<S>) -> Result<i64, OpenFault
         → LeavesAsWas (state S.Store conn.old) (state S.Store conn.new) }
     ensures told { HasCleanDisk (state S.Store conn.new) → IfOk result (IsOfSchema (state S.Store conn.old)) }
     ensures unnumbered { IfErr result IsUnnumbered }
-    ensures survives { Lasts S.Store conn.old conn.new }
+    ensures survives { LastsUncommitted S.Store conn.old conn.new }
 {
     match version_rows(conn) {
         Ok(rows) => version_in(&rows),

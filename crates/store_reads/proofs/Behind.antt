@@ -6,8 +6,9 @@ use Rattle.sqlite.specs.Held.{Held, state}
 use Rattle.oci_types.specs.declared.fault.Fault.{Fault}
 use Rattle.registry_model.specs.World.{World}
 use Rattle.store_statements.specs.Held.{IsSettled, StaysSettled, SettlesOn, world_in}
-use Rattle.store_statements.specs.Between.{Tells, Stays, StaysOnMemory, MakesWorld}
+use Rattle.store_statements.specs.Between.{Keeps, Tells, Stays, StaysOnMemory, MakesWorld}
 use Rattle.store_statements.specs.Clauses.{Lasts, WorldHas}
+use Rattle.store_statements.proofs.Crashes.{kept_then}
 use Rattle.store_statements.proofs.SettledAfter.{stays_then}
 use Rattle.store_reads.proofs.CleanBefore.{was_clean}
 use Rattle.store_reads.proofs.Foretold.{earlier, later}
@@ -45,3 +46,8 @@ module _ {S : Type 0} (g : Ghosts S) (old mid : Held S) (stays : HasCleanDisk (s
 
     pub memory_behind : {A : Type 0} (r : Result A Fault) → StaysOnMemory g mid new r → StaysOnMemory g old new r
     memory_behind r then clean is wanting = after (step clean is) (λ s. then clean s wanting)
+
+    pub kept_behind : Keeps g mid new → Keeps g old new
+    kept_behind kept clean is =
+        let s = step clean is in
+        kept_then (state g old) (state g mid) (state g new) is s (kept clean s.0)

@@ -2,7 +2,7 @@
 ghost use Rattle.std.specs.Prelude.{◌≡◌};
 ghost use Rattle.registry_model.specs.Lookups.{blob_at, blob_size_at, blob_digests_at};
 ghost use Rattle.registry_model.specs.Keeping.{bytes_in, digests_shown};
-ghost use Rattle.store_statements.specs.Between.{Stays, Tells};
+ghost use Rattle.store_statements.specs.Between.{Keeps, Stays, Tells};
 ghost use Rattle.store_statements.specs.Clauses.{Lasts};
 
 use crate::contents::content;
@@ -19,6 +19,7 @@ pub fn blob_size<S: Alter>(
 ) -> Result<Option<u64>, Fault>
     ensures found { Tells S.Store conn.old conn.new result (λ w v. v ≡ blob_size_at w repo.now digest.now) }
     ensures settled { Stays S.Store conn.old conn.new result }
+    ensures kept { Keeps S.Store conn.old conn.new }
     ensures survives { Lasts S.Store conn.old conn.new }
 {
     match find_blob_link(conn, repo.as_str(), digest.as_str()) {

@@ -6,7 +6,7 @@ ghost use Rattle.registry_model.specs.Ask.{text_in};
 ghost use Rattle.registry_model.specs.Sessions.{finished};
 ghost use Rattle.registry_model.specs.Manifests.{with_manifest};
 ghost use Rattle.registry_model.specs.Lookups.{blob_at, blob_size_at, session_size_at, with_mounted};
-ghost use Rattle.store_statements.specs.Between.{Stays, Tells};
+ghost use Rattle.store_statements.specs.Between.{Keeps, Stays, Tells};
 ghost use Rattle.store_statements.specs.Clauses.{Lasts, WorldHas};
 ghost use Rattle.store_reads.specs.Usages.{Foretells, new_tags, or_untold};
 
@@ -39,6 +39,7 @@ fn source_change<S: Alter>(
         (λ w change. IfSome change
         (Foretells w to.now (with_mounted digest.now (blob_at w from.now digest.now)))) }
     ensures settled { Stays S.Store conn.old conn.new result }
+    ensures kept { Keeps S.Store conn.old conn.new }
     ensures survives { Lasts S.Store conn.old conn.new }
 {
     match blob_size(conn, from, digest) {
@@ -63,6 +64,7 @@ pub fn mount_change<S: Alter>(
         (λ w change. IfSome change
         (Foretells w to.now (with_mounted digest.now (blob_at w from.now digest.now)))) }
     ensures settled { Stays S.Store conn.old conn.new result }
+    ensures kept { Keeps S.Store conn.old conn.new }
     ensures survives { Lasts S.Store conn.old conn.new }
 {
     match blob_size(conn, to, digest) {
@@ -86,6 +88,7 @@ fn end_change<S: Alter>(
         (λ w change. IfSome change
         (Foretells w repo.now (λ r. finished r number digest.now bytes))) }
     ensures settled { Stays S.Store conn.old conn.new result }
+    ensures kept { Keeps S.Store conn.old conn.new }
     ensures survives { Lasts S.Store conn.old conn.new }
 {
     let ended = Change {
@@ -116,6 +119,7 @@ pub fn finish_change<S: Alter>(
         (λ w change. IfSome change
         (Foretells w repo.now (λ r. finished r number digest.now bytes.now))) }
     ensures settled { Stays S.Store conn.old conn.new result }
+    ensures kept { Keeps S.Store conn.old conn.new }
     ensures survives { Lasts S.Store conn.old conn.new }
 {
     match session_size(conn, repo, number) {
@@ -135,6 +139,7 @@ fn count_new_tags<S: Alter>(
     ensures found { Tells S.Store conn.old conn.new result
         (λ w n. n ≡ new_tags w repo.now (text_in tag.entry)) }
     ensures settled { Stays S.Store conn.old conn.new result }
+    ensures kept { Keeps S.Store conn.old conn.new }
     ensures survives { Lasts S.Store conn.old conn.new }
 {
     let Some(tag) = tag else {
@@ -161,6 +166,7 @@ fn tagged_change<S: Alter>(
         (λ w change. IfSome change
         (Foretells w repo.now (λ r. with_manifest r digest.now bytes.now (text_in tag.entry)))) }
     ensures settled { Stays S.Store conn.old conn.new result }
+    ensures kept { Keeps S.Store conn.old conn.new }
     ensures survives { Lasts S.Store conn.old conn.new }
 {
     match manifest_size(conn, repo, digest) {
@@ -188,6 +194,7 @@ pub fn manifest_change<S: Alter>(
         (λ w change. IfSome change
         (Foretells w repo.now (λ r. with_manifest r digest.now bytes.now (text_in tag.entry)))) }
     ensures settled { Stays S.Store conn.old conn.new result }
+    ensures kept { Keeps S.Store conn.old conn.new }
     ensures survives { Lasts S.Store conn.old conn.new }
 {
     match count_new_tags(alloc, conn, repo, tag) {

@@ -8,7 +8,7 @@ ghost use Rattle.registry_model.specs.Blobs.{without_blob};
 ghost use Rattle.registry_model.specs.Pruning.{without_blobs};
 ghost use Rattle.registry_model.specs.Manifests.{without_manifest, without_tag};
 ghost use Rattle.registry_model.specs.Command.{without_sessions};
-ghost use Rattle.store_statements.specs.Between.{Stays, Tells};
+ghost use Rattle.store_statements.specs.Between.{Keeps, Stays, Tells};
 ghost use Rattle.store_statements.specs.Clauses.{Lasts, WorldHas};
 ghost use Rattle.store_reads.specs.Usages.{Foretells, AreNaming, gone_too};
 
@@ -30,6 +30,7 @@ pub fn delete_blob_change<S: Alter>(
     ensures found { Tells S.Store conn.old conn.new result
         (λ w change. IfSome change (Foretells w repo.now (λ r. without_blob r digest.now))) }
     ensures settled { Stays S.Store conn.old conn.new result }
+    ensures kept { Keeps S.Store conn.old conn.new }
     ensures survives { Lasts S.Store conn.old conn.new }
 {
     match blob_size(conn, repo, digest) {
@@ -86,6 +87,7 @@ fn ascending_blobs_change<S: Alter>(
     ensures found { Tells S.Store conn.old conn.new result
         (λ w change. IfSome change (Foretells w repo.now (λ r. without_blobs r digests.now))) }
     ensures settled { Stays S.Store conn.old conn.new result }
+    ensures kept { Keeps S.Store conn.old conn.new }
     ensures survives { Lasts S.Store conn.old conn.new }
 {
     let mut change = Some(NO_CHANGE);
@@ -105,6 +107,7 @@ pub fn delete_blobs_change<S: Alter>(
     ensures found { Tells S.Store conn.old conn.new result
         (λ w change. IfSome change (Foretells w repo.now (λ r. without_blobs r digests.now))) }
     ensures settled { Stays S.Store conn.old conn.new result }
+    ensures kept { Keeps S.Store conn.old conn.new }
     ensures survives { Lasts S.Store conn.old conn.new }
 {
     if ascend(digests) {
@@ -123,6 +126,7 @@ fn count_tags_naming<S: Alter>(
     ensures found { Tells S.Store conn.old conn.new result
         (λ w n. AreNaming w repo.now digest.now n) }
     ensures settled { Stays S.Store conn.old conn.new result }
+    ensures kept { Keeps S.Store conn.old conn.new }
     ensures survives { Lasts S.Store conn.old conn.new }
 {
     match count_tags_named(conn, repo.as_str(), digest.as_str()) {
@@ -142,6 +146,7 @@ fn named_manifest_change<S: Alter>(
         → Tells S.Store conn.old conn.new result
         (λ w change. IfSome change (Foretells w repo.now (λ r. without_manifest r digest.now))) }
     ensures settled { Stays S.Store conn.old conn.new result }
+    ensures kept { Keeps S.Store conn.old conn.new }
     ensures survives { Lasts S.Store conn.old conn.new }
 {
     match manifest_size(conn, repo, digest) {
@@ -169,6 +174,7 @@ pub fn delete_manifest_change<S: Alter>(
     ensures found { Tells S.Store conn.old conn.new result
         (λ w change. IfSome change (Foretells w repo.now (λ r. without_manifest r digest.now))) }
     ensures settled { Stays S.Store conn.old conn.new result }
+    ensures kept { Keeps S.Store conn.old conn.new }
     ensures survives { Lasts S.Store conn.old conn.new }
 {
     match count_tags_naming(conn, repo, digest) {
@@ -187,6 +193,7 @@ pub fn delete_tag_change<S: Alter>(
     ensures found { Tells S.Store conn.old conn.new result
         (λ w change. IfSome change (Foretells w repo.now (λ r. without_tag r tag.now))) }
     ensures settled { Stays S.Store conn.old conn.new result }
+    ensures kept { Keeps S.Store conn.old conn.new }
     ensures survives { Lasts S.Store conn.old conn.new }
 {
     match crate::tag(alloc, conn, repo, tag) {
@@ -209,6 +216,7 @@ pub fn drop_sessions_change<S: Alter>(
     ensures found { Tells S.Store conn.old conn.new result
         (λ w change. IfSome change (Foretells w repo.now without_sessions)) }
     ensures settled { Stays S.Store conn.old conn.new result }
+    ensures kept { Keeps S.Store conn.old conn.new }
     ensures survives { Lasts S.Store conn.old conn.new }
 {
     match tallied(upload_sizes(alloc, conn, repo.as_str())) {

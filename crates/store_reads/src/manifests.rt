@@ -2,7 +2,7 @@
 ghost use Rattle.std.specs.Prelude.{◌≡◌};
 ghost use Rattle.registry_model.specs.Lookups.{manifest_at, manifest_size_at, manifest_digests_at};
 ghost use Rattle.registry_model.specs.Keeping.{manifest_shown, digests_shown};
-ghost use Rattle.store_statements.specs.Between.{Stays, Tells};
+ghost use Rattle.store_statements.specs.Between.{Keeps, Stays, Tells};
 ghost use Rattle.store_statements.specs.Clauses.{Lasts};
 
 use crate::contents::content;
@@ -20,6 +20,7 @@ pub fn manifest_size<S: Alter>(
     ensures found { Tells S.Store conn.old conn.new result
         (λ w v. v ≡ manifest_size_at w repo.now digest.now) }
     ensures settled { Stays S.Store conn.old conn.new result }
+    ensures kept { Keeps S.Store conn.old conn.new }
     ensures survives { Lasts S.Store conn.old conn.new }
 {
     match find_manifest_link(conn, repo.as_str(), digest.as_str()) {

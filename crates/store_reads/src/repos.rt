@@ -3,7 +3,7 @@ ghost use Rattle.std.specs.Prelude.{◌≡◌};
 ghost use Rattle.registry_model.specs.World.{has_repo};
 ghost use Rattle.registry_model.specs.Keeping.{names_shown};
 ghost use Rattle.registry_model.specs.Lookups.{last_number_at, repo_count, repo_names_of};
-ghost use Rattle.store_statements.specs.Between.{Stays, Tells};
+ghost use Rattle.store_statements.specs.Between.{Keeps, Stays, Tells};
 ghost use Rattle.store_statements.specs.Clauses.{Lasts};
 
 use oci_types::{Fault, RepoName};
@@ -28,6 +28,7 @@ pub fn has_repo<S: Alter>(conn: &mut Connection<S>, repo: &RepoName) -> Result<b
 pub fn last_number<S: Alter>(conn: &mut Connection<S>, repo: &RepoName) -> Result<u64, Fault>
     ensures found { Tells S.Store conn.old conn.new result (λ w v. v ≡ last_number_at w repo.now) }
     ensures settled { Stays S.Store conn.old conn.new result }
+    ensures kept { Keeps S.Store conn.old conn.new }
     ensures survives { Lasts S.Store conn.old conn.new }
 {
     match find_repo(conn, repo.as_str()) {

@@ -2,7 +2,7 @@
 ghost use Rattle.std.specs.Prelude.{◌≡◌};
 ghost use Rattle.registry_model.specs.Keeping.{tags_shown};
 ghost use Rattle.registry_model.specs.Lookups.{tag_at, tags_at};
-ghost use Rattle.store_statements.specs.Between.{Stays, Tells};
+ghost use Rattle.store_statements.specs.Between.{Keeps, Stays, Tells};
 ghost use Rattle.store_statements.specs.Clauses.{Lasts};
 
 use oci_types::{Digest, Fault, RepoName, Tag};
@@ -20,6 +20,7 @@ pub fn tag<S: Alter>(
 ) -> Result<Option<Digest>, Fault>
     ensures found { Tells S.Store conn.old conn.new result (λ w v. v ≡ tag_at w repo.now tag.now) }
     ensures settled { Stays S.Store conn.old conn.new result }
+    ensures kept { Keeps S.Store conn.old conn.new }
     ensures survives { Lasts S.Store conn.old conn.new }
 {
     find_tag(alloc, conn, repo.as_str(), tag.as_str())

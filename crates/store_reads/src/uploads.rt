@@ -3,7 +3,7 @@ ghost use Rattle.std.specs.Prelude.{◌≡◌, OnOk, None};
 ghost use Rattle.sqlite.specs.State.{HasCleanDisk};
 ghost use Rattle.sqlite.specs.Held.{state};
 ghost use Rattle.registry_model.specs.Lookups.{session_at, session_size_at, sessions_open_at};
-ghost use Rattle.store_statements.specs.Between.{Stays, Tells};
+ghost use Rattle.store_statements.specs.Between.{Keeps, Stays, Tells};
 ghost use Rattle.store_statements.specs.Clauses.{Lasts};
 ghost use Rattle.store_statements.specs.Held.{IsSettled, world_in};
 
@@ -35,6 +35,7 @@ pub(crate) fn expect_no_session<S: Alter>(
     ensures found { HasCleanDisk (state S.Store conn.new) → IsSettled (state S.Store conn.old)
         → OnOk result (session_at (world_in (state S.Store conn.old)) repo.now number ≡ None) }
     ensures settled { Stays S.Store conn.old conn.new result }
+    ensures kept { Keeps S.Store conn.old conn.new }
     ensures survives { Lasts S.Store conn.old conn.new }
 {
     match last_number(conn, repo) {
@@ -52,6 +53,7 @@ pub fn session_size<S: Alter>(
 ) -> Result<Option<u64>, Fault>
     ensures found { Tells S.Store conn.old conn.new result (λ w v. v ≡ session_size_at w repo.now number) }
     ensures settled { Stays S.Store conn.old conn.new result }
+    ensures kept { Keeps S.Store conn.old conn.new }
     ensures survives { Lasts S.Store conn.old conn.new }
 {
     if number <= LARGEST {

@@ -1,7 +1,8 @@
 -- What a change leaves that is one transaction: its work begins where the store was settled, and then it ends.
-use Rattle.std.proofs.Common.{◌≡◌, true, Ok, Err, Result, OnOk, OnErr, sym, subst, refl}
+use Rattle.std.proofs.Common.{◌≡◌, ◌⊎◌, inl, inr, true, Ok, Err, Result, OnOk, OnErr, sym, subst, refl}
 use Rattle.std.specs.Prelude.{IsOk}
 use Rattle.sqlite_trees.specs.declared.store.Store.{Ghosts}
+use Rattle.sqlite.specs.Tree.{Trees}
 use Rattle.sqlite.specs.State.{State, HasCleanDisk, KeepsCommit}
 use Rattle.sqlite.specs.Held.{Held, state}
 use Rattle.sqlite.proofs.Callers.{survives_begin}
@@ -10,6 +11,7 @@ use Rattle.store_statements.specs.Tables.{Tables}
 use Rattle.store_statements.specs.Clauses.{Lasts, LastsUncommitted}
 use Rattle.store_statements.specs.Held.{IsReady, IsSettled, Commits, IsBack, held}
 use Rattle.store_statements.proofs.Transactions.{back_dropped, survives_all}
+use Rattle.store_statements.proofs.CleanBefore.{was_clean}
 use Rattle.store_statements.specs.Ends.{Ends}
 
 -- ---- of results
@@ -23,7 +25,7 @@ pub less : {A E P Q : Type 0} (r : Result A E) → (P → Q) → OnOk r P → On
 less (Ok x) f p = f p
 less (Err e) f p = tt
 
-less_err : {A E P Q : Type 0} (r : Result A E) → (P → Q) → OnErr r P → OnErr r Q
+pub less_err : {A E P Q : Type 0} (r : Result A E) → (P → Q) → OnErr r P → OnErr r Q
 less_err (Ok x) f p = tt
 less_err (Err e) f p = f p
 
@@ -54,3 +56,12 @@ module _ {S : Type 0} {g : Ghosts S} (old : Held S) {first mid new : Held S} {A 
 
   pub went_back : KeepsCommit (state g first) (state g mid) → HasCleanDisk (state g new) → IsSettled (state g old) → OnOk done (IsReady (state g mid)) → OnErr r (IsBack (state g old) (state g new))
   went_back kept clean is it = less_err r (back_dropped (state g old) (state g first) (state g mid) (state g new) is (at_begin (λ (s : State). s.committed ≡ (state g old).committed) refl) kept) (ends.undone clean it)
+
+  -- a crash leaves what it left before, or what the work made, where it was done
+  pub crash_left : LastsUncommitted g first mid → HasCleanDisk (state g new) → (db : Trees) → (state g new).may_leave db → (state g old).may_leave db ⊎ (IsOk done × (db ≡ (state g mid).now.trees))
+  crash_left worked clean db may =
+      let begins = survives_begin g old (state g mid) _ (subst (λ (h : Held S). LastsUncommitted g h mid) begun worked) in
+      elim (ends.survives.crash clean db may) [
+        | inl earlier ↦ elim (begins.crash (was_clean ends.survives clean) db earlier) [ inl first ↦ inl first | inr none ↦ absurd none ]
+        | inr it ↦ inr it
+      ]

@@ -1,7 +1,8 @@
 -- What is told of a change that was one transaction.
-use Rattle.std.proofs.Common.{◌≡◌, Ok, Err, Result, OnOk, OnErr, sym, subst}
+use Rattle.std.proofs.Common.{◌≡◌, ◌⊎◌, inl, inr, Ok, Err, Result, OnOk, OnErr, sym, subst}
 use Rattle.std.specs.Prelude.{IfOk, IsErr}
 use Rattle.sqlite_trees.specs.declared.store.Store.{Ghosts}
+use Rattle.sqlite.specs.Tree.{Trees}
 use Rattle.sqlite.specs.State.{State, HasCleanDisk}
 use Rattle.sqlite.specs.Held.{Held, state}
 use Rattle.oci_types.specs.declared.fault.Fault.{Fault}
@@ -9,7 +10,8 @@ use Rattle.store_statements.specs.Between.{GoesBack, StaysOnMemory}
 use Rattle.store_statements.specs.Clauses.{Lasts}
 use Rattle.store_statements.proofs.Transactions.{stays_back, survives_all}
 use Rattle.store_statements.specs.Told.{Checked}
-use Rattle.store_statements.proofs.Alone.{less}
+use Rattle.store_statements.proofs.Alone.{less, less_err}
+use Rattle.store_statements.proofs.Crashes.{back_either, none_more}
 use Rattle.store_statements.proofs.CleanBefore.{was_clean}
 
 both : {A E : Type 0} (P Q : Type 0) (d r : Result A E) → IfOk r (λ v. (d ≡ Ok v) × Q) → OnOk d P → OnOk r (P × Q)
@@ -33,3 +35,11 @@ module _ {S : Type 0} {g : Ghosts S} (old : Held S) {mid new : Held S} {A : Type
   told_memory back clean is memory =
       let it = checks.memory clean memory in
       stays_back (state g old) (state g mid) (state g new) is (failed done it.0 (back (was_clean checks.survives clean) is)) it.1
+
+  -- a failure changed nothing, where the connection is open
+  pub told_back : GoesBack g old mid done → GoesBack g old new r
+  told_back back clean is = less_err r (λ it. back_either g old mid new is (failed done it (back (was_clean checks.survives clean) is)) (checks.left clean)) checks.failed
+
+  -- a crash leaves what it left then
+  pub told_crash : HasCleanDisk (state g new) → (db : Trees) → (state g new).may_leave db → (state g mid).may_leave db
+  told_crash clean db may = none_more (checks.survives.crash clean db may)

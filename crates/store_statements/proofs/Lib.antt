@@ -40,6 +40,7 @@ pub mod TagRows
 pub mod RepoRows
 pub mod GrantRows
 pub mod SettledAfter
+pub mod Crashes
 pub mod ChildLemmas
 pub mod Selected
 pub mod GrantReads

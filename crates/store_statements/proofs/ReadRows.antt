@@ -7,18 +7,19 @@ use Rattle.sqlite_trees.specs.declared.store.Store.{Ghosts}
 use Rattle.sqlite.specs.Order.{Row}
 use Rattle.sqlite.specs.Given.{IsPlain}
 use Rattle.sqlite.specs.Listing.{understood}
-use Rattle.sqlite.specs.State.{State, HasCleanDisk, IsUnchanged, Shown, Shows, FailsToQuery, Survives}
+use Rattle.sqlite.specs.State.{State, HasCleanDisk, IsUnchanged, Shown, Shows, FailsToQuery, Survives, CommitsShowing}
 use Rattle.sqlite.specs.Tree.{Trees}
 use Rattle.sqlite.specs.Held.{Held, state}
 use Rattle.sqlite.specs.declared.error.Error.{Error}
 use Rattle.oci_types.specs.declared.fault.Fault.{Fault}
 use Rattle.oci_types.specs.declared.fault.Fault.TheVariants.{Memory}
-use Rattle.store_schema.proofs.Selects.{Answer, leaves_all, left_by_query}
-use Rattle.store_statements.specs.Between.{Stays}
+use Rattle.store_schema.proofs.Selects.{Answer, leaves_all, left_by_query, query_survives, survives_both}
+use Rattle.store_statements.specs.Between.{Stays, Keeps}
 use Rattle.store_statements.specs.Clauses.{Lasts}
 use Rattle.store_statements.specs.Held.{HoldsTables, IsSettled, StaysSettled, LeavesAsWas, is_storage}
 use Rattle.store_statements.specs.Told.{IsRead, Checked}
-use Rattle.store_statements.proofs.SettledAfter.{stays_read, stays_failed, is_memory}
+use Rattle.store_statements.proofs.Crashes.{CrashLaw, back_either, kept_by}
+use Rattle.store_statements.proofs.SettledAfter.{stays_read, stays_failed, is_memory, back_left}
 use Rattle.store_statements.proofs.Transactions.{survives_all}
 
 -- ---- what is read of rows
@@ -73,6 +74,14 @@ module _ {S : Type 0} (g : Ghosts S) (old mid new : Held S) (sql : List ℕ) (ro
   settled plain clean is unspent =
       let same = leaves_all sql row (state g old) (state g mid) rows (plain is) (ok (late clean)) in
       settled_by r checks.told (λ late e. (checks.memory late e).1) clean is same (left_as_was (state g old) (state g mid) rows same (failed rows (plain is) (err (late clean)))) unspent
+
+  -- whatever came of it, nothing changed
+  pub reads_kept : CrashLaw g → Survives (state g old) (state g mid) (CommitsShowing sql row (state g old)) → (IsSettled (state g old) → IsPlain (understood (state g old).now.schema sql)) → Keeps g old new
+  reads_kept law survives plain clean is =
+      let same = leaves_all sql row (state g old) (state g mid) rows (plain is) (ok (late clean)) in
+      let left = left_as_was (state g old) (state g mid) rows same (failed rows (plain is) (err (late clean))) in
+      let quiet = query_survives sql row (state g old) (state g mid) (λ early. plain is) survives in
+      kept_by g law old new (survives_both (state g old) (state g mid) (state g new) quiet checks.survives) (back_either g old mid new is (back_left (state g old) (state g mid) is left) (checks.left clean)) clean is
 
   lasts : (C : Trees → Type 0) → Survives (state g old) (state g mid) C → Lasts g old new
   lasts C survives = survives_all (state g old) (state g mid) (state g new) _ _ survives checks.survives

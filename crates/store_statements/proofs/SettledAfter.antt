@@ -1,12 +1,14 @@
 -- What a settled connection is after a call.
-use Rattle.std.proofs.Common.{◌≡◌, ◌∙◌, inl, inr, false, Err, sym, subst, refl}
+use Rattle.std.proofs.Common.{◌≡◌, ◌∙◌, ℕ, List, [], inl, inr, false, Ok, Err, Result, IfOk, IfErr, sym, subst, refl}
 use Rattle.std.specs.Prelude.{IsTrue}
 use Rattle.sqlite.specs.Effect.{Database}
-use Rattle.sqlite.specs.State.{State, IsUnchanged, Shows}
+use Rattle.sqlite.specs.Order.{Row}
+use Rattle.sqlite.specs.declared.error.Error.{Error}
+use Rattle.sqlite.specs.State.{State, IsNotRun, IsUnchanged, Shows}
 use Rattle.oci_types.specs.declared.fault.Fault.{Fault}
 use Rattle.oci_types.specs.declared.fault.Fault.TheVariants.{Memory, Storage}
 use Rattle.store_statements.specs.Registry.{Agree}
-use Rattle.store_statements.specs.Held.{IsSettled, StaysSettled, HoldsTables, LeavesAsWas, tables_in, is_storage}
+use Rattle.store_statements.specs.Held.{IsSettled, StaysSettled, HoldsTables, LeavesAsWas, IsBack, tables_in, is_storage}
 
 -- it was only read
 pub stays_read : (old new : State) → IsSettled old → IsUnchanged old new → StaysSettled old new
@@ -45,3 +47,29 @@ stays_then a b c p q = (q.0, q.1 ∙ p.1)
 pub is_memory : (X : Type 0) (f : Fault) → is_storage {A = X} (Err f) ≡ false → f ≡ Memory
 is_memory X Memory e = refl
 is_memory X Storage e = absurd cc
+
+-- ---- where it is open, it is what it was
+
+-- a statement failed
+pub back_left : (old mid : State) → IsSettled old → LeavesAsWas old mid → IsBack old mid
+back_left old mid s (inl u) is_open = (u.0.now_is, u.0.committed_is)
+back_left old mid s (inr r) is_open = ((r.undone is_open).0 ∙ sym s.committed, (r.undone is_open).1)
+
+-- a statement was only asked for
+pub left_by_prepare : {A : Type 0} (sql : List ℕ) (old new : State) (r : Result A Error) (P : A → Type 0) → IfOk r (λ s. P s × IsUnchanged old new) → IfErr r (λ e. (params : Row) → IsNotRun old new sql params e) → LeavesAsWas old new
+unfolding IsNotRun
+left_by_prepare sql old new (Ok s) P ok err = inl ok.1
+left_by_prepare sql old new (Err e) P ok err = elim (err []) [ inl same ↦ inl same.1 | inr fails ↦ inr fails.3 ]
+
+-- and one more behind it
+pub back_behind : (old mid new : State) → IsSettled old → IsBack old mid → LeavesAsWas mid new → IsBack old new
+back_behind old mid new s back (inl u) is_open =
+    let was = back u.0.was_open in
+    (u.0.now_is ∙ was.0, u.0.committed_is ∙ was.1)
+back_behind old mid new s back (inr r) is_open =
+    let was = back (r.was_open is_open) in
+    ((r.undone is_open).0 ∙ was.1 ∙ sym s.committed, (r.undone is_open).1 ∙ was.1)
+
+-- it is what it was
+pub back_stayed : (old new : State) → IsSettled old → StaysSettled old new → IsBack old new
+back_stayed old new s stays is_open = (stays.1, sym stays.0.committed ∙ stays.1 ∙ s.committed)

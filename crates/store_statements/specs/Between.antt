@@ -1,15 +1,24 @@
 -- What the clauses of statements, reads and writes say between transactions, of a connection before a call
 -- and after it. Each holds where the disk has returned what was written and the connection was settled: any
 -- other may be handed in, and of it nothing is said.
-use Rattle.std.specs.Prelude.{◌≡◌, false, Result, Err, OnOk, OnErr, IfOk, IfErr}
+use Rattle.std.specs.Prelude.{◌≡◌, ◌⊎◌, false, Result, Err, OnOk, OnErr, IfOk, IfErr}
 use Rattle.sqlite_trees.specs.declared.store.Store.{Ghosts}
-use Rattle.sqlite.specs.State.{HasCleanDisk, IsUnchanged}
+use Rattle.sqlite.specs.Effect.{Database}
+use Rattle.sqlite.specs.Tree.{Trees}
+use Rattle.sqlite.specs.State.{State, HasCleanDisk, IsUnchanged}
 use Rattle.sqlite.specs.Held.{Held, state}
 use Rattle.oci_types.specs.declared.fault.Fault.{Fault}
 use Rattle.oci_types.specs.declared.fault.Fault.TheVariants.{Memory}
 use Rattle.registry_model.specs.World.{World}
 use Rattle.store_statements.specs.Tables.{Tables}
-use Rattle.store_statements.specs.Held.{IsSettled, StaysSettled, LeavesAsWas, Commits, SettlesOn, IsBack, held, world_in, is_storage}
+use Rattle.store_statements.specs.Held.{IsSettled, StaysSettled, LeavesAsWas, Commits, SettlesOn, IsBack, IsKept, held, with_trees, reopened, world_in, is_storage}
+
+-- Of each outcome of a crash, opened again: this is told, and it is the one or the other.
+abbrev pub Outcomes : Database → State → (State → Type 0) → (State → Type 0) → (State → Type 0) → Type 0
+Outcomes was new Told Same Made =
+    (db : Trees) → new.may_leave db
+    → Told (reopened (with_trees was db))
+    × (Same (reopened (with_trees was db)) ⊎ Made (reopened (with_trees was db)))
 
 module _ {S : Type 0} (g : Ghosts S) (old new : Held S) where
   -- the value is this of the tables before
@@ -68,3 +77,25 @@ module _ {S : Type 0} (g : Ghosts S) (old new : Held S) where
   abbrev pub GoesBack : {A E : Type 0} → Result A E → Type 0
   GoesBack r = HasCleanDisk (state g new) → IsSettled (state g old)
       → OnErr r (IsBack (state g old) (state g new))
+
+  -- whatever came of it, where the connection is open nothing changed, and a crash leaves what was there
+  abbrev pub Keeps : Type 0
+  Keeps = HasCleanDisk (state g new) → IsSettled (state g old) → IsKept (state g old) (state g new)
+
+  -- its tables were committed, and this is so of those before and of them
+  abbrev pub CommitsFrom : (Tables → Tables → Type 0) → State → Type 0
+  CommitsFrom P s = Commits s (held s) × P (held (state g old)) (held s)
+
+  -- A crash leaves the database as it was, or such tables; where it was done, such.
+  abbrev pub CrashMakes : {A E : Type 0} → Result A E → (Tables → Tables → Type 0) → Type 0
+  CrashMakes r P =
+      HasCleanDisk (state g new) → IsSettled (state g old)
+      → Outcomes (state g old).now (state g new) (λ s. OnOk r (CommitsFrom P s))
+      (λ s. s.now ≡ (state g old).now) (CommitsFrom P)
+
+  -- A crash leaves the world as it was, or this of the one before; where it was done, this.
+  abbrev pub CrashLeaves : {A E : Type 0} → Result A E → (World → World) → Type 0
+  CrashLeaves r f =
+      HasCleanDisk (state g new) → IsSettled (state g old)
+      → Outcomes (state g old).now (state g new) (λ s. OnOk r (SettlesOn s (f (world_in (state g old)))))
+      (λ s. SettlesOn s (world_in (state g old))) (λ s. SettlesOn s (f (world_in (state g old))))

@@ -1,14 +1,14 @@
 -- What the clauses of statements, reads and writes say again and again, of a connection before a call and
 -- after it. Each holds where the disk has returned what was written. What they say between transactions is in
 -- Between.
-use Rattle.std.specs.Prelude.{⊤, Result, OnOk, IfOk}
+use Rattle.std.specs.Prelude.{◌≡◌, ◌⊎◌, ⊤, Result, OnOk, IfOk}
 use Rattle.sqlite_trees.specs.declared.store.Store.{Ghosts}
 use Rattle.sqlite.specs.Order.{Row}
 use Rattle.sqlite.specs.State.{State, HasCleanDisk, IsUnchanged, KeepsCommit, Survives}
 use Rattle.sqlite.specs.Held.{Held, state}
 use Rattle.registry_model.specs.World.{World}
 use Rattle.store_statements.specs.Tables.{Tables}
-use Rattle.store_statements.specs.Held.{IsReady, Becomes, held, world_in}
+use Rattle.store_statements.specs.Held.{IsReady, Becomes, LeavesAsWas, held, world_in}
 
 -- ---- what a clause may ask of the connection before the call
 module _ {S : Type 0} (g : Ghosts S) (conn : Held S) where
@@ -30,6 +30,10 @@ module _ {S : Type 0} (g : Ghosts S) (old new : Held S) where
   -- no fault is forgotten, and nothing was committed
   abbrev pub LastsUncommitted : Type 0
   LastsUncommitted = Survives (state g old) (state g new) (λ _. ⊥)
+
+  -- it is as it was, or as a statement that failed leaves it
+  abbrev pub LeavesEither : Type 0
+  LeavesEither = HasCleanDisk (state g new) → (new ≡ old) ⊎ LeavesAsWas (state g old) (state g new)
 
   -- ---- inside a transaction
 

@@ -1,5 +1,5 @@
 -- What the end of a transaction leaves, and what a caller is told of it.
-use Rattle.std.specs.Prelude.{⊤, Result, OnOk, OnErr, IsOk}
+use Rattle.std.specs.Prelude.{◌≡◌, Result, OnOk, OnErr, IsOk}
 use Rattle.sqlite_trees.specs.declared.store.Store.{Ghosts}
 use Rattle.sqlite.specs.State.{HasCleanDisk, IsRolledBack, Survives}
 use Rattle.sqlite.specs.Held.{Held, state}
@@ -16,4 +16,5 @@ pub record Ends {S : Type 0} (g : Ghosts S) (mid new : Held S) {A B : Type 0} (d
       → OnOk r (Commits (state g new) (held (state g mid)))
   pub undone : HasCleanDisk (state g new) → OnOk done (IsReady (state g mid))
       → OnErr r (IsRolledBack (state g mid) (state g new))
-  pub survives : Survives (state g mid) (state g new) (λ _. ⊤)
+  -- a crash leaves what it left before, or what the work made, where it was done
+  pub survives : Survives (state g mid) (state g new) (λ db. IsOk done × (db ≡ (state g mid).now.trees))

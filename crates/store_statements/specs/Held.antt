@@ -1,6 +1,7 @@
 -- The tables of a database, and what a store's connection is between and inside its transactions.
-use Rattle.std.specs.Prelude.{◌≡◌, ◌⊎◌, Bool, true, false, IsTrue, Result, Ok, Err}
+use Rattle.std.specs.Prelude.{◌≡◌, ◌⊎◌, Bool, true, false, pos, [], None, IsTrue, Result, Ok, Err}
 use Rattle.sqlite.specs.Effect.{Database}
+use Rattle.sqlite.specs.Tree.{Trees}
 use Rattle.sqlite.specs.State.{State, IsUnchanged, IsRolledBack}
 use Rattle.oci_types.specs.declared.fault.Fault.{Fault}
 use Rattle.oci_types.specs.declared.fault.Fault.TheVariants.{Memory, Storage}
@@ -87,6 +88,33 @@ pub record Commits (s : State) (t : Tables) : Type 0 where
 -- where the connection is open, the tables are what they were
 abbrev pub IsBack : State → State → Type 0
 IsBack old new = IsTrue new.is_open → (new.now ≡ old.now) × (new.committed ≡ old.committed)
+
+-- where the connection is open its database is what it was, and so is what a crash leaves
+pub record IsKept (old new : State) : Type 0 where
+  pub back : IsBack old new
+  pub crash : (db : Trees) → new.may_leave db → db ≡ old.now.trees
+
+-- the database with these trees
+abbrev pub with_trees : Database → Trees → Database
+with_trees db trees = record db { trees = trees }
+
+-- a connection that was opened over this database
+abbrev pub reopened : Database → State
+reopened db = record {
+  now = db;
+  committed = db;
+  in_transaction = false;
+  marks = [];
+  is_open = true;
+  is_clean = true;
+  faults = 0;
+  blamed = None;
+  changes = 0;
+  last_rowid = pos 0;
+  step_limit = None;
+  may_leave = λ trees. trees ≡ db.trees;
+  IsShielded = Unit {0};
+}
 
 -- settled, and the tables stand for this world
 abbrev pub SettlesOn : State → World → Type 0

@@ -5,7 +5,7 @@ ghost use Rattle.sqlite_keyed.specs.Lists.{sort_by};
 ghost use Rattle.store_schema.specs.Rows.{bytes_at, natural_at};
 ghost use Rattle.store_statements.specs.Keys.{of_first, has_key};
 ghost use Rattle.store_statements.specs.Changes.{blob_columns};
-ghost use Rattle.store_statements.specs.Between.{Finds, Stays};
+ghost use Rattle.store_statements.specs.Between.{Finds, Keeps, Stays};
 ghost use Rattle.store_statements.specs.Clauses.{Adds, Changes, ChangesNothingInside, FindsInside, KeepsInside, Lasts, LastsUncommitted};
 ghost use Rattle.store_statements.specs.FirstRows.{blob_shown};
 ghost use Rattle.store_statements.specs.ManifestShown.{by_second};
@@ -102,6 +102,7 @@ pub fn find_blob_link<S: Alter>(
     ensures found { Finds S.Store conn.old conn.new result
         (λ t o. o ≡ option_map blob_link (find (has_key repo.now digest.now) t.blobs)) }
     ensures settled { Stays S.Store conn.old conn.new result }
+    ensures kept { Keeps S.Store conn.old conn.new }
     ensures survives { Lasts S.Store conn.old conn.new }
 {
     let shown = conn.query_all(

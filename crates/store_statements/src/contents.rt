@@ -3,7 +3,7 @@ ghost use Rattle.std.specs.Prelude.{◌≡◌, true, IfOk};
 ghost use Rattle.sqlite.specs.State.{HasCleanDisk};
 ghost use Rattle.sqlite.specs.Held.{state};
 ghost use Rattle.oci_types.specs.Digest.{matches};
-ghost use Rattle.store_statements.specs.Between.{Finds, Stays};
+ghost use Rattle.store_statements.specs.Between.{Finds, Keeps, Stays};
 ghost use Rattle.store_statements.specs.Clauses.{KeepsInside, Lasts, LastsUncommitted};
 ghost use Rattle.store_statements.specs.ContentShown.{has_sha256_digest};
 ghost use Rattle.store_statements.specs.Held.{IsReady, held};
@@ -66,6 +66,7 @@ pub fn has_digest<S: Alter>(
     ensures found { Finds S.Store conn.old conn.new result
         (λ t has. has ≡ has_sha256_digest (t.contents content.id) digest.now) }
     ensures settled { Stays S.Store conn.old conn.new result }
+    ensures kept { Keeps S.Store conn.old conn.new }
     ensures survives { Lasts S.Store conn.old conn.new }
 {
     match digest.strip_prefix("sha256:") {

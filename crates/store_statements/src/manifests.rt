@@ -5,7 +5,7 @@ ghost use Rattle.sqlite_keyed.specs.Lists.{sort_by};
 ghost use Rattle.store_schema.specs.Rows.{bytes_at, natural_at};
 ghost use Rattle.store_statements.specs.Keys.{of_first, has_key};
 ghost use Rattle.store_statements.specs.Changes.{manifest_columns};
-ghost use Rattle.store_statements.specs.Between.{Finds, Stays};
+ghost use Rattle.store_statements.specs.Between.{Finds, Keeps, Stays};
 ghost use Rattle.store_statements.specs.Clauses.{Adds, Changes, ChangesNothingInside, FindsInside, KeepsInside, Lasts, LastsUncommitted};
 ghost use Rattle.store_statements.specs.Steps.{manifests_without, ManifestComes};
 ghost use Rattle.store_statements.specs.ManifestShown.{by_second, link_shown, manifest_link, manifest_content};
@@ -119,6 +119,7 @@ pub fn find_manifest_link<S: Alter>(
     ensures found { Finds S.Store conn.old conn.new result
         (λ t o. o ≡ option_map manifest_link (find (has_key repo.now digest.now) t.manifests)) }
     ensures settled { Stays S.Store conn.old conn.new result }
+    ensures kept { Keeps S.Store conn.old conn.new }
     ensures survives { Lasts S.Store conn.old conn.new }
 {
     let shown = conn.query_all(

@@ -4,7 +4,7 @@ ghost use Rattle.std.specs.List.Sorted.{IsPermutation};
 ghost use Rattle.store_statements.specs.Keys.{of_first, of_session, has_start};
 ghost use Rattle.store_statements.specs.Changes.{piece_columns};
 ghost use Rattle.store_statements.specs.World.{pieces_of};
-ghost use Rattle.store_statements.specs.Between.{Finds, Stays};
+ghost use Rattle.store_statements.specs.Between.{Finds, Keeps, Stays};
 ghost use Rattle.store_statements.specs.Clauses.{Adds, Changes, ChangesNothingInside, FindsInside, KeepsInside, Lasts, LastsUncommitted};
 ghost use Rattle.store_statements.specs.Shown.{content_named};
 ghost use Rattle.store_statements.specs.Steps.{pieces_without, PieceComes};
@@ -88,6 +88,7 @@ pub fn pieces_in_order<S: Alter>(
     ensures found { Finds S.Store conn.old conn.new result
         (λ t ids. ids.items ≡ map (content_named 5) (pieces_of t.pieces repo.now number)) }
     ensures settled { Stays S.Store conn.old conn.new result }
+    ensures kept { Keeps S.Store conn.old conn.new }
     ensures survives { Lasts S.Store conn.old conn.new }
 {
     let shown = conn.query_all(

@@ -6,7 +6,7 @@ ghost use Rattle.store_schema.specs.Rows.{bytes_at};
 ghost use Rattle.sqlite.specs.Held.{state};
 ghost use Rattle.store_statements.specs.Keys.{of_first};
 ghost use Rattle.store_statements.specs.Changes.{with_quota, with_last, repo_columns};
-ghost use Rattle.store_statements.specs.Between.{Finds, Stays};
+ghost use Rattle.store_statements.specs.Between.{Finds, Keeps, Stays};
 ghost use Rattle.store_statements.specs.Clauses.{Adds, Changes, FindsInside, KeepsInside, Lasts, LastsUncommitted};
 ghost use Rattle.store_statements.specs.Held.{IsReady, Becomes, held};
 ghost use Rattle.store_statements.specs.Shown.{repo_row, by_name};
@@ -116,6 +116,7 @@ pub fn find_repo<S: Alter>(conn: &mut Connection<S>, name: &str) -> Result<Optio
     ensures found { Finds S.Store conn.old conn.new result
         (λ t o. o ≡ option_map repo_row (find (of_first name.now) t.repos)) }
     ensures settled { Stays S.Store conn.old conn.new result }
+    ensures kept { Keeps S.Store conn.old conn.new }
     ensures survives { Lasts S.Store conn.old conn.new }
 {
     let shown = conn.query_all(

@@ -4,7 +4,7 @@ ghost use Rattle.std.specs.List.Sorted.{IsPermutation};
 ghost use Rattle.store_schema.specs.Rows.{natural_at};
 ghost use Rattle.store_statements.specs.Keys.{of_first, of_session};
 ghost use Rattle.store_statements.specs.Changes.{with_size, upload_columns};
-ghost use Rattle.store_statements.specs.Between.{Finds, Stays};
+ghost use Rattle.store_statements.specs.Between.{Finds, Keeps, Stays};
 ghost use Rattle.store_statements.specs.Clauses.{Adds, Changes, FindsInside, KeepsInside, Lasts, LastsUncommitted};
 ghost use Rattle.store_statements.specs.Steps.{uploads_without, uploads_changed, UploadComes};
 
@@ -101,6 +101,7 @@ pub fn find_upload<S: Alter>(
     ensures found { Finds S.Store conn.old conn.new result
         (λ t o. o ≡ option_map (λ r. natural_at r 3) (find (of_session repo.now number) t.uploads)) }
     ensures settled { Stays S.Store conn.old conn.new result }
+    ensures kept { Keeps S.Store conn.old conn.new }
     ensures survives { Lasts S.Store conn.old conn.new }
 {
     let shown = conn.query_all(
@@ -136,6 +137,7 @@ pub fn upload_sizes<S: Alter>(
         (λ t sizes. IsPermutation (map (λ r. natural_at r 3) (filter (of_first repo.now) t.uploads))
         sizes.items) }
     ensures settled { Stays S.Store conn.old conn.new result }
+    ensures kept { Keeps S.Store conn.old conn.new }
     ensures survives { Lasts S.Store conn.old conn.new }
 {
     let shown = conn.query_all(

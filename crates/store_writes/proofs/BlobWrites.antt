@@ -30,6 +30,11 @@ puts_there old mid name digest bytes link stays e =
     let found = some_found blob_link (find (has_key name digest) (held old).blobs) link e in
     makes_same old mid _ stays (sym (blob_there (held old) name digest bytes found.0 found.1))
 
+pub same_blob : (old : State) (name digest bytes : Text) (link : BlobLink) → Some link ≡ option_map blob_link (find (has_key name digest) (held old).blobs) → world_in old ≡ put_blob (world_in old) name digest bytes
+same_blob old name digest bytes link e =
+    let found = some_found blob_link (find (has_key name digest) (held old).blobs) link e in
+    sym (blob_there (held old) name digest bytes found.0 found.1)
+
 -- ---- whether the blob comes
 
 pub comes : (old : State) (name digest : Text) → IsSettled old → find (has_key name digest) (held old).blobs ≡ None → true ≡ is_none (blob_at (world_in old) name digest)

@@ -1,11 +1,13 @@
 -- What is known of upload sessions of one piece, and what their end makes of the world.
-use Rattle.std.proofs.Common.{◌≡◌, ◌∙◌, ◌||◌, ◌++◌, ℕ, List, [], ◌∷◌, map, length, Bool, true, false, true≢false, cond, Option, Some, None, Ok, Err, Result, IfOk, OnOk, refl, sym, ap, subst, arith}
-use Rattle.std.specs.Prelude.{find, is_some, is_none, option_map, bytes_eq, MatchResult, Vec}
+use Rattle.std.proofs.Common.{◌≡◌, ◌∙◌, ◌||◌, ◌++◌, ℕ, List, [], ◌∷◌, map, length, Bool, true, false, true≢false, cond, inl, inr, Option, Some, None, Ok, Err, Result, IfOk, OnOk, OnErr, refl, sym, ap, subst, arith}
+use Rattle.std.specs.Prelude.{⊤, find, is_some, is_none, option_map, bytes_eq, MatchResult, Vec}
 use Rattle.std.specs.declared.alloc.Global.{Global}
 use Rattle.std.specs.Option.{option_and_then, option_map_or}
 use Rattle.std.specs.List.{AllByRecursion}
 use Rattle.sqlite.specs.Order.{Row}
+use Rattle.sqlite_trees.specs.declared.store.Store.{Ghosts}
 use Rattle.sqlite.specs.State.{State}
+use Rattle.sqlite.specs.Held.{Held, state}
 use Rattle.oci_types.specs.Text.{Text}
 use Rattle.oci_types.specs.Digest.{matches, sha512_digest}
 use Rattle.oci_types.specs.declared.fault.Fault.{Fault}
@@ -25,11 +27,13 @@ use Rattle.store_contents.specs.declared.content_id.ContentId.{ContentId}
 use Rattle.store_statements.specs.declared.blobs.BlobLink.{BlobLink}
 use Rattle.store_statements.specs.Shown.{blob_link, content_named}
 use Rattle.store_statements.specs.ContentShown.{has_sha256_digest}
-use Rattle.store_statements.specs.Held.{IsReady, IsSettled, StaysSettled, Commits, SettlesOn, held, world_in, is_storage}
+use Rattle.store_statements.specs.Held.{IsReady, IsSettled, StaysSettled, Commits, SettlesOn, IsKept, held, world_in, is_storage}
 use Rattle.store_statements.specs.Steps.{Finished, BlobComes, sessions_without}
 use Rattle.store_statements.proofs.Transactions.{registry}
 use Rattle.store_statements.specs.StepsFrom.{LinkIsPut}
 use Rattle.store_writes.specs.Whole.{only_link, whole_link, if_digest, known_link, IsKnown, WholeEnds, DoneWhereSo}
+use Rattle.store_statements.specs.Between.{Outcomes}
+use Rattle.store_statements.proofs.Crashes.{outcome_kept, outcome_then}
 use Rattle.store_statements.proofs.BlobLinks.{link_came}
 use Rattle.store_statements.proofs.WritesAfterReads.{same_world}
 use Rattle.store_writes.proofs.SessionWrites.{finishes_there, finishes_new}
@@ -124,6 +128,37 @@ done old mid new name number digest link settled stays found it =
     let known = known_is (held old) name number (registry old settled) digest link found in
     (matches_it (world_in old) name number digest known.bytes known.session known.matching, subst (λ w. SettlesOn new (finish_as_is w name number digest)) (same_world old mid stays) it)
 
+-- what a crash leaves of it
+module _ {S : Type 0} (g : Ghosts S) (old new : Held S) (name : Text) (number : ℕ) (digest : Text) where
+  -- the bytes match, and the world is that of the session's end
+  abbrev pub Ended : State → Type 0
+  Ended s = (session_matches (world_in (state g old)) name number digest ≡ true) × SettlesOn s (finish_as_is (world_in (state g old)) name number digest)
+
+  pub ends_kept : IsSettled (state g old) → IsKept (state g old) (state g new) → Outcomes (state g old).now (state g new) (λ s. SettlesOn s (world_in (state g old))) (λ s. SettlesOn s (world_in (state g old))) Ended
+  ends_kept is kept = outcome_kept (state g old) (state g new) (λ s. SettlesOn s (world_in (state g old))) Ended is kept (λ s again. again)
+
+  pub ends_failed : IsSettled (state g old) → IsKept (state g old) (state g new) → Outcomes (state g old).now (state g new) (λ _. ⊤) (λ s. SettlesOn s (world_in (state g old))) Ended
+  ends_failed is kept = outcome_kept (state g old) (state g new) (λ _. ⊤) Ended is kept (λ s again. tt)
+
+  module _ (mid : Held S) (link : BlobLink) (settled : IsSettled (state g old)) (stays : StaysSettled (state g old) (state g mid)) (found : Some link ≡ known_link (held (state g old)) name number digest) where
+    ends_left : (Told Told' : State → Type 0) → ((s : State) → Told s → Told' s) → Outcomes (state g mid).now (state g new) Told (λ s. SettlesOn s (world_in (state g mid))) (λ s. SettlesOn s (finish_as_is (world_in (state g mid)) name number digest))
+        → Outcomes (state g old).now (state g new) Told' (λ s. SettlesOn s (world_in (state g old))) Ended
+    ends_left Told Told' told crash db may =
+        let known = known_is (held (state g old)) name number (registry (state g old) settled) digest link found in
+        let so = matches_it (world_in (state g old)) name number digest known.bytes known.session known.matching in
+        let out = outcome_then (state g old) (state g mid) (state g new) (λ w. finish_as_is w name number digest) Told Told' stays told crash db may in
+        (out.0, elim out.1 [ inl same ↦ inl same | inr it ↦ inr (so, it) ])
+
+    pub ends_done : Outcomes (state g mid).now (state g new) (λ s. SettlesOn s (finish_as_is (world_in (state g mid)) name number digest)) (λ s. SettlesOn s (world_in (state g mid))) (λ s. SettlesOn s (finish_as_is (world_in (state g mid)) name number digest))
+        → Outcomes (state g old).now (state g new) (λ s. SettlesOn s (finish_as_is (world_in (state g old)) name number digest)) (λ s. SettlesOn s (world_in (state g old))) Ended
+    ends_done crash =
+        ends_left (λ s. SettlesOn s (finish_as_is (world_in (state g mid)) name number digest)) (λ s. SettlesOn s (finish_as_is (world_in (state g old)) name number digest))
+        (λ s it. subst (λ (w : World). SettlesOn s (finish_as_is w name number digest)) (same_world (state g old) (state g mid) stays) it) crash
+
+    pub ends_undone : Outcomes (state g mid).now (state g new) (λ _. ⊤) (λ s. SettlesOn s (world_in (state g mid))) (λ s. SettlesOn s (finish_as_is (world_in (state g mid)) name number digest))
+        → Outcomes (state g old).now (state g new) (λ _. ⊤) (λ s. SettlesOn s (world_in (state g old))) Ended
+    ends_undone crash = ends_left (λ _. ⊤) (λ _. ⊤) (λ s it. tt) crash
+
 -- and what it tells
 pub end_told : (old mid : State) (name : Text) (number : ℕ) (digest : Text) (link : BlobLink) (came : Bool) → IsSettled old → StaysSettled old mid → Some link ≡ known_link (held old) name number digest → came ≡ is_none (blob_at (world_in mid) name digest)
     → (session_size_at (world_in old) name number ≡ Some link.size) × (came ≡ is_none (blob_at (world_in old) name digest))
@@ -140,6 +175,10 @@ came_so {Q = Q} (Err fault) came r is f p = subst (λ q. OnOk q Q) (sym is) tt
 pub came_told : {A : Type 0} (made : Result A Fault) (came is_new : Bool) (r : Result Bool Fault) → MatchResult made (λ _. r ≡ Ok came) (λ fault. r ≡ Err fault) → came ≡ is_new → IfOk r (λ b. b ≡ is_new)
 came_told (Ok x) came is_new r is e = subst (λ q. IfOk q (λ b. b ≡ is_new)) (sym is) e
 came_told (Err fault) came is_new r is e = subst (λ q. IfOk q (λ b. b ≡ is_new)) (sym is) tt
+
+pub came_back : {A : Type 0} (P : Type 0) (made : Result A Fault) (came : Bool) (r : Result Bool Fault) → MatchResult made (λ _. r ≡ Ok came) (λ fault. r ≡ Err fault) → OnErr made P → OnErr r P
+came_back P (Ok x) came r is p = subst (λ q. OnErr q P) (sym is) tt
+came_back P (Err fault) came r is p = subst (λ q. OnErr q P) (sym is) p
 
 pub came_memory : {A : Type 0} (made : Result A Fault) (came : Bool) (r : Result Bool Fault) → MatchResult made (λ _. r ≡ Ok came) (λ fault. r ≡ Err fault) → r ≡ Err Memory → made ≡ Err Memory
 came_memory (Ok x) came r is e = absurd (not_refused (sym is ∙ e))

@@ -1,5 +1,6 @@
 pub mod Fitting
 pub mod Transacted
+pub mod SchemaKept
 pub mod PutLemmas
 pub mod MountLemmas
 pub mod StatementSequences

@@ -48,5 +48,10 @@ mounts_nothing first read from to digest link stays found =
     let row = found_row (find (has_key to digest) (held first).blobs) link found in
     (stays.0, same_world first read stays ∙ sym (mount_there (held first) from to digest row.0 row.1))
 
+pub same_mount : (first : State) (from to digest : List ℕ) (link : BlobLink) → Some link ≡ option_map blob_link (find (has_key to digest) (held first).blobs) → world_in first ≡ mount (world_in first) from to digest
+same_mount first from to digest link found =
+    let row = found_row (find (has_key to digest) (held first).blobs) link found in
+    sym (mount_there (held first) from to digest row.0 row.1)
+
 pub makes_from : {A E : Type 0} (first read end : State) (f : World → World) (r : Result A E) → StaysSettled first read → OnOk r (SettlesOn end (f (world_in read))) → OnOk r (SettlesOn end (f (world_in first)))
 makes_from first read end f r stays h = subst (λ (w : World). OnOk r (SettlesOn end (f w))) (same_world first read stays) h

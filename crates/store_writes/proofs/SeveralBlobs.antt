@@ -25,6 +25,11 @@ blobs_taken t name (digest ∷ digests) is =
     let rest = blobs_taken (blobs_without (has_key name digest) t) name digests first.1 in
     (rest.0 ∙ ap (λ w. delete_blobs w name digests) first.0 ∙ update_twice (world_of t) name (λ r. without_blob r digest) (λ r. without_blobs r digests), rest.1)
 
+-- contents stay
+pub links_leave : (name : Text) (digests : List Text) (t : Tables) → (without_blob_links name digests t).contents ≡ t.contents
+links_leave name [] t = refl
+links_leave name (digest ∷ digests) t = links_leave name digests (blobs_without (has_key name digest) t)
+
 -- ---- one link after another
 
 one_more : (name : Text) (digests : List Text) (digest : Text) (t : Tables) → without_blob_links name (digests ++ digest ∷ []) t ≡ blobs_without (has_key name digest) (without_blob_links name digests t)

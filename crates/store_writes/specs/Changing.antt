@@ -50,7 +50,9 @@ Makes (TakeBlob repo digest) t u = u ≡ blobs_without (has_key repo.now digest.
 Makes (TakeBlobs repo digests) t u = u ≡ without_blob_links repo.now digests.now t
 Makes (AddManifest alloc repo digest bytes manifest tag) t u =
     StandsFor u (put_manifest (world_of t) repo.now digest.now bytes.now (text_in tag))
-Makes (SetTag repo tag digest) t u = StandsFor u (tagged (world_of t) repo.now (text_in tag) digest.now)
+    × (u.beside ≡ t.beside)
+Makes (SetTag repo tag digest) t u =
+    StandsFor u (tagged (world_of t) repo.now (text_in tag) digest.now) × (u.beside ≡ t.beside)
 Makes (TakeManifest repo digest) t u = u ≡ without_manifest repo.now digest.now t
 Makes (TakeTag repo tag) t u = u ≡ tags_without (has_key repo.now tag.now) t
 Makes (SetLevel token repo level) t u = LevelIsPut t u token.now repo.now level

@@ -1,7 +1,10 @@
 -- Upload sessions of one piece: what is known of their bytes without reading them.
-use Rattle.std.specs.Prelude.{◌≡◌, ℕ, Bool, true, false, List, [], ◌∷◌, map, find, length, Option, Some, None, if◌then◌else◌}
+use Rattle.std.specs.Prelude.{◌≡◌, ℕ, Bool, true, false, List, [], ◌∷◌, map, find, length, Option, Some, None, is_some, if◌then◌else◌, Result, IfOk}
 use Rattle.std.specs.Option.{option_and_then}
-use Rattle.sqlite.specs.State.{State}
+use Rattle.sqlite_trees.specs.declared.store.Store.{Ghosts}
+use Rattle.sqlite.specs.State.{State, HasCleanDisk}
+use Rattle.sqlite.specs.Held.{Held, state}
+use Rattle.oci_types.specs.declared.fault.Fault.{Fault}
 use Rattle.oci_types.specs.Text.{Text}
 use Rattle.oci_types.specs.Digest.{matches}
 use Rattle.registry_model.specs.World.{World}
@@ -14,7 +17,8 @@ use Rattle.store_statements.specs.World.{pieces_of, world_of}
 use Rattle.store_statements.specs.declared.blobs.BlobLink.{BlobLink}
 use Rattle.store_statements.specs.Shown.{content_named}
 use Rattle.store_statements.specs.ContentShown.{has_sha256_digest}
-use Rattle.store_statements.specs.Held.{StaysSettled, SettlesOn, world_in}
+use Rattle.store_statements.specs.Between.{Outcomes}
+use Rattle.store_statements.specs.Held.{IsSettled, StaysSettled, SettlesOn, world_in}
 use Rattle.store_statements.specs.Steps.{sessions_without}
 use Rattle.store_statements.specs.StepsFrom.{LinkIsPut}
 
@@ -57,3 +61,18 @@ WholeEnds old new name number digest link =
 abbrev pub DoneWhereSo : Bool → State → State → (World → Bool) → (World → World) → Type 0
 DoneWhereSo true old new so f = (so (world_in old) ≡ true) × SettlesOn new (f (world_in old))
 DoneWhereSo false old new so f = StaysSettled old new
+
+-- what an answer says of an outcome: where it was done the world is that, else it is as it was
+abbrev pub ToldWhereSo : Bool → State → World → World → Type 0
+ToldWhereSo true s was made = SettlesOn s made
+ToldWhereSo false s was made = SettlesOn s was
+
+-- A crash leaves the world as it was, or where this was so, that; as the answer says, where there is one.
+abbrev pub CrashEnds : {S : Type 0} → Ghosts S → Held S → Held S → {A : Type 0} → Result (Option A) Fault
+    → (World → Bool) → (World → World) → Type 0
+CrashEnds g old new r so f =
+    HasCleanDisk (state g new) → IsSettled (state g old)
+    → Outcomes (state g old).now (state g new)
+    (λ s. IfOk r (λ end. ToldWhereSo (is_some end) s (world_in (state g old)) (f (world_in (state g old)))))
+    (λ s. SettlesOn s (world_in (state g old)))
+    (λ s. (so (world_in (state g old)) ≡ true) × SettlesOn s (f (world_in (state g old))))

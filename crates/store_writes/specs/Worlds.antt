@@ -22,6 +22,7 @@ pub record Turns (old new : State) (w : World) : Type 0 where
   pub whole : IsWhole new
   pub world : world_of (held new) ≡ w
   pub repos : (held new).repos ≡ (held old).repos
+  pub beside : (held new).beside ≡ (held old).beside
 
 -- tables that agree stand for this world
 abbrev pub StandsFor : Tables → World → Type 0

@@ -3,7 +3,7 @@ ghost use Rattle.std.specs.Prelude.{◌≡◌, true, None, find};
 ghost use Rattle.registry_model.specs.World.{has_repo};
 ghost use Rattle.registry_model.specs.Lookups.{mount};
 ghost use Rattle.store_statements.specs.Keys.{has_key};
-ghost use Rattle.store_statements.specs.Between.{MakesWorld, StaysOnMemory};
+ghost use Rattle.store_statements.specs.Between.{CrashLeaves, GoesBack, MakesWorld, StaysOnMemory};
 ghost use Rattle.store_statements.specs.Clauses.{Lasts, TablesHave, WorldHas};
 
 use crate::change::Change;
@@ -25,6 +25,11 @@ fn mount_link<S: Alter>(
         → MakesWorld S.Store conn.old conn.new result (λ w. mount w from.now to.now digest.now) }
     ensures memory { TablesHave S.Store conn.old (λ t. find (has_key to.now digest.now) t.blobs ≡ None)
         → StaysOnMemory S.Store conn.old conn.new result }
+    ensures back { TablesHave S.Store conn.old (λ t. find (has_key to.now digest.now) t.blobs ≡ None)
+        → GoesBack S.Store conn.old conn.new result }
+    ensures crash { WorldHas S.Store conn.old (λ w. has_repo w to.now ≡ true)
+        → TablesHave S.Store conn.old (λ t. find (has_key to.now digest.now) t.blobs ≡ None)
+        → CrashLeaves S.Store conn.old conn.new result (λ w. mount w from.now to.now digest.now) }
     ensures survives { Lasts S.Store conn.old conn.new }
 {
     match find_blob_link(conn, from, digest) {
@@ -53,6 +58,10 @@ pub fn mount<S: Alter>(
     ensures made { WorldHas S.Store conn.old (λ w. has_repo w to.now ≡ true)
         → MakesWorld S.Store conn.old conn.new result (λ w. mount w from.now to.now digest.now) }
     ensures memory { StaysOnMemory S.Store conn.old conn.new result }
+    ensures back { GoesBack S.Store conn.old conn.new result }
+    ensures crash { WorldHas S.Store conn.old (λ w. has_repo w to.now ≡ true)
+        → CrashLeaves S.Store conn.old conn.new result
+        (λ w. mount w from.now to.now digest.now) }
     ensures survives { Lasts S.Store conn.old conn.new }
 {
     let source = from.as_str();

@@ -2,7 +2,7 @@
 ghost use Rattle.std.specs.Prelude.{◌≡◌};
 ghost use Rattle.sqlite.specs.State.{HasCleanDisk, KeepsCommit};
 ghost use Rattle.sqlite.specs.Held.{state};
-ghost use Rattle.store_statements.specs.Between.{CommitsStep, StaysOnMemory};
+ghost use Rattle.store_statements.specs.Between.{CommitsStep, CrashMakes, GoesBack, StaysOnMemory};
 ghost use Rattle.store_statements.specs.Clauses.{Lasts, LastsUncommitted, TablesHave};
 ghost use Rattle.store_statements.specs.Held.{IsReady, held};
 ghost use Rattle.store_statements.specs.StepsFrom.{StepsFrom};
@@ -80,6 +80,10 @@ pub(crate) fn make<S: Alter>(conn: &mut Connection<S>, change: Change<'_>) -> Re
         → CommitsStep S.Store conn.old conn.new result (Makes change.entry) }
     ensures memory { TablesHave S.Store conn.old (Asks change.entry)
         → StaysOnMemory S.Store conn.old conn.new result }
+    ensures back { TablesHave S.Store conn.old (Asks change.entry)
+        → GoesBack S.Store conn.old conn.new result }
+    ensures crash { TablesHave S.Store conn.old (Asks change.entry)
+        → CrashMakes S.Store conn.old conn.new result (Makes change.entry) }
     ensures survives { Lasts S.Store conn.old conn.new }
 {
     let done = alone!(conn, tx, work(&mut tx, change));

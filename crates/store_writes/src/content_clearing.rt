@@ -4,7 +4,7 @@ ghost use Rattle.std.specs.BTreeSet.{keys};
 ghost use Rattle.std.specs.Ordering.{int_eq};
 ghost use Rattle.sqlite.specs.State.{HasCleanDisk};
 ghost use Rattle.sqlite.specs.Held.{state};
-ghost use Rattle.store_statements.specs.Between.{MakesWorld, Relates, StaysOnMemory};
+ghost use Rattle.store_statements.specs.Between.{CrashLeaves, GoesBack, MakesWorld, Relates, StaysOnMemory};
 ghost use Rattle.store_statements.specs.Clauses.{ChangesNothingInside, KeepsInside, Lasts, LastsUncommitted, StepsInside};
 ghost use Rattle.store_statements.specs.Held.{IsReady, held};
 ghost use Rattle.store_writes.specs.Naming.{is_among, is_named, ContentsGone, Cleared};
@@ -121,6 +121,8 @@ pub fn clear<S: Alter>(alloc: Global, conn: &mut Connection<S>) -> Result<(), Fa
     ensures freed { Relates S.Store conn.old conn.new result
         (λ t u. (id : ℤ) → u.contents id ≡ (if is_named t id then t.contents id else None)) }
     ensures memory { StaysOnMemory S.Store conn.old conn.new result }
+    ensures back { GoesBack S.Store conn.old conn.new result }
+    ensures crash { CrashLeaves S.Store conn.old conn.new result (λ w. w) }
     ensures survives { Lasts S.Store conn.old conn.new }
 {
     make(conn, Change::Clear { alloc })

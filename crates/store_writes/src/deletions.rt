@@ -2,7 +2,7 @@
 ghost use Rattle.std.specs.Prelude.{◌≡◌};
 ghost use Rattle.registry_model.specs.Lookups.{delete_blob, delete_manifest, delete_tag};
 ghost use Rattle.registry_model.specs.Pruning.{delete_blobs};
-ghost use Rattle.store_statements.specs.Between.{MakesWorld, StaysOnMemory};
+ghost use Rattle.store_statements.specs.Between.{CrashLeaves, GoesBack, MakesWorld, Relates, StaysOnMemory};
 ghost use Rattle.store_statements.specs.Clauses.{Changes, KeepsInside, Lasts, LastsUncommitted};
 ghost use Rattle.store_statements.specs.Steps.{without_manifest};
 ghost use Rattle.store_writes.specs.Deleting.{without_blob_links};
@@ -22,7 +22,10 @@ pub fn delete_tag<S: Alter>(
     tag: &Tag,
 ) -> Result<(), Fault>
     ensures made { MakesWorld S.Store conn.old conn.new result (λ w. delete_tag w repo.now tag.now) }
+    ensures stays { Relates S.Store conn.old conn.new result (λ t u. u.contents ≡ t.contents) }
     ensures memory { StaysOnMemory S.Store conn.old conn.new result }
+    ensures back { GoesBack S.Store conn.old conn.new result }
+    ensures crash { CrashLeaves S.Store conn.old conn.new result (λ w. delete_tag w repo.now tag.now) }
     ensures survives { Lasts S.Store conn.old conn.new }
 {
     make(
@@ -41,7 +44,10 @@ pub fn delete_blob<S: Alter>(
     digest: &Digest,
 ) -> Result<(), Fault>
     ensures made { MakesWorld S.Store conn.old conn.new result (λ w. delete_blob w repo.now digest.now) }
+    ensures stays { Relates S.Store conn.old conn.new result (λ t u. u.contents ≡ t.contents) }
     ensures memory { StaysOnMemory S.Store conn.old conn.new result }
+    ensures back { GoesBack S.Store conn.old conn.new result }
+    ensures crash { CrashLeaves S.Store conn.old conn.new result (λ w. delete_blob w repo.now digest.now) }
     ensures survives { Lasts S.Store conn.old conn.new }
 {
     make(
@@ -78,7 +84,10 @@ pub fn delete_blobs<S: Alter>(
     digests: &[Digest],
 ) -> Result<(), Fault>
     ensures made { MakesWorld S.Store conn.old conn.new result (λ w. delete_blobs w repo.now digests.now) }
+    ensures stays { Relates S.Store conn.old conn.new result (λ t u. u.contents ≡ t.contents) }
     ensures memory { StaysOnMemory S.Store conn.old conn.new result }
+    ensures back { GoesBack S.Store conn.old conn.new result }
+    ensures crash { CrashLeaves S.Store conn.old conn.new result (λ w. delete_blobs w repo.now digests.now) }
     ensures survives { Lasts S.Store conn.old conn.new }
 {
     make(
@@ -113,7 +122,11 @@ pub fn delete_manifest<S: Alter>(
     digest: &Digest,
 ) -> Result<(), Fault>
     ensures made { MakesWorld S.Store conn.old conn.new result (λ w. delete_manifest w repo.now digest.now) }
+    ensures stays { Relates S.Store conn.old conn.new result (λ t u. u.contents ≡ t.contents) }
     ensures memory { StaysOnMemory S.Store conn.old conn.new result }
+    ensures back { GoesBack S.Store conn.old conn.new result }
+    ensures crash { CrashLeaves S.Store conn.old conn.new result
+        (λ w. delete_manifest w repo.now digest.now) }
     ensures survives { Lasts S.Store conn.old conn.new }
 {
     make(

@@ -5,10 +5,10 @@ ghost use Rattle.sqlite.specs.Held.{state};
 ghost use Rattle.registry_model.specs.Lookups.{blob_at, session_size_at};
 ghost use Rattle.registry_model.specs.Closing.{session_matches, finish_as_is};
 ghost use Rattle.store_statements.specs.Keys.{has_key};
-ghost use Rattle.store_statements.specs.Between.{Finds, MakesWorld, StaysOnMemory, Tells};
+ghost use Rattle.store_statements.specs.Between.{CrashLeaves, Finds, GoesBack, MakesWorld, StaysOnMemory, Tells};
 ghost use Rattle.store_statements.specs.Clauses.{KeepsInside, Lasts, LastsUncommitted, TablesHave};
 ghost use Rattle.store_statements.specs.Held.{IsSettled};
-ghost use Rattle.store_writes.specs.Whole.{known_link, WholeEnds, DoneWhereSo};
+ghost use Rattle.store_writes.specs.Whole.{known_link, CrashEnds, DoneWhereSo, WholeEnds};
 ghost use Rattle.store_statements.specs.StepsFrom.{StepsFrom};
 
 use crate::change::Change;
@@ -80,6 +80,10 @@ fn finish_whole<S: Alter>(
     ensures came { Tells S.Store conn.old conn.new result
         (λ w came. came ≡ is_none (blob_at w repo.now digest.now)) }
     ensures memory { StaysOnMemory S.Store conn.old conn.new result }
+    ensures back { GoesBack S.Store conn.old conn.new result }
+    ensures crash { TablesHave S.Store conn.old (λ t. Some link ≡ known_link t repo.now number digest.now)
+        → CrashLeaves S.Store conn.old conn.new result
+        (λ w. finish_as_is w repo.now number digest.now) }
     ensures survives { Lasts S.Store conn.old conn.new }
 {
     match find_blob_link(conn, repo, digest) {
@@ -123,6 +127,10 @@ pub fn finish_known<S: Alter>(
         (λ e. (session_size_at w repo.now number ≡ Some e.size)
         × (e.came ≡ is_none (blob_at w repo.now digest.now)))) }
     ensures memory { StaysOnMemory S.Store conn.old conn.new result }
+    ensures back { GoesBack S.Store conn.old conn.new result }
+    ensures crash { CrashEnds S.Store conn.old conn.new result
+        (λ w. session_matches w repo.now number digest.now)
+        (λ w. finish_as_is w repo.now number digest.now) }
     ensures survives { Lasts S.Store conn.old conn.new }
 {
     if number > LARGEST {

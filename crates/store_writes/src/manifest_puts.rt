@@ -11,7 +11,7 @@ ghost use Rattle.registry_model.specs.World.{has_repo};
 ghost use Rattle.store_statements.specs.Keys.{has_key};
 ghost use Rattle.store_statements.specs.Registry.{is_repo};
 ghost use Rattle.store_writes.specs.Worlds.{KeepsWhole, TurnsFresh, TurnsThere, IsWhole, tagged};
-ghost use Rattle.store_statements.specs.Between.{MakesWorld, StaysOnMemory};
+ghost use Rattle.store_statements.specs.Between.{CrashLeaves, GoesBack, MakesWorld, StaysOnMemory};
 ghost use Rattle.store_statements.specs.Clauses.{Lasts, LastsUncommitted, WorldHas};
 ghost use Rattle.store_statements.specs.Held.{held};
 
@@ -137,6 +137,11 @@ pub fn put_manifest<S: Alter>(
         (λ w. put_manifest w repo.now digest.now bytes.now (text_in tag.entry)) }
     ensures memory { WorldHas S.Store conn.old (λ w. has_repo w repo.now ≡ true)
         → StaysOnMemory S.Store conn.old conn.new result }
+    ensures back { WorldHas S.Store conn.old (λ w. has_repo w repo.now ≡ true)
+        → GoesBack S.Store conn.old conn.new result }
+    ensures crash { WorldHas S.Store conn.old (λ w. has_repo w repo.now ≡ true)
+        → CrashLeaves S.Store conn.old conn.new result
+        (λ w. put_manifest w repo.now digest.now bytes.now (text_in tag.entry)) }
     ensures survives { Lasts S.Store conn.old conn.new }
 {
     let repo = repo.as_str();

@@ -1,7 +1,7 @@
 //! A repository is made, or its quota is set.
 ghost use Rattle.std.specs.Prelude.{◌≡◌, ◌<◌, ◌^◌};
 ghost use Rattle.registry_model.specs.Command.{set_repo};
-ghost use Rattle.store_statements.specs.Between.{MakesWorld, StaysOnMemory};
+ghost use Rattle.store_statements.specs.Between.{CrashLeaves, GoesBack, MakesWorld, StaysOnMemory};
 ghost use Rattle.store_statements.specs.Clauses.{KeepsInside, Lasts, LastsUncommitted, StepsInside};
 ghost use Rattle.store_writes.specs.Puts.{QuotaIsPut};
 
@@ -42,6 +42,8 @@ pub fn set_repo<S: Alter>(
 ) -> Result<(), Fault>
     ensures made { MakesWorld S.Store conn.old conn.new result (λ w. set_repo w name.now quota.bytes) }
     ensures memory { StaysOnMemory S.Store conn.old conn.new result }
+    ensures back { GoesBack S.Store conn.old conn.new result }
+    ensures crash { CrashLeaves S.Store conn.old conn.new result (λ w. set_repo w name.now quota.bytes) }
     ensures survives { Lasts S.Store conn.old conn.new }
 {
     make(

@@ -3,7 +3,7 @@ ghost use Rattle.std.specs.Prelude.{◌≡◌, OnOk};
 ghost use Rattle.sqlite.specs.State.{HasCleanDisk};
 ghost use Rattle.sqlite.specs.Held.{state};
 ghost use Rattle.registry_model.specs.Command.{drop_repo};
-ghost use Rattle.store_statements.specs.Between.{MakesWorld, StaysOnMemory};
+ghost use Rattle.store_statements.specs.Between.{CrashLeaves, GoesBack, MakesWorld, Relates, StaysOnMemory};
 ghost use Rattle.store_statements.specs.Clauses.{KeepsInside, Lasts, LastsUncommitted};
 ghost use Rattle.store_statements.specs.Tables.{IsEmptyBeside};
 ghost use Rattle.store_statements.specs.Held.{IsReady, Becomes, held};
@@ -44,7 +44,10 @@ pub(crate) fn drop_rows<S: Alter>(tx: &mut Transaction<'_, S>, name: &str) -> Re
 /// Takes a repository away, with what it holds and every level on it.
 pub fn drop_repo<S: Alter>(conn: &mut Connection<S>, name: &RepoName) -> Result<(), Fault>
     ensures made { MakesWorld S.Store conn.old conn.new result (λ w. drop_repo w name.now) }
+    ensures stays { Relates S.Store conn.old conn.new result (λ t u. u.contents ≡ t.contents) }
     ensures memory { StaysOnMemory S.Store conn.old conn.new result }
+    ensures back { GoesBack S.Store conn.old conn.new result }
+    ensures crash { CrashLeaves S.Store conn.old conn.new result (λ w. drop_repo w name.now) }
     ensures survives { Lasts S.Store conn.old conn.new }
 {
     make(

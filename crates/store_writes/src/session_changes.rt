@@ -6,7 +6,7 @@ ghost use Rattle.registry_model.specs.Lookups.{open_session, last_number_at};
 ghost use Rattle.registry_model.specs.Command.{drop_sessions};
 ghost use Rattle.store_statements.specs.Keys.{of_first, of_session};
 ghost use Rattle.store_statements.specs.StepsFrom.{StepsFrom};
-ghost use Rattle.store_statements.specs.Between.{MakesWorld, StaysOnMemory};
+ghost use Rattle.store_statements.specs.Between.{CrashLeaves, GoesBack, MakesWorld, Relates, StaysOnMemory};
 ghost use Rattle.store_statements.specs.Clauses.{Changes, KeepsInside, Lasts, LastsUncommitted};
 ghost use Rattle.store_statements.specs.Held.{IsSettled, SettlesOn, world_in};
 ghost use Rattle.store_statements.specs.Steps.{sessions_without, SessionOpened};
@@ -38,7 +38,10 @@ pub(crate) fn take_sessions<S: Alter>(tx: &mut Transaction<'_, S>, repo: &str) -
 /// Ends all upload sessions of the repository; their bytes are given up.
 pub fn drop_sessions<S: Alter>(conn: &mut Connection<S>, repo: &RepoName) -> Result<(), Fault>
     ensures made { MakesWorld S.Store conn.old conn.new result (λ w. drop_sessions w repo.now) }
+    ensures stays { Relates S.Store conn.old conn.new result (λ t u. u.contents ≡ t.contents) }
     ensures memory { StaysOnMemory S.Store conn.old conn.new result }
+    ensures back { GoesBack S.Store conn.old conn.new result }
+    ensures crash { CrashLeaves S.Store conn.old conn.new result (λ w. drop_sessions w repo.now) }
     ensures survives { Lasts S.Store conn.old conn.new }
 {
     let repo = repo.as_str();
@@ -90,6 +93,8 @@ pub fn open_session<S: Alter>(conn: &mut Connection<S>, repo: &RepoName) -> Resu
         (λ n. (n ≡ last_number_at (world_in (state S.Store conn.old)) repo.now + 1) × SettlesOn
         (state S.Store conn.new) (open_session (world_in (state S.Store conn.old)) repo.now)) }
     ensures memory { StaysOnMemory S.Store conn.old conn.new result }
+    ensures back { GoesBack S.Store conn.old conn.new result }
+    ensures crash { CrashLeaves S.Store conn.old conn.new result (λ w. open_session w repo.now) }
     ensures survives { Lasts S.Store conn.old conn.new }
 {
     let repo = repo.as_str();

@@ -1,6 +1,6 @@
 //! Upload sessions of one piece: their bytes are those of one content, whose digest is known unread.
 ghost use Rattle.std.specs.Prelude.{◌≡◌, ◌<◌, ◌^◌, MatchResult, if◌then◌else◌, Some, None, Ok, Err};
-ghost use Rattle.store_statements.specs.Between.{Finds, Stays};
+ghost use Rattle.store_statements.specs.Between.{Finds, Keeps, Stays};
 ghost use Rattle.store_statements.specs.Clauses.{Lasts};
 ghost use Rattle.store_writes.specs.Whole.{only_link, whole_link, known_link};
 
@@ -47,6 +47,7 @@ fn find_whole<S: Alter>(
     requires fits { number < 2 ^ 63 }
     ensures found { Finds S.Store conn.old conn.new result (λ t o. o ≡ whole_link t repo.now number) }
     ensures settled { Stays S.Store conn.old conn.new result }
+    ensures kept { Keeps S.Store conn.old conn.new }
     ensures survives { Lasts S.Store conn.old conn.new }
 {
     match find_upload(conn, repo, number) {
@@ -81,6 +82,7 @@ pub(crate) fn find_known<S: Alter>(
     ensures found { Finds S.Store conn.old conn.new result
         (λ t o. o ≡ known_link t repo.now number digest.now) }
     ensures settled { Stays S.Store conn.old conn.new result }
+    ensures kept { Keeps S.Store conn.old conn.new }
     ensures survives { Lasts S.Store conn.old conn.new }
 {
     match find_whole(alloc, conn, repo, number) {

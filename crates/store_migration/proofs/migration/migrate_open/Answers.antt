@@ -9,7 +9,9 @@ use Rattle.store_opening.specs.Asking.{IsOfSchema}
 use Rattle.store_opening.proofs.OpeningLemmas.{knows_version, settled}
 use Rattle.store_migration.specs.declared.migration.Known.{Known}
 use Rattle.store_migration.specs.Migrating.{number_of}
-use Rattle.store_migration.proofs.Asked.{old_known, old_says, new_says, same_number, not_said, one_not_new, two_not_old, refused_wanting, refused_other, refused_unsaid, refused_another, refused_told, names_neither, is_told, old_read, settles_read, counts_read, free_read, back_read, left_back}
+use Rattle.store_migration.proofs.Asked.{old_known, old_says, new_says, same_number, not_said, one_not_new, two_not_old, refused_wanting, refused_other, refused_unsaid, refused_another, refused_told, names_neither, is_told, old_read, settles_read, crash_done, crash_undone, counts_read, free_read, back_read, left_back}
+use Rattle.store_contents.proofs.Lasting.{lasts}
+use Rattle.store_migration.proofs.Finishes.{left_given_up}
 use Rattle.store_migration.proofs.migration.migrate_open.Goals as goal
 
 -- ---- of schema 1
@@ -37,6 +39,7 @@ returns-in-Ok g c =
       told = λ clean. tt;
       back = λ clean idle holds. tt;
       left = λ clean idle never. absurd (never (subst (λ f. IfOk f (IsOfSchema old)) is (c.read_version.ensures.told (early clean))));
+      crash = λ clean idle holds. crash_done g.S.Store c.args.conn.now c.read_version.new.conn c.take_over.new.conn (same clean) idle holds (c.in-Ok.ensures.crash clean);
       survives = survives_all old mid new _ _ c.read_version.ensures.survives c.take_over.ensures.survives;
     }
 
@@ -63,6 +66,7 @@ returns-in-Err-take_over g c =
       told = λ clean. is_told old c.in-Err-take_over.fault c.in-Err-take_over.ensures.unnumbered;
       back = λ clean idle holds. back_read old mid new (same clean) idle holds (c.in-Err-take_over.ensures.back clean);
       left = λ clean idle never. absurd (never (subst (λ f. IfOk f (IsOfSchema old)) is (c.read_version.ensures.told (early clean))));
+      crash = λ clean idle holds. crash_undone g.S.Store c.args.conn.now c.read_version.new.conn c.take_over.new.conn (same clean) idle holds (c.in-Err-take_over.ensures.crash clean);
       survives = survives_all old mid new _ _ c.read_version.ensures.survives c.take_over.ensures.survives;
     }
 
@@ -88,7 +92,8 @@ returns-in-Ok-Two g c =
       told = λ clean. tt;
       back = λ clean idle holds. tt;
       left = λ clean idle never. left_back old new idle (c.read_version.ensures.left clean);
-      survives = c.read_version.ensures.survives;
+      crash = λ clean idle holds. absurd (two_not_old old.now c.read_version.result (c.read_version.ensures.alone clean) is holds);
+      survives = lasts (state g.S.Store c.args.conn.now) (state g.S.Store c.read_version.new.conn) (λ _. ⊥) c.read_version.ensures.survives;
     }
 
 -- ---- of another, or of none
@@ -117,5 +122,6 @@ returns-in-Err g c =
       told = λ clean. refused_told old c.read_version.result c.in-Err.fault c.in-Err.ensures.other (c.read_version.ensures.told clean) c.read_version.ensures.unnumbered;
       back = λ clean idle holds. left_back old (state g.S.Store c.read_version.new.conn) idle (c.read_version.ensures.left clean);
       left = λ clean idle never. left_back old (state g.S.Store c.read_version.new.conn) idle (c.read_version.ensures.left clean);
-      survives = c.read_version.ensures.survives;
+      crash = λ clean idle holds trees may. (tt, inl (left_given_up g.S.Store g.met.S.Store.settled c.args.conn.now idle (state g.S.Store c.read_version.new.conn) c.read_version.ensures.survives clean trees may));
+      survives = lasts (state g.S.Store c.args.conn.now) (state g.S.Store c.read_version.new.conn) (λ _. ⊥) c.read_version.ensures.survives;
     }

@@ -4,6 +4,7 @@ use Rattle.store_opening.specs.Opening.{versions_in}
 use Rattle.store_opening.proofs.OpeningLemmas.{knows_version, is_marked, settled, is_two, two_told, wanting_told, other_told, unsaid_told, told_as, never_two, names_none, unnamed, unanswered, on_two, on_err, two_asked, never_both, never_neither, bare_unmarked}
 use Rattle.store_statements.proofs.SettledAfter.{stays_read}
 use Rattle.store_opening.proofs.VersionAsked.{back_left, unnumbered}
+use Rattle.store_contents.proofs.Lasting.{lasts}
 use Rattle.store_opening.proofs.opening.take_up.Goals as goal
 
 pub returns-then-not-is_marked : goal.returns-then-not-is_marked
@@ -50,5 +51,5 @@ returns g c = record {
   told = λ clean. told_as (state g.S.Store c.args.conn.now) c.read_version.result c.only_two.result c.only_two.ensures.other (c.read_version.ensures.told clean) c.read_version.ensures.unnumbered;
   another = never_two c.read_version.result c.only_two.result c.only_two.ensures.other c.read_version.ensures.unnumbered;
   back = λ clean idle. on_err c.only_two.result _ (back_left (state g.S.Store c.args.conn.now) (state g.S.Store c.read_version.new.conn) idle.committed (c.read_version.ensures.left clean));
-  survives = c.read_version.ensures.survives;
+  survives = lasts (state g.S.Store c.args.conn.now) (state g.S.Store c.read_version.new.conn) (λ _. ⊥) c.read_version.ensures.survives;
 }

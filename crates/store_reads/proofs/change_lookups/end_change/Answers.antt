@@ -14,6 +14,7 @@ returns-in-Ok-Some g c = record {
       end_kept (world_in (state g.S.Store c.args.conn.now)) c.args.repo.now c.args.digest.now bytes c.args.number c.args.size
       (sized (was_clean (state g.S.Store c.args.conn.now) (state g.S.Store c.blob_size.new.conn) c.blob_size.ensures.survives clean)) c.in-Ok-Some.field-0-0 (sym c.in-Ok-Some.field-0-is ∙ c.in-Ok-Some.ensures.found clean is);
   settled = c.in-Ok-Some.ensures.settled;
+  kept = c.blob_size.ensures.kept;
   survives = c.blob_size.ensures.survives;
 }
 
@@ -24,6 +25,7 @@ returns-in-Ok-None g c = record {
       (end_added (world_in (state g.S.Store c.args.conn.now)) c.args.repo.now c.args.digest.now bytes c.args.number c.args.size
       (sized (was_clean (state g.S.Store c.args.conn.now) (state g.S.Store c.blob_size.new.conn) c.blob_size.ensures.survives clean)) (sym c.in-Ok-None.field-0-is ∙ c.in-Ok-None.ensures.found clean is));
   settled = c.in-Ok-None.ensures.settled;
+  kept = c.blob_size.ensures.kept;
   survives = c.blob_size.ensures.survives;
 }
 
@@ -31,5 +33,6 @@ pub returns-in-Err : goal.returns-in-Err
 returns-in-Err g c = record {
   found = λ sized bytes long clean is. tt;
   settled = λ clean is unspent. c.in-Err.ensures.settled clean is unspent;
+  kept = c.blob_size.ensures.kept;
   survives = c.blob_size.ensures.survives;
 }

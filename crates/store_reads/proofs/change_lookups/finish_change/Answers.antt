@@ -5,7 +5,7 @@ use Rattle.registry_model.specs.Lookups.{session_size_at}
 use Rattle.registry_model.specs.Sessions.{finished}
 use Rattle.store_statements.proofs.Transactions.{survives_all}
 use Rattle.store_reads.specs.Usages.{Foretells}
-use Rattle.store_reads.proofs.Behind.{found_behind, tells_behind, stays_behind}
+use Rattle.store_reads.proofs.Behind.{found_behind, tells_behind, stays_behind, kept_behind}
 use Rattle.store_reads.proofs.change_lookups.finish_change.Goals as goal
 
 pub returns-in-Ok-Some : goal.returns-in-Ok-Some
@@ -17,6 +17,7 @@ returns-in-Ok-Some g c = record {
       (λ w. session_size_at w c.args.repo.now c.args.number ≡ Some c.in-Ok-Some.size) is (λ mid. sym (c.in-Ok-Some.ensures.found mid is) ∙ c.in-Ok-Some.field-0-is)) c.args.bytes.now refl) clean is;
   settled = stays_behind g.S.Store c.args.conn.now c.session_size.new.conn (λ mid is. c.in-Ok-Some.ensures.settled mid is refl) c.end_change.new.conn c.end_change.ensures.survives
       c.end_change.result c.end_change.ensures.settled;
+  kept = kept_behind g.S.Store c.args.conn.now c.session_size.new.conn (λ mid is. c.in-Ok-Some.ensures.settled mid is refl) c.end_change.new.conn c.end_change.ensures.survives c.end_change.ensures.kept;
   survives = survives_all (state g.S.Store c.args.conn.now) (state g.S.Store c.session_size.new.conn) (state g.S.Store c.end_change.new.conn) _ _ c.session_size.ensures.survives c.end_change.ensures.survives;
 }
 
@@ -24,6 +25,7 @@ pub returns-in-Ok-None : goal.returns-in-Ok-None
 returns-in-Ok-None g c = record {
   found = λ clean is. tt;
   settled = c.in-Ok-None.ensures.settled;
+  kept = c.session_size.ensures.kept;
   survives = c.session_size.ensures.survives;
 }
 
@@ -31,5 +33,6 @@ pub returns-in-Err : goal.returns-in-Err
 returns-in-Err g c = record {
   found = λ clean is. tt;
   settled = λ clean is unspent. c.in-Err.ensures.settled clean is unspent;
+  kept = c.session_size.ensures.kept;
   survives = c.session_size.ensures.survives;
 }

@@ -5,7 +5,7 @@ use Rattle.registry_model.specs.Ask.{text_in}
 use Rattle.registry_model.specs.Manifests.{with_manifest}
 use Rattle.store_statements.proofs.Transactions.{survives_all}
 use Rattle.store_reads.specs.Usages.{Foretells, new_tags}
-use Rattle.store_reads.proofs.Behind.{found_behind, tells_behind, stays_behind}
+use Rattle.store_reads.proofs.Behind.{found_behind, tells_behind, stays_behind, kept_behind}
 use Rattle.store_reads.proofs.change_lookups.manifest_change.Goals as goal
 
 pub returns-in-Ok : goal.returns-in-Ok
@@ -17,6 +17,7 @@ returns-in-Ok g c = record {
       (λ w. c.in-Ok.tags ≡ new_tags w c.args.repo.now (text_in c.args.tag)) is (λ mid. c.in-Ok.ensures.found mid is))) clean is;
   settled = stays_behind g.S.Store c.args.conn.now c.count_new_tags.new.conn (λ mid is. c.in-Ok.ensures.settled mid is refl) c.tagged_change.new.conn c.tagged_change.ensures.survives
       c.tagged_change.result c.tagged_change.ensures.settled;
+  kept = kept_behind g.S.Store c.args.conn.now c.count_new_tags.new.conn (λ mid is. c.in-Ok.ensures.settled mid is refl) c.tagged_change.new.conn c.tagged_change.ensures.survives c.tagged_change.ensures.kept;
   survives = survives_all (state g.S.Store c.args.conn.now) (state g.S.Store c.count_new_tags.new.conn) (state g.S.Store c.tagged_change.new.conn) _ _ c.count_new_tags.ensures.survives c.tagged_change.ensures.survives;
 }
 
@@ -24,5 +25,6 @@ pub returns-in-Err : goal.returns-in-Err
 returns-in-Err g c = record {
   found = λ clean is. tt;
   settled = λ clean is unspent. c.in-Err.ensures.settled clean is unspent;
+  kept = c.count_new_tags.ensures.kept;
   survives = c.count_new_tags.ensures.survives;
 }

@@ -6,7 +6,7 @@ use Rattle.store_statements.specs.Held.{world_in}
 use Rattle.store_statements.proofs.Transactions.{survives_all}
 use Rattle.store_reads.specs.Usages.{Foretells}
 use Rattle.store_reads.proofs.Foretold.{mount_kept}
-use Rattle.store_reads.proofs.Behind.{found_behind, tells_behind, stays_behind}
+use Rattle.store_reads.proofs.Behind.{found_behind, tells_behind, stays_behind, kept_behind}
 use Rattle.store_reads.proofs.change_lookups.mount_change.Goals as goal
 
 pub returns-in-Ok-Some : goal.returns-in-Ok-Some
@@ -15,6 +15,7 @@ returns-in-Ok-Some g c = record {
       let w = world_in (state g.S.Store c.args.conn.now) in
       mount_kept w c.args.to.now c.args.digest.now (blob_at w c.args.from.now c.args.digest.now) c.in-Ok-Some.field-0-0 (sym c.in-Ok-Some.field-0-is ∙ c.in-Ok-Some.ensures.found clean is);
   settled = c.in-Ok-Some.ensures.settled;
+  kept = c.blob_size.ensures.kept;
   survives = c.blob_size.ensures.survives;
 }
 
@@ -27,6 +28,7 @@ returns-in-Ok-None g c = record {
       (λ w. blob_size_at w c.args.to.now c.args.digest.now ≡ None) is (λ mid. sym (c.in-Ok-None.ensures.found mid is) ∙ c.in-Ok-None.field-0-is))) clean is;
   settled = stays_behind g.S.Store c.args.conn.now c.blob_size.new.conn (λ mid is. c.in-Ok-None.ensures.settled mid is refl) c.source_change.new.conn c.source_change.ensures.survives
       c.source_change.result c.source_change.ensures.settled;
+  kept = kept_behind g.S.Store c.args.conn.now c.blob_size.new.conn (λ mid is. c.in-Ok-None.ensures.settled mid is refl) c.source_change.new.conn c.source_change.ensures.survives c.source_change.ensures.kept;
   survives = survives_all (state g.S.Store c.args.conn.now) (state g.S.Store c.blob_size.new.conn) (state g.S.Store c.source_change.new.conn) _ _ c.blob_size.ensures.survives c.source_change.ensures.survives;
 }
 
@@ -34,5 +36,6 @@ pub returns-in-Err : goal.returns-in-Err
 returns-in-Err g c = record {
   found = λ clean is. tt;
   settled = λ clean is unspent. c.in-Err.ensures.settled clean is unspent;
+  kept = c.blob_size.ensures.kept;
   survives = c.blob_size.ensures.survives;
 }

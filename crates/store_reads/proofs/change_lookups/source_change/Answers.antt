@@ -13,6 +13,7 @@ returns-in-Ok-Some g c = record {
       mount_added w c.args.to.now c.args.digest.now (blob_at w c.args.from.now c.args.digest.now) c.in-Ok-Some.size
       (sym (fresh (was_clean (state g.S.Store c.args.conn.now) (state g.S.Store c.blob_size.new.conn) c.blob_size.ensures.survives clean))) (sym c.in-Ok-Some.field-0-is ∙ c.in-Ok-Some.ensures.found clean is);
   settled = c.in-Ok-Some.ensures.settled;
+  kept = c.blob_size.ensures.kept;
   survives = c.blob_size.ensures.survives;
 }
 
@@ -20,6 +21,7 @@ pub returns-in-Ok-None : goal.returns-in-Ok-None
 returns-in-Ok-None g c = record {
   found = λ fresh clean is. tt;
   settled = c.in-Ok-None.ensures.settled;
+  kept = c.blob_size.ensures.kept;
   survives = c.blob_size.ensures.survives;
 }
 
@@ -27,5 +29,6 @@ pub returns-in-Err : goal.returns-in-Err
 returns-in-Err g c = record {
   found = λ fresh clean is. tt;
   settled = λ clean is unspent. c.in-Err.ensures.settled clean is unspent;
+  kept = c.blob_size.ensures.kept;
   survives = c.blob_size.ensures.survives;
 }

@@ -10,6 +10,8 @@ use Rattle.store_statements.proofs.Transactions.{survives_all}
 use Rattle.store_reads.specs.Usages.{Foretells}
 use Rattle.store_reads.proofs.ReadSequences.{stays_here, stays_behind, told_behind, passed_on}
 use Rattle.store_reads.proofs.ForetoldDeletions.{none_yet, more_gone}
+use Rattle.store_statements.proofs.Crashes.{kept_stayed, kept_then}
+use Rattle.store_reads.proofs.CleanBefore.{was_clean}
 use Rattle.store_reads.proofs.deletion_lookups.ascending_blobs_change.Goals as goal
 
 pub loop-digest-init : goal.loop-digest-init
@@ -39,6 +41,7 @@ returns g c = record {
       subst (λ ds. IfSome c.loop-digest.change (Foretells (world_in (state g.S.Store c.args.conn.now)) c.args.repo.now (λ r. without_blobs r ds)))
       (take_all c.loop-digest.digest-index c.args.digests.now (omega arith)) (c.loop-digest.invariant.told clean is);
   settled = λ clean is unspent. c.loop-digest.invariant.settled clean is;
+  kept = λ clean is. kept_stayed g.S.Store g.met.S.Store.settled c.args.conn.now c.loop-digest.conn is (c.loop-digest.invariant.settled clean is);
   survives = c.loop-digest.invariant.survives;
 }
 
@@ -52,5 +55,8 @@ returns-in_err-blob_size g c =
       settled = λ clean is unspent.
           stays_behind old mid new c.blob_size.ensures.survives c.loop-digest.invariant.settled
           (λ clean is. c.blob_size.ensures.settled clean is (passed_on c.from_residual.result c.blob_size.result _ c.in_err-blob_size.was c.from_residual.ensures.1 unspent)) clean is;
+      kept = λ clean is.
+          let stays = c.loop-digest.invariant.settled (was_clean mid new c.blob_size.ensures.survives clean) is in
+          kept_then old mid new is stays (c.blob_size.ensures.kept clean stays.0);
       survives = survives_all old mid new _ _ c.loop-digest.invariant.survives c.blob_size.ensures.survives;
     }

@@ -10,6 +10,7 @@ returns-in-Ok g c = record {
       naming_found (held (state g.S.Store c.args.conn.now)) c.args.repo.now c.args.digest.now c.in-Ok.count (registry (state g.S.Store c.args.conn.now) is)
       (rw (c.as_str.ensures.text, c.as_str-2.ensures.text) at (c.in-Ok.ensures.found clean is));
   settled = c.in-Ok.ensures.settled;
+  kept = c.count_tags_named.ensures.kept;
   survives = c.count_tags_named.ensures.survives;
 }
 
@@ -17,5 +18,6 @@ pub returns-in-Err : goal.returns-in-Err
 returns-in-Err g c = record {
   found = λ clean is. tt;
   settled = λ clean is unspent. c.in-Err.ensures.settled clean is unspent;
+  kept = c.count_tags_named.ensures.kept;
   survives = c.count_tags_named.ensures.survives;
 }

@@ -8,6 +8,7 @@ pub returns-in-Ok-Some : goal.returns-in-Ok-Some
 returns-in-Ok-Some g c = record {
   found = λ clean is. tag_goes (world_in (state g.S.Store c.args.conn.now)) c.args.repo.now c.args.tag.now c.in-Ok-Some.field-0-0 (sym c.in-Ok-Some.field-0-is ∙ c.in-Ok-Some.ensures.found clean is);
   settled = c.in-Ok-Some.ensures.settled;
+  kept = c.tag.ensures.kept;
   survives = c.tag.ensures.survives;
 }
 
@@ -15,6 +16,7 @@ pub returns-in-Ok-None : goal.returns-in-Ok-None
 returns-in-Ok-None g c = record {
   found = λ clean is. no_tag_goes (world_in (state g.S.Store c.args.conn.now)) c.args.repo.now c.args.tag.now (sym c.in-Ok-None.field-0-is ∙ c.in-Ok-None.ensures.found clean is);
   settled = c.in-Ok-None.ensures.settled;
+  kept = c.tag.ensures.kept;
   survives = c.tag.ensures.survives;
 }
 
@@ -22,5 +24,6 @@ pub returns : goal.returns
 returns g c = record {
   found = λ clean is. tt;
   settled = λ clean is unspent. c.in-Err.ensures.settled clean is unspent;
+  kept = c.tag.ensures.kept;
   survives = c.tag.ensures.survives;
 }

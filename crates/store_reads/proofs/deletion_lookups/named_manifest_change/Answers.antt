@@ -11,6 +11,7 @@ returns-in-Ok-Some g c = record {
       manifest_goes (world_in (state g.S.Store c.args.conn.now)) c.args.repo.now c.args.digest.now c.args.tags_gone
       (naming (was_clean (state g.S.Store c.args.conn.now) (state g.S.Store c.manifest_size.new.conn) c.manifest_size.ensures.survives clean)) c.in-Ok-Some.field-0-0-0 c.in-Ok-Some.size (sym c.in-Ok-Some.field-0-is ∙ c.in-Ok-Some.ensures.found clean is);
   settled = c.in-Ok-Some.ensures.settled;
+  kept = c.manifest_size.ensures.kept;
   survives = c.manifest_size.ensures.survives;
 }
 
@@ -20,6 +21,7 @@ returns-in-Ok-None g c = record {
       no_manifest_goes (world_in (state g.S.Store c.args.conn.now)) c.args.repo.now c.args.digest.now c.args.tags_gone
       (naming (was_clean (state g.S.Store c.args.conn.now) (state g.S.Store c.manifest_size.new.conn) c.manifest_size.ensures.survives clean)) (sym c.in-Ok-None.field-0-is ∙ c.in-Ok-None.ensures.found clean is);
   settled = c.in-Ok-None.ensures.settled;
+  kept = c.manifest_size.ensures.kept;
   survives = c.manifest_size.ensures.survives;
 }
 
@@ -27,5 +29,6 @@ pub returns-in-Err : goal.returns-in-Err
 returns-in-Err g c = record {
   found = λ naming clean is. tt;
   settled = λ clean is unspent. c.in-Err.ensures.settled clean is unspent;
+  kept = c.manifest_size.ensures.kept;
   survives = c.manifest_size.ensures.survives;
 }

@@ -12,5 +12,6 @@ returns g c = record {
       told c.find_tag.result _ _ (sym (tag_at_found (held (state g.S.Store c.args.conn.now)) c.args.repo.now c.args.tag.now (registry (state g.S.Store c.args.conn.now) is)))
       (rw (c.as_str.ensures.text, c.as_str-2.ensures.text) at (c.find_tag.ensures.found clean is));
   settled = c.find_tag.ensures.settled;
+  kept = c.find_tag.ensures.kept;
   survives = c.find_tag.ensures.survives;
 }

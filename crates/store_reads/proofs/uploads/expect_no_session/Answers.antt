@@ -10,6 +10,7 @@ returns-in-Ok g c = record {
   found = λ clean is.
       no_session (held (state g.S.Store c.args.conn.now)) c.args.repo.now c.args.number c.in-Ok.last (registry (state g.S.Store c.args.conn.now) is) (c.in-Ok.ensures.found clean is) c.if-last-number.true;
   settled = c.in-Ok.ensures.settled;
+  kept = c.last_number.ensures.kept;
   survives = c.last_number.ensures.survives;
 }
 
@@ -17,6 +18,7 @@ pub returns-in-Ok-2 : goal.returns-in-Ok-2
 returns-in-Ok-2 g c = record {
   found = λ clean is. tt;
   settled = λ clean is unspent. absurd (true≢false unspent);
+  kept = c.last_number.ensures.kept;
   survives = c.last_number.ensures.survives;
 }
 
@@ -24,5 +26,6 @@ pub returns-in-Err : goal.returns-in-Err
 returns-in-Err g c = record {
   found = λ clean is. tt;
   settled = λ clean is unspent. c.in-Err.ensures.settled clean is unspent;
+  kept = c.last_number.ensures.kept;
   survives = c.last_number.ensures.survives;
 }

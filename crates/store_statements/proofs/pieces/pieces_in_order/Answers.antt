@@ -1,7 +1,7 @@
 use Rattle.sqlite.specs.Held.{state}
 use Rattle.sqlite.specs.Order.{column}
 use Rattle.store_statements.specs.Held.{held}
-use Rattle.store_statements.proofs.ReadRows.{reads}
+use Rattle.store_statements.proofs.ReadRows.{reads, reads_kept}
 use Rattle.store_statements.proofs.Executed.{given, is_whole}
 use Rattle.std.proofs.Common.{◌≡◌, [], ◌∷◌, map, ◌∙◌, ap, pos, to_z, w64, refl}
 use Rattle.store_statements.proofs.SelectedRows.{mapped}
@@ -23,4 +23,9 @@ returns g c =
     (λ v. v.items ≡ map (content_named 5) xs) (λ rows. rows.items ≡ map (λ r. column r 5 ∷ []) xs)
     (list_rows c.args.repo.now c.args.number old new c.query_all-shown.result)
     (λ rows v q p. mapped (content_named 0) (λ r. column r 5 ∷ []) xs rows.items v.items q p) in
-    record { found = it.0; settled = it.1; survives = it.2 }
+    record {
+      found = it.0;
+      settled = it.1;
+      kept = reads_kept g.S.Store c.args.conn.now c.query_all-shown.new.self c.checked.new.conn _ _ c.query_all-shown.result c.query_all-shown.ensures.ok c.query_all-shown.ensures.err (λ rows ids. ids.items ≡ map (content_named 0) rows) c.all-found.result c.checked.result c.all-found.ensures c.checked.ensures.told g.met.S.Store.settled c.query_all-shown.ensures.survives (λ is. is.holds.known.piece_texts.list.plain);
+      survives = it.2;
+    }

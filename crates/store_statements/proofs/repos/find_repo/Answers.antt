@@ -1,7 +1,7 @@
 use Rattle.sqlite.specs.Held.{state}
 use Rattle.sqlite.specs.Order.{column}
 use Rattle.store_statements.specs.Held.{held}
-use Rattle.store_statements.proofs.ReadRows.{reads}
+use Rattle.store_statements.proofs.ReadRows.{reads, reads_kept}
 use Rattle.store_statements.proofs.Executed.{given}
 use Rattle.std.proofs.Common.{◌≡◌, ◌∙◌, [], ◌∷◌, find, map, slice_get, refl}
 use Rattle.std.specs.Prelude.{option_map}
@@ -24,4 +24,9 @@ returns g c =
     (λ v. v ≡ option_map repo_row o) (λ rows. rows.items ≡ map (λ r. column r 2 ∷ column r 3 ∷ []) (option_to_list o))
     (shows_repo c.args.name.now old new c.query_all-shown.result)
     (λ rows v q p. p ∙ first_shown repo_shown (λ r. column r 2 ∷ column r 3 ∷ []) o rows.items q) in
-    record { found = it.0; settled = it.1; survives = it.2 }
+    record {
+      found = it.0;
+      settled = it.1;
+      kept = reads_kept g.S.Store c.args.conn.now c.query_all-shown.new.self c.checked.new.conn _ _ c.query_all-shown.result c.query_all-shown.ensures.ok c.query_all-shown.ensures.err (λ rows o. o ≡ option_map repo_shown (slice_get rows 0)) c.first-found.result c.checked.result c.first-found.ensures c.checked.ensures.told g.met.S.Store.settled c.query_all-shown.ensures.survives (λ is. is.holds.known.repo_texts.find.plain);
+      survives = it.2;
+    }

@@ -1,7 +1,7 @@
 use Rattle.sqlite.specs.Held.{state}
 use Rattle.sqlite.specs.Order.{column}
 use Rattle.store_statements.specs.Held.{held}
-use Rattle.store_statements.proofs.ReadRows.{reads}
+use Rattle.store_statements.proofs.ReadRows.{reads, reads_kept}
 use Rattle.store_statements.proofs.Executed.{given}
 use Rattle.std.proofs.Common.{◌≡◌, ◌∙◌, [], ◌∷◌, filter, length, map, refl}
 use Rattle.std.specs.List.Sorted.{IsPermutation}
@@ -21,4 +21,9 @@ returns g c =
     (λ n. n ≡ length xs) (λ rows. IsPermutation (map (λ r. column r 2 ∷ []) xs) rows.items)
     (named_shown old new c.args.repo.now c.args.digest.now c.query_all-shown.result)
     (λ rows n q p. p ∙ counted (λ r. column r 2 ∷ []) xs rows.items q) in
-    record { found = it.0; settled = it.1; survives = it.2 }
+    record {
+      found = it.0;
+      settled = it.1;
+      kept = reads_kept g.S.Store c.args.conn.now c.query_all-shown.new.self c.checked.new.conn _ _ c.query_all-shown.result c.query_all-shown.ensures.ok c.query_all-shown.ensures.err (λ rows n. n ≡ length rows) c.count_rows-found.result c.checked.result c.count_rows-found.ensures c.checked.ensures.told g.met.S.Store.settled c.query_all-shown.ensures.survives (λ is. is.holds.known.tag_texts.named.plain);
+      survives = it.2;
+    }

@@ -1,7 +1,7 @@
 use Rattle.sqlite.specs.Held.{state}
 use Rattle.sqlite.specs.Order.{column}
 use Rattle.store_statements.specs.Held.{held}
-use Rattle.store_statements.proofs.ReadRows.{reads}
+use Rattle.store_statements.proofs.ReadRows.{reads, reads_kept}
 use Rattle.store_statements.proofs.Executed.{given, is_whole}
 use Rattle.std.proofs.Common.{◌≡◌, ◌∙◌, [], ◌∷◌, find, map, slice_get, refl, ap, pos, to_z, w64}
 use Rattle.std.specs.Prelude.{option_map}
@@ -25,4 +25,9 @@ returns g c =
     (λ v. v ≡ option_map (λ r. natural_at r 3) o) (λ rows. rows.items ≡ map (λ r. column r 3 ∷ []) (option_to_list o))
     (found_rows c.args.repo.now c.args.number old new c.query_all-shown.result)
     (λ rows v q p. p ∙ first_shown (λ r. natural_at r 0) (λ r. column r 3 ∷ []) o rows.items q) in
-    record { found = it.0; settled = it.1; survives = it.2 }
+    record {
+      found = it.0;
+      settled = it.1;
+      kept = reads_kept g.S.Store c.args.conn.now c.query_all-shown.new.self c.checked.new.conn _ _ c.query_all-shown.result c.query_all-shown.ensures.ok c.query_all-shown.ensures.err (λ rows o. o ≡ option_map (λ r. natural_at r 0) (slice_get rows 0)) c.first-found.result c.checked.result c.first-found.ensures c.checked.ensures.told g.met.S.Store.settled c.query_all-shown.ensures.survives (λ is. is.holds.known.upload_texts.find.plain);
+      survives = it.2;
+    }

@@ -1,7 +1,7 @@
 use Rattle.sqlite.specs.Held.{state}
 use Rattle.sqlite.specs.Order.{column}
 use Rattle.store_statements.specs.Held.{held}
-use Rattle.store_statements.proofs.ReadRows.{reads}
+use Rattle.store_statements.proofs.ReadRows.{reads, reads_kept}
 use Rattle.store_statements.proofs.Executed.{given}
 use Rattle.std.proofs.Common.{◌≡◌, [], ◌∷◌, filter, map, refl}
 use Rattle.std.specs.List.Sorted.{IsPermutation}
@@ -22,4 +22,9 @@ returns g c =
     (λ v. IsPermutation (map (λ r. natural_at r 3) xs) v.items) (λ rows. IsPermutation (map (λ r. column r 3 ∷ []) xs) rows.items)
     (size_rows c.args.repo.now old new c.query_all-shown.result)
     (λ rows v q p. lists_of (λ r. natural_at r 0) (λ r. column r 3 ∷ []) xs rows.items v.items q p) in
-    record { found = it.0; settled = it.1; survives = it.2 }
+    record {
+      found = it.0;
+      settled = it.1;
+      kept = reads_kept g.S.Store c.args.conn.now c.query_all-shown.new.self c.checked.new.conn _ _ c.query_all-shown.result c.query_all-shown.ensures.ok c.query_all-shown.ensures.err (λ rows numbers. numbers.items ≡ map (λ r. natural_at r 0) rows) c.all-found.result c.checked.result c.all-found.ensures c.checked.ensures.told g.met.S.Store.settled c.query_all-shown.ensures.survives (λ is. is.holds.known.upload_texts.sizes.plain);
+      survives = it.2;
+    }

@@ -11,7 +11,10 @@ use Rattle.store_statements.proofs.CleanBefore.{was_clean}
 use Rattle.store_statements.proofs.SettledAfter.{stays_then}
 use Rattle.store_statements.proofs.Transactions.{survives_all}
 use Rattle.store_statements.proofs.WritesAfterReads.{same_world}
-use Rattle.store_writes.proofs.MountLemmas.{no_storage, mounts_nothing, makes_from}
+use Rattle.store_writes.proofs.MountLemmas.{no_storage, mounts_nothing, makes_from, same_mount}
+use Rattle.store_statements.proofs.Crashes.{back_from, crash_then, crash_failed, crash_same}
+use Rattle.store_statements.proofs.Alone.{less_err}
+use Rattle.registry_model.specs.Lookups as Lookups
 use Rattle.store_writes.proofs.blob_mounts.mount.Goals as goal
 
 pub returns-in-Ok-Some : goal.returns-in-Ok-Some
@@ -20,6 +23,10 @@ returns-in-Ok-Some g c = record {
       mounts_nothing (state g.S.Store c.args.conn.now) (state g.S.Store c.find_blob_link.new.conn) c.args.from.now c.args.to.now c.args.digest.now c.in-Ok-Some.field-0-0 (c.in-Ok-Some.ensures.settled clean is refl)
       (rw (c.as_str-target.ensures.text, c.as_str-text.ensures.text) at (sym c.in-Ok-Some.field-0-is ∙ c.in-Ok-Some.ensures.found clean is));
   memory = λ clean is memory. absurd (never_done memory);
+  back = λ clean is. tt;
+  crash = λ there clean is.
+      crash_same g.S.Store c.args.conn.now c.find_blob_link.new.conn (λ w. Lookups.mount w c.args.from.now c.args.to.now c.args.digest.now) is (c.find_blob_link.ensures.kept clean is)
+      (same_mount (state g.S.Store c.args.conn.now) c.args.from.now c.args.to.now c.args.digest.now c.in-Ok-Some.field-0-0 (rw (c.as_str-target.ensures.text, c.as_str-text.ensures.text) at (sym c.in-Ok-Some.field-0-is ∙ c.in-Ok-Some.ensures.found clean is)));
   survives = c.find_blob_link.ensures.survives;
 }
 
@@ -40,6 +47,17 @@ returns-in-Ok-None g c =
           let late : HasCleanDisk mid = was_clean c.mount_link.ensures.survives clean in
           let stays = c.in-Ok-None.ensures.settled late is refl in
           stays_then old mid new stays (c.mount_link.ensures.memory (λ clean. still_none old mid c.as_str-target.result.now c.as_str-text.result.now stays (sym c.in-Ok-None.field-0-is ∙ c.in-Ok-None.ensures.found late is)) clean stays.0 memory);
+      back = λ clean is.
+          let late : HasCleanDisk mid = was_clean c.mount_link.ensures.survives clean in
+          let stays = c.in-Ok-None.ensures.settled late is refl in
+          less_err c.mount_link.result (back_from old mid new is stays) (c.mount_link.ensures.back (λ clean. still_none old mid c.as_str-target.result.now c.as_str-text.result.now stays (sym c.in-Ok-None.field-0-is ∙ c.in-Ok-None.ensures.found late is)) clean stays.0);
+      crash = λ there clean is.
+          let late : HasCleanDisk mid = was_clean c.mount_link.ensures.survives clean in
+          let stays = c.in-Ok-None.ensures.settled late is refl in
+          crash_then g.S.Store c.args.conn.now c.mount_link.new.conn (λ w. mount w c.args.from.now c.args.to.now c.args.digest.now) c.find_blob_link.new.conn c.mount_link.result stays
+          (rw (c.as_str-source.ensures.text, c.as_str-target.ensures.text, c.as_str-text.ensures.text) at
+          (c.mount_link.ensures.crash (λ clean. rw c.as_str-target.ensures.text (ap (λ (w : World). has_repo w c.args.to.now) (same_world old mid stays) ∙ there (was_clean c.find_blob_link.ensures.survives late)))
+          (λ clean. still_none old mid c.as_str-target.result.now c.as_str-text.result.now stays (sym c.in-Ok-None.field-0-is ∙ c.in-Ok-None.ensures.found late is)) clean stays.0));
       survives = survives_all old mid new _ _ c.find_blob_link.ensures.survives c.mount_link.ensures.survives;
     }
 
@@ -47,5 +65,7 @@ pub returns-in-Err : goal.returns-in-Err
 returns-in-Err g c = record {
   made = λ there clean is. tt;
   memory = λ clean is memory. c.in-Err.ensures.settled clean is (no_storage _ (Option BlobLink) c.in-Err.fault memory);
+  back = λ clean is. (c.find_blob_link.ensures.kept clean is).back;
+  crash = λ there clean is. crash_failed g.S.Store c.args.conn.now c.find_blob_link.new.conn (λ w. Lookups.mount w c.args.from.now c.args.to.now c.args.digest.now) is (c.find_blob_link.ensures.kept clean is);
   survives = c.find_blob_link.ensures.survives;
 }

@@ -5,13 +5,16 @@ use Rattle.sqlite.specs.Held.{state}
 use Rattle.store_statements.specs.Keys.{has_key}
 use Rattle.store_statements.specs.Tables.{Tables}
 use Rattle.store_statements.specs.declared.blobs.BlobLink.{BlobLink}
-use Rattle.store_statements.proofs.Alone.{less}
+use Rattle.store_statements.proofs.Alone.{less, less_err}
 use Rattle.store_statements.proofs.Checks.{never_storage}
 use Rattle.store_statements.proofs.CleanBefore.{was_clean}
 use Rattle.store_statements.proofs.SettledAfter.{stays_then}
 use Rattle.store_statements.proofs.Transactions.{survives_all}
 use Rattle.store_writes.proofs.Fitting.{not_above}
 use Rattle.store_writes.proofs.MountLemmas.{same_tables, no_storage, mounts}
+use Rattle.store_statements.proofs.Crashes.{back_from, crash_failed, crash_made}
+use Rattle.registry_model.specs.Lookups as Lookups
+use Rattle.store_statements.specs.StepsFrom.{LinkIsPut}
 use Rattle.store_writes.proofs.blob_mounts.mount_link.Goals as goal
 
 pub make-requires : goal.make-requires
@@ -21,6 +24,8 @@ pub returns-in-Err : goal.returns-in-Err
 returns-in-Err g c = record {
   made = λ there fresh clean is. tt;
   memory = λ fresh clean is memory. c.in-Err.ensures.settled clean is (no_storage _ (Option BlobLink) c.in-Err.fault memory);
+  back = λ fresh clean is. (c.find_blob_link.ensures.kept clean is).back;
+  crash = λ there fresh clean is. crash_failed g.S.Store c.args.conn.now c.find_blob_link.new.conn (λ w. Lookups.mount w c.args.from.now c.args.to.now c.args.digest.now) is (c.find_blob_link.ensures.kept clean is);
   survives = c.find_blob_link.ensures.survives;
 }
 
@@ -28,6 +33,8 @@ pub returns-in-Ok : goal.returns-in-Ok
 returns-in-Ok g c = record {
   made = λ there fresh clean is. tt;
   memory = λ fresh clean is memory. absurd (never_storage memory);
+  back = λ fresh clean is. (c.find_blob_link.ensures.kept clean is).back;
+  crash = λ there fresh clean is. crash_failed g.S.Store c.args.conn.now c.find_blob_link.new.conn (λ w. Lookups.mount w c.args.from.now c.args.to.now c.args.digest.now) is (c.find_blob_link.ensures.kept clean is);
   survives = c.find_blob_link.ensures.survives;
 }
 
@@ -35,6 +42,8 @@ pub returns-in-Ok-2 : goal.returns-in-Ok-2
 returns-in-Ok-2 g c = record {
   made = λ there fresh clean is. tt;
   memory = λ fresh clean is memory. absurd (never_storage memory);
+  back = λ fresh clean is. (c.find_blob_link.ensures.kept clean is).back;
+  crash = λ there fresh clean is. crash_failed g.S.Store c.args.conn.now c.find_blob_link.new.conn (λ w. Lookups.mount w c.args.from.now c.args.to.now c.args.digest.now) is (c.find_blob_link.ensures.kept clean is);
   survives = c.find_blob_link.ensures.survives;
 }
 
@@ -56,5 +65,17 @@ returns-in-Ok-Some g c =
           let early : HasCleanDisk old = was_clean c.find_blob_link.ensures.survives late in
           let stays = c.in-Ok-Some.ensures.settled late is refl in
           stays_then old mid new stays (c.make.ensures.memory (λ clean. ap (λ (t : Tables). find (has_key c.args.to.now c.args.digest.now) t.blobs) (same_tables old mid stays) ∙ fresh early) clean stays.0 memory);
+      back = λ fresh clean is.
+          let late : HasCleanDisk mid = was_clean c.make.ensures.survives clean in
+          let early : HasCleanDisk old = was_clean c.find_blob_link.ensures.survives late in
+          let stays = c.in-Ok-Some.ensures.settled late is refl in
+          less_err c.make.result (back_from old mid new is stays) (c.make.ensures.back (λ clean. ap (λ (t : Tables). find (has_key c.args.to.now c.args.digest.now) t.blobs) (same_tables old mid stays) ∙ fresh early) clean stays.0);
+      crash = λ there fresh clean is.
+          let late : HasCleanDisk mid = was_clean c.make.ensures.survives clean in
+          let early : HasCleanDisk old = was_clean c.find_blob_link.ensures.survives late in
+          let stays = c.in-Ok-Some.ensures.settled late is refl in
+          crash_made g.S.Store c.args.conn.now c.make.new.conn (λ w. Lookups.mount w c.args.from.now c.args.to.now c.args.digest.now) c.find_blob_link.new.conn (λ t u. LinkIsPut t u c.args.to.now c.args.digest.now c.in-Ok-Some.link.size c.in-Ok-Some.link.content.id) is stays
+          (λ s it. mounts old mid s c.args.from.now c.args.to.now c.args.digest.now c.in-Ok-Some.link is stays (there early) (let e = c.in-Ok-Some.ensures.found late is in let f = c.in-Ok-Some.field-0-is in cc) (fresh early) it.0 it.1) c.make.result c.make.result (λ X x. x)
+          (c.make.ensures.crash (λ clean. ap (λ (t : Tables). find (has_key c.args.to.now c.args.digest.now) t.blobs) (same_tables old mid stays) ∙ fresh early) clean stays.0);
       survives = survives_all old mid new _ _ c.find_blob_link.ensures.survives c.make.ensures.survives;
     }

@@ -12,8 +12,11 @@ use Rattle.store_statements.proofs.CleanBefore.{was_clean}
 use Rattle.store_statements.proofs.SettledAfter.{stays_then}
 use Rattle.store_statements.proofs.Transactions.{survives_all}
 use Rattle.store_statements.proofs.WritesAfterReads.{none_found, memory_told}
-use Rattle.store_writes.proofs.BlobWrites.{puts_there, puts_new, comes, is_there}
+use Rattle.store_writes.proofs.BlobWrites.{puts_there, puts_new, comes, is_there, same_blob}
 use Rattle.store_writes.proofs.Fitting.{blob_fits}
+use Rattle.store_statements.proofs.Crashes.{back_from, crash_done, crash_failed, crash_made, crash_same, crash_undone}
+use Rattle.registry_model.specs.Lookups as Lookups
+use Rattle.store_statements.specs.Steps.{BlobStored}
 use Rattle.store_writes.proofs.blob_puts.put_blob.Goals as goal
 
 pub make-requires : goal.make-requires
@@ -27,6 +30,10 @@ returns-in-Ok-Some g c = record {
   came = λ clean is.
       rw (c.as_str-repo.ensures.text, c.as_str-digest.ensures.text) at (is_there (state g.S.Store c.args.conn.now) c.as_str-repo.result.now c.as_str-digest.result.now c.in-Ok-Some.field-0-0 is (sym c.in-Ok-Some.field-0-is ∙ c.in-Ok-Some.ensures.found clean is));
   memory = λ clean is memory. absurd (never_done memory);
+  back = λ clean is. tt;
+  crash = λ there clean is.
+      crash_same g.S.Store c.args.conn.now c.find_blob_link.new.conn (λ w. Lookups.put_blob w c.args.repo.now c.args.digest.now c.args.bytes.now) is (c.find_blob_link.ensures.kept clean is)
+      (rw (c.as_str-repo.ensures.text, c.as_str-digest.ensures.text) at (same_blob (state g.S.Store c.args.conn.now) c.as_str-repo.result.now c.as_str-digest.result.now c.args.bytes.now c.in-Ok-Some.field-0-0 (sym c.in-Ok-Some.field-0-is ∙ c.in-Ok-Some.ensures.found clean is)));
   survives = c.find_blob_link.ensures.survives;
 }
 
@@ -35,6 +42,8 @@ returns-in-Err g c = record {
   made = λ there clean is. tt;
   came = λ clean is. tt;
   memory = λ clean is memory. c.in-Err.ensures.settled clean is (memory_told (Option BlobLink) c.in-Err.fault memory);
+  back = λ clean is. (c.find_blob_link.ensures.kept clean is).back;
+  crash = λ there clean is. crash_failed g.S.Store c.args.conn.now c.find_blob_link.new.conn (λ w. Lookups.put_blob w c.args.repo.now c.args.digest.now c.args.bytes.now) is (c.find_blob_link.ensures.kept clean is);
   survives = c.find_blob_link.ensures.survives;
 }
 
@@ -57,6 +66,15 @@ returns-in-Ok g c =
           let none = none_found blob_link (find (has_key c.as_str-repo.result.now c.as_str-digest.result.now) (held old).blobs) found in
           comes old c.args.repo.now c.args.digest.now is (rw (c.as_str-repo.ensures.text, c.as_str-digest.ensures.text) at none);
       memory = λ clean is memory. absurd (never_done memory);
+      back = λ clean is. tt;
+      crash = λ there clean is.
+          let late = free clean in
+          let stays = c.in-Ok-None.ensures.settled late is refl in
+          let found = sym c.in-Ok-None.field-0-is ∙ c.in-Ok-None.ensures.found late is in
+          let none = none_found blob_link (find (has_key c.as_str-repo.result.now c.as_str-digest.result.now) (held old).blobs) found in
+          crash_done g.S.Store c.args.conn.now c.make.new.conn (λ w. Lookups.put_blob w c.args.repo.now c.args.digest.now c.args.bytes.now) c.find_blob_link.new.conn (λ t u. BlobStored t u c.as_str-repo.result.now c.as_str-digest.result.now c.args.bytes.now) is stays
+          (λ s it. puts_new old mid s c.args.repo.now c.args.digest.now c.args.bytes.now is (there (was_clean c.find_blob_link.ensures.survives late)) stays (rw (c.as_str-repo.ensures.text, c.as_str-digest.ensures.text) at none) (rw (c.as_str-repo.ensures.text, c.as_str-digest.ensures.text) at it))
+          (c.in-Ok.ensures.crash (λ clean. still_none old mid c.as_str-repo.result.now c.as_str-digest.result.now stays found) clean stays.0);
       survives = survives_all old mid new _ _ c.find_blob_link.ensures.survives c.make.ensures.survives;
     }
 
@@ -72,5 +90,17 @@ returns-in-Err-make g c =
           let late : HasCleanDisk mid = was_clean c.make.ensures.survives clean in
           let stays = c.in-Ok-None.ensures.settled late is refl in
           stays_then old mid new stays (c.in-Err-make.ensures.memory (λ clean. still_none old mid c.as_str-repo.result.now c.as_str-digest.result.now stays (sym c.in-Ok-None.field-0-is ∙ c.in-Ok-None.ensures.found late is)) clean stays.0 (let e = memory in cc));
+      back = λ clean is.
+          let late : HasCleanDisk mid = was_clean c.make.ensures.survives clean in
+          let stays = c.in-Ok-None.ensures.settled late is refl in
+          back_from old mid new is stays (c.in-Err-make.ensures.back (λ clean. still_none old mid c.as_str-repo.result.now c.as_str-digest.result.now stays (sym c.in-Ok-None.field-0-is ∙ c.in-Ok-None.ensures.found late is)) clean stays.0);
+      crash = λ there clean is.
+          let late : HasCleanDisk mid = was_clean c.make.ensures.survives clean in
+          let stays = c.in-Ok-None.ensures.settled late is refl in
+          let found = sym c.in-Ok-None.field-0-is ∙ c.in-Ok-None.ensures.found late is in
+          let none = none_found blob_link (find (has_key c.as_str-repo.result.now c.as_str-digest.result.now) (held old).blobs) found in
+          crash_undone g.S.Store c.args.conn.now c.make.new.conn (λ w. Lookups.put_blob w c.args.repo.now c.args.digest.now c.args.bytes.now) c.find_blob_link.new.conn (λ t u. BlobStored t u c.as_str-repo.result.now c.as_str-digest.result.now c.args.bytes.now) is stays
+          (λ s it. puts_new old mid s c.args.repo.now c.args.digest.now c.args.bytes.now is (there (was_clean c.find_blob_link.ensures.survives late)) stays (rw (c.as_str-repo.ensures.text, c.as_str-digest.ensures.text) at none) (rw (c.as_str-repo.ensures.text, c.as_str-digest.ensures.text) at it))
+          (c.in-Err-make.ensures.crash (λ clean. still_none old mid c.as_str-repo.result.now c.as_str-digest.result.now stays found) clean stays.0);
       survives = survives_all old mid new _ _ c.find_blob_link.ensures.survives c.make.ensures.survives;
     }

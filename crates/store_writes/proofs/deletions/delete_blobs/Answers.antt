@@ -1,13 +1,21 @@
 use Rattle.registry_model.specs.Pruning.{delete_blobs}
 use Rattle.store_writes.specs.Deleting.{without_blob_links}
-use Rattle.store_writes.proofs.SeveralBlobs.{blobs_taken}
-use Rattle.store_writes.proofs.Transacted.{made_tables}
+use Rattle.store_writes.proofs.SeveralBlobs.{blobs_taken, links_leave}
+use Rattle.store_writes.proofs.Transacted.{crash_tables, made_tables}
+use Rattle.std.proofs.Common.{ap, ◌∙◌}
+use Rattle.store_statements.specs.Tables.{Tables}
+use Rattle.store_statements.proofs.Alone.{less}
+use Rattle.sqlite.specs.Held.{state}
+use Rattle.store_statements.specs.Held.{held}
 use Rattle.store_writes.proofs.deletions.delete_blobs.Goals as goal
 
 pub returns : goal.returns
 returns g c = record {
   made = made_tables g.S.Store c.args.conn.now c.make.new.conn c.make.result (λ w. delete_blobs w c.args.repo.now c.args.digests.now) (without_blob_links c.args.repo.now c.args.digests.now) (rw c.as_str.ensures.text at (c.make.ensures.made (λ clean. tt))) (λ t is. blobs_taken t c.args.repo.now c.args.digests.now is);
+  stays = λ clean is. less c.make.result (λ it. ap (λ (t : Tables). t.contents) it.1 ∙ links_leave c.as_str.result.now c.args.digests.now (held (state g.S.Store c.args.conn.now))) (c.make.ensures.made (λ early. tt) clean is);
   memory = c.make.ensures.memory (λ clean. tt);
+  back = c.make.ensures.back (λ clean. tt);
+  crash = crash_tables g.S.Store c.args.conn.now c.make.new.conn c.make.result (λ w. delete_blobs w c.args.repo.now c.args.digests.now) (without_blob_links c.args.repo.now c.args.digests.now) (rw c.as_str.ensures.text at (c.make.ensures.crash (λ clean. tt))) (λ t is. blobs_taken t c.args.repo.now c.args.digests.now is);
   survives = c.make.ensures.survives;
 }
 

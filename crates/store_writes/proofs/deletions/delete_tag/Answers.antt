@@ -2,13 +2,19 @@ use Rattle.registry_model.specs.Lookups.{delete_tag}
 use Rattle.store_statements.specs.Keys.{has_key}
 use Rattle.store_statements.proofs.TagWorlds.{tag_taken}
 use Rattle.store_statements.specs.Steps.{tags_without}
-use Rattle.store_writes.proofs.Transacted.{made_tables}
+use Rattle.store_writes.proofs.Transacted.{crash_tables, made_tables}
+use Rattle.std.proofs.Common.{ap}
+use Rattle.store_statements.specs.Tables.{Tables}
+use Rattle.store_statements.proofs.Alone.{less}
 use Rattle.store_writes.proofs.deletions.delete_tag.Goals as goal
 
 pub returns : goal.returns
 returns g c = record {
   made = made_tables g.S.Store c.args.conn.now c.make.new.conn c.make.result (λ w. delete_tag w c.args.repo.now c.args.tag.now) (tags_without (has_key c.args.repo.now c.args.tag.now)) (rw c.as_str.ensures.text at rw c.as_str-2.ensures.text at (c.make.ensures.made (λ clean. tt))) (λ t is. tag_taken t c.args.repo.now c.args.tag.now is);
+  stays = λ clean is. less c.make.result (λ it. ap (λ (t : Tables). t.contents) it.1) (c.make.ensures.made (λ early. tt) clean is);
   memory = c.make.ensures.memory (λ clean. tt);
+  back = c.make.ensures.back (λ clean. tt);
+  crash = crash_tables g.S.Store c.args.conn.now c.make.new.conn c.make.result (λ w. delete_tag w c.args.repo.now c.args.tag.now) (tags_without (has_key c.args.repo.now c.args.tag.now)) (rw c.as_str.ensures.text at rw c.as_str-2.ensures.text at (c.make.ensures.crash (λ clean. tt))) (λ t is. tag_taken t c.args.repo.now c.args.tag.now is);
   survives = c.make.ensures.survives;
 }
 

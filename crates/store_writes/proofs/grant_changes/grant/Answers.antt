@@ -1,4 +1,4 @@
-use Rattle.std.proofs.Common.{◌∙◌, sym}
+use Rattle.std.proofs.Common.{◌∙◌, sym, refl}
 use Rattle.sqlite.specs.State.{HasCleanDisk}
 use Rattle.sqlite.specs.Held.{state}
 use Rattle.store_statements.proofs.RepoWorlds.{has_repo_found}
@@ -7,6 +7,9 @@ use Rattle.store_statements.proofs.Alone.{less}
 use Rattle.store_statements.proofs.CleanBefore.{was_clean}
 use Rattle.store_statements.proofs.Transactions.{makes, registry}
 use Rattle.store_writes.proofs.PutLemmas.{level_put}
+use Rattle.store_statements.proofs.Crashes.{crash_made}
+use Rattle.registry_model.specs.Command.{grant}
+use Rattle.store_writes.specs.Puts.{LevelIsPut}
 use Rattle.store_writes.proofs.grant_changes.grant.Goals as goal
 
 pub returns : goal.returns
@@ -19,6 +22,13 @@ returns g c = record {
       (λ it. makes new (held new) _ it.0 (level_put (held old) (held new) c.args.token.now c.args.name.now c.args.level (registry old is) (sym (has_repo_found (held old) c.args.name.now) ∙ there early) (rw (c.as_str.ensures.text, c.as_str-2.ensures.text) at it.1)))
       (c.make.ensures.made (λ clean. tt) clean is);
   memory = c.make.ensures.memory (λ clean. tt);
+  back = c.make.ensures.back (λ clean. tt);
+  crash = λ there clean is.
+      let old = state g.S.Store c.args.conn.now in
+      let early : HasCleanDisk old = was_clean c.make.ensures.survives clean in
+      crash_made g.S.Store c.args.conn.now c.make.new.conn (λ w. grant w c.args.token.now c.args.name.now c.args.level) c.args.conn.now (λ t u. LevelIsPut t u c.as_str.result.now c.as_str-2.result.now c.args.level) is (is, refl)
+      (λ s it. makes s (held s) _ it.0 (level_put (held old) (held s) c.args.token.now c.args.name.now c.args.level (registry old is) (sym (has_repo_found (held old) c.args.name.now) ∙ there early) (rw (c.as_str.ensures.text, c.as_str-2.ensures.text) at it.1))) c.make.result c.make.result (λ X x. x)
+      (c.make.ensures.crash (λ clean. tt) clean is);
   survives = c.make.ensures.survives;
 }
 

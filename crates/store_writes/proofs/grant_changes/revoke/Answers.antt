@@ -2,13 +2,15 @@ use Rattle.registry_model.specs.Command.{revoke}
 use Rattle.store_statements.specs.Keys.{has_key}
 use Rattle.store_statements.proofs.GrantWorlds.{grant_taken}
 use Rattle.store_statements.specs.Steps.{grants_without}
-use Rattle.store_writes.proofs.Transacted.{made_tables}
+use Rattle.store_writes.proofs.Transacted.{crash_tables, made_tables}
 use Rattle.store_writes.proofs.grant_changes.revoke.Goals as goal
 
 pub returns : goal.returns
 returns g c = record {
   made = made_tables g.S.Store c.args.conn.now c.make.new.conn c.make.result (λ w. revoke w c.args.token.now c.args.name.now) (grants_without (has_key c.args.token.now c.args.name.now)) (rw c.as_str.ensures.text at rw c.as_str-2.ensures.text at (c.make.ensures.made (λ clean. tt))) (λ t is. grant_taken t c.args.token.now c.args.name.now is);
   memory = c.make.ensures.memory (λ clean. tt);
+  back = c.make.ensures.back (λ clean. tt);
+  crash = crash_tables g.S.Store c.args.conn.now c.make.new.conn c.make.result (λ w. revoke w c.args.token.now c.args.name.now) (grants_without (has_key c.args.token.now c.args.name.now)) (rw c.as_str.ensures.text at rw c.as_str-2.ensures.text at (c.make.ensures.crash (λ clean. tt))) (λ t is. grant_taken t c.args.token.now c.args.name.now is);
   survives = c.make.ensures.survives;
 }
 

@@ -2,13 +2,15 @@ use Rattle.registry_model.specs.Command.{revoke_all}
 use Rattle.store_statements.specs.Keys.{of_first}
 use Rattle.store_statements.proofs.GrantWorlds.{token_taken}
 use Rattle.store_statements.specs.Steps.{grants_without}
-use Rattle.store_writes.proofs.Transacted.{made_tables}
+use Rattle.store_writes.proofs.Transacted.{crash_tables, made_tables}
 use Rattle.store_writes.proofs.grant_changes.revoke_all.Goals as goal
 
 pub returns : goal.returns
 returns g c = record {
   made = made_tables g.S.Store c.args.conn.now c.make.new.conn c.make.result (λ w. revoke_all w c.args.token.now) (grants_without (of_first c.args.token.now)) (rw c.as_str.ensures.text at (c.make.ensures.made (λ clean. tt))) (λ t is. token_taken t c.args.token.now is);
   memory = c.make.ensures.memory (λ clean. tt);
+  back = c.make.ensures.back (λ clean. tt);
+  crash = crash_tables g.S.Store c.args.conn.now c.make.new.conn c.make.result (λ w. revoke_all w c.args.token.now) (grants_without (of_first c.args.token.now)) (rw c.as_str.ensures.text at (c.make.ensures.crash (λ clean. tt))) (λ t is. token_taken t c.args.token.now is);
   survives = c.make.ensures.survives;
 }
 

@@ -1,4 +1,4 @@
-use Rattle.std.proofs.Common.{◌∙◌, refl, sym}
+use Rattle.std.proofs.Common.{◌∙◌, refl, sym, ◌≡◌}
 use Rattle.std.specs.Prelude.{find, Option, ⊤}
 use Rattle.sqlite.specs.State.{HasCleanDisk}
 use Rattle.sqlite.specs.Held.{state}
@@ -8,13 +8,16 @@ use Rattle.store_statements.specs.Keys.{has_key}
 use Rattle.store_statements.specs.Held.{held, world_in}
 use Rattle.store_statements.specs.declared.manifests.ManifestLink.{ManifestLink}
 use Rattle.store_statements.specs.ManifestShown.{manifest_link}
-use Rattle.store_statements.proofs.Alone.{less}
+use Rattle.store_statements.proofs.Alone.{less, less_err}
 use Rattle.store_statements.proofs.CleanBefore.{was_clean}
 use Rattle.store_statements.proofs.SettledAfter.{stays_then}
 use Rattle.store_statements.proofs.Transactions.{survives_all}
-use Rattle.store_writes.specs.Worlds.{tagged}
+use Rattle.store_writes.specs.Worlds.{tagged, StandsFor}
 use Rattle.store_writes.proofs.Transacted.{stands}
 use Rattle.store_writes.proofs.ManifestPuts.{found_none, found_some, repo_there, fresh_still, made_there, made_new, memory_unspent}
+use Rattle.store_statements.proofs.Crashes.{back_from, crash_failed, crash_made}
+use Rattle.registry_model.specs.Lookups as Lookups
+use Rattle.store_statements.specs.World.{world_of}
 use Rattle.store_writes.proofs.manifest_puts.put_manifest.Goals as goal
 
 pub returns-in-Ok-Some : goal.returns-in-Ok-Some
@@ -28,13 +31,24 @@ returns-in-Ok-Some g c =
           let stays = c.in-Ok-Some.ensures.settled late is refl in
           let some = found_some manifest_link c.in-Ok-Some.field-0-0 (find (has_key c.args.repo.now c.args.digest.now) (held old).manifests) (sym c.in-Ok-Some.field-0-is ∙ (rw (c.as_str-repo.ensures.text, c.as_str-digest.ensures.text) at (c.in-Ok-Some.ensures.found late is))) in
           less c.make.result
-          (λ it. made_there old mid new c.args.repo.now c.args.digest.now c.args.bytes.now (text_in c.args.tag) stays.1 some (stands new (tagged (world_in mid) c.args.repo.now (text_in c.args.tag) c.args.digest.now) it.0 (rw (c.as_str-repo.ensures.text, c.as_str-digest.ensures.text) at it.1)))
+          (λ it. made_there old mid new c.args.repo.now c.args.digest.now c.args.bytes.now (text_in c.args.tag) stays.1 some (stands new (tagged (world_in mid) c.args.repo.now (text_in c.args.tag) c.args.digest.now) it.0 (rw (c.as_str-repo.ensures.text, c.as_str-digest.ensures.text) at it.1.0)))
           (c.make.ensures.made (λ clean. (stays.0.agree, rw c.as_str-repo.ensures.text (repo_there old mid c.args.repo.now stays.1 (there (was_clean c.find_manifest_link.ensures.survives late))))) clean stays.0);
       memory = λ there clean is memory.
           let late : HasCleanDisk mid = was_clean c.make.ensures.survives clean in
           let stays = c.in-Ok-Some.ensures.settled late is refl in
           stays_then old mid new stays
           (c.make.ensures.memory (λ clean. (stays.0.agree, rw c.as_str-repo.ensures.text (repo_there old mid c.args.repo.now stays.1 (there (was_clean c.find_manifest_link.ensures.survives late))))) clean stays.0 memory);
+      back = λ there clean is.
+          let late : HasCleanDisk mid = was_clean c.make.ensures.survives clean in
+          let stays = c.in-Ok-Some.ensures.settled late is refl in
+          less_err c.make.result (back_from old mid new is stays) (c.make.ensures.back (λ clean. (stays.0.agree, rw c.as_str-repo.ensures.text (repo_there old mid c.args.repo.now stays.1 (there (was_clean c.find_manifest_link.ensures.survives late))))) clean stays.0);
+      crash = λ there clean is.
+          let late : HasCleanDisk mid = was_clean c.make.ensures.survives clean in
+          let stays = c.in-Ok-Some.ensures.settled late is refl in
+          let some = found_some manifest_link c.in-Ok-Some.field-0-0 (find (has_key c.args.repo.now c.args.digest.now) (held old).manifests) (sym c.in-Ok-Some.field-0-is ∙ (rw (c.as_str-repo.ensures.text, c.as_str-digest.ensures.text) at (c.in-Ok-Some.ensures.found late is))) in
+          crash_made g.S.Store c.args.conn.now c.make.new.conn (λ w. Lookups.put_manifest w c.args.repo.now c.args.digest.now c.args.bytes.now (text_in c.args.tag)) c.find_manifest_link.new.conn (λ t u. StandsFor u (tagged (world_of t) c.as_str-repo.result.now (text_in c.args.tag) c.as_str-digest.result.now) × (u.beside ≡ t.beside)) is stays
+          (λ s it. made_there old mid s c.args.repo.now c.args.digest.now c.args.bytes.now (text_in c.args.tag) stays.1 some (stands s (tagged (world_in mid) c.args.repo.now (text_in c.args.tag) c.args.digest.now) it.0 (rw (c.as_str-repo.ensures.text, c.as_str-digest.ensures.text) at it.1.0))) c.make.result c.make.result (λ X x. x)
+          (c.make.ensures.crash (λ clean. (stays.0.agree, rw c.as_str-repo.ensures.text (repo_there old mid c.args.repo.now stays.1 (there (was_clean c.find_manifest_link.ensures.survives late))))) clean stays.0);
       survives = survives_all old mid new (λ _. ⊤) (λ _. ⊤) c.find_manifest_link.ensures.survives c.make.ensures.survives;
     }
 
@@ -49,7 +63,7 @@ returns-in-Ok-None g c =
           let stays = c.in-Ok-None.ensures.settled late is refl in
           let none = found_none manifest_link (find (has_key c.as_str-repo.result.now c.as_str-digest.result.now) (held old).manifests) (sym c.in-Ok-None.field-0-is ∙ c.in-Ok-None.ensures.found late is) in
           less c.make-in-Ok-None.result
-          (λ it. made_new old mid new c.args.repo.now c.args.digest.now c.args.bytes.now (text_in c.args.tag) stays.1 (stands new (put_manifest (world_in mid) c.args.repo.now c.args.digest.now c.args.bytes.now (text_in c.args.tag)) it.0 (rw (c.as_str-repo.ensures.text, c.as_str-digest.ensures.text) at it.1)))
+          (λ it. made_new old mid new c.args.repo.now c.args.digest.now c.args.bytes.now (text_in c.args.tag) stays.1 (stands new (put_manifest (world_in mid) c.args.repo.now c.args.digest.now c.args.bytes.now (text_in c.args.tag)) it.0 (rw (c.as_str-repo.ensures.text, c.as_str-digest.ensures.text) at it.1.0)))
           (c.make-in-Ok-None.ensures.made (λ clean. (stays.0.agree, rw c.as_str-repo.ensures.text (repo_there old mid c.args.repo.now stays.1 (there (was_clean c.find_manifest_link.ensures.survives late))), fresh_still old mid c.as_str-repo.result.now c.as_str-digest.result.now stays.1 none)) clean stays.0);
       memory = λ there clean is memory.
           let late : HasCleanDisk mid = was_clean c.make-in-Ok-None.ensures.survives clean in
@@ -57,6 +71,18 @@ returns-in-Ok-None g c =
           let none = found_none manifest_link (find (has_key c.as_str-repo.result.now c.as_str-digest.result.now) (held old).manifests) (sym c.in-Ok-None.field-0-is ∙ c.in-Ok-None.ensures.found late is) in
           stays_then old mid new stays
           (c.make-in-Ok-None.ensures.memory (λ clean. (stays.0.agree, rw c.as_str-repo.ensures.text (repo_there old mid c.args.repo.now stays.1 (there (was_clean c.find_manifest_link.ensures.survives late))), fresh_still old mid c.as_str-repo.result.now c.as_str-digest.result.now stays.1 none)) clean stays.0 memory);
+      back = λ there clean is.
+          let late : HasCleanDisk mid = was_clean c.make-in-Ok-None.ensures.survives clean in
+          let stays = c.in-Ok-None.ensures.settled late is refl in
+          let none = found_none manifest_link (find (has_key c.as_str-repo.result.now c.as_str-digest.result.now) (held old).manifests) (sym c.in-Ok-None.field-0-is ∙ c.in-Ok-None.ensures.found late is) in
+          less_err c.make-in-Ok-None.result (back_from old mid new is stays) (c.make-in-Ok-None.ensures.back (λ clean. (stays.0.agree, rw c.as_str-repo.ensures.text (repo_there old mid c.args.repo.now stays.1 (there (was_clean c.find_manifest_link.ensures.survives late))), fresh_still old mid c.as_str-repo.result.now c.as_str-digest.result.now stays.1 none)) clean stays.0);
+      crash = λ there clean is.
+          let late : HasCleanDisk mid = was_clean c.make-in-Ok-None.ensures.survives clean in
+          let stays = c.in-Ok-None.ensures.settled late is refl in
+          let none = found_none manifest_link (find (has_key c.as_str-repo.result.now c.as_str-digest.result.now) (held old).manifests) (sym c.in-Ok-None.field-0-is ∙ c.in-Ok-None.ensures.found late is) in
+          crash_made g.S.Store c.args.conn.now c.make-in-Ok-None.new.conn (λ w. Lookups.put_manifest w c.args.repo.now c.args.digest.now c.args.bytes.now (text_in c.args.tag)) c.find_manifest_link.new.conn (λ t u. StandsFor u (Lookups.put_manifest (world_of t) c.as_str-repo.result.now c.as_str-digest.result.now c.args.bytes.now (text_in c.args.tag)) × (u.beside ≡ t.beside)) is stays
+          (λ s it. made_new old mid s c.args.repo.now c.args.digest.now c.args.bytes.now (text_in c.args.tag) stays.1 (stands s (put_manifest (world_in mid) c.args.repo.now c.args.digest.now c.args.bytes.now (text_in c.args.tag)) it.0 (rw (c.as_str-repo.ensures.text, c.as_str-digest.ensures.text) at it.1.0))) c.make-in-Ok-None.result c.make-in-Ok-None.result (λ X x. x)
+          (c.make-in-Ok-None.ensures.crash (λ clean. (stays.0.agree, rw c.as_str-repo.ensures.text (repo_there old mid c.args.repo.now stays.1 (there (was_clean c.find_manifest_link.ensures.survives late))), fresh_still old mid c.as_str-repo.result.now c.as_str-digest.result.now stays.1 none)) clean stays.0);
       survives = survives_all old mid new (λ _. ⊤) (λ _. ⊤) c.find_manifest_link.ensures.survives c.make-in-Ok-None.ensures.survives;
     }
 
@@ -64,6 +90,8 @@ pub returns-in-Err : goal.returns-in-Err
 returns-in-Err g c = record {
   made = λ there clean is. tt;
   memory = λ there clean is memory. c.in-Err.ensures.settled clean is (memory_unspent ⊤ (Option ManifestLink) c.in-Err.fault _ refl memory);
+  back = λ there clean is. (c.find_manifest_link.ensures.kept clean is).back;
+  crash = λ there clean is. crash_failed g.S.Store c.args.conn.now c.find_manifest_link.new.conn (λ w. Lookups.put_manifest w c.args.repo.now c.args.digest.now c.args.bytes.now (text_in c.args.tag)) is (c.find_manifest_link.ensures.kept clean is);
   survives = c.find_manifest_link.ensures.survives;
 }
 

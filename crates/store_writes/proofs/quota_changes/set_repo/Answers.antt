@@ -1,6 +1,6 @@
 use Rattle.registry_model.specs.Command.{set_repo}
 use Rattle.store_writes.specs.Puts.{QuotaIsPut}
-use Rattle.store_writes.proofs.Transacted.{made_step}
+use Rattle.store_writes.proofs.Transacted.{crash_step, made_step}
 use Rattle.store_writes.proofs.PutLemmas.{quota_put}
 use Rattle.store_writes.proofs.quota_changes.set_repo.Goals as goal
 
@@ -9,5 +9,8 @@ returns g c = record {
   made = made_step g.S.Store c.args.conn.now c.make.new.conn c.make.result (λ w. set_repo w c.args.name.now c.args.quota.bytes) (λ t u. QuotaIsPut t u c.args.name.now c.args.quota.bytes) (rw c.as_str.ensures.text at (c.make.ensures.made (λ clean. tt)))
       (λ t u is it. quota_put t u c.args.name.now c.args.quota.bytes is it);
   memory = c.make.ensures.memory (λ clean. tt);
+  back = c.make.ensures.back (λ clean. tt);
+  crash = crash_step g.S.Store c.args.conn.now c.make.new.conn c.make.result (λ w. set_repo w c.args.name.now c.args.quota.bytes) (λ t u. QuotaIsPut t u c.args.name.now c.args.quota.bytes) (rw c.as_str.ensures.text at (c.make.ensures.crash (λ clean. tt)))
+      (λ t u is it. quota_put t u c.args.name.now c.args.quota.bytes is it);
   survives = c.make.ensures.survives;
 }

@@ -1,8 +1,8 @@
-use Rattle.std.proofs.Common.{◌∙◌, length, refl, sym}
+use Rattle.std.proofs.Common.{◌∙◌, length, refl, sym, ◌≡◌}
 use Rattle.std.specs.Prelude.{find, Option}
 use Rattle.sqlite.specs.State.{HasCleanDisk}
 use Rattle.sqlite.specs.Held.{state}
-use Rattle.store_statements.specs.Keys.{has_key}
+use Rattle.store_statements.specs.Keys.{has_key, of_session}
 use Rattle.store_statements.specs.declared.blobs.BlobLink.{BlobLink}
 use Rattle.store_statements.specs.Shown.{blob_link}
 use Rattle.store_statements.proofs.BlobLinks.{still_none}
@@ -14,14 +14,19 @@ use Rattle.store_statements.proofs.CleanBefore.{was_clean}
 use Rattle.store_statements.proofs.Checks.{never_storage}
 use Rattle.store_statements.proofs.Checks.{survives_here}
 use Rattle.store_statements.proofs.SettledAfter.{stays_then}
-use Rattle.store_statements.proofs.Alone.{commits_as, less}
+use Rattle.store_statements.proofs.Alone.{commits_as, less, less_err}
 use Rattle.store_writes.proofs.Fitting.{not_above, blob_fits}
+use Rattle.store_statements.proofs.Crashes.{back_from, kept_stayed, crash_failed, crash_made}
+use Rattle.registry_model.specs.Lookups as Lookups
+use Rattle.store_statements.specs.Steps.{Finished, sessions_without}
 use Rattle.store_writes.proofs.session_finish.finish.Goals as goal
 
 pub returns-in-Err : goal.returns-in-Err
 returns-in-Err g c = record {
   made = λ is_open clean is. tt;
   memory = λ clean is memory. c.in-Err.ensures.settled clean is (memory_told (Option BlobLink) c.in-Err.fault memory);
+  back = λ clean is. (c.find_blob_link.ensures.kept clean is).back;
+  crash = λ is_open clean is. crash_failed g.S.Store c.args.conn.now c.find_blob_link.new.conn (λ w. Lookups.finish w c.args.repo.now c.args.number c.args.digest.now c.args.bytes.now) is (c.find_blob_link.ensures.kept clean is);
   survives = c.find_blob_link.ensures.survives;
 }
 
@@ -29,6 +34,9 @@ pub returns-then-number-gt-LARGEST : goal.returns-then-number-gt-LARGEST
 returns-then-number-gt-LARGEST g c = record {
   made = λ is_open clean is. tt;
   memory = λ clean is memory. absurd (never_storage memory);
+  back = λ clean is is_open. (refl, refl);
+  crash = λ is_open clean is.
+      crash_failed g.S.Store c.args.conn.now c.args.conn.now (λ w. Lookups.finish w c.args.repo.now c.args.number c.args.digest.now c.args.bytes.now) is (kept_stayed g.S.Store g.met.S.Store.settled c.args.conn.now c.args.conn.now is (is, refl));
   survives = survives_here (state g.S.Store c.args.conn.now);
 }
 
@@ -53,6 +61,15 @@ returns-in-Ok-Some g c =
       memory = λ clean is memory.
           let stays = c.in-Ok-Some.ensures.settled (was_clean c.make.ensures.survives clean) is refl in
           stays_then old mid new stays (c.make.ensures.memory (λ early. tt) clean stays.0 memory);
+      back = λ clean is.
+          let stays = c.in-Ok-Some.ensures.settled (was_clean c.make.ensures.survives clean) is refl in
+          less_err c.make.result (back_from old mid new is stays) (c.make.ensures.back (λ early. tt) clean stays.0);
+      crash = λ is_open clean is.
+          let late : HasCleanDisk mid = was_clean c.make.ensures.survives clean in
+          let stays = c.in-Ok-Some.ensures.settled late is refl in
+          crash_made g.S.Store c.args.conn.now c.make.new.conn (λ w. Lookups.finish w c.args.repo.now c.args.number c.args.digest.now c.args.bytes.now) c.find_blob_link.new.conn (λ t u. u ≡ sessions_without (of_session c.as_str-repo.result.now c.args.number) t) is stays
+          (λ s it. rw (c.as_str-repo.ensures.text, c.as_str-digest.ensures.text) at (finishes_there old mid s c.as_str-repo.result.now c.args.number c.as_str-digest.result.now c.args.bytes.now c.in-Ok-Some.field-0-0 is stays (sym c.in-Ok-Some.field-0-is ∙ c.in-Ok-Some.ensures.found late is) (commits_as s _ it.0 it.1))) c.make.result c.make.result (λ X x. x)
+          (c.make.ensures.crash (λ early. tt) clean stays.0);
       survives = survives_all old mid new _ _ c.find_blob_link.ensures.survives c.make.ensures.survives;
     }
 
@@ -74,5 +91,17 @@ returns-in-Ok-None g c =
           let late : HasCleanDisk mid = was_clean c.make-in-Ok-None.ensures.survives clean in
           let stays = c.in-Ok-None.ensures.settled late is refl in
           stays_then old mid new stays (c.make-in-Ok-None.ensures.memory (λ early. still_none old mid c.as_str-repo.result.now c.as_str-digest.result.now stays (sym c.in-Ok-None.field-0-is ∙ c.in-Ok-None.ensures.found late is)) clean stays.0 memory);
+      back = λ clean is.
+          let late : HasCleanDisk mid = was_clean c.make-in-Ok-None.ensures.survives clean in
+          let stays = c.in-Ok-None.ensures.settled late is refl in
+          less_err c.make-in-Ok-None.result (back_from old mid new is stays) (c.make-in-Ok-None.ensures.back (λ early. still_none old mid c.as_str-repo.result.now c.as_str-digest.result.now stays (sym c.in-Ok-None.field-0-is ∙ c.in-Ok-None.ensures.found late is)) clean stays.0);
+      crash = λ is_open clean is.
+          let late : HasCleanDisk mid = was_clean c.make-in-Ok-None.ensures.survives clean in
+          let stays = c.in-Ok-None.ensures.settled late is refl in
+          let found = sym c.in-Ok-None.field-0-is ∙ c.in-Ok-None.ensures.found late is in
+          let none = none_found blob_link (find (has_key c.as_str-repo.result.now c.as_str-digest.result.now) (held old).blobs) found in
+          crash_made g.S.Store c.args.conn.now c.make-in-Ok-None.new.conn (λ w. Lookups.finish w c.args.repo.now c.args.number c.args.digest.now c.args.bytes.now) c.find_blob_link.new.conn (λ t u. Finished t u c.as_str-repo.result.now c.args.number c.as_str-digest.result.now c.args.bytes.now) is stays
+          (λ s it. finishes_new old mid s c.args.repo.now c.args.number c.args.digest.now c.args.bytes.now is (is_open (was_clean c.find_blob_link.ensures.survives late)) stays (rw (c.as_str-repo.ensures.text, c.as_str-digest.ensures.text) at none) (rw (c.as_str-repo.ensures.text, c.as_str-digest.ensures.text) at it)) c.make-in-Ok-None.result c.make-in-Ok-None.result (λ X x. x)
+          (c.make-in-Ok-None.ensures.crash (λ early. still_none old mid c.as_str-repo.result.now c.as_str-digest.result.now stays found) clean stays.0);
       survives = survives_all old mid new _ _ c.find_blob_link.ensures.survives c.make-in-Ok-None.ensures.survives;
     }

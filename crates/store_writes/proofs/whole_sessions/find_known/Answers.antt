@@ -6,6 +6,7 @@ use Rattle.store_statements.proofs.SettledAfter.{stays_then}
 use Rattle.store_statements.proofs.Transactions.{survives_all}
 use Rattle.store_writes.proofs.KnownEnds.{known_found, no_known, digest_made, unspent_before}
 use Rattle.store_statements.proofs.CleanBefore.{was_clean}
+use Rattle.store_statements.proofs.Crashes.{kept_then}
 use Rattle.store_writes.proofs.whole_sessions.find_known.Goals as goal
 
 pub returns-in-Ok-Some : goal.returns-in-Ok-Some
@@ -22,6 +23,9 @@ returns-in-Ok-Some g c =
       settled = λ clean is unspent.
           let stays = c.in-Ok-Some.ensures.settled (early clean) is refl in
           stays_then old mid new stays (c.has_digest.ensures.settled clean stays.0 (unspent_before (λ so. cond so (Some c.in-Ok-Some.link) None) c.has_digest.result c.with_digest.result c.with_digest.ensures unspent));
+      kept = λ clean is.
+          let stays = c.in-Ok-Some.ensures.settled (early clean) is refl in
+          kept_then old mid new is stays (c.has_digest.ensures.kept clean stays.0);
       survives = survives_all old mid new _ _ c.find_whole.ensures.survives c.has_digest.ensures.survives;
     }
 
@@ -29,6 +33,7 @@ pub returns-in-Ok-None : goal.returns-in-Ok-None
 returns-in-Ok-None g c = record {
   found = λ clean is. no_known (held (state g.S.Store c.args.conn.now)) c.args.repo.now c.args.number c.args.digest.now (sym c.in-Ok-None.field-0-is ∙ c.in-Ok-None.ensures.found clean is);
   settled = λ clean is unspent. c.in-Ok-None.ensures.settled clean is refl;
+  kept = c.find_whole.ensures.kept;
   survives = c.find_whole.ensures.survives;
 }
 
@@ -39,5 +44,6 @@ pub returns-in-Err : goal.returns-in-Err
 returns-in-Err g c = record {
   found = λ clean is. tt;
   settled = λ clean is unspent. c.in-Err.ensures.settled clean is unspent;
+  kept = c.find_whole.ensures.kept;
   survives = c.find_whole.ensures.survives;
 }

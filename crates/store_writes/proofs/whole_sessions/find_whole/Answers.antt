@@ -12,6 +12,7 @@ use Rattle.store_statements.proofs.Transactions.{survives_all}
 use Rattle.store_writes.specs.Whole.{only_link}
 use Rattle.store_writes.proofs.KnownEnds.{whole_found, no_whole, piece_made, unspent_before}
 use Rattle.store_statements.proofs.CleanBefore.{was_clean}
+use Rattle.store_statements.proofs.Crashes.{kept_then}
 use Rattle.store_writes.proofs.whole_sessions.find_whole.Goals as goal
 
 pub returns-in-Ok-Some : goal.returns-in-Ok-Some
@@ -28,6 +29,9 @@ returns-in-Ok-Some g c =
       settled = λ clean is unspent.
           let stays = c.in-Ok-Some.ensures.settled (early clean) is refl in
           stays_then old mid new stays (c.pieces_in_order.ensures.settled clean stays.0 (unspent_before (λ (ids : Vec ContentId Global). only_link c.in-Ok-Some.size ids.items) c.pieces_in_order.result c.piece_link.result c.piece_link.ensures unspent));
+      kept = λ clean is.
+          let stays = c.in-Ok-Some.ensures.settled (early clean) is refl in
+          kept_then old mid new is stays (c.pieces_in_order.ensures.kept clean stays.0);
       survives = survives_all old mid new _ _ c.find_upload.ensures.survives c.pieces_in_order.ensures.survives;
     }
 
@@ -35,6 +39,7 @@ pub returns-in-Ok-None : goal.returns-in-Ok-None
 returns-in-Ok-None g c = record {
   found = λ clean is. no_whole (held (state g.S.Store c.args.conn.now)) c.args.repo.now c.args.number (sym c.in-Ok-None.field-0-is ∙ c.in-Ok-None.ensures.found clean is);
   settled = λ clean is unspent. c.in-Ok-None.ensures.settled clean is refl;
+  kept = c.find_upload.ensures.kept;
   survives = c.find_upload.ensures.survives;
 }
 
@@ -48,5 +53,6 @@ pub returns-in-Err : goal.returns-in-Err
 returns-in-Err g c = record {
   found = λ clean is. tt;
   settled = λ clean is unspent. c.in-Err.ensures.settled clean is unspent;
+  kept = c.find_upload.ensures.kept;
   survives = c.find_upload.ensures.survives;
 }
