@@ -8,7 +8,7 @@ use oci_types::Fault;
 use sqlite::{Alter, Connection};
 
 /// Whether the connection is open and outside a transaction. It writes nothing: it asks for the statement
-/// without words, which reads nothing, and for which no memory is needed once it is known.
+/// without words, which reads nothing. Where there is no memory for that, the answer is `false`.
 fn is_open<S: Alter>(conn: &mut Connection<S>) -> bool
     ensures open { HasCleanDisk (state S.Store conn.new) → IsTrue result
         → Shows (state S.Store conn.old) (state S.Store conn.new) (state S.Store conn.old).now
