@@ -1,5 +1,5 @@
 //! Those who give orders while connections are served.
-ghost use Rattle.std.specs.Prelude.{◌≡◌, ◌||◌};
+ghost use Rattle.std.specs.Prelude.{◌≡◌, ◌||◌, [], false, IfOk};
 ghost use Rattle.std.specs.List.{list_any};
 ghost use Rattle.order_sockets.specs.Calling.{Come, AttendsAll, AttendsRound, Stay, NotesStop};
 ghost use Rattle.order_sockets.specs.Calls.{all_called};
@@ -31,6 +31,9 @@ pub struct Callers {
     /// One may wait to be taken.
     knocks: bool,
     callers: Vec<Caller>,
+    /// Those of them who asked the server to stop and were there as it left: they see by the end of what they
+    /// read that it has ended.
+    asked: Vec<Caller>,
     /// The token of the one that comes next.
     next: usize,
     /// One of them, who may be gone, asked the server to stop.
@@ -43,6 +46,7 @@ impl Drop for Callers {
             listener: _,
             knocks: _,
             callers: _,
+            asked: _,
             next: _,
             stopping: _,
         } = self;
@@ -115,12 +119,15 @@ impl Callers {
         alloc: Global,
         registry: &Registry,
         listener: Option<net::UnixListener>,
-    ) -> io::Result<Callers> {
+    ) -> io::Result<Callers>
+        ensures { IfOk result (λ callers. (callers.callers.items ≡ []) × (callers.stopping ≡ false)) }
+    {
         let listener = listening(registry, listener)?;
         Ok(Callers {
             knocks: listener.is_some(),
             listener,
             callers: Vec::new(alloc),
+            asked: Vec::new(alloc),
             next: DESK.0 + 1,
             stopping: false,
         })
@@ -290,11 +297,18 @@ impl Callers {
         self.dismiss_all(now);
     }
 
-    /// Everybody goes, with what can be told at once, but who asked the server to stop.
-    pub fn leave(&mut self, now: Duration) {
-        for caller in self.callers.iter_mut() {
+    /// Everybody goes, with what can be told at once. Who asked the server to stop is kept, and nothing is done
+    /// for it any more.
+    pub fn leave(&mut self, now: Duration)
+        ensures none { self.new.callers.items ≡ [] }
+        ensures stopping { self.new.stopping ≡ self.old.stopping }
+    {
+        while let Some(caller) = self.callers.pop() {
+            let mut caller = caller;
             caller.tell(now);
+            if caller.stops {
+                let _ = self.asked.push(caller);
+            }
         }
-        self.callers.retain(|caller| caller.stops);
     }
 }

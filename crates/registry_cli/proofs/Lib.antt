@@ -1,2 +1,2 @@
 pub mod EndedTasks
-pub mod TogetherLemmas
+pub mod ServingLemmas

@@ -3,10 +3,9 @@ ghost use Rattle.registry_orders.specs.Failures.{IsOfOpening};
 
 use crate::beginning::begin;
 use crate::looking::cause_at;
-use crate::progress::{Progress, show_looked_at};
-use registry_checking::Watch;
+use crate::progress::Progress;
 use registry_model::Keeper;
-use registry_opening::Opener;
+use registry_opening::{Ended, Opener, Work};
 use registry_orders::{Cause, Failure};
 use registry_store::{OpenFault, Store, Written};
 use sqlite::{Alter, Connection, FileFrom, FileStore, Unknown};
@@ -70,32 +69,33 @@ fn of_opening(fault: OpenFault) -> Failure
     }
 }
 
-impl<F: Supposed> Watch for Databases<'_, F> {
-    fn looked_at(&self, done: u64, of: u64) {
-        show_looked_at(&mut self.rt.stderr(), done, of);
-    }
-}
-
 impl<F: Supposed> Opener<Store<FileStore<FileFrom<F>>>> for Databases<'_, F> {
+    ghost use Rattle.std.specs.Prelude.{⊤};
     ghost use Rattle.registry_model.specs.Keeping.{State};
     ghost use Rattle.sqlite.specs.WalFiles.{image_at};
     ghost use Rattle.registry_cli.specs.Databases.{MayOpen};
 
-    ghost opens = { λ _ _ s. MayOpen (image_at F.Start) s };
+    ghost opens = { λ _ s. MayOpen (image_at F.Start) s };
 
-    fn open(&self, path: &str) -> Result<Store<FileStore<FileFrom<F>>>, Failure> {
+    // It remembers nothing.
+    ghost had = { λ _ _. ⊤ };
+
+    fn with_open<W: Work<Store<FileStore<FileFrom<F>>>>>(
+        &mut self,
+        path: &str,
+        work: &mut W,
+    ) -> Result<W::Told, Failure> {
         begin(self.rt, path);
-        match Store::open_from(self.rt, path, F::new()) {
-            Ok(store) => Ok(store),
-            Err(fault) => Err(of_opening(fault)),
-        }
+        let store = match Store::open_from(self.rt, path, F::new()) {
+            Ok(store) => store,
+            Err(fault) => return Err(of_opening(fault)),
+        };
+        let Ended { keeper, told } = work.work(store);
+        close_store(keeper);
+        Ok(told)
     }
 
-    fn close(&self, kept: Store<FileStore<FileFrom<F>>>) {
-        close_store(kept);
-    }
-
-    fn migrate(&self, path: &str) -> Result<(), Failure> {
+    fn migrate(&mut self, path: &str) -> Result<(), Failure> {
         begin(self.rt, path);
         let mut progress = Progress::new(self.rt.stderr());
         match migrate(self.rt, path, F::new(), &mut progress) {

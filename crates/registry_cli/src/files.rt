@@ -1,6 +1,8 @@
 //! The program over database files.
 use crate::databases::{Databases, Supposed};
+use crate::progress::CheckProgress;
 use crate::stored::run_in_files;
+use registry_tasks::Servers;
 use sqlite::FileFrom;
 use std::convert::AsStr;
 use std::io::{Read, Write};
@@ -13,8 +15,17 @@ pub fn run<F: Supposed, T: AsStr, R: Read, W: Write, E: Write>(
     out: &mut W,
     err: &mut E,
 ) -> u8 {
-    let databases = Databases::<F>::new(rt);
-    run_in_files::<FileFrom<F>, Databases<'_, F>, T, R, W, E>(
-        rt, &databases, words, reader, out, err,
+    let mut databases = Databases::<F>::new(rt);
+    let mut servers = Servers::new(rt);
+    let watch = CheckProgress::new(rt);
+    run_in_files::<FileFrom<F>, Databases<'_, F>, Servers<'_>, CheckProgress<'_>, T, R, W, E>(
+        rt,
+        &mut databases,
+        &mut servers,
+        &watch,
+        words,
+        reader,
+        out,
+        err,
     )
 }

@@ -9,10 +9,10 @@
 mod beginning;
 mod databases;
 mod files;
-mod gathering;
 mod looking;
 mod program;
 mod progress;
+mod serving;
 mod stored;
 
 use registry_orders::Failure;

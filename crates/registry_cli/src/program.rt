@@ -1,167 +1,64 @@
 ghost use Rattle.std.specs.Prelude.{◌<◌, ◌≤◌, map};
-ghost use Rattle.registry_tasks.specs.Stored.{Over, OverAt};
-ghost use Rattle.registry_tasks.specs.Sockets.{ServesAddress};
+ghost use Rattle.registry_opening.specs.Openings.{between};
+ghost use Rattle.registry_tasks.specs.Acts.{acts};
 ghost use Rattle.registry_tasks.specs.Program.{streams};
-ghost use Rattle.registry_loop.specs.Together.{ServesTogether};
 ghost use Rattle.registry_cli.specs.Running.{RunsServer, RunsWords, IsSparedFor, EndsTask, IsSparedBy};
 ghost use Rattle.registry_orders.specs.Outputs.{output};
 
-use crate::gathering::serve_together;
+use crate::serving::{Serving, serve};
 use registry_checking::Watch;
-use registry_loop::{Crowd, Doors};
-use registry_model::{Keeper, Settings};
+use registry_model::Keeper;
 use registry_opening::Opener;
 use registry_orders::cause::say_at;
 use registry_orders::failure::say;
 use registry_orders::line::read_words;
 use registry_orders::unread::Told;
-use registry_orders::{Beside, Failure, Limits, Task};
-use registry_tasks::listening::{Listeners, introduce, listen};
-use registry_tasks::order_socket::stop_orders;
+use registry_orders::{Failure, Task};
 use registry_tasks::{
-    run_check, run_migration, run_order_at, run_stored, run_token_order, send_stop, serve_memory,
-    tell,
+    Messenger, run_check, run_migration, run_order_at, run_stored, run_token_order, send_stop,
+    serve_memory, tell,
 };
-use request_log::{Log, Outlet};
-use std::alloc::Global;
 use std::convert::AsStr;
-use std::io;
 use std::io::{Read, Write};
-use std::os::fd::RawFd;
-
-/// The descriptors of standard input and of standard error.
-const STANDARD_INPUT: RawFd = 0;
-
-const STANDARD_ERROR: RawFd = 2;
-
-/// What `registry serve` was told but for its registry.
-#[derive(Clone, Copy)]
-struct Serving<'a> {
-    address: &'a str,
-    connections: u64,
-    limits: Limits,
-    beside: Beside<'a>,
-    settings: Settings,
-}
-
-/// Serves so many connections that are taken at a listener, together. A server that is to end with standard
-/// input fails at once where that is a file, the null device or closed: nobody holds another end of these.
-fn serve_many<K: Keeper, O: Opener<K>, W: Write, E: Write>(
-    rt: &HostRuntime,
-    alloc: Global,
-    opener: &O,
-    path: &str,
-    kept: K,
-    listeners: Listeners,
-    serving: Serving,
-    out: &mut W,
-    err: &mut E,
-) -> Result<(), Failure>
-    requires opened { K.is_honest kept → O.opens opener.now path.now (K.state kept) }
-    ensures { ServesAddress (ServesTogether serving.entry.settings serving.entry.limits.at_once)
-        (Over K.is_honest K.state (O.opens opener.now path.now))
-        result (output (W.contents out.old) (W.contents out.new)) }
-{
-    let (limits, connections) = (serving.limits, serving.connections);
-    let at_once = limits.at_once as usize;
-    let outlet = Outlet::over(alloc, rt, err, STANDARD_ERROR);
-    let log = Log::new(outlet, serving.beside.log);
-    let doors = Doors {
-        listener: listeners.connections,
-        orders: listeners.orders,
-        watched: serving.beside.stop_at_eof.then_some(STANDARD_INPUT),
-    };
-    match Crowd::new(alloc, rt, rt, log, doors, limits, connections) {
-        Ok(mut crowd) => {
-            let settings = serving.settings;
-            serve_together(
-                alloc, opener, path, kept, &mut crowd, settings, at_once, out,
-            )
-        }
-        Err(error) => {
-            opener.close(kept);
-            match error.kind() {
-                io::ErrorKind::OutOfMemory => Err(Failure::OutOfMemory),
-                _ => Err(Failure::ConnectionFailure),
-            }
-        }
-    }
-}
-
-/// Says what is served, and serves so many connections that are taken there.
-fn serve_bound<K: Keeper, O: Opener<K>, W: Write, E: Write>(
-    rt: &HostRuntime,
-    opener: &O,
-    path: &str,
-    kept: K,
-    listeners: Listeners,
-    serving: Serving,
-    out: &mut W,
-    err: &mut E,
-) -> Result<(), Failure>
-    requires opened { K.is_honest kept → O.opens opener.now path.now (K.state kept) }
-    ensures { ServesAddress (ServesTogether serving.entry.settings serving.entry.limits.at_once)
-        (Over K.is_honest K.state (O.opens opener.now path.now))
-        result (output (W.contents out.old) (W.contents out.new)) }
-{
-    let alloc = rt.alloc();
-    let mut kept = kept;
-    match introduce(alloc, &mut kept, &listeners.connections, path, err) {
-        Ok(()) => serve_many(rt, alloc, opener, path, kept, listeners, serving, out, err),
-        Err(failure) => {
-            opener.close(kept);
-            Err(failure)
-        }
-    }
-}
 
 /// Opens the registry at a path, binds the address and the socket for orders, says what is served, and
 /// serves so many connections. The socket for orders is taken away at the end.
-fn run_server<K: Keeper, O: Opener<K>, W: Write, E: Write>(
+fn run_server<'a, K: Keeper, O: Opener<K>, W: Write, E: Write>(
     rt: &HostRuntime,
-    opener: &O,
-    path: &str,
-    serving: Serving,
+    opener: &mut O,
+    path: &'a str,
+    serving: Serving<'a>,
     out: &mut W,
     err: &mut E,
 ) -> u8
-    ensures runs { RunsServer serving.entry.settings serving.entry.limits
-        (OverAt K.is_honest K.state (O.opens opener.now) path.now)
+    ensures runs { RunsServer (between K.is_honest K.state O.opens (O.had opener.old) (O.had opener.new))
+        serving.entry.settings serving.entry.limits path.now
         result (output (W.contents out.old) (W.contents out.new)) }
     ensures failed { 0 < result → 3 ≤ result }
     ensures status { result ≤ 4 }
 {
-    let kept = match opener.open(path) {
-        Ok(kept) => kept,
-        Err(failure) => return say_at(err, failure, path, opener.cause(path, failure)),
-    };
-    let orders = serving.beside.orders;
-    let listeners = match listen(rt, serving.address, orders) {
-        Ok(listeners) => listeners,
-        Err(none) => {
-            opener.close(kept);
-            return say_at(err, Failure::ConnectionFailure, none.place, none.cause);
-        }
-    };
-    let served = serve_bound(rt, opener, path, kept, listeners, serving, out, err);
-    stop_orders(rt, orders);
-    match served {
-        Ok(()) => 0,
-        Err(failure) => say_at(err, failure, path, opener.cause(path, failure)),
+    match serve(rt, opener, path, serving, out, err) {
+        (Ok(()), _) => 0,
+        (Err(failure), Some(none)) => say_at(err, failure, none.place, none.cause),
+        (Err(failure), None) => say_at(err, failure, path, opener.cause(path, failure)),
     }
 }
 
 /// Does a task, and gives the exit status. With status 1 or 2 nothing was read or written, but for the line
 /// of standard input that the task takes for a token.
-fn run_task<K: Keeper, O: Opener<K> + Watch, R: Read, W: Write, E: Write>(
+fn run_task<K: Keeper, O: Opener<K>, M: Messenger, V: Watch, R: Read, W: Write, E: Write>(
     rt: &HostRuntime,
-    opener: &O,
+    opener: &mut O,
+    messenger: &mut M,
+    watch: &V,
     task: Task,
     reader: &mut R,
     out: &mut W,
     err: &mut E,
 ) -> u8
-    ensures runs { EndsTask (OverAt K.is_honest K.state (O.opens opener.now)) task.entry result
+    ensures runs { EndsTask (acts (between K.is_honest K.state O.opens (O.had opener.old) (O.had opener.new))
+        (M.had messenger.old) (M.had messenger.new))
+        task.entry result
         (streams (R.remaining reader.old) (R.remaining reader.new)
         (W.contents out.old) (W.contents out.new)) }
     ensures refused { 0 < result → result < 3
@@ -193,15 +90,19 @@ fn run_task<K: Keeper, O: Opener<K> + Watch, R: Read, W: Write, E: Write>(
             };
             run_server(rt, opener, path, serving, out, err)
         }
-        Task::Order { place, order } => run_order_at(rt, alloc, opener, place, &order, out, err),
+        Task::Order { place, order } => run_order_at(
+            alloc, opener, messenger, place, &order, out, err,
+        ),
         Task::TokenOrder {
             place,
             source,
             order,
-        } => run_token_order(rt, alloc, opener, place, source, order, reader, out, err),
-        Task::Check { path } => run_check(alloc, opener, path, out, err),
+        } => run_token_order(
+            rt, alloc, opener, messenger, place, source, order, reader, out, err,
+        ),
+        Task::Check { path } => run_check(alloc, opener, watch, path, out, err),
         Task::Migration { path } => run_migration::<K, O, E>(opener, path, err),
-        Task::Stop { path } => send_stop(rt, alloc, path, out, err),
+        Task::Stop { path } => send_stop(alloc, messenger, path, out, err),
     }
 }
 
@@ -211,15 +112,27 @@ fn run_task<K: Keeper, O: Opener<K> + Watch, R: Read, W: Write, E: Write>(
 /// with the words is told before a database is opened or a server asked. With status 1 or 2 nothing was read
 /// or written, but for the line of standard input that the words take for a token. An order that is sent has
 /// the status and the text that the server answers.
-pub fn run_words<K: Keeper, O: Opener<K> + Watch, S: AsStr, R: Read, W: Write, E: Write>(
+pub fn run_words<
+    K: Keeper,
+    O: Opener<K>,
+    M: Messenger,
+    V: Watch,
+    S: AsStr,
+    R: Read,
+    W: Write,
+    E: Write,
+>(
     rt: &HostRuntime,
-    opener: &O,
+    opener: &mut O,
+    messenger: &mut M,
+    watch: &V,
     words: &[S],
     reader: &mut R,
     out: &mut W,
     err: &mut E,
 ) -> u8
-    ensures runs { RunsWords (OverAt K.is_honest K.state (O.opens opener.now))
+    ensures runs { RunsWords (acts (between K.is_honest K.state O.opens (O.had opener.old) (O.had opener.new))
+        (M.had messenger.old) (M.had messenger.new))
         (map S.text words.now) result
         (streams (R.remaining reader.old) (R.remaining reader.new)
         (W.contents out.old) (W.contents out.new)) }
@@ -231,7 +144,7 @@ pub fn run_words<K: Keeper, O: Opener<K> + Watch, S: AsStr, R: Read, W: Write, E
 {
     let alloc = rt.alloc();
     match read_words(alloc, words) {
-        Ok(task) => run_task(rt, opener, task, reader, out, err),
+        Ok(task) => run_task(rt, opener, messenger, watch, task, reader, out, err),
         Err(Told::Failed(failure)) => say(err, failure),
         Err(Told::Options { word, cause }) => {
             say_at(err, Failure::InvalidOptions, word, Some(cause))

@@ -43,13 +43,27 @@ impl Watch for Progress {
 
 /// How far a check is, on one line of standard error that is written over itself; nothing where that is no
 /// terminal.
-pub fn show_looked_at(err: &mut Stderr, done: u64, of: u64) {
-    if !err.is_terminal() {
-        return;
+#[derive(Drop)]
+pub struct CheckProgress<'a> {
+    rt: &'a HostRuntime,
+}
+
+impl<'a> CheckProgress<'a> {
+    pub fn new(rt: &'a HostRuntime) -> CheckProgress<'a> {
+        CheckProgress { rt }
     }
-    let end = if done == of { "\n" } else { "" };
-    let _ = write!(
-        err,
-        "\rregistry: {done} of {of} blobs and manifests\u{1b}[K{end}"
-    );
+}
+
+impl registry_checking::Watch for CheckProgress<'_> {
+    fn looked_at(&self, done: u64, of: u64) {
+        let mut err = self.rt.stderr();
+        if !err.is_terminal() {
+            return;
+        }
+        let end = if done == of { "\n" } else { "" };
+        let _ = write!(
+            err,
+            "\rregistry: {done} of {of} blobs and manifests\u{1b}[K{end}"
+        );
+    }
 }

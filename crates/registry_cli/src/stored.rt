@@ -2,8 +2,9 @@
 //! which keeps their proofs small.
 ghost use Rattle.std.specs.Prelude.{◌<◌, ◌≤◌, true, map};
 ghost use Rattle.sqlite.specs.Files.{over_files};
+ghost use Rattle.registry_opening.specs.Openings.{between};
+ghost use Rattle.registry_tasks.specs.Acts.{acts};
 ghost use Rattle.registry_tasks.specs.Program.{streams};
-ghost use Rattle.registry_tasks.specs.Stored.{OverAt};
 ghost use Rattle.registry_cli.specs.Running.{RunsWords, IsSparedFor};
 ghost use Rattle.registry_store.specs.Kept.{IsHonest, shown};
 
@@ -11,21 +12,35 @@ use crate::program::run_words;
 use registry_checking::Watch;
 use registry_opening::Opener;
 use registry_store::Store;
+use registry_tasks::Messenger;
 use sqlite::{Alter, FileStore};
 use sqlite_disk::Disk;
 use std::convert::AsStr;
 use std::io::{Read, Write};
 
 /// `run_words` over the tables of databases.
-fn run_over<S: Alter, O: Opener<Store<S>> + Watch, T: AsStr, R: Read, W: Write, E: Write>(
+fn run_over<
+    S: Alter,
+    O: Opener<Store<S>>,
+    M: Messenger,
+    V: Watch,
+    T: AsStr,
+    R: Read,
+    W: Write,
+    E: Write,
+>(
     rt: &HostRuntime,
-    opener: &O,
+    opener: &mut O,
+    messenger: &mut M,
+    watch: &V,
     words: &[T],
     reader: &mut R,
     out: &mut W,
     err: &mut E,
 ) -> u8
-    ensures runs { RunsWords (OverAt (IsHonest S.Store true) (shown S.Store) (O.opens opener.now))
+    ensures runs { RunsWords
+        (acts (between (IsHonest S.Store true) (shown S.Store) O.opens (O.had opener.old) (O.had opener.new))
+        (M.had messenger.old) (M.had messenger.new))
         (map T.text words.now) result
         (streams (R.remaining reader.old) (R.remaining reader.new)
         (W.contents out.old) (W.contents out.new)) }
@@ -35,22 +50,33 @@ fn run_over<S: Alter, O: Opener<Store<S>> + Watch, T: AsStr, R: Read, W: Write, 
         (W.contents out.old) (W.contents out.new)) }
     ensures status { result ≤ 4 }
 {
-    run_words(rt, opener, words, reader, out, err)
+    run_words(rt, opener, messenger, watch, words, reader, out, err)
 }
 
 /// Does what the words behind the program's name say, over databases in files, with these ends for standard
 /// input, output and error; gives the exit status, as `run_words` does.
 pub fn run_in_files<
     D: Disk,
-    O: Opener<Store<FileStore<D>>> + Watch,
+    O: Opener<Store<FileStore<D>>>,
+    M: Messenger,
+    V: Watch,
     T: AsStr,
     R: Read,
     W: Write,
     E: Write,
->(rt: &HostRuntime, opener: &O, words: &[T], reader: &mut R, out: &mut W, err: &mut E) -> u8
+>(
+    rt: &HostRuntime,
+    opener: &mut O,
+    messenger: &mut M,
+    watch: &V,
+    words: &[T],
+    reader: &mut R,
+    out: &mut W,
+    err: &mut E,
+) -> u8
     ensures runs { RunsWords
-        (OverAt (IsHonest (over_files {g = D.Disk}) true) (shown (over_files {g = D.Disk}))
-        (O.opens opener.now))
+        (acts (between (IsHonest (over_files {g = D.Disk}) true) (shown (over_files {g = D.Disk}))
+        O.opens (O.had opener.old) (O.had opener.new)) (M.had messenger.old) (M.had messenger.new))
         (map T.text words.now) result
         (streams (R.remaining reader.old) (R.remaining reader.new)
         (W.contents out.old) (W.contents out.new)) }
@@ -60,5 +86,7 @@ pub fn run_in_files<
         (W.contents out.old) (W.contents out.new)) }
     ensures status { result ≤ 4 }
 {
-    run_over::<FileStore<D>, O, T, R, W, E>(rt, opener, words, reader, out, err)
+    run_over::<FileStore<D>, O, M, V, T, R, W, E>(
+        rt, opener, messenger, watch, words, reader, out, err,
+    )
 }

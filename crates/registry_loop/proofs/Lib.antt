@@ -1,2 +1,3 @@
 pub mod TogetherLemmas
 pub mod CallerLemmas
+pub mod RoundLemmas

@@ -1,5 +1,5 @@
 -- Connections that are served together, from none on.
-use Rattle.std.proofs.Common.{ℕ, [], ◌∷◌, inl, inr, refl, sym, subst}
+use Rattle.std.proofs.Common.{ℕ, [], ◌∷◌, ◌++◌, inl, inr, refl, sym, subst}
 use Rattle.registry_model.specs.Keeping.{State}
 use Rattle.registry_model.specs.declared.settings.Settings.{Settings}
 use Rattle.registry_model.specs.Team.{orders}
@@ -8,11 +8,22 @@ use Rattle.registry_server.specs.Open.{Open, none}
 use Rattle.registry_server.specs.Events.{Leads, elsewhere}
 use Rattle.registry_server.proofs.LedgerLemmas.{all_are_served}
 use Rattle.registry_server.proofs.RoomLemmas.{all_within}
-use Rattle.registry_server.proofs.CallLemmas.{leads_none, leads_then}
+use Rattle.registry_server.proofs.CallLemmas.{passes_then}
 use Rattle.order_carrying.specs.Answering.{IsOneStep}
-use Rattle.registry_loop.specs.Together.{ServesWithin, ServesTogether, LeadsBeside, bounds_of}
+use Rattle.registry_loop.specs.Together.{ServesWithin, ServesTogether, Passed, PassesBeside, bounds_of}
 
-pub within_from : (settings : Settings) (at_once buffer : ℕ) (s : State) (u : Open) (s' : State) → Leads (none settings (bounds_of at_once buffer)) s u s'
+-- ---- events one after the other
+
+pub passed_none : (u : Open) (s : State) → Passed u s u s
+passed_none u s = ([], (refl, refl))
+
+pub passed_then : (u : Open) (s : State) (v : Open) (t : State) (w : Open) (r : State) → Passed u s v t → Passed v t w r → Passed u s w r
+passed_then u s v t w r x y = (x.0 ++ y.0, passes_then x.0 y.0 u s v t w r x.1 y.1)
+
+pub passed_by : (u : Open) (s : State) (v : Open) (t : State) → Leads u s v t → Passed u s v t
+passed_by u s v t x = (x.0, x.1)
+
+pub within_from : (settings : Settings) (at_once buffer : ℕ) (s : State) (u : Open) (s' : State) → Passed (none settings (bounds_of at_once buffer)) s u s'
     → ServesWithin settings at_once buffer s s'
 within_from settings at_once buffer s u s' x =
     let bounds = bounds_of at_once buffer in
@@ -27,7 +38,7 @@ within_from settings at_once buffer s u s' x =
 pub within_none : (settings : Settings) (at_once buffer : ℕ) (s : State) → ServesWithin settings at_once buffer s s
 within_none settings at_once buffer s =
     let u = none settings (bounds_of at_once buffer) in
-    within_from settings at_once buffer s u s (leads_none u s)
+    within_from settings at_once buffer s u s (passed_none u s)
 
 -- with any buffer
 pub together_none : (settings : Settings) (at_once : ℕ) (s : State) → ServesTogether settings at_once s s
@@ -35,12 +46,12 @@ together_none settings at_once s = (0, within_none settings at_once 0 s)
 
 -- ---- orders, which leave all connections as they are
 
-pub beside_none : (s : State) → LeadsBeside s s
-beside_none s u = leads_none u s
+pub beside_none : (s : State) → PassesBeside s s
+beside_none s u = passed_none u s
 
-pub beside_then : (s t r : State) → LeadsBeside s t → LeadsBeside t r → LeadsBeside s r
-beside_then s t r x y u = leads_then u s u t u r (x u) (y u)
+pub beside_then : (s t r : State) → PassesBeside s t → PassesBeside t r → PassesBeside s r
+beside_then s t r x y u = passed_then u s u t u r (x u) (y u)
 
-pub beside_step : (s s' : State) → IsOneStep s s' → LeadsBeside s s'
-beside_step s s' (inl e) u = subst (Leads u s u) (sym e) (leads_none u s)
+pub beside_step : (s s' : State) → IsOneStep s s' → PassesBeside s s'
+beside_step s s' (inl e) u = subst (Passed u s u) (sym e) (passed_none u s)
 beside_step s s' (inr x) u = (elsewhere (orders x.0) (did x.1) ∷ [], (u, s', (refl, x.2), (refl, refl)))

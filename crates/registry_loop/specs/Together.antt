@@ -1,5 +1,5 @@
 -- Connections that are served together (profile).
-use Rattle.std.specs.Prelude.{◌≡◌, ◌/◌, ◌*◌, ℕ, min, List, ◌++◌}
+use Rattle.std.specs.Prelude.{◌≡◌, ◌/◌, ◌*◌, ℕ, zero, suc, min, List, [], ◌++◌}
 use Rattle.registry_model.specs.Keeping.{State}
 use Rattle.registry_model.specs.declared.settings.Settings.{Settings}
 use Rattle.registry_server.specs.declared.bounds.Bounds.{Bounds}
@@ -7,6 +7,7 @@ use Rattle.registry_orders.specs.declared.limits.Limits.{Limits}
 use Rattle.registry_server.specs.Open.{Open, none}
 use Rattle.registry_server.specs.Room.{HoldsWithin}
 use Rattle.registry_server.specs.Events.{Event, Passes, OneLedger, Leads}
+use Rattle.order_sockets.specs.Calling.{Called, AttendsRound}
 
 -- half of the buffer is for requests that are coming, and half for replies that are going
 abbrev pub bounds_of : ℕ → ℕ → Bounds
@@ -36,6 +37,48 @@ ServesWithin settings at_once buffer s s' = ServesBounded settings (bounds_of at
 abbrev pub ServesTogether : Settings → ℕ → State → State → Type 0
 ServesTogether settings at_once s s' = (buffer : ℕ) × ServesWithin settings at_once buffer s s'
 
+-- some events lead there, those beside connections among them
+abbrev pub Passed : Open → State → Open → State → Type 0
+Passed u s u' s' = (events : List Event) × Passes events u s u' s'
+
 -- some events that leave all connections as they are, whatever those are
-abbrev pub LeadsBeside : State → State → Type 0
-LeadsBeside s s' = (u : Open) → Leads u s u s'
+abbrev pub PassesBeside : State → State → Type 0
+PassesBeside s s' = (u : Open) → Passed u s u s'
+
+-- ---- what is done beside connections is what those who give orders have said
+
+-- One round. Calls of connections lead to some state; there each of those who give orders is attended, whether
+-- they were there or came; and calls of connections lead on.
+pub record Round (u : Open) (c : List Called) (s : State) (u' : Open) (c' : List Called) (s' : State)
+    : Type 0 where
+  pub mid : Open
+  pub before : State
+  pub behind : State
+  pub leads : Leads u s mid before
+  pub attends : AttendsRound c c' before behind
+  pub goes_on : Leads mid behind u' s'
+
+-- so many rounds, each over those whom the one before left
+abbrev pub Rounds : ℕ → Open → List Called → State → Open → List Called → State → Type 0
+Rounds zero u c s u' c' s' = (u' ≡ u) × (c' ≡ c) × (s' ≡ s)
+Rounds (suc n) u c s u' c' s' =
+    (v : Open) × (d : List Called) × (t : State) × Rounds n u c s v d t × Round v d t u' c' s'
+
+-- some rounds, and behind them calls of connections alone
+pub record GoesRounds (u : Open) (c : List Called) (s : State) (u' : Open) (s' : State) : Type 0 where
+  pub count : ℕ
+  pub mid : Open
+  pub there : List Called
+  pub state : State
+  pub rounds : Rounds count u c s mid there state
+  pub ends : Leads mid state u' s'
+
+-- the same from no connection on, with these settings and within these bounds, where these give orders
+abbrev pub ServesRounds : Settings → Bounds → List Called → State → State → Type 0
+ServesRounds settings bounds c s s' = (last : Open) × GoesRounds (none settings bounds) c s last s'
+
+-- Served together with these settings, at most so many at once and within this buffer, from nobody on: what is
+-- done beside connections is what those who give orders have said.
+abbrev pub ServesAll : Settings → ℕ → ℕ → State → State → Type 0
+ServesAll settings at_once buffer s s' =
+    ServesWithin settings at_once buffer s s' × ServesRounds settings (bounds_of at_once buffer) [] s s'

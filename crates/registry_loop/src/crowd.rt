@@ -1,13 +1,16 @@
 //! Many sockets by readiness, in one thread.
-ghost use Rattle.std.specs.Prelude.{◌≡◌, true, false, IfOk, OnOk};
+ghost use Rattle.std.specs.Prelude.{◌≡◌, [], true, false, IfOk, OnOk, OnErr};
 ghost use Rattle.registry_server.specs.Events.{Carries, Leads};
 ghost use Rattle.registry_server.specs.Showing.{connected};
 ghost use Rattle.registry_server.specs.Lives.{NoneSilent};
-ghost use Rattle.registry_loop.specs.Together.{bounds_of, most_silence};
+ghost use Rattle.order_sockets.specs.Calls.{all_called};
+ghost use Rattle.order_sockets.specs.Calling.{AttendsRound};
+ghost use Rattle.registry_loop.specs.Together.{bounds_of, most_silence, Round, GoesRounds};
 
 use crate::doors::Doors;
 use crate::gathering::Gathering;
 use crate::sockets::{EVENTS, Sockets};
+use order_sockets::Callers;
 use registry_model::{Keeper, Settings};
 use registry_orders::Limits;
 use registry_server::{Bounds, Connections};
@@ -31,6 +34,7 @@ pub struct Crowd<'a, T: Clock, E: Write> {
     pub(crate) log: Log<'a, E>,
     limits: Limits,
     pub(crate) sockets: Sockets,
+    callers: Callers,
 }
 
 /// Half of the buffer is for requests, and half for replies.
@@ -65,29 +69,36 @@ fn say_others<T: Clock, E: Write>(
 }
 
 impl<'a, T: Clock, E: Write> Crowd<'a, T, E> {
-    /// Nobody but those who come to the listener, of whom so many are taken. An error is that of the system,
-    /// also where it refuses to watch what is to be watched, or want of memory.
+    /// Nobody, and nobody can come yet; in the end so many connections. An error is that of the system, or want
+    /// of memory.
     pub fn new(
         alloc: Global,
         net: &HostRuntime,
         clock: &'a T,
         log: Log<'a, E>,
-        doors: Doors,
         limits: Limits,
         connections: u64,
-    ) -> io::Result<Crowd<'a, T, E>> {
-        let sockets = Sockets::new(alloc, net, doors, connections)?;
+    ) -> io::Result<Crowd<'a, T, E>>
+        ensures limits { IfOk result (λ crowd. crowd.limits ≡ limits) }
+        ensures callers { IfOk result (λ crowd. all_called crowd.callers.callers.items ≡ []) }
+    {
+        let sockets = Sockets::new(alloc, net, connections)?;
+        let callers = Callers::new(alloc, sockets.poll.registry(), None)?;
         Ok(Crowd {
             clock,
             log,
             limits,
             sockets,
+            callers,
         })
     }
 
     /// Notes when it is.
     fn look_at_clock(&mut self, connections: &mut Connections)
-        ensures { connected connections.new ≡ connected connections.old }
+        ensures same { connected connections.new ≡ connected connections.old }
+        ensures limits { self.new.limits ≡ self.old.limits }
+        ensures callers { all_called self.new.callers.callers.items
+            ≡ all_called self.old.callers.callers.items }
     {
         if let Ok(now) = self.clock.monotonic() {
             self.sockets.now = now;
@@ -98,7 +109,10 @@ impl<'a, T: Clock, E: Write> Crowd<'a, T, E> {
     /// The server has worked since a moment of the clock, and heard nobody meanwhile. Where that was for
     /// long it is nobody's silence.
     fn note_work(&mut self, connections: &mut Connections, began: Duration)
-        ensures { connected connections.new ≡ connected connections.old }
+        ensures same { connected connections.new ≡ connected connections.old }
+        ensures limits { self.new.limits ≡ self.old.limits }
+        ensures callers { all_called self.new.callers.callers.items
+            ≡ all_called self.old.callers.callers.items }
     {
         self.look_at_clock(connections);
         if self.sockets.now.saturating_sub(began) >= Duration::from_secs(LONG_WORK) {
@@ -116,6 +130,9 @@ impl<'a, T: Clock, E: Write> Crowd<'a, T, E> {
         ensures honest { K.is_honest service.new → K.is_honest service.old }
         ensures leads { K.is_honest service.new → Leads (connected connections.old) (K.state service.old)
             (connected connections.new) (K.state service.new) }
+        ensures limits { self.new.limits ≡ self.old.limits }
+        ensures callers { all_called self.new.callers.callers.items
+            ≡ all_called self.old.callers.callers.items }
     {
         if service.spent() {
             return false;
@@ -149,6 +166,9 @@ impl<'a, T: Clock, E: Write> Crowd<'a, T, E> {
         ensures honest { K.is_honest service.new → K.is_honest service.old }
         ensures leads { K.is_honest service.new → Leads (connected connections.old) (K.state service.old)
             (connected connections.new) (K.state service.new) }
+        ensures limits { self.new.limits ≡ self.old.limits }
+        ensures callers { all_called self.new.callers.callers.items
+            ≡ all_called self.old.callers.callers.items }
     {
         let began = self.sockets.now;
         for _ in 0..EVENTS {
@@ -161,6 +181,19 @@ impl<'a, T: Clock, E: Write> Crowd<'a, T, E> {
     }
 
     /// Has the orders carried out that are there, between two requests.
+    fn take_orders<K: Keeper>(&mut self, alloc: Global, service: &mut Service<K>)
+        ensures honest { K.is_honest service.new → K.is_honest service.old }
+        ensures attends { K.is_honest service.new
+            → AttendsRound (all_called self.old.callers.callers.items) (all_called self.new.callers.callers.items)
+            (K.state service.old) (K.state service.new) }
+        ensures limits { self.new.limits ≡ self.old.limits }
+    {
+        let now = self.sockets.now;
+        let registry = self.sockets.poll.registry();
+        self.callers.attend(alloc, registry, service, now);
+    }
+
+    /// The same; that it took time is nobody's silence.
     fn carry_out<K: Keeper>(
         &mut self,
         alloc: Global,
@@ -168,11 +201,14 @@ impl<'a, T: Clock, E: Write> Crowd<'a, T, E> {
         service: &mut Service<K>,
     )
         ensures honest { K.is_honest service.new → K.is_honest service.old }
-        ensures leads { K.is_honest service.new → Leads (connected connections.old) (K.state service.old)
-            (connected connections.new) (K.state service.new) }
+        ensures attends { K.is_honest service.new
+            → AttendsRound (all_called self.old.callers.callers.items) (all_called self.new.callers.callers.items)
+            (K.state service.old) (K.state service.new) }
+        ensures same { connected connections.new ≡ connected connections.old }
+        ensures limits { self.new.limits ≡ self.old.limits }
     {
         let began = self.sockets.now;
-        self.sockets.take_orders(alloc, service);
+        self.take_orders(alloc, service);
         self.note_work(connections, began);
     }
 
@@ -183,9 +219,13 @@ impl<'a, T: Clock, E: Write> Crowd<'a, T, E> {
         connections: &mut Connections,
         at_once: usize,
     ) -> io::Result<()>
-        ensures { Carries (connected connections.old) (connected connections.new) }
+        ensures leads { Carries (connected connections.old) (connected connections.new) }
+        ensures limits { self.new.limits ≡ self.old.limits }
+        ensures callers { all_called self.new.callers.callers.items
+            ≡ all_called self.old.callers.callers.items }
     {
-        self.sockets.wait(connections, self.log.has_left_out())?;
+        let speaks = self.log.has_left_out();
+        self.sockets.wait(connections, &mut self.callers, speaks)?;
         self.look_at_clock(connections);
         self.accept_all(alloc, connections, at_once)
     }
@@ -194,10 +234,14 @@ impl<'a, T: Clock, E: Write> Crowd<'a, T, E> {
     /// has been silent for as long as may be.
     fn end_round(&mut self, alloc: Global, connections: &mut Connections)
         ensures leads { Carries (connected connections.old) (connected connections.new) }
-        ensures none { NoneSilent (most_silence self.new.limits) connections.new }
+        ensures none { NoneSilent (most_silence self.old.limits) connections.new }
+        ensures limits { self.new.limits ≡ self.old.limits }
+        ensures callers { all_called self.new.callers.callers.items
+            ≡ all_called self.old.callers.callers.items }
     {
         let limit = self.limits.idle.saturating_mul(1_000);
-        self.sockets.end_round(alloc, connections, limit);
+        let asked = self.callers.is_asked_to_stop();
+        self.sockets.end_round(alloc, connections, limit, asked);
         say_others(alloc, self.clock, &mut self.log, &mut self.sockets);
     }
 
@@ -212,9 +256,14 @@ impl<'a, T: Clock, E: Write> Crowd<'a, T, E> {
         at_once: usize,
     ) -> io::Result<()>
         ensures honest { K.is_honest service.new → K.is_honest service.old }
-        ensures leads { K.is_honest service.new → Leads (connected connections.old) (K.state service.old)
-            (connected connections.new) (K.state service.new) }
-        ensures none { OnOk result (NoneSilent (most_silence self.new.limits) connections.new) }
+        ensures round { K.is_honest service.new → OnOk result (Round
+            (connected connections.old) (all_called self.old.callers.callers.items) (K.state service.old)
+            (connected connections.new) (all_called self.new.callers.callers.items) (K.state service.new)) }
+        ensures failed { K.is_honest service.new → OnErr result (Leads (connected connections.old)
+            (K.state service.old) (connected connections.new) (K.state service.new)
+            × (all_called self.new.callers.callers.items ≡ all_called self.old.callers.callers.items)) }
+        ensures limits { self.new.limits ≡ self.old.limits }
+        ensures none { OnOk result (NoneSilent (most_silence self.old.limits) connections.new) }
     {
         self.begin_round(alloc, connections, at_once)?;
         self.sockets.hear_all(connections);
@@ -234,26 +283,45 @@ impl<'a, T: Clock, E: Write> Crowd<'a, T, E> {
         at_once: usize,
     ) -> io::Result<bool>
         ensures honest { K.is_honest service.new → K.is_honest service.old }
-        ensures leads { K.is_honest service.new → Leads (connected connections.old) (K.state service.old)
+        ensures serves { K.is_honest service.new → GoesRounds
+            (connected connections.old) (all_called self.old.callers.callers.items) (K.state service.old)
             (connected connections.new) (K.state service.new) }
+        ensures none { OnOk result (self.new.callers.callers.items ≡ []) }
+        ensures limits { self.new.limits ≡ self.old.limits }
         ensures spent { IfOk result (λ over. over ≡ false → (K.state service.new).spent ≡ true) }
     {
         for _ in 0..u64::MAX {
             if service.spent() {
                 self.sockets.leave(connections);
+                self.callers.leave(self.sockets.now);
                 return Ok(false);
             }
             if self.sockets.has_ended() {
+                self.callers.leave(self.sockets.now);
                 return Ok(true);
             }
             self.serve_round(alloc, connections, service, at_once)?;
         }
+        self.callers.leave(self.sockets.now);
         Ok(true)
     }
 }
 
 impl<'a, T: Clock, E: Write> Gathering for Crowd<'a, T, E> {
+    ghost use Rattle.order_sockets.specs.Calls.{all_called};
+
     ghost buffer = { λ c. c.limits.buffer };
+
+    ghost callers = { λ c. all_called c.callers.callers.items };
+
+    fn open(&mut self, alloc: Global, doors: Doors) -> io::Result<()> {
+        self.callers = self.sockets.open(alloc, doors)?;
+        Ok(())
+    }
+
+    fn introduce(&mut self, line: &str) {
+        self.log.introduce(line);
+    }
 
     fn serve_all<K: Keeper>(
         &mut self,

@@ -1,8 +1,9 @@
 //! The doors of a server.
+ghost use Rattle.std.specs.Prelude.{◌≡◌, [], IfOk};
 
 use crate::stopping::watch;
 use mio::net::TcpListener;
-use mio::{Interest, Poll, Registry, Token};
+use mio::{Interest, Registry, Token};
 use order_sockets::Callers;
 use std::alloc::Global;
 use std::os::fd::RawFd;
@@ -23,21 +24,22 @@ pub struct Doors {
 }
 
 impl Doors {
-    /// What watches them, the one to which connections come, and those who give orders.
+    /// Has them watched: the one to which connections come, and those who give orders.
     pub(crate) fn open(
         self,
         alloc: Global,
-        net: &HostRuntime,
-    ) -> io::Result<(Poll, TcpListener, Callers)> {
+        registry: &Registry,
+    ) -> io::Result<(TcpListener, Callers)>
+        ensures { IfOk result (λ both. both.1.callers.items ≡ []) }
+    {
         let Doors {
             listener,
             orders,
             watched,
         } = self;
-        let poll = Poll::new(net)?;
-        let listener = listening(poll.registry(), listener, watched)?;
-        let callers = Callers::new(alloc, poll.registry(), orders)?;
-        Ok((poll, listener, callers))
+        let listener = listening(registry, listener, watched)?;
+        let callers = Callers::new(alloc, registry, orders)?;
+        Ok((listener, callers))
     }
 }
 

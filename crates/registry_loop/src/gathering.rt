@@ -1,7 +1,9 @@
 //! Connections that are served together.
-ghost use Rattle.std.specs.Prelude.{◌≡◌, ℕ, true, false, IfOk};
-ghost use Rattle.registry_loop.specs.Together.{ServesTogether, ServesWithin};
+ghost use Rattle.std.specs.Prelude.{◌≡◌, ℕ, List, [], true, false, IfOk, OnOk};
+ghost use Rattle.registry_loop.specs.Together.{ServesTogether, ServesWithin, ServesRounds, bounds_of};
+ghost use Rattle.order_sockets.specs.Calling.{Called};
 
+use crate::doors::Doors;
 use registry_model::{Keeper, Settings};
 use registry_service::Service;
 use std::alloc::Global;
@@ -11,6 +13,20 @@ use std::io;
 pub trait Gathering {
     /// About how many bytes of requests and of replies they may have in hand.
     ghost buffer: { Self → ℕ };
+
+    /// Those who give orders beside them.
+    ghost callers: { Self → List Called };
+
+    /// Those may come who come to these doors. An error is that of the system, also where it refuses to watch
+    /// what is to be watched.
+    fn open(&mut self, alloc: Global, doors: Doors) -> io::Result<()>
+        ensures buffer { buffer self.new ≡ buffer self.old }
+        ensures none { OnOk result (callers self.new ≡ []) };
+
+    /// Says a line before anybody comes.
+    fn introduce(&mut self, line: &str)
+        ensures buffer { buffer self.new ≡ buffer self.old }
+        ensures callers { callers self.new ≡ callers self.old };
 
     /// Serves those who come with these settings, at most so many at once, until all have come and gone, as
     /// they have soon where somebody asks the server to stop; or the service is spent: then everybody goes,
@@ -27,5 +43,9 @@ pub trait Gathering {
             → ServesTogether settings at_once (K.state service.old) (K.state service.new) }
         ensures within { K.is_honest service.new
             → ServesWithin settings at_once (buffer self.old) (K.state service.old) (K.state service.new) }
+        ensures rounds { K.is_honest service.new → ServesRounds settings (bounds_of at_once (buffer self.old))
+            (callers self.old) (K.state service.old) (K.state service.new) }
+        ensures none { OnOk result (callers self.new ≡ []) }
+        ensures buffer { buffer self.new ≡ buffer self.old }
         ensures spent { IfOk result (λ over. over ≡ false → (K.state service.new).spent ≡ true) };
 }

@@ -179,11 +179,17 @@ impl Sockets {
 
     /// The end of a round: begins to stop if that was asked, writes, and lets go. Behind it none is open that
     /// has been silent for so many milliseconds.
-    pub fn end_round(&mut self, alloc: Global, connections: &mut Connections, limit: u64)
+    pub fn end_round(
+        &mut self,
+        alloc: Global,
+        connections: &mut Connections,
+        limit: u64,
+        asked: bool,
+    )
         ensures leads { Carries (connected connections.old) (connected connections.new) }
         ensures none { NoneSilent limit connections.new }
     {
-        self.stop_if_asked();
+        self.stop_if(asked);
         self.tell_all(connections);
         self.part_with_others(alloc, connections);
         self.part_with_silent(connections, limit);

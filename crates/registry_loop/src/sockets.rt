@@ -1,8 +1,8 @@
-//! The sockets of a crowd, and those who give orders.
-ghost use Rattle.std.specs.Prelude.{◌≡◌};
+//! The sockets of a crowd.
+ghost use Rattle.std.specs.Prelude.{◌≡◌, [], IfOk};
 ghost use Rattle.registry_server.specs.Events.{Carries};
 ghost use Rattle.registry_server.specs.Showing.{connected};
-ghost use Rattle.registry_loop.specs.Together.{LeadsBeside};
+ghost use Rattle.order_sockets.specs.Calls.{all_called};
 
 use crate::doors::{Doors, LISTENER};
 use crate::peer::Peer;
@@ -11,9 +11,7 @@ use crate::stopping::is_end;
 use mio::net::{TcpListener, TcpStream};
 use mio::{Events, Poll};
 use order_sockets::Callers;
-use registry_model::Keeper;
 use registry_server::{Connections, Step, Turn};
-use registry_service::Service;
 use request_log::Cut;
 use std::alloc::{AllocError, Global};
 use std::io;
@@ -28,11 +26,12 @@ pub(crate) const EVENTS: usize = 256;
 /// How many seconds it is waited at most, so that silence is noticed.
 const WAIT: u64 = 1;
 
-/// A listener, and the sockets that were taken there; and those who give orders.
+/// A listener, and the sockets that were taken there.
 pub struct Sockets {
     pub(crate) poll: Poll,
     events: Events,
-    pub(crate) listener: TcpListener,
+    /// Where they come, once they may.
+    pub(crate) listener: Option<TcpListener>,
     /// So many connections are still to be taken.
     pub(crate) left: u64,
     /// One may wait to be taken.
@@ -54,7 +53,6 @@ pub struct Sockets {
     pub(crate) swept: Duration,
     /// The replies that were cut off, and were not said yet.
     pub(crate) cuts: Vec<Cut>,
-    pub(crate) callers: Callers,
     /// Nobody holds the other end of what is watched.
     pub(crate) ended: bool,
     /// Since when it is to stop.
@@ -80,7 +78,6 @@ impl Drop for Sockets {
             awake: _,
             swept: _,
             cuts: _,
-            callers: _,
             ended: _,
             stops: _,
             room: _,
@@ -105,20 +102,14 @@ fn excuse_answered(connections: &mut Connections, turn: &Turn)
 }
 
 impl Sockets {
-    /// Those at these doors, where so many connections are taken. An error is that of the system, also where
-    /// it refuses to watch what is to be watched, or want of memory.
-    pub fn new(
-        alloc: Global,
-        net: &HostRuntime,
-        doors: Doors,
-        connections: u64,
-    ) -> io::Result<Sockets> {
+    /// Nobody, and nobody can come yet; in the end so many connections. An error is that of the system, or want
+    /// of memory.
+    pub fn new(alloc: Global, net: &HostRuntime, connections: u64) -> io::Result<Sockets> {
         let (events, room) = rooms(alloc)?;
-        let (poll, listener, callers) = doors.open(alloc, net)?;
         Ok(Sockets {
-            poll,
+            poll: Poll::new(net)?,
             events,
-            listener,
+            listener: None,
             left: connections,
             knocks: true,
             door: None,
@@ -130,7 +121,6 @@ impl Sockets {
             awake: Vec::new(alloc),
             swept: Duration::ZERO,
             cuts: Vec::new(alloc),
-            callers,
             ended: false,
             stops: None,
             room,
@@ -138,18 +128,33 @@ impl Sockets {
         })
     }
 
+    /// Those may come who come to these doors; gives those who give orders. An error is that of the system,
+    /// also where it refuses to watch what is to be watched.
+    pub fn open(&mut self, alloc: Global, doors: Doors) -> io::Result<Callers>
+        ensures { IfOk result (λ callers. all_called callers.callers.items ≡ []) }
+    {
+        let (listener, callers) = doors.open(alloc, self.poll.registry())?;
+        self.listener = Some(listener);
+        Ok(callers)
+    }
+
     /// Whether something is to be done before anything happens.
-    fn is_busy(&mut self, connections: &Connections) -> bool {
+    fn is_busy(&mut self, connections: &Connections, callers: &Callers) -> bool {
         (self.pending && connections.has_room_for_reply())
             || is_any_ready(&mut self.peers, &self.awake, connections)
-            || self.callers.is_any_ready()
+            || callers.is_any_ready()
             || self.takes_next(connections)
     }
 
     /// For how long it may be waited, if not for ever; not for ever where something is to be said.
-    fn patience(&mut self, connections: &Connections, speaks: bool) -> Option<Duration> {
-        let quiet = !self.knocks && self.callers.is_quiet();
-        if self.is_busy(connections) {
+    fn patience(
+        &mut self,
+        connections: &Connections,
+        callers: &Callers,
+        speaks: bool,
+    ) -> Option<Duration> {
+        let quiet = !self.knocks && callers.is_quiet();
+        if self.is_busy(connections, callers) {
             Some(Duration::ZERO)
         } else if self.peers.is_empty() && quiet && !speaks {
             None
@@ -159,13 +164,15 @@ impl Sockets {
     }
 
     /// Notes what happened.
-    fn note_events(&mut self) {
+    fn note_events(&mut self, callers: &mut Callers)
+        ensures { all_called callers.new.callers.items ≡ all_called callers.old.callers.items }
+    {
         for event in self.events.iter() {
             if event.token() == LISTENER {
                 self.knocks = true;
             }
             self.ended = self.ended || is_end(event);
-            self.callers.note(event);
+            callers.note(event);
             if let Some(peer) = peer_of(&mut self.peers, event.token().0 as u64) {
                 peer.note(event);
                 let _ = list(&mut self.awake, peer);
@@ -174,10 +181,17 @@ impl Sockets {
     }
 
     /// Waits until something happens, and notes what; not for long where something is to be said.
-    pub fn wait(&mut self, connections: &Connections, speaks: bool) -> io::Result<()> {
-        let limit = self.patience(connections, speaks);
+    pub fn wait(
+        &mut self,
+        connections: &Connections,
+        callers: &mut Callers,
+        speaks: bool,
+    ) -> io::Result<()>
+        ensures { all_called callers.new.callers.items ≡ all_called callers.old.callers.items }
+    {
+        let limit = self.patience(connections, callers, speaks);
         self.poll.poll(&mut self.events, limit)?;
-        self.note_events();
+        self.note_events(callers);
         Ok(())
     }
 
@@ -296,29 +310,13 @@ impl Sockets {
         ensures { Carries (connected connections.old) (connected connections.new) }
     {
         self.tell_all(connections);
-        self.callers.leave(self.now);
         for _ in 0..self.peers.len() {
             self.dismiss_last(connections);
         }
     }
 
-    /// Whether all have come and gone. Then those who give orders go too, with what can be told at once.
-    pub fn has_ended(&mut self) -> bool {
-        if self.left == 0 && self.peers.is_empty() && self.door.is_none() {
-            self.callers.leave(self.now);
-            return true;
-        }
-        false
-    }
-
-    /// Carries out the orders that are there, between two requests.
-    pub fn take_orders<K: Keeper>(&mut self, alloc: Global, service: &mut Service<K>)
-        ensures honest { K.is_honest service.new → K.is_honest service.old }
-        ensures leads { K.is_honest service.new
-            → LeadsBeside (K.state service.old) (K.state service.new) }
-    {
-        let now = self.now;
-        let registry = self.poll.registry();
-        self.callers.attend(alloc, registry, service, now);
+    /// Whether all have come and gone.
+    pub fn has_ended(&self) -> bool {
+        self.left == 0 && self.peers.is_empty() && self.door.is_none()
     }
 }

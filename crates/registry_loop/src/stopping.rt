@@ -32,10 +32,10 @@ pub fn is_end(event: &Event) -> bool {
 }
 
 impl Sockets {
-    /// Begins to stop, where somebody asked for it or the other end of what is watched is closed: no more
+    /// Begins to stop, where somebody asked for it, or the other end of what is watched is closed: no more
     /// connections are taken.
-    pub fn stop_if_asked(&mut self) {
-        if self.stops.is_none() && (self.ended || self.callers.is_asked_to_stop()) {
+    pub fn stop_if(&mut self, asked: bool) {
+        if self.stops.is_none() && (self.ended || asked) {
             self.stops = Some(self.now);
             self.left = 0;
             self.door = None;

@@ -6,6 +6,8 @@
 //! as there are places; where they push, when one of them has rested for a second or others have waited for
 //! five. A server may close a connection that rests at any time (RFC 9112, section 9.5); nothing that came is
 //! lost.
+ghost use Rattle.std.specs.Prelude.{◌≡◌};
+ghost use Rattle.order_sockets.specs.Calls.{all_called};
 ghost use Rattle.registry_server.specs.Events.{Carries};
 ghost use Rattle.registry_server.specs.Showing.{connected};
 
@@ -188,7 +190,10 @@ impl Sockets {
         if !self.knocks || self.left == 0 {
             return Ok(Came::Nobody);
         }
-        match self.listener.accept() {
+        let Some(listener) = &self.listener else {
+            return Ok(Came::Nobody);
+        };
+        match listener.accept() {
             Ok((stream, _)) => {
                 self.left = self.left.saturating_sub(1);
                 self.door = Some(stream);
@@ -228,24 +233,40 @@ impl Sockets {
 }
 
 impl<'a, T: Clock, E: Write> Crowd<'a, T, E> {
-    /// Takes those who came, as far as they may be taken, and says who was turned away.
+    /// Takes the next one that came, and says where one was turned away. Says whether another may be taken.
+    fn accept_next(&mut self, alloc: Global, connections: &mut Connections) -> io::Result<bool>
+        ensures leads { Carries (connected connections.old) (connected connections.new) }
+        ensures limits { self.new.limits ≡ self.old.limits }
+        ensures callers { all_called self.new.callers.callers.items
+            ≡ all_called self.old.callers.callers.items }
+    {
+        match self.sockets.accept_one(alloc, connections)? {
+            Came::Somebody => Ok(true),
+            Came::TurnedAway => {
+                let now = self.sockets.now;
+                self.log.say_turned_away(alloc, self.clock, now);
+                Ok(true)
+            }
+            Came::Nobody => Ok(false),
+        }
+    }
+
+    /// Takes those who came, as far as they may be taken.
     pub(crate) fn accept_all(
         &mut self,
         alloc: Global,
         connections: &mut Connections,
         at_once: usize,
     ) -> io::Result<()>
-        ensures { Carries (connected connections.old) (connected connections.new) }
+        ensures leads { Carries (connected connections.old) (connected connections.new) }
+        ensures limits { self.new.limits ≡ self.old.limits }
+        ensures callers { all_called self.new.callers.callers.items
+            ≡ all_called self.old.callers.callers.items }
     {
         self.sockets.places = at_once;
         for _ in 0..2 * EVENTS {
-            match self.sockets.accept_one(alloc, connections)? {
-                Came::Somebody => {}
-                Came::TurnedAway => {
-                    let now = self.sockets.now;
-                    self.log.say_turned_away(alloc, self.clock, now);
-                }
-                Came::Nobody => return Ok(()),
+            if !self.accept_next(alloc, connections)? {
+                return Ok(());
             }
         }
         Ok(())

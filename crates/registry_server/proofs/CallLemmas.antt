@@ -1,6 +1,7 @@
 -- From the clause of each call to its event, and of calls one after the other.
 use Rattle.std.proofs.Common.{◌≡◌, ℕ, ◌+◌, ◌<◌, ◌≤◌, Bool, true, false, List, [], ◌∷◌, ◌++◌, length, take, drop, refl, sym, ap, subst, ◌∙◌}
 use Rattle.std.proofs.lemmas.List.{length-take-le, take-append-drop}
+use Rattle.std.proofs.lemmas.List.Elements.{All-nil, All-cons, All-append}
 use Rattle.oci_types.specs.Text.{Text}
 use Rattle.registry_model.specs.Keeping.{State}
 use Rattle.registry_server.specs.declared.phase.Step.{Step}
@@ -10,25 +11,25 @@ use Rattle.registry_server.specs.declared.receipt.Receipt.{Receipt}
 use Rattle.registry_server.specs.declared.receipt.Receipt.TheVariants.{Taken, NoRoom, NotOpen}
 use Rattle.registry_server.specs.Room.{IsReceived, going_sum}
 use Rattle.registry_server.specs.Open.{Slot, Open, Opens, Changes, Closes, TakesTurn, IfOpen, with_slots, hears, sends, Finishes, Sends}
-use Rattle.registry_server.specs.Events.{Event, comes, on, goes, HappensOn, Happens, Passes, Leads, Carries}
+use Rattle.registry_server.specs.Events.{Event, comes, on, goes, HappensOn, Happens, Passes, IsOfConnection, Leads, Carries}
 use Rattle.registry_model.specs.declared.settings.Settings.{Settings}
 
 -- ---- none, one, and one behind the other
 
 pub leads_none : (u : Open) (s : State) → Leads u s u s
-leads_none u s = ([], (refl, refl))
+leads_none u s = ([], (refl, refl), All-nil IsOfConnection)
 
-leads_one : (e : Event) (u : Open) (s : State) (u' : Open) (s' : State) → Happens e u s u' s' → Leads u s u' s'
-leads_one e u s u' s' h = (e ∷ [], (u', s', h, (refl, refl)))
+leads_one : (e : Event) (u : Open) (s : State) (u' : Open) (s' : State) → IsOfConnection e → Happens e u s u' s' → Leads u s u' s'
+leads_one e u s u' s' is h = (e ∷ [], (u', s', h, (refl, refl)), All-cons IsOfConnection e [] is (All-nil IsOfConnection))
 
-passes_then : (es fs : List Event) (u : Open) (s : State) (v : Open) (t : State) (w : Open) (r : State)
+pub passes_then : (es fs : List Event) (u : Open) (s : State) (v : Open) (t : State) (w : Open) (r : State)
     → Passes es u s v t → Passes fs v t w r → Passes (es ++ fs) u s w r
 passes_then [] fs u s v t w r x y =
     subst (λ (k : State). Passes fs u k w r) x.1 (subst (λ (a : Open). Passes fs a t w r) x.0 y)
 passes_then (e ∷ es) fs u s v t w r x y = (x.0, x.1, x.2, passes_then es fs x.0 x.1 v t w r x.3 y)
 
 pub leads_then : (u : Open) (s : State) (v : Open) (t : State) (w : Open) (r : State) → Leads u s v t → Leads v t w r → Leads u s w r
-leads_then u s v t w r x y = (x.0 ++ y.0, passes_then x.0 y.0 u s v t w r x.1 y.1)
+leads_then u s v t w r x y = (x.0 ++ y.0, passes_then x.0 y.0 u s v t w r x.1 y.1, All-append IsOfConnection x.0 y.0 x.2 y.2)
 
 pub carries_none : (u : Open) → Carries u u
 carries_none u s = leads_none u s
@@ -61,20 +62,20 @@ of_open true n P u u' f x = λ s. f s x.0 x.1
 of_open false n P u u' f x = carries_same u u' x.1
 
 pub of_opened : (n : ℕ) (u u' : Open) → Opens n u u' → Carries u u'
-of_opened n u u' x s = leads_one (comes n) u s u' s (x, refl)
+of_opened n u u' x s = leads_one (comes n) u s u' s tt (x, refl)
 
 pub of_received : (receipt : Receipt) (n : ℕ) (bytes : Text) (u u' : Open) → IsReceived receipt n bytes u u' → Carries u u'
 of_received Taken n bytes u u' x = λ s.
     let h : HappensOn n (came bytes) u s u' s =
     (changes_as {Q = λ c c'. Does u.settings (came bytes) c s c' s × (coming_len c' ≤ coming_len c + length bytes)} (λ c c' h. ((h.0, h.1, refl), h.2)) x.0, x.2) in
-    leads_one (on n (came bytes)) u s u' s (h, x.1)
+    leads_one (on n (came bytes)) u s u' s tt (h, x.1)
 of_received NoRoom n bytes u u' x = carries_same u u' x.3
 of_received NotOpen n bytes u u' x = carries_same u u' x.1
 
 pub of_finished : (there : Bool) (n : ℕ) (u u' : Open) → IfOpen there n (Changes n Finishes hears) u u' → Carries u u'
 of_finished there n u u' =
     of_open there n (Changes n Finishes hears) u u'
-    (λ s x e. leads_one (on n ended) u s u' s (changes_as {Q = λ c c'. Does u.settings ended c s c' s} (λ c c' h. (h, refl)) x, e))
+    (λ s x e. leads_one (on n ended) u s u' s tt (changes_as {Q = λ c c'. Does u.settings ended c s c' s} (λ c c' h. (h, refl)) x, e))
 
 -- the bytes that went out
 went_of : (settings : Settings) (count : ℕ) (s : State) (c c' : Shown) → Sends count c c' → Does settings (sent (take count c.going)) c s c' s
@@ -104,16 +105,16 @@ sent_one settings n count s xs ys y =
 pub of_sent : (there : Bool) (n count : ℕ) (u u' : Open) → IfOpen there n (Changes n (Sends count) (sends count)) u u' → Carries u u'
 of_sent there n count u u' =
     of_open there n (Changes n (Sends count) (sends count)) u u'
-    (λ s x e. leads_one (on n (sent (take count x.slot.conversation.going))) u s u' s (sent_one u.settings n count s u.slots u'.slots x, e))
+    (λ s x e. leads_one (on n (sent (take count x.slot.conversation.going))) u s u' s tt (sent_one u.settings n count s u.slots u'.slots x, e))
 
 pub of_closed : (there : Bool) (n : ℕ) (u u' : Open) → IfOpen there n (Closes n) u u' → Carries u u'
-of_closed there n u u' = of_open there n (Closes n) u u' (λ s x e. leads_one (goes n) u s u' s (x, e, refl))
+of_closed there n u u' = of_open there n (Closes n) u u' (λ s x e. leads_one (goes n) u s u' s tt (x, e, refl))
 
 pub of_turn : {honest : Type 0} (n : ℕ) (found : Step) (u : Open) (s : State) (u' : Open) (s' : State)
     → TakesTurn n found (λ c c'. (honest → Does u.settings (acted found) c s c' s') × (coming_len c' ≤ coming_len c)) u.slots u'.slots → u' ≡ with_slots u u'.slots
     → going_sum u.slots < u.bounds.going → honest → Leads u s u' s'
 of_turn {honest} n found u s u' s' y e room h =
-    leads_one (on n (acted found)) u s u' s' (
+    leads_one (on n (acted found)) u s u' s' tt (
       (
         record {
           front = y.front;

@@ -1,5 +1,5 @@
 -- What any list of calls comes to, over all connections and one service.
-use Rattle.std.specs.Prelude.{◌≡◌, ℕ, ◌+◌, ◌<◌, ◌≤◌, ◌==◌, if◌then◌else◌, List, [], ◌∷◌, ◌++◌, length, map, IfSome}
+use Rattle.std.specs.Prelude.{◌≡◌, ℕ, ◌+◌, ◌<◌, ◌≤◌, ◌==◌, if◌then◌else◌, List, [], ◌∷◌, ◌++◌, length, map, IfSome, All, ⊤}
 use Rattle.registry_model.specs.declared.settings.Settings.{Settings}
 use Rattle.registry_model.specs.Keeping.{State}
 use Rattle.registry_model.specs.Runs.{Outcome, told, Takes, TakesAll, RunSays}
@@ -50,9 +50,14 @@ Passes [] u s u' s' = (u' ≡ u) × (s' ≡ s)
 Passes (e ∷ events) u s u' s' =
     (mid : Open) × (t : State) × Happens e u s mid t × Passes events mid t u' s'
 
--- some events lead from these connections and this state to those
+-- it is of a connection, and no step of somebody else's
+abbrev pub IsOfConnection : Event → Type 0
+IsOfConnection (elsewhere step outcome) = ⊥
+IsOfConnection _ = ⊤
+
+-- some events of connections lead from these and this state to those
 abbrev pub Leads : Open → State → Open → State → Type 0
-Leads u s u' s' = (events : List Event) × Passes events u s u' s'
+Leads u s u' s' = (events : List Event) × Passes events u s u' s' × All IsOfConnection events
 
 -- some events that leave the service as it is, in whatever state
 abbrev pub Carries : Open → Open → Type 0

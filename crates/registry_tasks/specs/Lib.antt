@@ -1,6 +1,6 @@
 pub mod Failures
+pub mod Acts
 pub mod Program
-pub mod Stored
 pub mod Sockets
 pub mod Sending
 pub mod Checking

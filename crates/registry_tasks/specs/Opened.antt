@@ -1,8 +1,7 @@
--- What tasks come to over a registry that is opened for them. Here `over P` is that P is told of a registry
--- that was opened, from its first state to its last, and `at path` is the same of the registry at a path.
-use Rattle.std.specs.Prelude.{◌≡◌, ℕ, ◌⊎◌, ⊤, Option}
+-- What tasks come to over a registry that is opened for them, and what the opener does meanwhile: the registry
+-- is opened once, or none is.
+use Rattle.std.specs.Prelude.{◌≡◌, ◌≢◌, ◌<◌, ◌≤◌, ℕ, ◌⊎◌, ⊤, Option}
 use Rattle.oci_types.specs.Text.{Text}
-use Rattle.registry_model.specs.Keeping.{State}
 use Rattle.registry_model.specs.declared.settings.Settings.{Settings}
 use Rattle.registry_orders.specs.declared.failure.Failure.{Failure}
 use Rattle.registry_orders.specs.declared.orders.Order.{Order}
@@ -16,14 +15,12 @@ use Rattle.registry_orders.specs.Tokens.{IsFirstLine}
 use Rattle.registry_orders.specs.Failures.{status_of, IsOfWords, IsOfOpening}
 use Rattle.registry_orders.specs.Outputs.{Output, output, IsSilent}
 use Rattle.order_carrying.specs.Carrying.{IsCarriedOut}
+use Rattle.registry_opening.specs.Openings.{Between, Never, Once, TakesOver}
 use Rattle.registry_server.specs.Accepting.{Streams}
 use Rattle.registry_tasks.specs.Program.{ServesStored}
 use Rattle.registry_tasks.specs.Checking.{IsChecked}
-use Rattle.registry_tasks.specs.Sending.{IsSent}
-
--- what is said of a registry that was opened, from its first state to its last
-abbrev pub Opened : Type 1
-Opened = (State → State → Type 0) → Type 0
+use Rattle.registry_tasks.specs.Acts.{Acts, SendsNone, DoesNothing}
+use Rattle.registry_tasks.specs.Sending.{SendsOrder}
 
 abbrev pub output_of : Streams → Output
 output_of e = output e.held e.held'
@@ -32,32 +29,43 @@ output_of e = output e.held e.held'
 abbrev pub IsNotOpened : ℕ → Output → Type 0
 IsNotOpened status o = (f : Failure) × IsOfOpening f × (status ≡ status_of f) × IsSilent o
 
--- the order over a registry that is opened
-abbrev pub RunsOrder : Opened → Order → ℕ → Output → Type 0
-RunsOrder over order status o = IsNotOpened status o ⊎ over (λ s s'. IsCarriedOut s order status o s')
+-- what the exit status of an order says, and of standard output: an order that was read, and nothing written
+-- where it was not carried out, unless writing failed
+abbrev pub EndsOrder : ℕ → Output → Type 0
+EndsOrder status o = (0 < status → status < 4 → IsSilent o) × (status ≤ 4) × (status ≢ 2)
+
+-- the exit status of what is read over a registry: 0, 3 or 4
+abbrev pub EndsReading : ℕ → Type 0
+EndsReading status = (0 < status → 3 ≤ status) × (status ≤ 4)
+
+-- the order over the registry that is opened
+abbrev pub RunsOrder : {K : Type 0} → Between K → Text → Order → ℕ → Output → Type 0
+RunsOrder {K} b path order status o =
+    (Never b × IsNotOpened status o) ⊎ Once b path (λ s s'. IsCarriedOut s order status o s')
 
 -- what a registry that is opened holds is looked at
-abbrev pub RunsCheck : Opened → ℕ → Output → Type 0
-RunsCheck over status o = IsNotOpened status o ⊎ over (λ s s'. IsChecked s status o s')
+abbrev pub RunsCheck : {K : Type 0} → Between K → Text → ℕ → Output → Type 0
+RunsCheck {K} b path status o =
+    (Never b × IsNotOpened status o) ⊎ Once b path (λ s s'. IsChecked s status o s')
 
 -- the order at its place: over the registry that is opened there, or sent to the server that holds it
-abbrev pub RunsAt : (Text → Opened) → Place → Order → ℕ → Output → Type 0
-RunsAt at (Database path) order status o = RunsOrder (at path.now) order status o
-RunsAt at (Server path) order status o = IsSent status o
+abbrev pub RunsAt : {K : Type 0} → Acts K → Place → Order → ℕ → Output → Type 0
+RunsAt {K} a (Database path) order status o = SendsNone a × RunsOrder a.openings path.now order status o
+RunsAt {K} a (Server path) order status o = Never a.openings × SendsOrder a.sent a.sent' path.now order status o
 
 -- the order with some token
-abbrev pub RunsByFile : (Text → Opened) → Place → TokenOrder → ℕ → Output → Type 0
-RunsByFile at place order status o = (token : Text) × RunsAt at place (order_with order token) status o
+abbrev pub RunsByFile : {K : Type 0} → Acts K → Place → TokenOrder → ℕ → Output → Type 0
+RunsByFile {K} a place order status o = (token : Text) × RunsAt a place (order_with order token) status o
 
 -- the same with the token that is the first line of standard input, of which no more is read
-abbrev pub RunsByInput : (Text → Opened) → Place → TokenOrder → ℕ → Streams → Type 0
-RunsByInput at place order status e = (token : Text) × IsFirstLine e.left e.left' token
-    × RunsAt at place (order_with order token) status (output_of e)
+abbrev pub RunsByInput : {K : Type 0} → Acts K → Place → TokenOrder → ℕ → Streams → Type 0
+RunsByInput {K} a place order status e = (token : Text) × IsFirstLine e.left e.left' token
+    × RunsAt a place (order_with order token) status (output_of e)
 
-abbrev pub RunsTokenOrder : (Text → Opened) → Place → TokenSource → TokenOrder → ℕ → Streams → Type 0
-RunsTokenOrder at place Input order status e = RunsByInput at place order status e
-RunsTokenOrder at place (File path) order status e =
-    (e.left' ≡ e.left) × RunsByFile at place order status (output_of e)
+abbrev pub RunsTokenOrder : {K : Type 0} → Acts K → Place → TokenSource → TokenOrder → ℕ → Streams → Type 0
+RunsTokenOrder {K} a place Input order status e = RunsByInput a place order status e
+RunsTokenOrder {K} a place (File path) order status e =
+    (e.left' ≡ e.left) × RunsByFile a place order status (output_of e)
 
 -- the token is the first line of standard input, of which no more is read; or nothing of that is read
 abbrev pub GivesToken : TokenSource → Option Text → Option Text → Text → Type 0
@@ -69,19 +77,22 @@ abbrev pub IsReadFor : TokenSource → Option Text → Option Text → Type 0
 IsReadFor Input left left' = ⊤
 IsReadFor (File path) left left' = left' ≡ left
 
--- what was read is no token, or nothing could be read; no registry is opened, and nothing is sent
+-- what was read is no token, or nothing could be read
 abbrev pub IsWithoutToken : ℕ → Output → Type 0
 IsWithoutToken status o = (f : Failure) × IsOfWords f × (status ≡ status_of f) × IsSilent o
 
-abbrev pub LacksTokenOf : TokenSource → ℕ → Streams → Type 0
-LacksTokenOf Input status e = IsWithoutToken status (output_of e)
-LacksTokenOf (File path) status e = (e.left' ≡ e.left) × IsWithoutToken status (output_of e)
+-- the same, and no registry is opened, and nothing is sent
+abbrev pub LacksTokenOf : {K : Type 0} → Acts K → TokenSource → ℕ → Streams → Type 0
+LacksTokenOf {K} a Input status e = DoesNothing a × IsWithoutToken status (output_of e)
+LacksTokenOf {K} a (File path) status e = DoesNothing a × (e.left' ≡ e.left) × IsWithoutToken status (output_of e)
 
 -- one connection with these settings over a registry that is opened
-abbrev pub RunsStored : Settings → Opened → ℕ → Streams → Type 0
-RunsStored settings over status e =
-    (IsNotOpened status (output_of e) × (e.left' ≡ e.left)) ⊎ over (ServesStored settings status e)
+abbrev pub RunsStored : {K : Type 0} → Between K → Settings → Text → ℕ → Streams → Type 0
+RunsStored {K} b settings path status e =
+    (Never b × IsNotOpened status (output_of e) × (e.left' ≡ e.left))
+    ⊎ Once b path (ServesStored settings status e)
 
 -- the registry of schema 1 is taken over; or it is not opened
-abbrev pub EndsMigration : ℕ → Type 0
-EndsMigration status = (status ≡ 0) ⊎ ((f : Failure) × IsOfOpening f × (status ≡ status_of f))
+abbrev pub EndsMigration : {K : Type 0} → Between K → Text → ℕ → Type 0
+EndsMigration {K} b path status =
+    TakesOver b path × ((status ≡ 0) ⊎ ((f : Failure) × IsOfOpening f × (status ≡ status_of f)))

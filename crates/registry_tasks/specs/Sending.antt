@@ -1,11 +1,14 @@
 -- Lines that are sent to the server that holds the registry: orders, and the one that ends it (profile). What
--- a socket takes and gives is not known here: what the server did is its own contract.
-use Rattle.std.specs.Prelude.{◌≡◌, ◌≢◌, ◌≤◌, ℕ, ◌⊎◌, ◌==◌, ⊤, if◌then◌else◌}
+-- the server does is its own contract.
+use Rattle.std.specs.Prelude.{◌≡◌, ◌≢◌, ◌≤◌, ℕ, ◌⊎◌, ◌==◌, ◌∷◌, ◌++◌, List, [], ⊤, if◌then◌else◌}
 use Rattle.std.specs.Io.KnownBytes.{Appends}
 use Rattle.oci_types.specs.Text.{Text}
 use Rattle.order_texts.specs.Answers.{answer_text}
+use Rattle.order_texts.specs.Lines.{line_of}
+use Rattle.order_texts.specs.Stopping.{stop_line}
 use Rattle.registry_orders.specs.declared.failure.Failure.{Failure}
 use Rattle.registry_orders.specs.declared.failure.Failure.TheVariants.{OutOfMemory, ConnectionFailure}
+use Rattle.registry_orders.specs.declared.orders.Order.{Order}
 use Rattle.registry_orders.specs.Outputs.{Output, IsSilent}
 use Rattle.registry_orders.specs.Failures.{status_of}
 
@@ -43,3 +46,24 @@ abbrev pub IsSent : ℕ → Output → Type 0
 IsSent status o =
     ((bytes : Text) × Relays bytes status o)
     ⊎ ((f : Failure) × IsOfSending f × (status ≡ status_of f) × IsSilent o)
+
+-- ---- which lines were sent, each to the server at a path: `had` and `had'` tell of those up to one moment and
+-- up to another
+
+abbrev pub TakesNone : (List (Text × Text) → Type 0) → (List (Text × Text) → Type 0) → Type 0
+TakesNone had had' = (l : List (Text × Text)) → had l → had' l
+
+-- this line alone
+abbrev pub TakesLine : (List (Text × Text) → Type 0) → (List (Text × Text) → Type 0) → Text → Text → Type 0
+TakesLine had had' path line = (l : List (Text × Text)) → had l → had' (l ++ (path, line) ∷ [])
+
+-- the order's line was sent to the server at the path, and no other; or memory was wanting for it, and none was
+abbrev pub SendsOrder : (List (Text × Text) → Type 0) → (List (Text × Text) → Type 0) → Text → Order → ℕ → Output
+    → Type 0
+SendsOrder had had' path order status o =
+    (TakesLine had had' path (line_of order) × IsSent status o)
+    ⊎ (TakesNone had had' × (status ≡ status_of OutOfMemory) × IsSilent o)
+
+-- the line that asks the server at the path to stop was sent there, and no other
+abbrev pub SendsStop : (List (Text × Text) → Type 0) → (List (Text × Text) → Type 0) → Text → ℕ → Output → Type 0
+SendsStop had had' path status o = TakesLine had had' path stop_line × IsSent status o

@@ -1,17 +1,16 @@
 //! A registry in a database, looked at for what is wrong.
 ghost use Rattle.std.specs.Prelude.{◌≡◌, ◌≤◌, ◌<◌, [], IfErr};
+ghost use Rattle.registry_opening.specs.Openings.{between};
 ghost use Rattle.registry_orders.specs.Failures.{status_if};
 ghost use Rattle.registry_orders.specs.Outputs.{output};
 ghost use Rattle.registry_tasks.specs.Checking.{Checks, IsOfCheck};
 ghost use Rattle.registry_tasks.specs.Opened.{RunsCheck};
-ghost use Rattle.registry_tasks.specs.Stored.{OverAt};
 
-use crate::opened::end_at;
+use crate::opened::{Done, end_at};
 use oci_types::Fault;
-use order_carrying::Ended;
 use registry_checking::{Watch, Wrong, look, write_wrongs};
 use registry_model::Keeper;
-use registry_opening::Opener;
+use registry_opening::{Ended, Opener, Work};
 use registry_orders::Failure;
 use registry_orders::cause::say_at;
 use registry_orders::failure::say;
@@ -77,24 +76,62 @@ fn told<E: Write>(checked: Result<(), Failure>, err: &mut E) -> u8
     }
 }
 
-/// Opens the registry at a path, reads all that it holds, and writes a line for each thing that is wrong.
-pub fn run_check<K: Keeper, O: Opener<K> + Watch, W: Write, E: Write>(
+/// What a registry holds, looked at.
+#[derive(Drop)]
+struct CheckWork<'v, 'o, 'e, V, W: Write, E: Write> {
     alloc: Global,
-    opener: &O,
+    watch: &'v V,
+    out: &'o mut W,
+    err: &'e mut E,
+}
+
+impl<'v, 'o, 'e, K: Keeper, V: Watch, W: Write, E: Write> Work<K>
+    for CheckWork<'v, 'o, 'e, V, W, E> {
+    ghost use Rattle.registry_tasks.specs.Checking.{IsChecked};
+    ghost use Rattle.registry_tasks.specs.Opened.{EndsReading};
+
+    type Told = Done;
+
+    ghost does = { λ old s done new s'. IsChecked s done.status
+        (output (W.contents old.out.now) (W.contents new.out.now)) s' };
+
+    ghost says = { λ old done new. (new.out.ghost_name ≡ old.out.ghost_name)
+        × (new.err.ghost_name ≡ old.err.ghost_name) × EndsReading done.status };
+
+    fn work(&mut self, kept: K) -> Ended<K, Done> {
+        let mut keeper = kept;
+        let checked = check_kept(self.alloc, self.watch, &mut keeper, self.out);
+        let status = told(checked, self.err);
+        let spent = keeper.spent();
+        Ended {
+            keeper,
+            told: Done { status, spent },
+        }
+    }
+}
+
+/// Opens the registry at a path, reads all that it holds, and writes a line for each thing that is wrong.
+pub fn run_check<K: Keeper, O: Opener<K>, V: Watch, W: Write, E: Write>(
+    alloc: Global,
+    opener: &mut O,
+    watch: &V,
     path: &str,
     out: &mut W,
     err: &mut E,
 ) -> u8
-    ensures runs { RunsCheck (OverAt K.is_honest K.state (O.opens opener.now) path.now) result
-        (output (W.contents out.old) (W.contents out.new)) }
+    ensures runs { RunsCheck (between K.is_honest K.state O.opens (O.had opener.old) (O.had opener.new))
+        path.now result (output (W.contents out.old) (W.contents out.new)) }
     ensures failed { 0 < result → 3 ≤ result }
     ensures status { result ≤ 4 }
 {
-    let mut keeper = match opener.open(path) {
-        Ok(keeper) => keeper,
-        Err(failure) => return say_at(err, failure, path, opener.cause(path, failure)),
+    let mut work = CheckWork {
+        alloc,
+        watch,
+        out,
+        err,
     };
-    let checked = check_kept(alloc, opener, &mut keeper, out);
-    let status = told(checked, err);
-    end_at(opener, path, Ended { keeper, status }, err)
+    match opener.with_open(path, &mut work) {
+        Ok(done) => end_at(opener, path, done, err),
+        Err(failure) => say_at(err, failure, path, opener.cause(path, failure)),
+    }
 }

@@ -8,6 +8,7 @@
 
 mod checking;
 pub mod listening;
+pub mod messenger;
 pub mod opened;
 pub mod order_socket;
 pub mod sending;
@@ -17,9 +18,10 @@ pub mod telling;
 pub mod tokens;
 
 pub use checking::run_check;
+pub use messenger::{Messenger, Servers};
 pub use opened::{run_migration, run_order_at, run_stored};
 pub use order_socket::listen_for_orders;
 pub use sending::{send_order, send_stop};
-pub use stdio::{serve_from, serve_memory, serve_stdio};
+pub use stdio::{serve_memory, serve_stdio};
 pub use telling::tell;
 pub use tokens::run_token_order;

@@ -1,6 +1,5 @@
 //! Where a server listens, and what is said of an address: what is served there, or why it is not to be had.
-ghost use Rattle.std.specs.Prelude.{◌≡◌, OnOk, IfErr};
-ghost use Rattle.registry_orders.specs.Failures.{IsOfServing};
+ghost use Rattle.std.specs.Prelude.{◌≡◌, true, OnOk, OnErr, IfErr};
 
 use crate::order_socket::listen_for_orders;
 use libc::net::listen as set_queue;
@@ -10,7 +9,7 @@ use registry_model::Keeper;
 use registry_orders::{Cause, Failure};
 use std::alloc::Global;
 use std::io;
-use std::io::{ErrorKind, Write};
+use std::io::ErrorKind;
 use std::net::TcpListener;
 use std::os::fd::{AsRawFd, IntoRawFd};
 use std::os::unix::net::UnixListener;
@@ -116,34 +115,31 @@ pub fn cause_of_binding(kind: ErrorKind) -> Option<Cause> {
     }
 }
 
-/// Says on standard error which registry is served on which address, and how many repositories it has.
-/// Nothing is said where memory is wanting; the error is a storage failure.
-pub fn introduce<K: Keeper, E: Write>(
+/// The line that says which registry is served on which address, and how many repositories it has; none where
+/// memory is wanting for it. The error is a storage failure.
+pub fn introduction<K: Keeper>(
     alloc: Global,
     keeper: &mut K,
     listener: &TcpListener,
     path: &str,
-    err: &mut E,
-) -> Result<(), Failure>
+) -> Result<Option<String>, Failure>
     ensures honest { K.is_honest keeper.new → K.is_honest keeper.old }
     ensures stays { OnOk result (K.is_honest keeper.new → K.state keeper.new ≡ K.state keeper.old) }
-    ensures fails { IfErr result IsOfServing }
+    ensures spent { OnErr result ((K.state keeper.new).spent ≡ true) }
+    ensures fails { IfErr result (λ failure. failure ≡ Failure.StorageFailure) }
 {
     let count = match keeper.count_repos() {
         Ok(count) => count,
-        Err(Fault::Memory) => return Ok(()),
+        Err(Fault::Memory) => return Ok(None),
         Err(Fault::Storage) => return Err(Failure::StorageFailure),
     };
-    if let Ok(address) = listener.local_addr() {
-        let many = if count == 1 {
-            "repository"
-        } else {
-            "repositories"
-        };
-        let _ = writeln!(
-            err,
-            "registry: serving {path} ({count} {many}) on {address}"
-        );
-    }
-    Ok(())
+    let Ok(address) = listener.local_addr() else {
+        return Ok(None);
+    };
+    let many = if count == 1 {
+        "repository"
+    } else {
+        "repositories"
+    };
+    Ok(format!(in alloc; "registry: serving {path} ({count} {many}) on {address}\n").ok())
 }

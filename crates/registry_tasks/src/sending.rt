@@ -1,109 +1,15 @@
 //! Lines that are sent to the server that holds the registry: orders, and the one that ends it.
-ghost use Rattle.std.specs.Prelude.{◌≡◌, ◌≢◌, ◌<◌, ◌≤◌, ◌++◌, OnOk, IfOk, IfErr, IfSome};
-ghost use Rattle.std.specs.Io.KnownBytes.{Appends};
-ghost use Rattle.registry_orders.specs.Outputs.{newline};
+ghost use Rattle.std.specs.Prelude.{◌≡◌, ◌≢◌, ◌<◌, ◌≤◌};
 ghost use Rattle.registry_orders.specs.Outputs.{output, IsSilent};
-ghost use Rattle.registry_tasks.specs.Sending.{IsOfSending, Shows, Relays, IsSent};
+ghost use Rattle.registry_tasks.specs.Sending.{Shows, Relays, IsSent, TakesLine, SendsOrder, SendsStop};
 
+use crate::messenger::Messenger;
 use order_texts::{Answer, STOP, read_answer, write_order};
 use registry_orders::cause::say_at;
 use registry_orders::failure::say;
-use registry_orders::{Cause, Failure, Order};
+use registry_orders::{Failure, Order};
 use std::alloc::Global;
-use std::io;
-use std::io::{ErrorKind, Read, Write};
-use std::net::Shutdown;
-use std::os::unix::net::UnixStream;
-
-/// The most bytes of an answer.
-const MOST_BYTES: usize = 67_108_864;
-
-/// Why there is no answer.
-#[derive(Clone, Copy)]
-struct NoAnswer {
-    failure: Failure,
-    cause: Option<Cause>,
-}
-
-impl From<Failure> for NoAnswer {
-    ghost use Rattle.std.specs.Prelude.{◌≡◌};
-
-    ghost from_gives = { λ failure none. none.failure ≡ failure };
-
-    fn from(failure: Failure) -> NoAnswer {
-        NoAnswer {
-            failure,
-            cause: None,
-        }
-    }
-}
-
-/// What is wrong with the path of the socket, where the kind of the error tells.
-fn cause_of_connecting(kind: ErrorKind) -> Option<Cause> {
-    match kind {
-        ErrorKind::NotFound | ErrorKind::NotADirectory | ErrorKind::ConnectionRefused => {
-            Some(Cause::NoServer)
-        }
-        ErrorKind::PermissionDenied => Some(Cause::NoRightToWrite),
-        _ => None,
-    }
-}
-
-/// Writes a line, and its end.
-fn write_line<S: Write>(alloc: Global, line: &str, stream: &mut S) -> Result<(), Failure>
-    ensures written { OnOk result (Appends (S.contents stream.old) (S.contents stream.new)
-        (line.now ++ newline)) }
-    ensures refused { IfErr result IsOfSending }
-{
-    let mut whole = String::from_str(alloc, line)?;
-    whole.push('\n')?;
-    match stream.write_all(whole.as_bytes()) {
-        Ok(()) => Ok(()),
-        Err(_) => Err(Failure::ConnectionFailure),
-    }
-}
-
-/// All that a reader has left. An error is that reading fails, that it is too much for an answer, or that
-/// memory is wanting.
-fn read_all<R: Read + Drop>(alloc: Global, reader: R) -> Result<Vec<u8>, Failure>
-    ensures given { IfOk result (λ bytes. IfSome (R.remaining reader) (λ left. bytes.items ≡ left)) }
-    ensures refused { IfErr result IsOfSending }
-{
-    let mut bytes = Vec::new(alloc);
-    match reader.take(MOST_BYTES as u64 + 1).read_to_end(&mut bytes) {
-        Ok(_) if bytes.len() <= MOST_BYTES => Ok(bytes),
-        Ok(_) => Err(Failure::ConnectionFailure),
-        Err(error) => match error.kind() {
-            ErrorKind::OutOfMemory => Err(Failure::OutOfMemory),
-            _ => Err(Failure::ConnectionFailure),
-        },
-    }
-}
-
-/// What is answered over a stream to a line.
-fn answered(alloc: Global, stream: &UnixStream, line: &str) -> Result<Vec<u8>, Failure>
-    ensures { IfErr result IsOfSending }
-{
-    let mut writer = stream;
-    write_line(alloc, line, &mut writer)?;
-    match stream.shutdown(Shutdown::Write) {
-        Ok(()) => read_all(alloc, stream),
-        Err(_) => Err(Failure::ConnectionFailure),
-    }
-}
-
-/// What the server that takes orders at a path answers to a line.
-fn ask(rt: &HostRuntime, alloc: Global, path: &str, line: &str) -> Result<Vec<u8>, NoAnswer>
-    ensures { IfErr result (λ none. IsOfSending none.failure) }
-{
-    match UnixStream::connect(rt, path) {
-        Ok(stream) => Ok(answered(alloc, &stream, line)?),
-        Err(error) => Err(NoAnswer {
-            failure: Failure::ConnectionFailure,
-            cause: cause_of_connecting(error.kind()),
-        }),
-    }
-}
+use std::io::Write;
 
 /// Writes the text of an order that was carried out.
 fn show<W: Write, E: Write>(text: &[u8], out: &mut W, err: &mut E) -> u8
@@ -143,21 +49,22 @@ fn relay<W: Write, E: Write>(bytes: &[u8], out: &mut W, err: &mut E) -> u8
 /// status is the server's, and its text goes to standard output where the line was carried out, and else to
 /// standard error. Where there is no server, no answer, or one of more than 64 MiB, it is a failed
 /// connection. The status is 3 where memory is wanting for it.
-fn send_line<W: Write, E: Write>(
-    rt: &HostRuntime,
+fn send_line<M: Messenger, W: Write, E: Write>(
     alloc: Global,
+    messenger: &mut M,
     path: &str,
     line: &str,
     out: &mut W,
     err: &mut E,
 ) -> u8
+    ensures line { TakesLine (M.had messenger.old) (M.had messenger.new) path.now line.now }
     ensures sent { IsSent result (output (W.contents out.old) (W.contents out.new)) }
     ensures silent { 0 < result → result < 4
         → IsSilent (output (W.contents out.old) (W.contents out.new)) }
     ensures status { result ≤ 4 }
     ensures read { result ≢ 2 }
 {
-    match ask(rt, alloc, path, line) {
+    match messenger.ask(alloc, path, line) {
         Ok(answer) => relay(answer.as_slice(), out, err),
         Err(none) => say_at(err, none.failure, path, none.cause),
     }
@@ -165,40 +72,42 @@ fn send_line<W: Write, E: Write>(
 
 /// Sends an order to the server that takes them at the socket at a path, and does what it answers, as
 /// `send_line` has it.
-pub fn send_order<W: Write, E: Write>(
-    rt: &HostRuntime,
+pub fn send_order<M: Messenger, W: Write, E: Write>(
     alloc: Global,
+    messenger: &mut M,
     path: &str,
     order: &Order,
     out: &mut W,
     err: &mut E,
 ) -> u8
-    ensures sent { IsSent result (output (W.contents out.old) (W.contents out.new)) }
+    ensures sent { SendsOrder (M.had messenger.old) (M.had messenger.new) path.now order.now result
+        (output (W.contents out.old) (W.contents out.new)) }
     ensures silent { 0 < result → result < 4
         → IsSilent (output (W.contents out.old) (W.contents out.new)) }
     ensures status { result ≤ 4 }
     ensures read { result ≢ 2 }
 {
     match write_order(alloc, order) {
-        Ok(line) => send_line(rt, alloc, path, line.as_str(), out, err),
+        Ok(line) => send_line(alloc, messenger, path, line.as_str(), out, err),
         Err(_) => say(err, Failure::OutOfMemory),
     }
 }
 
 /// Asks the server that takes orders at the socket at a path to stop, and does what it answers, likewise. It
 /// ends when the connections that have something in hand are done with, and its answer ends with it.
-pub fn send_stop<W: Write, E: Write>(
-    rt: &HostRuntime,
+pub fn send_stop<M: Messenger, W: Write, E: Write>(
     alloc: Global,
+    messenger: &mut M,
     path: &str,
     out: &mut W,
     err: &mut E,
 ) -> u8
-    ensures sent { IsSent result (output (W.contents out.old) (W.contents out.new)) }
+    ensures sent { SendsStop (M.had messenger.old) (M.had messenger.new) path.now result
+        (output (W.contents out.old) (W.contents out.new)) }
     ensures silent { 0 < result → result < 4
         → IsSilent (output (W.contents out.old) (W.contents out.new)) }
     ensures status { result ≤ 4 }
     ensures read { result ≢ 2 }
 {
-    send_line(rt, alloc, path, STOP, out, err)
+    send_line(alloc, messenger, path, STOP, out, err)
 }

@@ -4,7 +4,6 @@ ghost use Rattle.registry_orders.specs.Setting.{with_repos, with_levels, world_f
 ghost use Rattle.registry_tasks.specs.Failures.{ended_as};
 ghost use Rattle.registry_tasks.specs.Program.{streams, ServesMemory, ServesSetUp, ServesStored};
 
-use order_carrying::Ended;
 use registry_http::End;
 use registry_maps::MapKeeper;
 use registry_model::{Keeper, Settings};
@@ -165,28 +164,4 @@ pub fn serve_memory<R: Read, W: Write, E: Write>(
         out,
         err,
     )
-}
-
-/// Serves one connection over a keeper, as `serve_stdio` does, and hands the keeper back.
-pub fn serve_from<R: Read, W: Write, E: Write, K: Keeper>(
-    alloc: Global,
-    keeper: K,
-    settings: Settings,
-    reader: &mut R,
-    out: &mut W,
-    err: &mut E,
-) -> Ended<K>
-    ensures honest { K.is_honest result.keeper → K.is_honest keeper }
-    ensures serves { K.is_honest result.keeper → ServesStored settings result.status
-        (streams (R.remaining reader.old) (R.remaining reader.new) (W.contents out.old) (W.contents out.new))
-        (K.state keeper) (K.state result.keeper) }
-    ensures failed { 0 < result.status → 3 ≤ result.status }
-    ensures status { result.status ≤ 4 }
-{
-    let mut service = Service::new(keeper);
-    let status = serve_stdio(alloc, &mut service, settings, reader, out, err);
-    Ended {
-        keeper: service.into_keeper(),
-        status,
-    }
 }

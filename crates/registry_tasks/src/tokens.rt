@@ -1,11 +1,13 @@
 //! Orders whose token is read from a file or from standard input.
 ghost use Rattle.std.specs.Prelude.{◌≡◌, ◌≢◌, ◌<◌, ◌≤◌, ◌⊎◌, IfOk, IfErr};
+ghost use Rattle.registry_opening.specs.Openings.{between};
 ghost use Rattle.registry_orders.specs.Failures.{IsOfWords};
 ghost use Rattle.registry_orders.specs.Outputs.{IsSilent, output};
-ghost use Rattle.registry_tasks.specs.Stored.{OverAt};
+ghost use Rattle.registry_tasks.specs.Acts.{acts};
 ghost use Rattle.registry_tasks.specs.Program.{streams};
 ghost use Rattle.registry_tasks.specs.Opened.{GivesToken, IsReadFor, RunsTokenOrder, LacksTokenOf};
 
+use crate::messenger::Messenger;
 use crate::opened::run_order_at;
 use oci_types::Token;
 use registry_model::Keeper;
@@ -90,10 +92,11 @@ fn token_of<'a, R: Read>(
 
 /// Reads the token that an order lacks, and carries the order out at its place. Without a token no registry
 /// is opened, and nothing is sent.
-pub fn run_token_order<K: Keeper, O: Opener<K>, R: Read, W: Write, E: Write>(
+pub fn run_token_order<K: Keeper, O: Opener<K>, M: Messenger, R: Read, W: Write, E: Write>(
     rt: &HostRuntime,
     alloc: Global,
-    opener: &O,
+    opener: &mut O,
+    messenger: &mut M,
     place: Place,
     source: TokenSource,
     order: TokenOrder,
@@ -102,18 +105,28 @@ pub fn run_token_order<K: Keeper, O: Opener<K>, R: Read, W: Write, E: Write>(
     err: &mut E,
 ) -> u8
     ensures runs { ((result ≢ 2)
-        × RunsTokenOrder (OverAt K.is_honest K.state (O.opens opener.now)) place.entry source.entry
-        order result (streams (R.remaining reader.old) (R.remaining reader.new)
+        × RunsTokenOrder (acts (between K.is_honest K.state O.opens (O.had opener.old) (O.had opener.new))
+        (M.had messenger.old) (M.had messenger.new))
+        place.entry source.entry order result (streams (R.remaining reader.old) (R.remaining reader.new)
         (W.contents out.old) (W.contents out.new)))
-        ⊎ LacksTokenOf source.entry result
-        (streams (R.remaining reader.old) (R.remaining reader.new)
+        ⊎ LacksTokenOf (acts (between K.is_honest K.state O.opens (O.had opener.old) (O.had opener.new))
+        (M.had messenger.old) (M.had messenger.new))
+        source.entry result (streams (R.remaining reader.old) (R.remaining reader.new)
         (W.contents out.old) (W.contents out.new)) }
     ensures silent { 0 < result → result < 4
         → IsSilent (output (W.contents out.old) (W.contents out.new)) }
     ensures status { result ≤ 4 }
 {
     match token_of(rt, alloc, source, reader) {
-        Ok(token) => run_order_at(rt, alloc, opener, place, &order.with(token), out, err),
+        Ok(token) => run_order_at(
+            alloc,
+            opener,
+            messenger,
+            place,
+            &order.with(token),
+            out,
+            err,
+        ),
         Err(none) => say_at(err, none.failure, none.place, none.cause),
     }
 }

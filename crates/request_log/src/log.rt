@@ -65,6 +65,11 @@ impl<'a, E: Write> Log<'a, E> {
         }
     }
 
+    /// Writes a line before there are any requests, whether that waits or not.
+    pub fn introduce(&mut self, line: &str) {
+        self.outlet.put_waiting(line.as_bytes());
+    }
+
     /// Whether lines were left out, and how many was not said yet.
     pub fn has_left_out(&self) -> bool {
         self.left_out > 0

@@ -92,4 +92,9 @@ impl<'a, E: Write> Outlet<'a, E> {
         let most = line.len().min(LONGEST);
         self.err.write_all(&line[..most]).is_ok()
     }
+
+    /// Writes a line, whether that waits or not. Where it cannot be written, nothing is said of that.
+    pub fn put_waiting(&mut self, line: &[u8]) {
+        let _ = self.err.write_all(line);
+    }
 }

@@ -1,6 +1,7 @@
 use Rattle.std.proofs.Common.{inl, refl, arith, rules}
+use Rattle.registry_opening.specs.Openings.{between}
+use Rattle.registry_tasks.specs.Acts.{acts}
 use Rattle.registry_tasks.specs.Program.{streams}
-use Rattle.registry_tasks.specs.Stored.{OverAt}
 use Rattle.registry_tasks.proofs.ExitStatuses.{memory_read, untouched_memory}
 use Rattle.registry_cli.proofs.EndedTasks.{order_spares}
 use Rattle.registry_cli.proofs.program.run_task.Goals as goal
@@ -9,7 +10,7 @@ pub returns-in-Memory : goal.returns-in-Memory
 returns-in-Memory g c = record {
   runs =
       let e = streams (g.R.Read.remaining c.args.reader.now) (g.R.Read.remaining c.serve_memory.new.reader) (g.W.Write.contents c.args.out.now) (g.W.Write.contents c.serve_memory.new.out) in
-      inl (memory_read c.in-Memory.settings c.in-Memory.setup c.serve_memory.result e c.serve_memory.ensures.serves, rw c.in-Memory.is c.serve_memory.ensures.serves);
+      inl (memory_read c.in-Memory.settings c.in-Memory.setup c.serve_memory.result e c.serve_memory.ensures.serves, rw c.in-Memory.is (((λ l had. had), (λ l had. had)), c.serve_memory.ensures.serves));
   refused = λ more less.
       let e = streams (g.R.Read.remaining c.args.reader.now) (g.R.Read.remaining c.serve_memory.new.reader) (g.W.Write.contents c.args.out.now) (g.W.Write.contents c.serve_memory.new.out) in
       inl (untouched_memory c.in-Memory.settings c.in-Memory.setup c.serve_memory.result e c.serve_memory.ensures.serves more (omega arith));
@@ -18,14 +19,14 @@ returns-in-Memory g c = record {
 
 pub returns-in-Stored : goal.returns-in-Stored
 returns-in-Stored g c = record {
-  runs = inl ((λ two. let three = c.run_stored.ensures.failed (omega arith) in omega arith), rw c.in-Stored.is c.run_stored.ensures.runs);
+  runs = inl ((λ two. let three = c.run_stored.ensures.failed (omega arith) in omega arith), rw c.in-Stored.is ((λ l had. had), c.run_stored.ensures.runs));
   refused = λ more less. absurd (let three = c.run_stored.ensures.failed more in omega arith);
   status = c.run_stored.ensures.status;
 }
 
 pub returns-in-Server : goal.returns-in-Server
 returns-in-Server g c = record {
-  runs = inl ((λ two. let three = c.run_server.ensures.failed (omega arith) in omega arith), rw c.in-Server.is (refl, c.run_server.ensures.runs));
+  runs = inl ((λ two. let three = c.run_server.ensures.failed (omega arith) in omega arith), rw c.in-Server.is ((λ l had. had), refl, c.run_server.ensures.runs));
   refused = λ more less. absurd (let three = c.run_server.ensures.failed more in omega arith);
   status = c.run_server.ensures.status;
 }
@@ -42,28 +43,29 @@ returns-in-TokenOrder g c = record {
   runs = rw c.in-TokenOrder.is c.run_token_order.ensures.runs;
   refused = λ more less.
       let found = c.in-TokenOrder in
-      rw found.is (order_spares (OverAt g.K.Keeper.is_honest g.K.Keeper.state (g.O.Opener.opens c.args.opener.now))
+      rw found.is (order_spares (acts (between g.K.Keeper.is_honest g.K.Keeper.state g.O.Opener.opens (g.O.Opener.had c.args.opener.now)
+      (g.O.Opener.had c.run_token_order.new.opener)) (g.M.Messenger.had c.args.messenger.now) (g.M.Messenger.had c.run_token_order.new.messenger))
       found.place found.source found.order _ _ c.run_token_order.ensures.runs (c.run_token_order.ensures.silent more (omega arith)));
   status = c.run_token_order.ensures.status;
 }
 
 pub returns-in-Check : goal.returns-in-Check
 returns-in-Check g c = record {
-  runs = inl ((λ two. let three = c.run_check.ensures.failed (omega arith) in omega arith), rw c.in-Check.is (refl, c.run_check.ensures.runs));
+  runs = inl ((λ two. let three = c.run_check.ensures.failed (omega arith) in omega arith), rw c.in-Check.is ((λ l had. had), refl, c.run_check.ensures.runs));
   refused = λ more less. absurd (let three = c.run_check.ensures.failed more in omega arith);
   status = c.run_check.ensures.status;
 }
 
 pub returns-in-Migration : goal.returns-in-Migration
 returns-in-Migration g c = record {
-  runs = inl (c.run_migration.ensures.read, rw c.in-Migration.is (record { left = refl; held = refl }, c.run_migration.ensures.runs));
+  runs = inl (c.run_migration.ensures.read, rw c.in-Migration.is ((λ l had. had), record { left = refl; held = refl }, c.run_migration.ensures.runs));
   refused = λ more less. inl (record { left = refl; held = refl });
   status = c.run_migration.ensures.status;
 }
 
 pub returns-in-Stop : goal.returns-in-Stop
 returns-in-Stop g c = record {
-  runs = inl (c.send_stop.ensures.read, rw c.in-Stop.is (refl, c.send_stop.ensures.sent));
+  runs = inl (c.send_stop.ensures.read, rw c.in-Stop.is ((λ l had. had), refl, c.send_stop.ensures.sent));
   refused = λ more less. inl (record { left = refl; held = c.send_stop.ensures.silent more (omega arith) });
   status = c.send_stop.ensures.status;
 }

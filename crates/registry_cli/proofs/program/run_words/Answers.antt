@@ -1,13 +1,15 @@
 use Rattle.std.proofs.Common.{inl, inr, map, refl, arith, rules}
 use Rattle.registry_orders.specs.declared.failure.Failure.TheVariants.{InvalidOptions}
-use Rattle.registry_tasks.specs.Stored.{OverAt}
+use Rattle.registry_opening.specs.Openings.{between}
+use Rattle.registry_tasks.specs.Acts.{acts}
 use Rattle.registry_tasks.proofs.ExitStatuses.{untouched_telling}
 use Rattle.registry_cli.proofs.EndedTasks.{task_runs, task_spares}
 use Rattle.registry_cli.proofs.program.run_words.Goals as goal
 
 pub returns-in-Ok : goal.returns-in-Ok
 returns-in-Ok g c = record {
-  runs = task_runs (OverAt g.K.Keeper.is_honest g.K.Keeper.state (g.O.Opener.opens c.args.opener.now)) (map g.S.AsStr.text c.args.words.now)
+  runs = task_runs (acts (between g.K.Keeper.is_honest g.K.Keeper.state g.O.Opener.opens (g.O.Opener.had c.args.opener.now)
+      (g.O.Opener.had c.run_task.new.opener)) (g.M.Messenger.had c.args.messenger.now) (g.M.Messenger.had c.run_task.new.messenger)) (map g.S.AsStr.text c.args.words.now)
       c.in-Ok.task _ _ c.in-Ok.ensures.read c.run_task.ensures.runs;
   refused = λ more less. task_spares (map g.S.AsStr.text c.args.words.now) c.in-Ok.task _ c.in-Ok.ensures.read (c.run_task.ensures.refused more less);
   status = c.run_task.ensures.status;
@@ -15,7 +17,7 @@ returns-in-Ok g c = record {
 
 pub returns-in-Err-Options : goal.returns-in-Err-Options
 returns-in-Err-Options g c = record {
-  runs = inr (inr (inl (InvalidOptions, tt, (c.say_at.ensures, record { left = refl; held = refl }))));
+  runs = inr (inr (((λ l had. had), (λ l had. had)), inl (InvalidOptions, tt, (c.say_at.ensures, record { left = refl; held = refl }))));
   refused = λ more less. inl (record { left = refl; held = refl });
   status = search rules;
 }
@@ -24,7 +26,7 @@ pub returns-in-Err-Line : goal.returns-in-Err-Line
 returns-in-Err-Line g c = record {
   runs =
       let told = rw c.in-Err-Line.field-0-is at c.in-Err-Line.ensures.refused in
-      inr (inr (inr ((refl {a = g.R.Read.remaining c.args.reader.now}, c.tell.ensures.tells.1), λ fits. c.tell.ensures.wanting (told fits))));
+      inr (inr (((λ l had. had), (λ l had. had)), inr ((refl {a = g.R.Read.remaining c.args.reader.now}, c.tell.ensures.tells.1), λ fits. c.tell.ensures.wanting (told fits))));
   refused = λ more less. inl (record { left = refl; held = (untouched_telling c.tell.result _ c.tell.ensures.tells more (omega arith)).held });
   status = search rules;
 }

@@ -1,24 +1,30 @@
-use Rattle.std.proofs.Common.{◌∙◌, inl, inr, refl}
+use Rattle.std.proofs.Common.{rules, ◌≡◌, inl, inr, ap, subst}
+use Rattle.registry_opening.specs.Openings.{between, Once}
+use Rattle.registry_orders.specs.Outputs.{output}
+use Rattle.registry_tasks.specs.Checking.{IsChecked}
 use Rattle.registry_tasks.proofs.ExitStatuses.{opening_status}
-use Rattle.registry_tasks.proofs.StatusBounds.{status_at_most, check_at_most, check_failed}
+use Rattle.registry_tasks.proofs.StatusBounds.{status_at_most}
 use Rattle.registry_tasks.proofs.checking.run_check.Goals as goal
 
-pub returns-in-Err : goal.returns-in-Err
-returns-in-Err g c = record {
-  runs = inl (c.in-Err.failure, c.in-Err.ensures.refused, c.say_at.ensures, refl);
-  failed = λ more. rw c.say_at.ensures (opening_status c.in-Err.failure c.in-Err.ensures.refused);
-  status = status_at_most c.in-Err.failure c.say_at.result c.say_at.ensures;
-}
-
-pub returns : goal.returns
-returns g c =
-    let checked = c.check_kept-checked in
-    let told = c.end_at.ensures ∙ c.told-status.ensures in
+pub returns-in-Ok : goal.returns-in-Ok
+returns-in-Ok g c =
+    let same : c.with_open.new.work.out.now ≡ c.out-1.given.0 = search rules in
+    let says = c.in-Ok.ensures.says.2 in
     record {
-      runs = inr (record {
-        last = checked.new.keeper;
-        says = λ honest. (g.K.Keeper.state c.in-Ok.keeper, c.in-Ok.ensures.opened (checked.ensures.honest honest), (checked.result, told, checked.ensures.checks honest));
-      });
-      failed = check_failed checked.result c.end_at.result checked.ensures.fails told;
-      status = check_at_most checked.result c.end_at.result told;
+      runs = rw c.end_at.ensures (inr (subst (λ x. Once (between g.K.Keeper.is_honest g.K.Keeper.state g.O.Opener.opens
+          (g.O.Opener.had c.args.opener.now) (g.O.Opener.had c.with_open.new.self)) c.args.path.now
+          (λ s s'. IsChecked s c.in-Ok.done.status (output (g.W.Write.contents c.args.out.now) (g.W.Write.contents x)) s'))
+          same c.in-Ok.ensures.worked));
+      failed = rw c.end_at.ensures says.0;
+      status = rw c.end_at.ensures says.1;
+    }
+
+pub returns-in-Err : goal.returns-in-Err
+returns-in-Err g c =
+    let undone = ap (λ w. w.out.now) c.in-Err.ensures.undone in
+    let kept : c.out-1.given.0 ≡ c.args.out.now = search rules in
+    record {
+      runs = inl (c.in-Err.ensures.never, (c.in-Err.failure, c.in-Err.ensures.refused, c.say_at.ensures, ap g.W.Write.contents kept));
+      failed = λ more. rw c.say_at.ensures (opening_status c.in-Err.failure c.in-Err.ensures.refused);
+      status = status_at_most c.in-Err.failure c.say_at.result c.say_at.ensures;
     }

@@ -4,11 +4,11 @@ use Rattle.registry_tasks.proofs.StatusBounds.{status_at_most}
 use Rattle.registry_tasks.proofs.opened.run_migration.Goals as goal
 
 pub returns-in-Ok : goal.returns-in-Ok
-returns-in-Ok g c = record { runs = inl refl; status = omega arith; read = λ two. omega arith }
+returns-in-Ok g c = record { runs = (c.migrate.ensures.moved, inl refl); status = omega arith; read = λ two. omega arith }
 
 pub returns-in-Err : goal.returns-in-Err
 returns-in-Err g c = record {
-  runs = inr (c.in-Err.failure, c.in-Err.ensures.refused, c.say_at.ensures);
+  runs = (c.migrate.ensures.moved, inr (c.in-Err.failure, c.in-Err.ensures.refused, c.say_at.ensures));
   status = status_at_most c.in-Err.failure c.say_at.result c.say_at.ensures;
   read = rw c.say_at.ensures (opening_read c.in-Err.failure c.in-Err.ensures.refused);
 }

@@ -4,6 +4,7 @@ use Rattle.registry_tasks.proofs.sending.send_line.Goals as goal
 
 pub returns-in-Ok : goal.returns-in-Ok
 returns-in-Ok g c = record {
+  line = c.ask.ensures.asked;
   sent = inl (c.as_slice.result.now, c.relay.ensures.relays);
   silent = c.relay.ensures.silent;
   status = c.relay.ensures.status;
@@ -12,8 +13,9 @@ returns-in-Ok g c = record {
 
 pub returns-in-Err : goal.returns-in-Err
 returns-in-Err g c = record {
-  sent = inr (c.in-Err.none.failure, c.in-Err.ensures, c.say_at.ensures, refl);
+  line = c.ask.ensures.asked;
+  sent = inr (c.in-Err.none.failure, c.in-Err.ensures.refused, c.say_at.ensures, refl);
   silent = λ more less. refl;
   status = status_at_most c.in-Err.none.failure c.say_at.result c.say_at.ensures;
-  read = sending_read c.in-Err.none.failure c.say_at.result c.in-Err.ensures c.say_at.ensures;
+  read = sending_read c.in-Err.none.failure c.say_at.result c.in-Err.ensures.refused c.say_at.ensures;
 }

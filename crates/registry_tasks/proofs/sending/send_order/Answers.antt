@@ -1,11 +1,11 @@
-use Rattle.std.proofs.Common.{inr, refl}
+use Rattle.std.proofs.Common.{inl, inr, refl}
 use Rattle.registry_orders.specs.declared.failure.Failure.TheVariants.{OutOfMemory}
 use Rattle.registry_tasks.proofs.StatusBounds.{status_at_most, sending_read}
 use Rattle.registry_tasks.proofs.sending.send_order.Goals as goal
 
 pub returns-in-Ok : goal.returns-in-Ok
 returns-in-Ok g c = record {
-  sent = c.send_line.ensures.sent;
+  sent = inl (rw (c.as_str.ensures.value, c.in-Ok.ensures) at c.send_line.ensures.line, c.send_line.ensures.sent);
   silent = c.send_line.ensures.silent;
   status = c.send_line.ensures.status;
   read = c.send_line.ensures.read;
@@ -13,7 +13,7 @@ returns-in-Ok g c = record {
 
 pub returns-in-Err : goal.returns-in-Err
 returns-in-Err g c = record {
-  sent = inr (OutOfMemory, tt, c.say.ensures, refl);
+  sent = inr ((λ l had. had), c.say.ensures, refl);
   silent = λ more less. refl;
   status = status_at_most OutOfMemory c.say.result c.say.ensures;
   read = sending_read OutOfMemory c.say.result tt c.say.ensures;

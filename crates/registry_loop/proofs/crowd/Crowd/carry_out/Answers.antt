@@ -1,12 +1,14 @@
-use Rattle.registry_server.specs.Showing.{connected}
-use Rattle.registry_server.proofs.CallLemmas.{leads_then, carries_same}
+use Rattle.std.proofs.Common.{◌∙◌, sym, subst}
+use Rattle.order_sockets.specs.Calling.{AttendsRound}
+use Rattle.order_sockets.specs.Calls.{all_called}
 use Rattle.registry_loop.proofs.crowd.Crowd.carry_out.Goals as goal
 
 pub returns : goal.returns
 returns g c = record {
   honest = c.take_orders.ensures.honest;
-  leads = λ honest.
-      let u = connected c.args.connections.now in
-      let t = g.K.Keeper.state c.take_orders.new.service in
-      leads_then u _ u t _ t (c.take_orders.ensures.leads honest u) (carries_same _ _ c.note_work.ensures t);
+  attends = λ honest.
+      subst (λ l. AttendsRound (all_called c.args.self.now.callers.callers.items) l (g.K.Keeper.state c.args.service.now) (g.K.Keeper.state c.take_orders.new.service))
+      (sym c.note_work.ensures.callers) (c.take_orders.ensures.attends honest);
+  same = c.note_work.ensures.same;
+  limits = c.note_work.ensures.limits ∙ c.take_orders.ensures.limits;
 }

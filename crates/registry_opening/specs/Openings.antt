@@ -1,0 +1,67 @@
+-- What an opener does between two moments: it opens a registry, has something done over it and closes it; or
+-- it takes one over.
+use Rattle.std.specs.Prelude.{◌≡◌, ◌∷◌, ◌++◌, ℕ, false, true, List, [], map, Option, All, IfSome}
+use Rattle.std.specs.List.{cons_option}
+use Rattle.registry_model.specs.Keeping.{State}
+
+-- a registry that was opened: where it lies, as it was opened, and as it was closed
+pub record Opening (K : Type 0) : Type 0 where
+  pub path : List ℕ
+  pub first : K
+  pub last : K
+
+-- what is done at one path
+pub data Deed (K : Type 0) : Type 0 where
+  opened : Opening K → Deed K
+  moved : List ℕ → Deed K
+
+-- Two moments of an opener: which keepers return what was written, their states, in which states a registry at
+-- a path may be found, and what was done up to the one moment and up to the other.
+pub record Between (K : Type 0) : Type 1 where
+  pub is_honest : K → Type 0
+  pub state : K → State
+  pub opens : List ℕ → State → Type 0
+  pub had : List (Deed K) → Type 0
+  pub had' : List (Deed K) → Type 0
+
+abbrev pub between : {K : Type 0} → (K → Type 0) → (K → State) → (List ℕ → State → Type 0)
+    → (List (Deed K) → Type 0) → (List (Deed K) → Type 0) → Between K
+between {K} is_honest state opens had had' =
+    record { is_honest = is_honest; state = state; opens = opens; had = had; had' = had' }
+
+-- nothing was done
+abbrev pub Never : {K : Type 0} → Between K → Type 0
+Never {K} b = (l : List (Deed K)) → b.had l → b.had' l
+
+-- just these were done, one after the other
+abbrev pub Just : {K : Type 0} → Between K → List (Deed K) → Type 0
+Just {K} b deeds = (l : List (Deed K)) → b.had l → b.had' (l ++ deeds)
+
+-- the registry at the path was taken over, or it was tried, and nothing else was done
+abbrev pub TakesOver : {K : Type 0} → Between K → List ℕ → Type 0
+TakesOver {K} b path = Just b (moved path ∷ [])
+
+-- The registry at the path was opened, and this was done over it, as far as the storage has returned what was
+-- written.
+abbrev pub IsOver : {K : Type 0} → Between K → List ℕ → (State → State → Type 0) → Opening K → Type 0
+IsOver {K} b path Says o = (o.path ≡ path) × (b.is_honest o.last → b.opens path (b.state o.first)
+    × ((b.state o.first).spent ≡ false) × Says (b.state o.first) (b.state o.last))
+
+-- one registry was opened, that at the path, and this was done over it; nothing else was done
+pub record Once {K : Type 0} (b : Between K) (path : List ℕ) (Says : State → State → Type 0) : Type 0 where
+  pub opening : Opening K
+  pub just : Just b (opened opening ∷ [])
+  pub is : IsOver b path Says opening
+
+abbrev pub EndsSpent : {K : Type 0} → Between K → Opening K → Type 0
+EndsSpent {K} b o = b.is_honest o.last → (b.state o.last).spent ≡ true
+
+-- The registry at the path was opened some times. Over each opening but the last `Says` was done, and it was
+-- closed since its storage had failed; over the last one, if there was any, `Ends`. Nothing else was done.
+pub record Spans {K : Type 0} (b : Between K) (path : List ℕ) (Says Ends : State → State → Type 0) : Type 0 where
+  pub spent : List (Opening K)
+  pub last : Option (Opening K)
+  pub just : Just b (map opened (spent ++ cons_option last []))
+  pub all_spent : All (EndsSpent b) spent
+  pub all_over : All (IsOver b path Says) spent
+  pub last_over : IfSome last (IsOver b path Ends)
