@@ -297,8 +297,8 @@ impl Callers {
         self.dismiss_all(now);
     }
 
-    /// Everybody goes, with what can be told at once. Who asked the server to stop is kept, and nothing is done
-    /// for it any more.
+    /// Everybody goes, with what can be told at once. Who asked the server to stop is kept, and nothing is
+    /// done for it any more.
     pub fn leave(&mut self, now: Duration)
         ensures none { self.new.callers.items ≡ [] }
         ensures stopping { self.new.stopping ≡ self.old.stopping }

@@ -21,8 +21,8 @@ use Rattle.registry_tasks.specs.Acts.{Acts, SendsNone, DoesNothing}
 use Rattle.registry_tasks.specs.Sending.{SendsStop}
 use Rattle.registry_tasks.specs.Opened.{output_of, RunsAt, RunsTokenOrder, LacksTokenOf, RunsCheck, RunsStored, EndsMigration}
 
--- connections over sockets with these settings and within these limits, over the registry at the path, which is
--- opened again where its storage failed
+-- connections over sockets with these settings and within these limits, over the registry at the path, which
+-- is opened again where its storage failed
 abbrev pub RunsServer : {K : Type 0} → Between K → Settings → Limits → Text → ℕ → Output → Type 0
 RunsServer {K} b settings limits path status o =
     (result : Result (Unit {0}) Failure) × (status ≡ status_if result)

@@ -27,8 +27,8 @@ abbrev pub IsStopped : Stop → Type 0
 IsStopped (Failed f) = IsOfServing f
 IsStopped _ = ⊤
 
--- before anybody is served: nothing is done; or the storage failed, as it was asked how many repositories there
--- are
+-- before anybody is served: nothing is done; or the storage failed, as it was asked how many repositories
+-- there are
 abbrev pub Begins : Result (Unit {0}) Failure → State → State → Type 0
 Begins (Ok v) s s' = s' ≡ s
 Begins (Err f) s s' = (s' ≡ s) ⊎ ((f ≡ StorageFailure) × (s'.spent ≡ true))

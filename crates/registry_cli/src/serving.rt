@@ -57,7 +57,8 @@ fn serve_gathered<K: Keeper, G: Gathering>(
     limits: Limits,
 ) -> Ended<K, Stop>
     ensures honest { K.is_honest result.keeper → K.is_honest kept }
-    ensures serves { K.is_honest result.keeper → G.buffer gathering.old ≡ limits.buffer → G.callers gathering.old ≡ []
+    ensures serves { K.is_honest result.keeper
+        → G.buffer gathering.old ≡ limits.buffer → G.callers gathering.old ≡ []
         → ServesSpan settings limits result.told (K.state kept) (K.state result.keeper) }
     ensures buffer { G.buffer gathering.new ≡ G.buffer gathering.old }
     ensures none { result.told ≡ Stop.Spent → G.callers gathering.new ≡ [] }

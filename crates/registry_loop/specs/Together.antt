@@ -47,8 +47,8 @@ PassesBeside s s' = (u : Open) → Passed u s u s'
 
 -- ---- what is done beside connections is what those who give orders have said
 
--- One round. Calls of connections lead to some state; there each of those who give orders is attended, whether
--- they were there or came; and calls of connections lead on.
+-- One round. Calls of connections lead to some state; there each of those who give orders is attended,
+-- whether they were there or came; and calls of connections lead on.
 pub record Round (u : Open) (c : List Called) (s : State) (u' : Open) (c' : List Called) (s' : State)
     : Type 0 where
   pub mid : Open
@@ -77,8 +77,8 @@ pub record GoesRounds (u : Open) (c : List Called) (s : State) (u' : Open) (s' :
 abbrev pub ServesRounds : Settings → Bounds → List Called → State → State → Type 0
 ServesRounds settings bounds c s s' = (last : Open) × GoesRounds (none settings bounds) c s last s'
 
--- Served together with these settings, at most so many at once and within this buffer, from nobody on: what is
--- done beside connections is what those who give orders have said.
+-- Served together with these settings, at most so many at once and within this buffer, from nobody on: what
+-- is done beside connections is what those who give orders have said.
 abbrev pub ServesAll : Settings → ℕ → ℕ → State → State → Type 0
 ServesAll settings at_once buffer s s' =
     ServesWithin settings at_once buffer s s' × ServesRounds settings (bounds_of at_once buffer) [] s s'

@@ -69,8 +69,8 @@ fn say_others<T: Clock, E: Write>(
 }
 
 impl<'a, T: Clock, E: Write> Crowd<'a, T, E> {
-    /// Nobody, and nobody can come yet; in the end so many connections. An error is that of the system, or want
-    /// of memory.
+    /// Nobody, and nobody can come yet; in the end so many connections. An error is that of the system, or
+    /// want of memory.
     pub fn new(
         alloc: Global,
         net: &HostRuntime,
@@ -184,8 +184,8 @@ impl<'a, T: Clock, E: Write> Crowd<'a, T, E> {
     fn take_orders<K: Keeper>(&mut self, alloc: Global, service: &mut Service<K>)
         ensures honest { K.is_honest service.new → K.is_honest service.old }
         ensures attends { K.is_honest service.new
-            → AttendsRound (all_called self.old.callers.callers.items) (all_called self.new.callers.callers.items)
-            (K.state service.old) (K.state service.new) }
+            → AttendsRound (all_called self.old.callers.callers.items)
+            (all_called self.new.callers.callers.items) (K.state service.old) (K.state service.new) }
         ensures limits { self.new.limits ≡ self.old.limits }
     {
         let now = self.sockets.now;
@@ -202,8 +202,8 @@ impl<'a, T: Clock, E: Write> Crowd<'a, T, E> {
     )
         ensures honest { K.is_honest service.new → K.is_honest service.old }
         ensures attends { K.is_honest service.new
-            → AttendsRound (all_called self.old.callers.callers.items) (all_called self.new.callers.callers.items)
-            (K.state service.old) (K.state service.new) }
+            → AttendsRound (all_called self.old.callers.callers.items)
+            (all_called self.new.callers.callers.items) (K.state service.old) (K.state service.new) }
         ensures same { connected connections.new ≡ connected connections.old }
         ensures limits { self.new.limits ≡ self.old.limits }
     {

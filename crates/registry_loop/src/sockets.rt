@@ -102,8 +102,8 @@ fn excuse_answered(connections: &mut Connections, turn: &Turn)
 }
 
 impl Sockets {
-    /// Nobody, and nobody can come yet; in the end so many connections. An error is that of the system, or want
-    /// of memory.
+    /// Nobody, and nobody can come yet; in the end so many connections. An error is that of the system, or
+    /// want of memory.
     pub fn new(alloc: Global, net: &HostRuntime, connections: u64) -> io::Result<Sockets> {
         let (events, room) = rooms(alloc)?;
         Ok(Sockets {

@@ -15,8 +15,8 @@ pub data Deed (K : Type 0) : Type 0 where
   opened : Opening K → Deed K
   moved : List ℕ → Deed K
 
--- Two moments of an opener: which keepers return what was written, their states, in which states a registry at
--- a path may be found, and what was done up to the one moment and up to the other.
+-- Two moments of an opener: which keepers return what was written, their states, in which states a registry
+-- at a path may be found, and what was done up to the one moment and up to the other.
 pub record Between (K : Type 0) : Type 1 where
   pub is_honest : K → Type 0
   pub state : K → State
@@ -58,7 +58,8 @@ EndsSpent {K} b o = b.is_honest o.last → (b.state o.last).spent ≡ true
 
 -- The registry at the path was opened some times. Over each opening but the last `Says` was done, and it was
 -- closed since its storage had failed; over the last one, if there was any, `Ends`. Nothing else was done.
-pub record Spans {K : Type 0} (b : Between K) (path : List ℕ) (Says Ends : State → State → Type 0) : Type 0 where
+pub record Spans {K : Type 0} (b : Between K) (path : List ℕ) (Says Ends : State → State → Type 0)
+    : Type 0 where
   pub spent : List (Opening K)
   pub last : Option (Opening K)
   pub just : Just b (map opened (spent ++ cons_option last []))

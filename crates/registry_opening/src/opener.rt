@@ -17,8 +17,8 @@ pub trait Opener<K: Keeper> {
 
     /// Opens the registry at a path, which stands as it was given, has the work done over it, and closes it:
     /// what was written is copied into its database first, so that one file holds all; where that fails, the
-    /// log beside the file has it, as where a program is killed. An error is one of memory, storage or schema,
-    /// or that the database is no registry, and then no work was done.
+    /// log beside the file has it, as where a program is killed. An error is one of memory, storage or
+    /// schema, or that the database is no registry, and then no work was done.
     fn with_open<W: Work<K>>(&mut self, path: &str, work: &mut W) -> Result<W::Told, Failure>
         ensures worked { IfOk result (λ told.
             Once (between K.is_honest K.state opens (had self.old) (had self.new)) path.now

@@ -12,8 +12,8 @@ pub struct Ended<K, T> {
 pub trait Work<K: Keeper> {
     type Told;
 
-    // What is done, from the state of the keeper before to that behind it, as far as the storage returned what
-    // was written.
+    // What is done, from the state of the keeper before to that behind it, as far as the storage returned
+    // what was written.
     ghost does: { Self → State → Self.Told → Self → State → Type 0 };
 
     // What holds of it whatever the storage did.

@@ -10,7 +10,8 @@ pub record Acts (K : Type 0) : Type 1 where
   pub sent : List (Text × Text) → Type 0
   pub sent' : List (Text × Text) → Type 0
 
-abbrev pub acts : {K : Type 0} → Between K → (List (Text × Text) → Type 0) → (List (Text × Text) → Type 0) → Acts K
+abbrev pub acts : {K : Type 0} → Between K → (List (Text × Text) → Type 0) → (List (Text × Text) → Type 0)
+    → Acts K
 acts {K} openings sent sent' = record { openings = openings; sent = sent; sent' = sent' }
 
 abbrev pub SendsNone : {K : Type 0} → Acts K → Type 0

@@ -1,5 +1,5 @@
--- What tasks come to over a registry that is opened for them, and what the opener does meanwhile: the registry
--- is opened once, or none is.
+-- What tasks come to over a registry that is opened for them, and what the opener does meanwhile: the
+-- registry is opened once, or none is.
 use Rattle.std.specs.Prelude.{◌≡◌, ◌≢◌, ◌<◌, ◌≤◌, ℕ, ◌⊎◌, ⊤, Option}
 use Rattle.oci_types.specs.Text.{Text}
 use Rattle.registry_model.specs.declared.settings.Settings.{Settings}
@@ -51,7 +51,8 @@ RunsCheck {K} b path status o =
 -- the order at its place: over the registry that is opened there, or sent to the server that holds it
 abbrev pub RunsAt : {K : Type 0} → Acts K → Place → Order → ℕ → Output → Type 0
 RunsAt {K} a (Database path) order status o = SendsNone a × RunsOrder a.openings path.now order status o
-RunsAt {K} a (Server path) order status o = Never a.openings × SendsOrder a.sent a.sent' path.now order status o
+RunsAt {K} a (Server path) order status o =
+    Never a.openings × SendsOrder a.sent a.sent' path.now order status o
 
 -- the order with some token
 abbrev pub RunsByFile : {K : Type 0} → Acts K → Place → TokenOrder → ℕ → Output → Type 0
@@ -84,7 +85,8 @@ IsWithoutToken status o = (f : Failure) × IsOfWords f × (status ≡ status_of 
 -- the same, and no registry is opened, and nothing is sent
 abbrev pub LacksTokenOf : {K : Type 0} → Acts K → TokenSource → ℕ → Streams → Type 0
 LacksTokenOf {K} a Input status e = DoesNothing a × IsWithoutToken status (output_of e)
-LacksTokenOf {K} a (File path) status e = DoesNothing a × (e.left' ≡ e.left) × IsWithoutToken status (output_of e)
+LacksTokenOf {K} a (File path) status e =
+    DoesNothing a × (e.left' ≡ e.left) × IsWithoutToken status (output_of e)
 
 -- one connection with these settings over a registry that is opened
 abbrev pub RunsStored : {K : Type 0} → Between K → Settings → Text → ℕ → Streams → Type 0

@@ -47,8 +47,8 @@ IsSent status o =
     ((bytes : Text) × Relays bytes status o)
     ⊎ ((f : Failure) × IsOfSending f × (status ≡ status_of f) × IsSilent o)
 
--- ---- which lines were sent, each to the server at a path: `had` and `had'` tell of those up to one moment and
--- up to another
+-- ---- which lines were sent, each to the server at a path: `had` and `had'` tell of those up to one moment
+-- and up to another
 
 abbrev pub TakesNone : (List (Text × Text) → Type 0) → (List (Text × Text) → Type 0) → Type 0
 TakesNone had had' = (l : List (Text × Text)) → had l → had' l
@@ -57,13 +57,15 @@ TakesNone had had' = (l : List (Text × Text)) → had l → had' l
 abbrev pub TakesLine : (List (Text × Text) → Type 0) → (List (Text × Text) → Type 0) → Text → Text → Type 0
 TakesLine had had' path line = (l : List (Text × Text)) → had l → had' (l ++ (path, line) ∷ [])
 
--- the order's line was sent to the server at the path, and no other; or memory was wanting for it, and none was
-abbrev pub SendsOrder : (List (Text × Text) → Type 0) → (List (Text × Text) → Type 0) → Text → Order → ℕ → Output
-    → Type 0
+-- the order's line was sent to the server at the path, and no other; or memory was wanting for it, and none
+-- was
+abbrev pub SendsOrder : (List (Text × Text) → Type 0) → (List (Text × Text) → Type 0)
+    → Text → Order → ℕ → Output → Type 0
 SendsOrder had had' path order status o =
     (TakesLine had had' path (line_of order) × IsSent status o)
     ⊎ (TakesNone had had' × (status ≡ status_of OutOfMemory) × IsSilent o)
 
 -- the line that asks the server at the path to stop was sent there, and no other
-abbrev pub SendsStop : (List (Text × Text) → Type 0) → (List (Text × Text) → Type 0) → Text → ℕ → Output → Type 0
+abbrev pub SendsStop : (List (Text × Text) → Type 0) → (List (Text × Text) → Type 0)
+    → Text → ℕ → Output → Type 0
 SendsStop had had' path status o = TakesLine had had' path stop_line × IsSent status o

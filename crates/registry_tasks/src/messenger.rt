@@ -80,9 +80,9 @@ pub trait Messenger {
     // These were taken up to now, each to the server at a path.
     ghost had: { Self → List (List ℕ × List ℕ) → Type 0 };
 
-    /// Takes a line, and its end, to the server that takes orders at the socket at a path, and brings all that
-    /// it answers. An error is that there is no server or no answer, that it has more than 64 MiB, or want of
-    /// memory; then the line may have come there or not.
+    /// Takes a line, and its end, to the server that takes orders at the socket at a path, and brings all
+    /// that it answers. An error is that there is no server or no answer, that it has more than 64 MiB, or
+    /// want of memory; then the line may have come there or not.
     fn ask(&mut self, alloc: Global, path: &str, line: &str) -> Result<Vec<u8>, NoAnswer>
         ensures asked { TakesLine (had self.old) (had self.new) path.now line.now }
         ensures refused { IfErr result (λ none. IsOfSending none.failure) };
