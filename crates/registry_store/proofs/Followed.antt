@@ -14,13 +14,15 @@ use Rattle.registry_model.specs.Sessions.{opened, appended}
 use Rattle.registry_model.specs.Lookups.{append, bytes_or_none, last_number_at, open_session, session_at}
 use Rattle.store_reads.proofs.WorldReads.{no_session}
 use Rattle.store_statements.specs.Held.{IsSettled, StaysSettled, SettlesOn, is_storage, held, world_in}
-use Rattle.store_statements.specs.Between.{Stays, Tells, StaysOnMemory, MakesWorld}
+use Rattle.store_statements.specs.Between.{CrashLeaves, Stays, Tells, StaysOnMemory, MakesWorld}
 use Rattle.store_statements.specs.Clauses.{Lasts, WorldHas}
+use Rattle.store_statements.proofs.Crashes.{crash_then}
 use Rattle.store_statements.proofs.SettledAfter.{stays_then}
 use Rattle.store_statements.proofs.Transactions.{registry, survives_all}
 use Rattle.store_reads.specs.declared.usage_change.Change.{Change}
 use Rattle.registry_store.specs.declared.known_usages.KnownUsages.{KnownUsages}
 use Rattle.store_reads.specs.Usages.{Foretells}
+use Rattle.registry_store.specs.KeptWrites.{Leaves}
 use Rattle.registry_store.specs.Usages.{known_at, Knows, IsKnown, StaysKnown, Sets, IsNext}
 use Rattle.store_reads.proofs.CleanBefore.{was_clean}
 use Rattle.store_reads.proofs.Foretold.{earlier, later, session_has_repo}
@@ -98,6 +100,13 @@ module _ {S : Type 0} (g : Ghosts S) (old mid new : Held S) (told : Result (Opti
 
     pub memory_where : (P : World → Type 0) → (WorldHas g mid P → StaysOnMemory g mid new answer) → WorldHas g old P → StaysOnMemory g old new answer
     memory_where P memory has clean is wanting = memory_then (memory (has_then P has is)) clean is wanting
+
+    -- and so does a crash
+    pub crash_where : (P : World → Type 0) (f : World → World) → (WorldHas g mid P → CrashLeaves g mid new answer f) → WorldHas g old P → CrashLeaves g old new answer f
+    crash_where P f crash has clean is = by (looked_up clean is)
+      where
+        by : StaysSettled (state g old) (state g mid) → Leaves (state g old) (state g new) answer f
+        by same = crash_then g old new f mid answer same (crash (has_then P has is) clean same.0)
 
     pub known_then : (known knew : KnownUsages) (name : Text) (f : World → Repo → Repo) → IsKnown g old known → WorldHas g old (λ w. has_repo w name ≡ true)
         → Tells g old mid told (λ w change. IfSome change (Foretells w name (f w))) → OnOk answer (Sets known knew name (IsNext (known_at known name) change)) → OnErr answer (knew ≡ known)

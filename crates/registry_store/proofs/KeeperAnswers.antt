@@ -1,6 +1,6 @@
 -- What a call of the keeper tells, once a failure of the storage is noted.
 use Rattle.std.proofs.Common.{◌≡◌, ◌∙◌, Bool, true, false, true≢false, Ok, Err, Result, OnOk, IfOk, sym, subst, refl}
-use Rattle.std.specs.Prelude.{◌||◌}
+use Rattle.std.specs.Prelude.{◌||◌, ⊤}
 use Rattle.sqlite_trees.specs.declared.store.Store.{Ghosts}
 use Rattle.sqlite.specs.State as sqlite
 use Rattle.sqlite.specs.State.{HasCleanDisk}
@@ -10,9 +10,10 @@ use Rattle.oci_types.specs.declared.fault.Fault.TheVariants.{Memory, Storage}
 use Rattle.registry_model.specs.World.{World}
 use Rattle.registry_model.specs.Keeping.{State, ReadsBy, ReadsSo, Writes, WritesBy, Spends}
 use Rattle.registry_store.specs.Kept.{Kept, IsHonest}
+use Rattle.registry_store.specs.KeptWrites.{Leaves, IsOneWrite, WritesOnce, WritesOnceBy}
 use Rattle.store_statements.specs.Tables.{Tables}
 use Rattle.store_statements.specs.Held.{IsSettled, StaysSettled, SettlesOn, is_storage, world_in, held}
-use Rattle.store_statements.specs.Between.{Tells, Stays, StaysOnMemory, MakesWorld}
+use Rattle.store_statements.specs.Between.{CrashLeaves, Tells, Stays, StaysOnMemory, MakesWorld}
 use Rattle.store_statements.specs.Clauses.{Lasts}
 use Rattle.registry_store.specs.declared.known_usages.KnownUsages.{KnownUsages}
 use Rattle.registry_store.specs.Usages.{Knows, IsKnown, StaysKnown}
@@ -125,6 +126,16 @@ module _ {S : Type 0} (g : Ghosts S) (ours : Bool) (conn : Held S) (old : Kept S
   pub still_spent : spent ≡ true → old.spent ≡ true
   still_spent e = subst (λ (k : Kept S). k.spent ≡ true) is e
 
+  -- one that was spent is not touched
+  pub nothing_once : {A Left : Type 0} → spent ≡ true → IsOneWrite g ours old old {A = A} (Err Storage) ⊤ Left
+  nothing_once e = record {
+    made = λ h. tt;
+    spends = still_spent e;
+    honest = λ h. h;
+    crash = λ h unspent. absurd (true≢false (sym (still_spent e) ∙ unspent));
+    idle = λ _. refl;
+  }
+
   module _ (known : KnownUsages) (holds : spent ≡ false → ours ≡ true → HasCleanDisk (state g conn) → IsSettled (state g conn) × Knows known (world_in (state g conn)))
       (unspent : spent ≡ false) (new : Held S) (lasts : Lasts g conn new) where
     -- what is honest behind the call was so before
@@ -222,3 +233,38 @@ module _ {S : Type 0} (g : Ghosts S) (ours : Bool) (conn : Held S) (old : Kept S
         where
           by : IsSettled (state g conn) → WritesBy (λ v. v) r (look (world_in (state g old.conn))) (change (world_in (state g old.conn))) (before g conn old spent is new) (after g conn old spent is new later)
           by it = numbered_told g conn old spent is new look change r answer later unspent same notes (makes h.0 it) (wanting h.0 it)
+
+      -- ---- a write that is one transaction
+
+      abbrev behind : Kept S
+      behind = record { conn = new; spent = later }
+
+      was_unspent : old.spent ≡ false
+      was_unspent = subst (λ (k : Kept S). k.spent ≡ false) is unspent
+
+      pub one_write : {Made Left : Type 0} → (IsHonest g ours behind → Made) → (IsHonest g ours behind → Left) → IsOneWrite g ours old behind r Made Left
+      one_write says left = record {
+        made = says;
+        spends = spends_told;
+        honest = was_honest later;
+        crash = λ h _. left h;
+        idle = λ e. absurd (true≢false (sym e ∙ was_unspent));
+      }
+
+      left_told : (change : World → World) → (ours ≡ true → CrashLeaves g conn new answer change) → IsHonest g ours behind → Leaves (state g old.conn) (state g new) r change
+      left_told change crash h = by (was_settled h)
+        where
+          by : IsSettled (state g conn) → Leaves (state g old.conn) (state g new) r change
+          by it =
+              subst (λ x. Leaves (state g old.conn) (state g new) x change) (sym same)
+              (subst (λ (k : Kept S). Leaves (state g k.conn) (state g new) answer change) is (crash h.1 h.0 it))
+
+      pub writes_once : (change : World → World) → (ours ≡ true → MakesWorld g conn new answer change) → (ours ≡ true → StaysOnMemory g conn new answer) → (ours ≡ true → CrashLeaves g conn new answer change)
+          → WritesOnce g ours old behind r change
+      writes_once change makes wanting crash = one_write (write_says change makes wanting) (left_told change crash)
+
+      pub numbers_once : (look : World → A) (change : World → World)
+          → (HasCleanDisk (state g new) → IsSettled (state g conn) → IfOk answer (λ v. (v ≡ look (world_in (state g conn))) × SettlesOn (state g new) (change (world_in (state g conn)))))
+          → StaysOnMemory g conn new answer → CrashLeaves g conn new answer change
+          → WritesOnceBy g ours old behind r look change
+      numbers_once look change makes wanting crash = one_write (numbered_says look change makes wanting) (left_told change (λ _. crash))

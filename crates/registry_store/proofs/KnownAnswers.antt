@@ -17,7 +17,12 @@ use Rattle.registry_model.specs.Lookups.{session_at}
 use Rattle.store_statements.specs.Held.{IsSettled, StaysSettled, is_storage, world_in}
 use Rattle.store_statements.specs.Between.{StaysOnMemory}
 use Rattle.store_writes.specs.Whole.{DoneWhereSo}
-use Rattle.registry_store.specs.Kept.{Kept}
+use Rattle.registry_store.specs.Kept.{Kept, IsHonest}
+use Rattle.registry_store.specs.KeptWrites.{LeavesWhereSo, WritesOnceWhereSo}
+use Rattle.registry_store.specs.Usages.{Knows}
+use Rattle.registry_store.specs.declared.known_usages.KnownUsages.{KnownUsages}
+use Rattle.store_statements.specs.Clauses.{Lasts}
+use Rattle.registry_store.proofs.KeeperAnswers.{one_write, was_settled}
 use Rattle.registry_store.proofs.KeeperStates.{found, wrote, stood}
 
 -- the store is settled, whether it was made or not
@@ -65,3 +70,24 @@ module _ {S : Type 0} (g : Ghosts S) (conn : Held S) (old : Kept S) (spent : Boo
       → (HasCleanDisk (state g new) → IsSettled (state g conn) → IfOk answer (λ done. DoneWhereSo done (state g conn) (state g new) so change)) → StaysOnMemory g conn new answer
       → HasCleanDisk (state g new) → IsSettled (state g conn) → WritesWhereSo r (so (world_in (state g old.conn))) (change (world_in (state g old.conn))) before (after later)
   whether_says so change r answer later unspent same notes makes wanting clean it = whether_told so change r answer later unspent same notes (makes clean it) (wanting clean it)
+
+-- and by what it says of a crash: it is one transaction
+module _ {S : Type 0} (g : Ghosts S) (ours : Bool) (conn : Held S) (old : Kept S) (spent : Bool) (is : ◌≡◌ {A = Kept S} (record { conn = conn; spent = spent }) old)
+    (known : KnownUsages) (holds : spent ≡ false → ours ≡ true → HasCleanDisk (state g conn) → IsSettled (state g conn) × Knows known (world_in (state g conn)))
+    (unspent : spent ≡ false) (new : Held S) (lasts : Lasts g conn new) (r answer : Result Bool Fault) (later : Bool) (same : r ≡ answer) (notes : later ≡ (is_storage answer || spent)) where
+  pub ends_once : (so : World → Bool) (change : World → World)
+      → (HasCleanDisk (state g new) → IsSettled (state g conn) → IfOk answer (λ done. DoneWhereSo done (state g conn) (state g new) so change)) → StaysOnMemory g conn new answer
+      → (HasCleanDisk (state g new) → IsSettled (state g conn) → LeavesWhereSo (state g conn) (state g new) answer so change)
+      → WritesOnceWhereSo g ours old (record { conn = new; spent = later }) r so change
+  ends_once so change makes wanting crash =
+      one_write g ours conn old spent is known holds unspent new lasts r answer later same notes
+      (λ h. whether_says g conn old spent is new so change r answer later unspent same notes makes wanting h.0 (settled h))
+      (λ h. left h.0 (settled h))
+    where
+      settled : IsHonest g ours (record { conn = new; spent = later }) → IsSettled (state g conn)
+      settled h = was_settled g ours conn old spent is known holds unspent new lasts r answer later same notes h
+
+      left : HasCleanDisk (state g new) → IsSettled (state g conn) → LeavesWhereSo (state g old.conn) (state g new) r so change
+      left clean it =
+          subst (λ x. LeavesWhereSo (state g old.conn) (state g new) x so change) (sym same)
+          (subst (λ (k : Kept S). LeavesWhereSo (state g k.conn) (state g new) answer so change) is (crash clean it))

@@ -1,4 +1,5 @@
 pub mod Kept
+pub mod KeptWrites
 pub mod Opening
 pub mod Unwritten
 pub mod Usages

@@ -4,7 +4,7 @@ ghost use Rattle.oci_types.specs.Digest.{matches};
 ghost use Rattle.registry_model.specs.Limits.{largest_blob};
 ghost use Rattle.registry_model.specs.World.{has_repo};
 ghost use Rattle.registry_model.specs.Lookups.{put_blob};
-ghost use Rattle.store_statements.specs.Between.{MakesWorld, StaysOnMemory};
+ghost use Rattle.store_statements.specs.Between.{CrashLeaves, MakesWorld, StaysOnMemory};
 ghost use Rattle.store_statements.specs.Clauses.{Lasts, WorldHas};
 ghost use Rattle.registry_store.specs.Usages.{IsKnown, StaysKnown};
 
@@ -29,6 +29,9 @@ pub(crate) fn put_blob<S: Alter>(
         → MakesWorld S.Store conn.old conn.new result
         (λ w. put_blob w repo.now digest.now bytes.now) }
     ensures memory { StaysOnMemory S.Store conn.old conn.new result }
+    ensures crash { WorldHas S.Store conn.old (λ w. has_repo w repo.now ≡ true)
+        → CrashLeaves S.Store conn.old conn.new result
+        (λ w. put_blob w repo.now digest.now bytes.now) }
     ensures survives { Lasts S.Store conn.old conn.new }
     ensures known { IsKnown S.Store conn.old known.old
         → WorldHas S.Store conn.old (λ w. has_repo w repo.now ≡ true)

@@ -1,6 +1,6 @@
-//! Quotas that are set, with what is known of usages.
-ghost use Rattle.registry_model.specs.Command.{set_repo};
-ghost use Rattle.store_statements.specs.Between.{MakesWorld, StaysOnMemory};
+//! Repositories that are made or get a quota, and that go, with what is known of usages.
+ghost use Rattle.registry_model.specs.Command.{set_repo, drop_repo};
+ghost use Rattle.store_statements.specs.Between.{CrashLeaves, MakesWorld, StaysOnMemory};
 ghost use Rattle.store_statements.specs.Clauses.{Lasts};
 ghost use Rattle.registry_store.specs.Usages.{IsKnown, StaysKnown};
 
@@ -19,6 +19,7 @@ pub(crate) fn set_repo<S: Alter>(
 ) -> Result<(), Fault>
     ensures made { MakesWorld S.Store conn.old conn.new result (λ w. set_repo w name.now quota.bytes) }
     ensures memory { StaysOnMemory S.Store conn.old conn.new result }
+    ensures crash { CrashLeaves S.Store conn.old conn.new result (λ w. set_repo w name.now quota.bytes) }
     ensures survives { Lasts S.Store conn.old conn.new }
     ensures known { IsKnown S.Store conn.old known.old
         → StaysKnown S.Store conn.old conn.new known.new result }
@@ -30,4 +31,21 @@ pub(crate) fn set_repo<S: Alter>(
         }
         Err(fault) => Err(fault),
     }
+}
+
+/// Takes a repository away, of which nothing is known any more.
+pub(crate) fn drop_repo<S: Alter>(
+    conn: &mut Connection<S>,
+    known: &mut KnownUsages,
+    name: &RepoName,
+) -> Result<(), Fault>
+    ensures made { MakesWorld S.Store conn.old conn.new result (λ w. drop_repo w name.now) }
+    ensures memory { StaysOnMemory S.Store conn.old conn.new result }
+    ensures crash { CrashLeaves S.Store conn.old conn.new result (λ w. drop_repo w name.now) }
+    ensures survives { Lasts S.Store conn.old conn.new }
+    ensures known { IsKnown S.Store conn.old known.old
+        → StaysKnown S.Store conn.old conn.new known.new result }
+{
+    known.forget(name);
+    store_writes::drop_repo(conn, name)
 }

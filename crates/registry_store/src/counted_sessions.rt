@@ -1,19 +1,78 @@
-//! Upload sessions that end unread, with what is known of usages.
-ghost use Rattle.std.specs.Prelude.{IfOk};
+//! Upload sessions that are opened, get bytes and end unread, with what is known of usages.
+ghost use Rattle.std.specs.Prelude.{◌≡◌, ◌+◌, true, is_some, IfOk};
 ghost use Rattle.sqlite.specs.State.{HasCleanDisk};
 ghost use Rattle.sqlite.specs.Held.{state};
+ghost use Rattle.registry_model.specs.World.{has_repo};
+ghost use Rattle.registry_model.specs.Lookups.{append, last_number_at, open_session, session_at};
 ghost use Rattle.registry_model.specs.Closing.{session_matches, finish_as_is};
-ghost use Rattle.store_statements.specs.Held.{IsSettled};
-ghost use Rattle.store_statements.specs.Between.{StaysOnMemory};
-ghost use Rattle.store_statements.specs.Clauses.{Lasts};
+ghost use Rattle.store_statements.specs.Held.{IsSettled, SettlesOn, world_in};
+ghost use Rattle.store_statements.specs.Between.{CrashLeaves, MakesWorld, StaysOnMemory};
+ghost use Rattle.store_statements.specs.Clauses.{Lasts, WorldHas};
 ghost use Rattle.store_writes.specs.Whole.{DoneWhereSo};
+ghost use Rattle.registry_store.specs.KeptWrites.{LeavesWhereSo};
 ghost use Rattle.registry_store.specs.Usages.{IsKnown, StaysKnown};
 
+use crate::following::follow_made;
 use crate::known_usages::KnownUsages;
 use oci_types::{Digest, Fault, RepoName};
 use sqlite::{Alter, Connection};
 use std::alloc::Global;
-use store_reads::known_end_change;
+use store_reads::{Change, NO_CHANGE, known_end_change};
+
+/// Opens an empty session under the number behind the repository's last, and answers it.
+pub(crate) fn open_session<S: Alter>(
+    conn: &mut Connection<S>,
+    known: &mut KnownUsages,
+    repo: &RepoName,
+) -> Result<u64, Fault>
+    ensures made { HasCleanDisk (state S.Store conn.new) → IsSettled (state S.Store conn.old)
+        → IfOk result
+        (λ n. (n ≡ last_number_at (world_in (state S.Store conn.old)) repo.now + 1) × SettlesOn
+        (state S.Store conn.new) (open_session (world_in (state S.Store conn.old)) repo.now)) }
+    ensures memory { StaysOnMemory S.Store conn.old conn.new result }
+    ensures crash { CrashLeaves S.Store conn.old conn.new result (λ w. open_session w repo.now) }
+    ensures survives { Lasts S.Store conn.old conn.new }
+    ensures known { IsKnown S.Store conn.old known.old
+        → WorldHas S.Store conn.old (λ w. has_repo w repo.now ≡ true)
+        → StaysKnown S.Store conn.old conn.new known.new result }
+{
+    let one_more = Change {
+        opened: 1,
+        ..NO_CHANGE
+    };
+    let opened = store_writes::open_session(conn, repo);
+    follow_made(known, repo, Some(one_more), &opened);
+    opened
+}
+
+/// Puts bytes behind those of an open session; none that it has are touched.
+pub(crate) fn append<S: Alter>(
+    alloc: Global,
+    conn: &mut Connection<S>,
+    known: &mut KnownUsages,
+    repo: &RepoName,
+    number: u64,
+    bytes: &[u8],
+) -> Result<(), Fault>
+    ensures made { WorldHas S.Store conn.old (λ w. is_some (session_at w repo.now number) ≡ true)
+        → MakesWorld S.Store conn.old conn.new result (λ w. append w repo.now number bytes.now) }
+    ensures memory { StaysOnMemory S.Store conn.old conn.new result }
+    ensures crash { WorldHas S.Store conn.old (λ w. is_some (session_at w repo.now number) ≡ true)
+        → CrashLeaves S.Store conn.old conn.new result
+        (λ w. append w repo.now number bytes.now) }
+    ensures survives { Lasts S.Store conn.old conn.new }
+    ensures known { IsKnown S.Store conn.old known.old
+        → WorldHas S.Store conn.old (λ w. is_some (session_at w repo.now number) ≡ true)
+        → StaysKnown S.Store conn.old conn.new known.new result }
+{
+    let longer = Change {
+        added: bytes.len() as u64,
+        ..NO_CHANGE
+    };
+    let made = store_writes::append(alloc, conn, repo, number, bytes);
+    follow_made(known, repo, Some(longer), &made);
+    made
+}
 
 /// Ends an open session whose bytes are known to match the digest, and they are a blob; a digest that is
 /// there keeps its bytes. Answers whether it did so; where it did not, nothing has changed.
@@ -31,6 +90,10 @@ pub(crate) fn finish_known<S: Alter>(
         (λ w. session_matches w repo.now number digest.now)
         (λ w. finish_as_is w repo.now number digest.now)) }
     ensures memory { StaysOnMemory S.Store conn.old conn.new result }
+    ensures crash { HasCleanDisk (state S.Store conn.new) → IsSettled (state S.Store conn.old)
+        → LeavesWhereSo (state S.Store conn.old) (state S.Store conn.new) result
+        (λ w. session_matches w repo.now number digest.now)
+        (λ w. finish_as_is w repo.now number digest.now) }
     ensures survives { Lasts S.Store conn.old conn.new }
     ensures known { IsKnown S.Store conn.old known.old
         → StaysKnown S.Store conn.old conn.new known.new result }

@@ -1,7 +1,7 @@
 //! Writes to what a repository holds, with what is known of usages.
 ghost use Rattle.std.specs.Prelude.{◌≡◌, true};
 ghost use Rattle.registry_model.specs.World.{has_repo};
-ghost use Rattle.store_statements.specs.Between.{MakesWorld, StaysOnMemory};
+ghost use Rattle.store_statements.specs.Between.{CrashLeaves, MakesWorld, StaysOnMemory};
 ghost use Rattle.store_statements.specs.Clauses.{Lasts, WorldHas};
 ghost use Rattle.registry_store.specs.Usages.{IsKnown, StaysKnown};
 ghost use Rattle.registry_store.specs.Writes.{Asks, Fits, makes};
@@ -26,6 +26,8 @@ fn make<S: Alter>(
         → MakesWorld S.Store conn.old conn.new result (makes write.entry repo.now) }
     ensures memory { WorldHas S.Store conn.old (Asks write.entry repo.now)
         → StaysOnMemory S.Store conn.old conn.new result }
+    ensures crash { WorldHas S.Store conn.old (Asks write.entry repo.now)
+        → CrashLeaves S.Store conn.old conn.new result (makes write.entry repo.now) }
     ensures survives { Lasts S.Store conn.old conn.new }
 {
     match write {
@@ -62,6 +64,8 @@ pub(crate) fn make_counted<S: Alter>(
         → MakesWorld S.Store conn.old conn.new result (makes write.entry repo.now) }
     ensures memory { WorldHas S.Store conn.old (Asks write.entry repo.now)
         → StaysOnMemory S.Store conn.old conn.new result }
+    ensures crash { WorldHas S.Store conn.old (Asks write.entry repo.now)
+        → CrashLeaves S.Store conn.old conn.new result (makes write.entry repo.now) }
     ensures survives { Lasts S.Store conn.old conn.new }
     ensures known { IsKnown S.Store conn.old known.old
         → WorldHas S.Store conn.old (Asks write.entry repo.now)

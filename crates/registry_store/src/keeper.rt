@@ -1,24 +1,37 @@
-//! The store as a keeper: each call asks the tables, and what is said of rows is said of the world.
-//! What is known of a repository's usage follows a write, or is forgotten.
-ghost use Rattle.std.specs.Prelude.{◌≡◌, ℤ, None, OnOk, if◌then◌else◌};
+//! The store as a keeper: each call asks the tables, and what is said of rows is said of the world. Each
+//! write is one transaction. What is known of a repository's usage follows it, or is forgotten.
+ghost use Rattle.std.specs.Prelude.{◌≡◌, ◌≤◌, ◌<◌, ◌+◌, ℤ, true, length, is_some, Ok, None, OnOk, if◌then◌else◌};
 ghost use Rattle.sqlite.specs.Held.{state};
-ghost use Rattle.registry_model.specs.Keeping.{Writes, Spends};
+ghost use Rattle.oci_types.specs.Digest.{matches};
+ghost use Rattle.oci_types.specs.Manifest.{shown, manifest_in};
+ghost use Rattle.registry_model.specs.Ask.{text_in};
+ghost use Rattle.registry_model.specs.Closing.{session_matches, finish_as_is};
+ghost use Rattle.registry_model.specs.Command.{set_repo, drop_repo, grant, revoke, revoke_all, drop_sessions};
+ghost use Rattle.registry_model.specs.Limits.{largest, largest_blob, largest_manifest, most_sessions};
+ghost use Rattle.registry_model.specs.Lookups.{append, blob_at, bytes_or_none, delete_blob, delete_manifest, delete_tag, finish, last_number_at, manifest_at, mount, open_session, put_blob, put_manifest, session_at, sessions_open_at, tag_at};
+ghost use Rattle.registry_model.specs.Pruning.{delete_blobs};
+ghost use Rattle.registry_model.specs.World.{is_known, has_repo, level_at};
 ghost use Rattle.store_statements.specs.Held.{held, world_in};
 ghost use Rattle.store_writes.specs.Naming.{is_named};
-ghost use Rattle.registry_store.specs.Kept.{IsHonest, shown};
+ghost use Rattle.registry_store.specs.Kept.{IsHonest};
+ghost use Rattle.registry_store.specs.KeptWrites.{AsksOf, WritesOnce, WritesOnceBy, WritesOnceWhereSo};
 
+use crate::counted_blobs::put_blob;
+use crate::counted_repos::{drop_repo, set_repo};
+use crate::counted_sessions::{append, finish_known, open_session};
 use crate::counted_writes::make_counted;
 use crate::fault_noting::note_fault;
-use crate::following::follow_made;
 use crate::origin::Origin;
 use crate::store::Store;
+use crate::usage_reads::recalled_usage;
 use crate::write::Write;
-use crate::{counted_blobs, counted_repos, counted_sessions, usage_reads};
 use oci_types::{Digest, Fault, Kind, Manifest, RepoName, Tag, Token};
 use registry_model::{Grant, Keeper, Level, Quota, Usage};
 use sqlite::Alter;
 use std::alloc::Global;
-use store_reads::{Change, NO_CHANGE};
+
+/// What a read finds, or that it is not there.
+type Found<T> = Result<Option<T>, Fault>;
 
 /// Asks the tables, unless the storage has failed, and notes where it fails now.
 macro_rules! unless_spent {
@@ -31,12 +44,26 @@ macro_rules! unless_spent {
     }};
 }
 
-/// Makes a write to what a repository holds; what is known of usages follows.
+/// Reads the tables.
+macro_rules! read {
+    ($store:ident, $read:ident($($arg:expr),*)) => {
+        unless_spent!($store, store_reads::$read(&mut $store.conn, $($arg),*))
+    };
+}
+
+/// Reads the tables, by an allocator.
+macro_rules! read_in {
+    ($store:ident, $alloc:ident, $read:ident($($arg:expr),*)) => {
+        unless_spent!($store, store_reads::$read($alloc, &mut $store.conn, $($arg),*))
+    };
+}
+
+/// Asks the tables by what is known of usages, which follows what is written.
 macro_rules! counted {
-    ($store:ident, $repo:ident, $write:expr) => {
+    ($store:ident, $asked:ident($($arg:expr),*)) => {
         unless_spent!(
             $store,
-            make_counted($store.alloc, &mut $store.conn, &mut $store.known, $repo, $write)
+            $asked($store.alloc, &mut $store.conn, &mut $store.known, $($arg),*)
         )
     };
 }
@@ -51,36 +78,31 @@ impl<S: Alter, O: Origin> Keeper for Store<S, O> {
     }
 
     fn known(&mut self, token: &Token) -> Result<bool, Fault> {
-        unless_spent!(self, store_reads::known(&mut self.conn, token))
+        read!(self, known(token))
     }
 
     fn has_repo(&mut self, repo: &RepoName) -> Result<bool, Fault> {
-        unless_spent!(self, store_reads::has_repo(&mut self.conn, repo))
+        read!(self, has_repo(repo))
     }
 
     fn repo_names(&mut self, alloc: Global) -> Result<Vec<RepoName>, Fault> {
-        unless_spent!(self, store_reads::repo_names(alloc, &mut self.conn))
+        read_in!(self, alloc, repo_names())
     }
 
     fn count_repos(&mut self) -> Result<u64, Fault> {
-        unless_spent!(self, store_reads::count_repos(&mut self.conn))
+        read!(self, count_repos())
     }
 
-    fn level(&mut self, token: &Token, repo: &RepoName) -> Result<Option<Level>, Fault> {
-        unless_spent!(self, store_reads::level(&mut self.conn, token, repo))
+    fn level(&mut self, token: &Token, repo: &RepoName) -> Found<Level> {
+        read!(self, level(token, repo))
     }
 
-    fn blob(
-        &mut self,
-        alloc: Global,
-        repo: &RepoName,
-        digest: &Digest,
-    ) -> Result<Option<Vec<u8>>, Fault> {
-        unless_spent!(self, store_reads::blob(alloc, &mut self.conn, repo, digest))
+    fn blob(&mut self, alloc: Global, repo: &RepoName, digest: &Digest) -> Found<Vec<u8>> {
+        read_in!(self, alloc, blob(repo, digest))
     }
 
-    fn blob_size(&mut self, repo: &RepoName, digest: &Digest) -> Result<Option<u64>, Fault> {
-        unless_spent!(self, store_reads::blob_size(&mut self.conn, repo, digest))
+    fn blob_size(&mut self, repo: &RepoName, digest: &Digest) -> Found<u64> {
+        read!(self, blob_size(repo, digest))
     }
 
     fn manifest(
@@ -88,30 +110,20 @@ impl<S: Alter, O: Origin> Keeper for Store<S, O> {
         alloc: Global,
         repo: &RepoName,
         digest: &Digest,
-    ) -> Result<Option<(Kind, Vec<u8>)>, Fault> {
-        unless_spent!(
-            self,
-            store_reads::manifest(alloc, &mut self.conn, repo, digest)
-        )
+    ) -> Found<(Kind, Vec<u8>)> {
+        read_in!(self, alloc, manifest(repo, digest))
     }
 
-    fn manifest_size(
-        &mut self,
-        repo: &RepoName,
-        digest: &Digest,
-    ) -> Result<Option<(Kind, u64)>, Fault> {
-        unless_spent!(
-            self,
-            store_reads::manifest_size(&mut self.conn, repo, digest)
-        )
+    fn manifest_size(&mut self, repo: &RepoName, digest: &Digest) -> Found<(Kind, u64)> {
+        read!(self, manifest_size(repo, digest))
     }
 
-    fn tag(&mut self, alloc: Global, repo: &RepoName, tag: &Tag) -> Result<Option<Digest>, Fault> {
-        unless_spent!(self, store_reads::tag(alloc, &mut self.conn, repo, tag))
+    fn tag(&mut self, alloc: Global, repo: &RepoName, tag: &Tag) -> Found<Digest> {
+        read_in!(self, alloc, tag(repo, tag))
     }
 
     fn tags(&mut self, alloc: Global, repo: &RepoName) -> Result<Vec<(Tag, Digest)>, Fault> {
-        unless_spent!(self, store_reads::all_tags(alloc, &mut self.conn, repo))
+        read_in!(self, alloc, all_tags(repo))
     }
 
     fn tags_after(
@@ -121,10 +133,7 @@ impl<S: Alter, O: Origin> Keeper for Store<S, O> {
         last: &str,
         n: Option<u64>,
     ) -> Result<(Vec<Tag>, bool), Fault> {
-        unless_spent!(
-            self,
-            store_reads::tags_after(alloc, &mut self.conn, repo, last, n)
-        )
+        read_in!(self, alloc, tags_after(repo, last, n))
     }
 
     fn manifests_of_subject(
@@ -133,111 +142,78 @@ impl<S: Alter, O: Origin> Keeper for Store<S, O> {
         repo: &RepoName,
         digest: &Digest,
     ) -> Result<Vec<(Digest, Vec<u8>)>, Fault> {
-        unless_spent!(
-            self,
-            store_reads::manifests_of_subject(alloc, &mut self.conn, repo, digest)
-        )
+        read_in!(self, alloc, manifests_of_subject(repo, digest))
     }
 
-    fn session_size(&mut self, repo: &RepoName, number: u64) -> Result<Option<u64>, Fault> {
-        unless_spent!(
-            self,
-            store_reads::session_size(&mut self.conn, repo, number)
-        )
+    fn session_size(&mut self, repo: &RepoName, number: u64) -> Found<u64> {
+        read!(self, session_size(repo, number))
     }
 
-    fn session(
-        &mut self,
-        alloc: Global,
-        repo: &RepoName,
-        number: u64,
-    ) -> Result<Option<Vec<u8>>, Fault> {
-        unless_spent!(
-            self,
-            store_reads::session_numbered(alloc, &mut self.conn, repo, number)
-        )
+    fn session(&mut self, alloc: Global, repo: &RepoName, number: u64) -> Found<Vec<u8>> {
+        read_in!(self, alloc, session_numbered(repo, number))
     }
 
     fn sessions_open(&mut self, repo: &RepoName) -> Result<u64, Fault> {
-        unless_spent!(self, store_reads::sessions_open(&mut self.conn, repo))
+        read!(self, sessions_open(repo))
     }
 
     fn last_number(&mut self, repo: &RepoName) -> Result<u64, Fault> {
-        unless_spent!(self, store_reads::last_number(&mut self.conn, repo))
+        read!(self, last_number(repo))
     }
 
     fn usage(&mut self, repo: &RepoName) -> Result<Usage, Fault> {
-        unless_spent!(
-            self,
-            usage_reads::recalled_usage(self.alloc, &mut self.conn, &mut self.known, repo)
-        )
+        counted!(self, recalled_usage(repo))
     }
 
     fn usages(&mut self, alloc: Global) -> Result<Vec<(RepoName, Usage)>, Fault> {
-        unless_spent!(self, store_reads::usages(alloc, &mut self.conn))
+        read_in!(self, alloc, usages())
     }
 
     fn levels(&mut self, alloc: Global, repo: &RepoName) -> Result<Vec<(Token, Level)>, Fault> {
-        unless_spent!(self, store_reads::levels(alloc, &mut self.conn, repo))
+        read_in!(self, alloc, levels(repo))
     }
 
     fn grants(&mut self, alloc: Global) -> Result<Vec<Grant>, Fault> {
-        unless_spent!(self, store_reads::all_grants(alloc, &mut self.conn))
+        read_in!(self, alloc, all_grants())
     }
 
     fn blob_digests(&mut self, alloc: Global, repo: &RepoName) -> Result<Vec<Digest>, Fault> {
-        unless_spent!(self, store_reads::blob_digests(alloc, &mut self.conn, repo))
+        read_in!(self, alloc, blob_digests(repo))
     }
 
     fn manifest_digests(&mut self, alloc: Global, repo: &RepoName) -> Result<Vec<Digest>, Fault> {
-        unless_spent!(
-            self,
-            store_reads::manifest_digests(alloc, &mut self.conn, repo)
-        )
+        read_in!(self, alloc, manifest_digests(repo))
     }
 
-    fn put_blob(&mut self, repo: &RepoName, digest: &Digest, bytes: &[u8]) -> Result<(), Fault> {
-        unless_spent!(
-            self,
-            counted_blobs::put_blob(
-                self.alloc,
-                &mut self.conn,
-                &mut self.known,
-                repo,
-                digest,
-                bytes
-            )
-        )
+    fn put_blob(&mut self, repo: &RepoName, digest: &Digest, bytes: &[u8]) -> Result<(), Fault>
+        requires there { AsksOf S.Store O.is_ours self.old (λ w. has_repo w repo.now ≡ true) }
+        requires matching { matches digest.now bytes.now ≡ true }
+        requires fits { length bytes.now ≤ largest_blob }
+        ensures { WritesOnce S.Store O.is_ours self.old self.new result
+            (λ w. put_blob w repo.now digest.now bytes.now) }
+    {
+        counted!(self, put_blob(repo, digest, bytes))
     }
 
-    fn open_session(&mut self, repo: &RepoName) -> Result<u64, Fault> {
-        unless_spent!(
-            self,
-            {
-                let one_more = Change {
-                    opened: 1,
-                    ..NO_CHANGE
-                };
-                let opened = store_writes::open_session(&mut self.conn, repo);
-                follow_made(&mut self.known, repo, Some(one_more), &opened);
-                opened
-            }
-        )
+    fn open_session(&mut self, repo: &RepoName) -> Result<u64, Fault>
+        requires there { AsksOf S.Store O.is_ours self.old (λ w. has_repo w repo.now ≡ true) }
+        requires few { AsksOf S.Store O.is_ours self.old (λ w. sessions_open_at w repo.now < most_sessions) }
+        requires below { AsksOf S.Store O.is_ours self.old (λ w. last_number_at w repo.now < largest) }
+        ensures { WritesOnceBy S.Store O.is_ours self.old self.new result
+            (λ w. last_number_at w repo.now + 1) (λ w. open_session w repo.now) }
+    {
+        unless_spent!(self, open_session(&mut self.conn, &mut self.known, repo))
     }
 
-    fn append(&mut self, repo: &RepoName, number: u64, bytes: &[u8]) -> Result<(), Fault> {
-        unless_spent!(
-            self,
-            {
-                let longer = Change {
-                    added: bytes.len() as u64,
-                    ..NO_CHANGE
-                };
-                let made = store_writes::append(self.alloc, &mut self.conn, repo, number, bytes);
-                follow_made(&mut self.known, repo, Some(longer), &made);
-                made
-            }
-        )
+    fn append(&mut self, repo: &RepoName, number: u64, bytes: &[u8]) -> Result<(), Fault>
+        requires open { AsksOf S.Store O.is_ours self.old
+            (λ w. is_some (session_at w repo.now number) ≡ true) }
+        requires fits { AsksOf S.Store O.is_ours self.old
+            (λ w. length (bytes_or_none (session_at w repo.now number)) + length bytes.now ≤ largest_blob) }
+        ensures { WritesOnce S.Store O.is_ours self.old self.new result
+            (λ w. append w repo.now number bytes.now) }
+    {
+        counted!(self, append(repo, number, bytes))
     }
 
     fn finish(
@@ -246,36 +222,38 @@ impl<S: Alter, O: Origin> Keeper for Store<S, O> {
         number: u64,
         digest: &Digest,
         bytes: &[u8],
-    ) -> Result<(), Fault> {
+    ) -> Result<(), Fault>
+        requires open { AsksOf S.Store O.is_ours self.old
+            (λ w. is_some (session_at w repo.now number) ≡ true) }
+        requires matching { matches digest.now bytes.now ≡ true }
+        requires fits { length bytes.now ≤ largest_blob }
+        ensures { WritesOnce S.Store O.is_ours self.old self.new result
+            (λ w. finish w repo.now number digest.now bytes.now) }
+    {
         let finish = Write::Finish {
             number,
             digest,
             bytes,
         };
-        counted!(self, repo, finish)
+        counted!(self, make_counted(repo, finish))
     }
 
-    fn finish_known(
-        &mut self,
-        repo: &RepoName,
-        number: u64,
-        digest: &Digest,
-    ) -> Result<bool, Fault> {
-        unless_spent!(
-            self,
-            counted_sessions::finish_known(
-                self.alloc,
-                &mut self.conn,
-                &mut self.known,
-                repo,
-                number,
-                digest
-            )
-        )
+    fn finish_known(&mut self, repo: &RepoName, number: u64, digest: &Digest) -> Result<bool, Fault>
+        ensures { WritesOnceWhereSo S.Store O.is_ours self.old self.new result
+            (λ w. session_matches w repo.now number digest.now)
+            (λ w. finish_as_is w repo.now number digest.now) }
+    {
+        counted!(self, finish_known(repo, number, digest))
     }
 
-    fn mount(&mut self, from: &RepoName, to: &RepoName, digest: &Digest) -> Result<(), Fault> {
-        counted!(self, to, Write::Mount { from, digest })
+    fn mount(&mut self, from: &RepoName, to: &RepoName, digest: &Digest) -> Result<(), Fault>
+        requires there { AsksOf S.Store O.is_ours self.old (λ w. has_repo w to.now ≡ true) }
+        requires source { AsksOf S.Store O.is_ours self.old
+            (λ w. is_some (blob_at w from.now digest.now) ≡ true) }
+        ensures { WritesOnce S.Store O.is_ours self.old self.new result
+            (λ w. mount w from.now to.now digest.now) }
+    {
+        counted!(self, make_counted(to, Write::Mount { from, digest }))
     }
 
     fn put_manifest(
@@ -285,75 +263,110 @@ impl<S: Alter, O: Origin> Keeper for Store<S, O> {
         bytes: &[u8],
         manifest: &Manifest,
         tag: Option<&Tag>,
-    ) -> Result<(), Fault> {
+    ) -> Result<(), Fault>
+        requires there { AsksOf S.Store O.is_ours self.old (λ w. has_repo w repo.now ≡ true) }
+        requires matching { matches digest.now bytes.now ≡ true }
+        requires reads { manifest_in bytes.now ≡ Ok (shown manifest.now) }
+        requires fits { length bytes.now ≤ largest_manifest }
+        ensures { WritesOnce S.Store O.is_ours self.old self.new result
+            (λ w. put_manifest w repo.now digest.now bytes.now (text_in tag.entry)) }
+    {
         let put = Write::PutManifest {
             digest,
             bytes,
             manifest,
             tag,
         };
-        counted!(self, repo, put)
+        counted!(self, make_counted(repo, put))
     }
 
-    fn delete_blob(&mut self, repo: &RepoName, digest: &Digest) -> Result<(), Fault> {
-        counted!(self, repo, Write::DeleteBlob { digest })
+    fn delete_blob(&mut self, repo: &RepoName, digest: &Digest) -> Result<(), Fault>
+        requires there { AsksOf S.Store O.is_ours self.old
+            (λ w. is_some (blob_at w repo.now digest.now) ≡ true) }
+        ensures { WritesOnce S.Store O.is_ours self.old self.new result
+            (λ w. delete_blob w repo.now digest.now) }
+    {
+        counted!(self, make_counted(repo, Write::DeleteBlob { digest }))
     }
 
-    fn delete_blobs(&mut self, repo: &RepoName, digests: &[Digest]) -> Result<(), Fault> {
-        counted!(self, repo, Write::DeleteBlobs { digests })
+    fn delete_blobs(&mut self, repo: &RepoName, digests: &[Digest]) -> Result<(), Fault>
+        requires there { AsksOf S.Store O.is_ours self.old (λ w. has_repo w repo.now ≡ true) }
+        ensures { WritesOnce S.Store O.is_ours self.old self.new result
+            (λ w. delete_blobs w repo.now digests.now) }
+    {
+        counted!(self, make_counted(repo, Write::DeleteBlobs { digests }))
     }
 
-    fn delete_manifest(&mut self, repo: &RepoName, digest: &Digest) -> Result<(), Fault> {
-        counted!(self, repo, Write::DeleteManifest { digest })
+    fn delete_manifest(&mut self, repo: &RepoName, digest: &Digest) -> Result<(), Fault>
+        requires there { AsksOf S.Store O.is_ours self.old
+            (λ w. is_some (manifest_at w repo.now digest.now) ≡ true) }
+        ensures { WritesOnce S.Store O.is_ours self.old self.new result
+            (λ w. delete_manifest w repo.now digest.now) }
+    {
+        counted!(self, make_counted(repo, Write::DeleteManifest { digest }))
     }
 
-    fn delete_tag(&mut self, repo: &RepoName, tag: &Tag) -> Result<(), Fault> {
-        counted!(self, repo, Write::DeleteTag { tag })
+    fn delete_tag(&mut self, repo: &RepoName, tag: &Tag) -> Result<(), Fault>
+        requires there { AsksOf S.Store O.is_ours self.old
+            (λ w. is_some (tag_at w repo.now tag.now) ≡ true) }
+        ensures { WritesOnce S.Store O.is_ours self.old self.new result
+            (λ w. delete_tag w repo.now tag.now) }
+    {
+        counted!(self, make_counted(repo, Write::DeleteTag { tag }))
     }
 
-    fn set_repo(&mut self, name: &RepoName, quota: Quota) -> Result<(), Fault> {
-        unless_spent!(
-            self,
-            counted_repos::set_repo(&mut self.conn, &mut self.known, name, quota)
-        )
+    fn set_repo(&mut self, name: &RepoName, quota: Quota) -> Result<(), Fault>
+        ensures { WritesOnce S.Store O.is_ours self.old self.new result
+            (λ w. set_repo w name.now quota.bytes) }
+    {
+        unless_spent!(self, set_repo(&mut self.conn, &mut self.known, name, quota))
     }
 
-    fn drop_repo(&mut self, name: &RepoName) -> Result<(), Fault> {
-        unless_spent!(
-            self,
-            {
-                self.known.forget(name);
-                store_writes::drop_repo(&mut self.conn, name)
-            }
-        )
+    fn drop_repo(&mut self, name: &RepoName) -> Result<(), Fault>
+        requires there { AsksOf S.Store O.is_ours self.old (λ w. has_repo w name.now ≡ true) }
+        ensures { WritesOnce S.Store O.is_ours self.old self.new result (λ w. drop_repo w name.now) }
+    {
+        unless_spent!(self, drop_repo(&mut self.conn, &mut self.known, name))
     }
 
-    fn grant(&mut self, token: &Token, name: &RepoName, level: Level) -> Result<(), Fault> {
+    fn grant(&mut self, token: &Token, name: &RepoName, level: Level) -> Result<(), Fault>
+        requires there { AsksOf S.Store O.is_ours self.old (λ w. has_repo w name.now ≡ true) }
+        ensures { WritesOnce S.Store O.is_ours self.old self.new result
+            (λ w. grant w token.now name.now level) }
+    {
         unless_spent!(
             self,
             store_writes::grant(&mut self.conn, token, name, level)
         )
     }
 
-    fn revoke(&mut self, token: &Token, name: &RepoName) -> Result<(), Fault> {
+    fn revoke(&mut self, token: &Token, name: &RepoName) -> Result<(), Fault>
+        requires granted { AsksOf S.Store O.is_ours self.old
+            (λ w. is_some (level_at w token.now name.now) ≡ true) }
+        ensures { WritesOnce S.Store O.is_ours self.old self.new result
+            (λ w. revoke w token.now name.now) }
+    {
         unless_spent!(self, store_writes::revoke(&mut self.conn, token, name))
     }
 
-    fn revoke_all(&mut self, token: &Token) -> Result<(), Fault> {
+    fn revoke_all(&mut self, token: &Token) -> Result<(), Fault>
+        requires granted { AsksOf S.Store O.is_ours self.old (λ w. is_known (w.grants token.now) ≡ true) }
+        ensures { WritesOnce S.Store O.is_ours self.old self.new result (λ w. revoke_all w token.now) }
+    {
         unless_spent!(self, store_writes::revoke_all(&mut self.conn, token))
     }
 
-    fn drop_sessions(&mut self, name: &RepoName) -> Result<(), Fault> {
-        counted!(self, name, Write::DropSessions)
+    fn drop_sessions(&mut self, name: &RepoName) -> Result<(), Fault>
+        requires there { AsksOf S.Store O.is_ours self.old (λ w. has_repo w name.now ≡ true) }
+        ensures { WritesOnce S.Store O.is_ours self.old self.new result (λ w. drop_sessions w name.now) }
+    {
+        counted!(self, make_counted(name, Write::DropSessions))
     }
 
     /// Frees each content that no blob, manifest or upload session names: exactly the others stay, and the
     /// world does not change. A failure frees nothing.
     fn clear(&mut self) -> Result<(), Fault>
-        ensures made { IsHonest S.Store O.is_ours self.new
-            → Writes result (shown S.Store self.old).world (shown S.Store self.old) (shown S.Store self.new) }
-        ensures spends { Spends result (shown S.Store self.old) (shown S.Store self.new) }
-        ensures honest { IsHonest S.Store O.is_ours self.new → IsHonest S.Store O.is_ours self.old }
+        ensures once { WritesOnce S.Store O.is_ours self.old self.new result (λ w. w) }
         ensures freed { IsHonest S.Store O.is_ours self.new
             → OnOk result
             ((id : ℤ) → (held (state S.Store self.new.conn)).contents id

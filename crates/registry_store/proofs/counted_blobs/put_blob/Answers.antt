@@ -11,6 +11,7 @@ pub returns-in-Ok : goal.returns-in-Ok
 returns-in-Ok g c = record {
   made = λ there clean is. c.in-Ok.ensures.made there clean is;
   memory = λ clean is wanting. absurd (cc);
+  crash = λ there clean is. c.in-Ok.ensures.crash there clean is;
   survives = c.put_blob.ensures.survives;
   known = λ known there clean is sound.
       let old = state g.S.Store c.args.conn.now in
@@ -23,6 +24,7 @@ pub returns-in-Err : goal.returns-in-Err
 returns-in-Err g c = record {
   made = λ there clean is. tt;
   memory = λ clean is wanting. c.in-Err.ensures.memory clean is (let e = wanting in cc);
+  crash = λ there clean is. c.in-Err.ensures.crash there clean is;
   survives = c.put_blob.ensures.survives;
   known = λ known there clean is sound.
       unfollowed {A = Unit {0}} c.args.known.now (state g.S.Store c.args.conn.now) (state g.S.Store c.put_blob.new.conn) c.in-Err.fault

@@ -7,6 +7,7 @@ pub returns-in-Ok : goal.returns-in-Ok
 returns-in-Ok g c = record {
   made = λ clean is. c.in-Ok.ensures.made clean is;
   memory = λ clean is wanting. absurd (cc);
+  crash = λ clean is. c.in-Ok.ensures.crash clean is;
   survives = c.set_repo.ensures.survives;
   known = λ known clean is sound.
       requotes c.args.known.now c.set_quota.new.self (state g.S.Store c.args.conn.now) (state g.S.Store c.set_repo.new.conn) c.args.name.now c.args.quota.bytes
@@ -17,6 +18,7 @@ pub returns-in-Err : goal.returns-in-Err
 returns-in-Err g c = record {
   made = λ clean is. tt;
   memory = λ clean is wanting. c.in-Err.ensures.memory clean is wanting;
+  crash = λ clean is. c.in-Err.ensures.crash clean is;
   survives = c.set_repo.ensures.survives;
   known = λ known clean is sound.
       unfollowed {A = Unit {0}} c.args.known.now (state g.S.Store c.args.conn.now) (state g.S.Store c.set_repo.new.conn) c.in-Err.fault

@@ -20,6 +20,7 @@ returns-in-Ok-Some g c =
     record {
       made = λ clean is. rw c.in-Ok-Some.field-0-is at (c.in-Ok-Some.ensures.made clean is);
       memory = λ clean is wanting. absurd (cc);
+      crash = λ clean is. rw c.in-Ok-Some.field-0-is at (c.in-Ok-Some.ensures.crash clean is);
       survives = c.finish_known.ensures.survives;
       known = λ known clean is sound.
           let w = world_in old in
@@ -38,6 +39,7 @@ returns-in-Ok-None g c =
     record {
       made = λ clean is. rw c.in-Ok-None.field-0-is at (c.in-Ok-None.ensures.made clean is);
       memory = λ clean is wanting. absurd (cc);
+      crash = λ clean is. rw c.in-Ok-None.field-0-is at (c.in-Ok-None.ensures.crash clean is);
       survives = c.finish_known.ensures.survives;
       known = λ known clean is sound.
           let stays = rw c.in-Ok-None.field-0-is at (c.in-Ok-None.ensures.made clean is) in
@@ -48,6 +50,7 @@ pub returns-in-Err : goal.returns-in-Err
 returns-in-Err g c = record {
   made = λ clean is. tt;
   memory = λ clean is wanting. c.in-Err.ensures.memory clean is (let e = wanting in cc);
+  crash = λ clean is. c.in-Err.ensures.crash clean is;
   survives = c.finish_known.ensures.survives;
   known = λ known clean is sound.
       unfollowed {A = Bool} c.args.known.now (state g.S.Store c.args.conn.now) (state g.S.Store c.finish_known.new.conn) c.in-Err.fault

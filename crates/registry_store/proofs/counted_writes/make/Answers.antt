@@ -10,6 +10,7 @@ pub returns-in-Mount : goal.returns-in-Mount
 returns-in-Mount g c = record {
   made = rw c.in-Mount.is (λ asks. c.mount.ensures.made asks);
   memory = rw c.in-Mount.is (λ asks. c.mount.ensures.memory);
+  crash = rw c.in-Mount.is (λ asks. c.mount.ensures.crash asks);
   survives = c.mount.ensures.survives;
 }
 
@@ -17,6 +18,7 @@ pub returns-in-PutManifest : goal.returns-in-PutManifest
 returns-in-PutManifest g c = record {
   made = rw c.in-PutManifest.is (λ asks. c.put_manifest.ensures.made asks);
   memory = rw c.in-PutManifest.is (λ asks. c.put_manifest.ensures.memory asks);
+  crash = rw c.in-PutManifest.is (λ asks. c.put_manifest.ensures.crash asks);
   survives = c.put_manifest.ensures.survives;
 }
 
@@ -24,6 +26,7 @@ pub returns-in-Finish : goal.returns-in-Finish
 returns-in-Finish g c = record {
   made = rw c.in-Finish.is (λ asks. c.finish.ensures.made asks);
   memory = rw c.in-Finish.is (λ asks. c.finish.ensures.memory);
+  crash = rw c.in-Finish.is (λ asks. c.finish.ensures.crash asks);
   survives = c.finish.ensures.survives;
 }
 
@@ -31,6 +34,7 @@ pub returns-in-DeleteBlob : goal.returns-in-DeleteBlob
 returns-in-DeleteBlob g c = record {
   made = rw c.in-DeleteBlob.is (λ asks. c.delete_blob.ensures.made);
   memory = rw c.in-DeleteBlob.is (λ asks. c.delete_blob.ensures.memory);
+  crash = rw c.in-DeleteBlob.is (λ asks. c.delete_blob.ensures.crash);
   survives = c.delete_blob.ensures.survives;
 }
 
@@ -38,6 +42,7 @@ pub returns-in-DeleteBlobs : goal.returns-in-DeleteBlobs
 returns-in-DeleteBlobs g c = record {
   made = rw c.in-DeleteBlobs.is (λ asks. c.delete_blobs.ensures.made);
   memory = rw c.in-DeleteBlobs.is (λ asks. c.delete_blobs.ensures.memory);
+  crash = rw c.in-DeleteBlobs.is (λ asks. c.delete_blobs.ensures.crash);
   survives = c.delete_blobs.ensures.survives;
 }
 
@@ -45,6 +50,7 @@ pub returns-in-DeleteManifest : goal.returns-in-DeleteManifest
 returns-in-DeleteManifest g c = record {
   made = rw c.in-DeleteManifest.is (λ asks. c.delete_manifest.ensures.made);
   memory = rw c.in-DeleteManifest.is (λ asks. c.delete_manifest.ensures.memory);
+  crash = rw c.in-DeleteManifest.is (λ asks. c.delete_manifest.ensures.crash);
   survives = c.delete_manifest.ensures.survives;
 }
 
@@ -52,6 +58,7 @@ pub returns-in-DeleteTag : goal.returns-in-DeleteTag
 returns-in-DeleteTag g c = record {
   made = rw c.in-DeleteTag.is (λ asks. c.delete_tag.ensures.made);
   memory = rw c.in-DeleteTag.is (λ asks. c.delete_tag.ensures.memory);
+  crash = rw c.in-DeleteTag.is (λ asks. c.delete_tag.ensures.crash);
   survives = c.delete_tag.ensures.survives;
 }
 
@@ -59,5 +66,6 @@ pub returns-in-DropSessions : goal.returns-in-DropSessions
 returns-in-DropSessions g c = record {
   made = rw c.in-DropSessions.is (λ asks. c.drop_sessions.ensures.made);
   memory = rw c.in-DropSessions.is (λ asks. c.drop_sessions.ensures.memory);
+  crash = rw c.in-DropSessions.is (λ asks. c.drop_sessions.ensures.crash);
   survives = c.drop_sessions.ensures.survives;
 }

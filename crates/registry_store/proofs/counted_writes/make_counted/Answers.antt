@@ -1,7 +1,8 @@
 use Rattle.std.proofs.Common.{true≢false}
 use Rattle.store_statements.proofs.Checks.{never_storage}
+use Rattle.store_statements.proofs.Crashes.{crash_failed}
 use Rattle.registry_store.specs.Writes.{Asks, becomes, makes}
-use Rattle.registry_store.proofs.Followed.{lasts, made_then, memory_where, known_then}
+use Rattle.registry_store.proofs.Followed.{crash_where, lasts, made_then, memory_where, known_then}
 use Rattle.registry_store.proofs.counted_writes.make_counted.Goals as goal
 
 pub make-made-requires : goal.make-made-requires
@@ -18,6 +19,9 @@ returns g c =
     record {
       made = turns;
       memory = stays;
+      crash =
+          crash_where g.S.Store c.args.conn.now c.foretell.new.conn c.make-made.new.conn c.foretell.result c.in-Ok.change c.in-Ok.is c.foretell.ensures.survives c.foretell.ensures.settled c.make-made.ensures.survives
+          c.make-made.result (Asks c.args.write c.args.repo.now) (makes c.args.write c.args.repo.now) c.make-made.ensures.crash;
       survives = lasts g.S.Store c.args.conn.now c.foretell.new.conn c.make-made.new.conn c.foretell.result c.in-Ok.change c.in-Ok.is c.foretell.ensures.survives c.foretell.ensures.settled c.make-made.ensures.survives;
       known = λ known asks there.
           known_then g.S.Store c.args.conn.now c.foretell.new.conn c.make-made.new.conn c.foretell.result c.in-Ok.change c.in-Ok.is c.foretell.ensures.survives c.foretell.ensures.settled c.make-made.ensures.survives
@@ -29,6 +33,7 @@ pub returns-in_default : goal.returns-in_default
 returns-in_default g c = record {
   made = λ asks clean is. tt;
   memory = λ asks clean is wanting. absurd (never_storage wanting);
+  crash = λ asks clean is. crash_failed g.S.Store c.args.conn.now c.foretell.new.conn (makes c.args.write c.args.repo.now) is (c.foretell.ensures.kept clean is);
   survives = c.foretell.ensures.survives;
   known = λ known asks there clean is sound. absurd (true≢false sound);
 }

@@ -2,6 +2,7 @@ use Rattle.std.proofs.Common.{◌≡◌, ◌∙◌, true, false, not, is_some, r
 use Rattle.sqlite.specs.Held.{state}
 use Rattle.store_statements.specs.Held.{world_in}
 use Rattle.store_statements.proofs.Checks.{survives_here}
+use Rattle.store_statements.proofs.Crashes.{kept_stayed}
 use Rattle.store_reads.specs.Usages.{Foretells}
 use Rattle.store_reads.proofs.Foretold.{untold_settled, if_told, untold_fails}
 use Rattle.registry_store.specs.Writes.{becomes}
@@ -12,6 +13,7 @@ returns-then-is_none g c = record {
   found = λ clean is. tt;
   unasked = λ none. refl;
   settled = λ clean is sound. (is, refl);
+  kept = λ clean is. kept_stayed g.S.Store g.met.S.Store.settled c.args.conn.now c.args.conn.now is (is, refl);
   survives = survives_here (state g.S.Store c.args.conn.now);
   failing = tt;
 }
@@ -25,6 +27,7 @@ returns g c = record {
       let bad : true ≡ false = sym (c.is_none.ensures ∙ ap not c.if-is_none.false) ∙ ap is_some (c.usage.ensures ∙ none) in
       absurd (cc);
   settled = λ clean is sound. c.look_up.ensures.settled clean is (untold_settled c.look_up.result (rw c.or_untold.ensures at sound));
+  kept = c.look_up.ensures.kept;
   survives = c.look_up.ensures.survives;
   failing = rw c.or_untold.ensures (untold_fails c.look_up.result);
 }

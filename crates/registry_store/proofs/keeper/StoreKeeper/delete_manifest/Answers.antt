@@ -5,7 +5,7 @@ use Rattle.registry_model.specs.Lookups.{manifest_at, delete_manifest}
 use Rattle.store_statements.specs.Held.{world_in}
 use Rattle.registry_store.proofs.KnownWorlds.{manifest_has_repo}
 use Rattle.registry_store.proofs.KeeperStates.{asked}
-use Rattle.registry_store.proofs.KeeperAnswers.{spends_told, still_spent, was_honest, write_holds, write_says}
+use Rattle.registry_store.proofs.KeeperAnswers.{nothing_once, write_holds, writes_once}
 use Rattle.registry_store.proofs.keeper.StoreKeeper.delete_manifest.Goals as goal
 
 pub invariant_of-self : goal.invariant_of-self
@@ -15,24 +15,14 @@ invariant_of-self g c =
     (λ ours. c.make_counted-answer.ensures.made (λ clean. tt)) (λ ours. c.make_counted-answer.ensures.memory (λ clean. tt)) (λ ours known. c.make_counted-answer.ensures.known known (λ clean. tt) (λ clean. manifest_has_repo (world_in (state g.S.Store c.self.inside.conn)) c.args.repo.now c.args.digest.now (asked g.S.Store c.self.inside.conn c.args.self.now c.self.inside.spent c.self.view_is (λ w. is_some (manifest_at w c.args.repo.now c.args.digest.now) ≡ true) g.O.Origin.is_ours c.if-self.false ours c.requires.there clean)))
 
 pub returns-then-self : goal.returns-then-self
-returns-then-self g c = record {
-  made = λ honest. tt;
-  spends = still_spent g.S.Store g.O.Origin.is_ours c.self.inside.conn c.args.self.now c.self.inside.spent c.self.view_is c.if-self.true;
-  honest = λ honest. honest;
-}
+returns-then-self g c = nothing_once g.S.Store g.O.Origin.is_ours c.self.inside.conn c.args.self.now c.self.inside.spent c.self.view_is c.if-self.true
 
 pub returns : goal.returns
-returns g c = record {
-  made =
-      write_says g.S.Store g.O.Origin.is_ours c.self.inside.conn c.args.self.now c.self.inside.spent c.self.view_is c.self.inside.known c.self.invariant c.if-self.false c.make_counted-answer.new.conn c.make_counted-answer.ensures.survives
-      c.note_fault.result c.make_counted-answer.result c.note_fault.new.spent c.note_fault.ensures.same c.note_fault.ensures.noted (λ w. delete_manifest w c.args.repo.now c.args.digest.now)
-      (λ ours. c.make_counted-answer.ensures.made (λ clean. tt)) (λ ours. c.make_counted-answer.ensures.memory (λ clean. tt));
-  spends =
-      spends_told g.S.Store g.O.Origin.is_ours c.self.inside.conn c.args.self.now c.self.inside.spent c.self.view_is c.self.inside.known c.self.invariant c.if-self.false c.make_counted-answer.new.conn c.make_counted-answer.ensures.survives
-      c.note_fault.result c.make_counted-answer.result c.note_fault.new.spent c.note_fault.ensures.same c.note_fault.ensures.noted;
-  honest =
-      was_honest g.S.Store g.O.Origin.is_ours c.self.inside.conn c.args.self.now c.self.inside.spent c.self.view_is c.self.inside.known c.self.invariant c.if-self.false c.make_counted-answer.new.conn c.make_counted-answer.ensures.survives c.note_fault.new.spent;
-}
+returns g c =
+    writes_once g.S.Store g.O.Origin.is_ours c.self.inside.conn c.args.self.now c.self.inside.spent c.self.view_is c.self.inside.known c.self.invariant c.if-self.false c.make_counted-answer.new.conn c.make_counted-answer.ensures.survives
+    c.note_fault.result c.make_counted-answer.result c.note_fault.new.spent c.note_fault.ensures.same c.note_fault.ensures.noted (λ w. delete_manifest w c.args.repo.now c.args.digest.now)
+    (λ ours. c.make_counted-answer.ensures.made (λ clean. tt)) (λ ours. c.make_counted-answer.ensures.memory (λ clean. tt))
+    (λ ours. c.make_counted-answer.ensures.crash (λ clean. tt))
 
 pub make_counted-answer-requires : goal.make_counted-answer-requires
 make_counted-answer-requires g c = record { fits = tt }

@@ -4,7 +4,7 @@ use Rattle.registry_model.specs.Lookups.{finish, session_at}
 use Rattle.store_statements.specs.Held.{world_in}
 use Rattle.store_reads.proofs.Foretold.{session_has_repo}
 use Rattle.registry_store.proofs.KeeperStates.{asked}
-use Rattle.registry_store.proofs.KeeperAnswers.{spends_told, still_spent, was_honest, write_holds, write_says}
+use Rattle.registry_store.proofs.KeeperAnswers.{nothing_once, write_holds, writes_once}
 use Rattle.registry_store.proofs.keeper.StoreKeeper.finish.Goals as goal
 
 pub make_counted-answer-requires : goal.make_counted-answer-requires
@@ -17,21 +17,11 @@ invariant_of-self g c =
     (λ ours. c.make_counted-answer.ensures.made (asked g.S.Store c.self.inside.conn c.args.self.now c.self.inside.spent c.self.view_is (λ w. is_some (session_at w c.args.repo.now c.args.number) ≡ true) g.O.Origin.is_ours c.if-self.false ours c.requires.«open»)) (λ ours. c.make_counted-answer.ensures.memory (asked g.S.Store c.self.inside.conn c.args.self.now c.self.inside.spent c.self.view_is (λ w. is_some (session_at w c.args.repo.now c.args.number) ≡ true) g.O.Origin.is_ours c.if-self.false ours c.requires.«open»)) (λ ours known. c.make_counted-answer.ensures.known known (asked g.S.Store c.self.inside.conn c.args.self.now c.self.inside.spent c.self.view_is (λ w. is_some (session_at w c.args.repo.now c.args.number) ≡ true) g.O.Origin.is_ours c.if-self.false ours c.requires.«open») (λ clean. session_has_repo (world_in (state g.S.Store c.self.inside.conn)) c.args.repo.now c.args.number (asked g.S.Store c.self.inside.conn c.args.self.now c.self.inside.spent c.self.view_is (λ w. is_some (session_at w c.args.repo.now c.args.number) ≡ true) g.O.Origin.is_ours c.if-self.false ours c.requires.«open» clean)))
 
 pub returns-then-self : goal.returns-then-self
-returns-then-self g c = record {
-  made = λ honest. tt;
-  spends = still_spent g.S.Store g.O.Origin.is_ours c.self.inside.conn c.args.self.now c.self.inside.spent c.self.view_is c.if-self.true;
-  honest = λ honest. honest;
-}
+returns-then-self g c = nothing_once g.S.Store g.O.Origin.is_ours c.self.inside.conn c.args.self.now c.self.inside.spent c.self.view_is c.if-self.true
 
 pub returns : goal.returns
-returns g c = record {
-  made =
-      write_says g.S.Store g.O.Origin.is_ours c.self.inside.conn c.args.self.now c.self.inside.spent c.self.view_is c.self.inside.known c.self.invariant c.if-self.false c.make_counted-answer.new.conn c.make_counted-answer.ensures.survives
-      c.note_fault.result c.make_counted-answer.result c.note_fault.new.spent c.note_fault.ensures.same c.note_fault.ensures.noted (λ w. finish w c.args.repo.now c.args.number c.args.digest.now c.args.bytes.now)
-      (λ ours. c.make_counted-answer.ensures.made (asked g.S.Store c.self.inside.conn c.args.self.now c.self.inside.spent c.self.view_is (λ w. is_some (session_at w c.args.repo.now c.args.number) ≡ true) g.O.Origin.is_ours c.if-self.false ours c.requires.«open»)) (λ ours. c.make_counted-answer.ensures.memory (asked g.S.Store c.self.inside.conn c.args.self.now c.self.inside.spent c.self.view_is (λ w. is_some (session_at w c.args.repo.now c.args.number) ≡ true) g.O.Origin.is_ours c.if-self.false ours c.requires.«open»));
-  spends =
-      spends_told g.S.Store g.O.Origin.is_ours c.self.inside.conn c.args.self.now c.self.inside.spent c.self.view_is c.self.inside.known c.self.invariant c.if-self.false c.make_counted-answer.new.conn c.make_counted-answer.ensures.survives
-      c.note_fault.result c.make_counted-answer.result c.note_fault.new.spent c.note_fault.ensures.same c.note_fault.ensures.noted;
-  honest =
-      was_honest g.S.Store g.O.Origin.is_ours c.self.inside.conn c.args.self.now c.self.inside.spent c.self.view_is c.self.inside.known c.self.invariant c.if-self.false c.make_counted-answer.new.conn c.make_counted-answer.ensures.survives c.note_fault.new.spent;
-}
+returns g c =
+    writes_once g.S.Store g.O.Origin.is_ours c.self.inside.conn c.args.self.now c.self.inside.spent c.self.view_is c.self.inside.known c.self.invariant c.if-self.false c.make_counted-answer.new.conn c.make_counted-answer.ensures.survives
+    c.note_fault.result c.make_counted-answer.result c.note_fault.new.spent c.note_fault.ensures.same c.note_fault.ensures.noted (λ w. finish w c.args.repo.now c.args.number c.args.digest.now c.args.bytes.now)
+    (λ ours. c.make_counted-answer.ensures.made (asked g.S.Store c.self.inside.conn c.args.self.now c.self.inside.spent c.self.view_is (λ w. is_some (session_at w c.args.repo.now c.args.number) ≡ true) g.O.Origin.is_ours c.if-self.false ours c.requires.«open»)) (λ ours. c.make_counted-answer.ensures.memory (asked g.S.Store c.self.inside.conn c.args.self.now c.self.inside.spent c.self.view_is (λ w. is_some (session_at w c.args.repo.now c.args.number) ≡ true) g.O.Origin.is_ours c.if-self.false ours c.requires.«open»))
+    (λ ours. c.make_counted-answer.ensures.crash (asked g.S.Store c.self.inside.conn c.args.self.now c.self.inside.spent c.self.view_is (λ w. is_some (session_at w c.args.repo.now c.args.number) ≡ true) g.O.Origin.is_ours c.if-self.false ours c.requires.«open»))

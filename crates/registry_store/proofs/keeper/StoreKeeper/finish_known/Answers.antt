@@ -1,7 +1,7 @@
 use Rattle.sqlite.specs.Held.{state}
 use Rattle.registry_model.specs.Closing.{session_matches, finish_as_is}
-use Rattle.registry_store.proofs.KnownAnswers.{settled_whether, whether_says}
-use Rattle.registry_store.proofs.KeeperAnswers.{call_holds, spends_told, still_spent, was_honest, was_settled}
+use Rattle.registry_store.proofs.KnownAnswers.{ends_once, settled_whether}
+use Rattle.registry_store.proofs.KeeperAnswers.{call_holds, nothing_once}
 use Rattle.registry_store.proofs.keeper.StoreKeeper.finish_known.Goals as goal
 
 pub invariant_of-self : goal.invariant_of-self
@@ -12,22 +12,10 @@ invariant_of-self g c =
     (λ ours. c.finish_known-answer.ensures.known)
 
 pub returns-then-self : goal.returns-then-self
-returns-then-self g c = record {
-  made = λ honest. tt;
-  spends = still_spent g.S.Store g.O.Origin.is_ours c.self.inside.conn c.args.self.now c.self.inside.spent c.self.view_is c.if-self.true;
-  honest = λ honest. honest;
-}
+returns-then-self g c = nothing_once g.S.Store g.O.Origin.is_ours c.self.inside.conn c.args.self.now c.self.inside.spent c.self.view_is c.if-self.true
 
 pub returns : goal.returns
-returns g c = record {
-  made =
-      λ honest. whether_says g.S.Store c.self.inside.conn c.args.self.now c.self.inside.spent c.self.view_is c.finish_known-answer.new.conn (λ w. session_matches w c.args.repo.now c.args.number c.args.digest.now) (λ w. finish_as_is w c.args.repo.now c.args.number c.args.digest.now)
-      c.note_fault.result c.finish_known-answer.result c.note_fault.new.spent c.if-self.false c.note_fault.ensures.same c.note_fault.ensures.noted c.finish_known-answer.ensures.made c.finish_known-answer.ensures.memory honest.0
-      (was_settled g.S.Store g.O.Origin.is_ours c.self.inside.conn c.args.self.now c.self.inside.spent c.self.view_is c.self.inside.known c.self.invariant c.if-self.false c.finish_known-answer.new.conn c.finish_known-answer.ensures.survives
-      c.note_fault.result c.finish_known-answer.result c.note_fault.new.spent c.note_fault.ensures.same c.note_fault.ensures.noted honest);
-  spends =
-      spends_told g.S.Store g.O.Origin.is_ours c.self.inside.conn c.args.self.now c.self.inside.spent c.self.view_is c.self.inside.known c.self.invariant c.if-self.false c.finish_known-answer.new.conn c.finish_known-answer.ensures.survives
-      c.note_fault.result c.finish_known-answer.result c.note_fault.new.spent c.note_fault.ensures.same c.note_fault.ensures.noted;
-  honest =
-      was_honest g.S.Store g.O.Origin.is_ours c.self.inside.conn c.args.self.now c.self.inside.spent c.self.view_is c.self.inside.known c.self.invariant c.if-self.false c.finish_known-answer.new.conn c.finish_known-answer.ensures.survives c.note_fault.new.spent;
-}
+returns g c =
+    ends_once g.S.Store g.O.Origin.is_ours c.self.inside.conn c.args.self.now c.self.inside.spent c.self.view_is c.self.inside.known c.self.invariant c.if-self.false c.finish_known-answer.new.conn c.finish_known-answer.ensures.survives
+    c.note_fault.result c.finish_known-answer.result c.note_fault.new.spent c.note_fault.ensures.same c.note_fault.ensures.noted (λ w. session_matches w c.args.repo.now c.args.number c.args.digest.now) (λ w. finish_as_is w c.args.repo.now c.args.number c.args.digest.now)
+    c.finish_known-answer.ensures.made c.finish_known-answer.ensures.memory c.finish_known-answer.ensures.crash

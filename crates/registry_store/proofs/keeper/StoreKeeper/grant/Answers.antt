@@ -2,7 +2,7 @@ use Rattle.std.proofs.Common.{◌≡◌, true}
 use Rattle.registry_model.specs.Command.{grant}
 use Rattle.registry_model.specs.World.{has_repo}
 use Rattle.registry_store.proofs.KeeperStates.{asked}
-use Rattle.registry_store.proofs.KeeperAnswers.{spends_told, still_spent, untouched_holds, was_honest, write_says}
+use Rattle.registry_store.proofs.KeeperAnswers.{nothing_once, untouched_holds, writes_once}
 use Rattle.registry_store.proofs.keeper.StoreKeeper.grant.Goals as goal
 
 pub invariant_of-self : goal.invariant_of-self
@@ -11,20 +11,11 @@ invariant_of-self g c =
     c.note_fault.result c.grant-answer.result c.note_fault.new.spent c.note_fault.ensures.same c.note_fault.ensures.noted (λ w. grant w c.args.token.now c.args.name.now c.args.level) (λ ours. c.grant-answer.ensures.made (asked g.S.Store c.self.inside.conn c.args.self.now c.self.inside.spent c.self.view_is (λ w. has_repo w c.args.name.now ≡ true) g.O.Origin.is_ours c.if-self.false ours c.requires.there)) (λ ours. c.grant-answer.ensures.memory) (λ knows. knows)
 
 pub returns-then-self : goal.returns-then-self
-returns-then-self g c = record {
-  made = λ honest. tt;
-  spends = still_spent g.S.Store g.O.Origin.is_ours c.self.inside.conn c.args.self.now c.self.inside.spent c.self.view_is c.if-self.true;
-  honest = λ honest. honest;
-}
+returns-then-self g c = nothing_once g.S.Store g.O.Origin.is_ours c.self.inside.conn c.args.self.now c.self.inside.spent c.self.view_is c.if-self.true
 
 pub returns : goal.returns
-returns g c = record {
-  made =
-      write_says g.S.Store g.O.Origin.is_ours c.self.inside.conn c.args.self.now c.self.inside.spent c.self.view_is c.self.inside.known c.self.invariant c.if-self.false c.grant-answer.new.conn c.grant-answer.ensures.survives
-      c.note_fault.result c.grant-answer.result c.note_fault.new.spent c.note_fault.ensures.same c.note_fault.ensures.noted (λ w. grant w c.args.token.now c.args.name.now c.args.level) (λ ours. c.grant-answer.ensures.made (asked g.S.Store c.self.inside.conn c.args.self.now c.self.inside.spent c.self.view_is (λ w. has_repo w c.args.name.now ≡ true) g.O.Origin.is_ours c.if-self.false ours c.requires.there)) (λ ours. c.grant-answer.ensures.memory);
-  spends =
-      spends_told g.S.Store g.O.Origin.is_ours c.self.inside.conn c.args.self.now c.self.inside.spent c.self.view_is c.self.inside.known c.self.invariant c.if-self.false c.grant-answer.new.conn c.grant-answer.ensures.survives
-      c.note_fault.result c.grant-answer.result c.note_fault.new.spent c.note_fault.ensures.same c.note_fault.ensures.noted;
-  honest =
-      was_honest g.S.Store g.O.Origin.is_ours c.self.inside.conn c.args.self.now c.self.inside.spent c.self.view_is c.self.inside.known c.self.invariant c.if-self.false c.grant-answer.new.conn c.grant-answer.ensures.survives c.note_fault.new.spent;
-}
+returns g c =
+    writes_once g.S.Store g.O.Origin.is_ours c.self.inside.conn c.args.self.now c.self.inside.spent c.self.view_is c.self.inside.known c.self.invariant c.if-self.false c.grant-answer.new.conn c.grant-answer.ensures.survives
+    c.note_fault.result c.grant-answer.result c.note_fault.new.spent c.note_fault.ensures.same c.note_fault.ensures.noted (λ w. grant w c.args.token.now c.args.name.now c.args.level)
+    (λ ours. c.grant-answer.ensures.made (asked g.S.Store c.self.inside.conn c.args.self.now c.self.inside.spent c.self.view_is (λ w. has_repo w c.args.name.now ≡ true) g.O.Origin.is_ours c.if-self.false ours c.requires.there)) (λ ours. c.grant-answer.ensures.memory)
+    (λ ours. c.grant-answer.ensures.crash (asked g.S.Store c.self.inside.conn c.args.self.now c.self.inside.spent c.self.view_is (λ w. has_repo w c.args.name.now ≡ true) g.O.Origin.is_ours c.if-self.false ours c.requires.there))

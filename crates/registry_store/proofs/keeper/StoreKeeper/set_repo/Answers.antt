@@ -1,5 +1,5 @@
 use Rattle.registry_model.specs.Command.{set_repo}
-use Rattle.registry_store.proofs.KeeperAnswers.{spends_told, still_spent, was_honest, write_holds, write_says}
+use Rattle.registry_store.proofs.KeeperAnswers.{nothing_once, write_holds, writes_once}
 use Rattle.registry_store.proofs.keeper.StoreKeeper.set_repo.Goals as goal
 
 pub invariant_of-self : goal.invariant_of-self
@@ -9,21 +9,11 @@ invariant_of-self g c =
     (λ ours. c.set_repo-answer.ensures.made) (λ ours. c.set_repo-answer.ensures.memory) (λ ours. c.set_repo-answer.ensures.known)
 
 pub returns-then-self : goal.returns-then-self
-returns-then-self g c = record {
-  made = λ honest. tt;
-  spends = still_spent g.S.Store g.O.Origin.is_ours c.self.inside.conn c.args.self.now c.self.inside.spent c.self.view_is c.if-self.true;
-  honest = λ honest. honest;
-}
+returns-then-self g c = nothing_once g.S.Store g.O.Origin.is_ours c.self.inside.conn c.args.self.now c.self.inside.spent c.self.view_is c.if-self.true
 
 pub returns : goal.returns
-returns g c = record {
-  made =
-      write_says g.S.Store g.O.Origin.is_ours c.self.inside.conn c.args.self.now c.self.inside.spent c.self.view_is c.self.inside.known c.self.invariant c.if-self.false c.set_repo-answer.new.conn c.set_repo-answer.ensures.survives
-      c.note_fault.result c.set_repo-answer.result c.note_fault.new.spent c.note_fault.ensures.same c.note_fault.ensures.noted (λ w. set_repo w c.args.name.now c.args.quota.bytes)
-      (λ ours. c.set_repo-answer.ensures.made) (λ ours. c.set_repo-answer.ensures.memory);
-  spends =
-      spends_told g.S.Store g.O.Origin.is_ours c.self.inside.conn c.args.self.now c.self.inside.spent c.self.view_is c.self.inside.known c.self.invariant c.if-self.false c.set_repo-answer.new.conn c.set_repo-answer.ensures.survives
-      c.note_fault.result c.set_repo-answer.result c.note_fault.new.spent c.note_fault.ensures.same c.note_fault.ensures.noted;
-  honest =
-      was_honest g.S.Store g.O.Origin.is_ours c.self.inside.conn c.args.self.now c.self.inside.spent c.self.view_is c.self.inside.known c.self.invariant c.if-self.false c.set_repo-answer.new.conn c.set_repo-answer.ensures.survives c.note_fault.new.spent;
-}
+returns g c =
+    writes_once g.S.Store g.O.Origin.is_ours c.self.inside.conn c.args.self.now c.self.inside.spent c.self.view_is c.self.inside.known c.self.invariant c.if-self.false c.set_repo-answer.new.conn c.set_repo-answer.ensures.survives
+    c.note_fault.result c.set_repo-answer.result c.note_fault.new.spent c.note_fault.ensures.same c.note_fault.ensures.noted (λ w. set_repo w c.args.name.now c.args.quota.bytes)
+    (λ ours. c.set_repo-answer.ensures.made) (λ ours. c.set_repo-answer.ensures.memory)
+    (λ ours. c.set_repo-answer.ensures.crash)
