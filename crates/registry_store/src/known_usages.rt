@@ -1,7 +1,6 @@
 //! What is known of what repositories hold, so that a push need not count it anew.
-ghost use Rattle.std.specs.Prelude.{◌≡◌, None};
-ghost use Rattle.oci_types.specs.Text.{Text};
-ghost use Rattle.registry_store.specs.Usages.{known_at, Sets, IsNext, HasQuota};
+ghost use Rattle.std.specs.Prelude.{◌≡◌, ◌≤◌, ◌<◌, None};
+ghost use Rattle.std.specs.BTreeMap.{btree_map_len};
 
 use crate::next_usage::next_usage;
 use oci_types::RepoName;
@@ -17,9 +16,13 @@ const MOST_KNOWN: usize = 4096;
 #[derive(Drop)]
 pub struct KnownUsages {
     usages: BTreeMap<RepoName, Usage>,
+    ghost few: { btree_map_len usages ≤ 4096 },
 }
 
 impl KnownUsages {
+    ghost use Rattle.oci_types.specs.Text.{Text};
+    ghost use Rattle.registry_store.specs.Usages.{known_at, Sets, IsNext, HasQuota};
+
     /// Nothing is known; takes no memory.
     pub fn new(alloc: Global) -> KnownUsages
         ensures { (name : Text) → known_at result name ≡ None }
@@ -46,7 +49,8 @@ impl KnownUsages {
     /// Lets one go where as many are known as may be.
     fn make_room(&mut self, repo: &RepoName)
         requires { known_at self.old repo.now ≡ None }
-        ensures { Sets self.old self.new repo.now (λ _. ⊥) }
+        ensures gone { Sets self.old self.new repo.now (λ _. ⊥) }
+        ensures room { btree_map_len self.new.usages < 4096 }
     {
         if self.usages.len() >= MOST_KNOWN {
             self.usages.pop_first();
@@ -55,7 +59,8 @@ impl KnownUsages {
 
     /// Adds what was not known, unless memory is wanting.
     fn add(&mut self, name: RepoName, usage: Usage)
-        requires { known_at self.old name ≡ None }
+        requires unknown { known_at self.old name ≡ None }
+        requires room { btree_map_len self.old.usages < 4096 }
         ensures { Sets self.old self.new name (λ u. u ≡ usage) }
     {
         let _old = self.usages.insert(name, usage);

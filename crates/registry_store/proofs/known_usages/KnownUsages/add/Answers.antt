@@ -2,4 +2,4 @@ use Rattle.registry_store.proofs.KnownChanges.{added}
 use Rattle.registry_store.proofs.known_usages.KnownUsages.add.Goals as goal
 
 pub returns : goal.returns
-returns c = added c.args.self.now.usages c.insert-old.new.self c.args.name c.args.usage c.insert-old.result c.requires c.insert-old.ensures.updates c.insert-old.ensures.err
+returns c = added c.args.self.now _ c.args.name c.args.usage c.insert-old.result c.requires.unknown c.insert-old.ensures.updates c.insert-old.ensures.err
