@@ -29,6 +29,7 @@ FILES = {
     "usr/share/doc/firkhen/SECURITY.md": 0o644,
     "etc/default/firkhen": 0o644,
     "etc/nginx/sites-available/firkhen": 0o644,
+    "etc/nginx/sites-available/firkhen-edge": 0o644,
     "etc/nginx/firkhen/locations.conf": 0o644,
     "etc/nginx/firkhen/tokens.conf": 0o600,
 }

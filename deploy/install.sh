@@ -30,5 +30,6 @@ for page in OPERATIONS CLIENTS SECURITY ENDPOINTS; do
 done
 keep 644 "$top/deploy/firkhen.default" "$DESTDIR$SYSCONFDIR/default/firkhen"
 keep 644 "$top/deploy/nginx/site.conf" "$DESTDIR$SYSCONFDIR/nginx/sites-available/firkhen"
+keep 644 "$top/deploy/nginx/edge.conf" "$DESTDIR$SYSCONFDIR/nginx/sites-available/firkhen-edge"
 keep 644 "$top/deploy/nginx/locations.conf" "$DESTDIR$SYSCONFDIR/nginx/firkhen/locations.conf"
 keep 600 "$top/deploy/nginx/tokens.conf" "$DESTDIR$SYSCONFDIR/nginx/firkhen/tokens.conf"
