@@ -27,7 +27,8 @@ help:
 	@echo 'make check-hostile   refuses each growth of memory, stops the disk at each write, kills servers, gives orders'
 	@echo '                     beside requests (after make test; 13 min)'
 	@echo 'make check-clients   curl, skopeo, ctr, buildah, podman, oras-go and docker straight and through nginx, those'
-	@echo '                     that are installed (deploy/install-clients.sh installs them); ONLY=straight'
+	@echo '                     that are installed (deploy/install-clients.sh installs them), and two edges before one'
+	@echo '                     registry; ONLY=straight'
 	@echo 'make check-docs      the commands of the tutorial and other pages, and what they print (10 s)'
 	@echo 'make install         executable, man page, completion, service and nginx files (PREFIX, DESTDIR, SYSCONFDIR)'
 	@echo 'make deb             the same as a Debian package, build/firkhen_*.deb; make check-install looks at both'
@@ -91,8 +92,8 @@ KILLS = 100
 check-hostile:
 	cd check && python3 -m hostile --kills $(KILLS)
 
-# Real clients, straight and through nginx with the configuration of deploy/nginx (python3, nginx, openssl). ONLY
-# names one of the two ways, or clients.
+# Real clients, straight and through nginx with the configuration of deploy/nginx, and edges (python3, nginx,
+# openssl). ONLY names some of the ways (straight, nginx, edges), or clients.
 ONLY =
 check-clients:
 	python3 check/clients.py $(ONLY)

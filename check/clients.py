@@ -1,7 +1,7 @@
 #!/usr/bin/env python3
 """Real clients to a server over a file: straight, and through nginx with TLS as deploy/nginx has it.
 
-    python3 check/clients.py [straight] [nginx] [CLIENT..]    one of the two ways, or both; these clients, or all
+    python3 check/clients.py [straight] [nginx] [edges] [CLIENT..]    some of the ways, or all; these clients, or all
 
 *straight* (check/straight.py): those that can be given a token push, pull, are refused, and push twelve layers; eight
 push and pull at once; skopeo carries what buildah and podman keep. Then, to a server with `--login http`
@@ -12,6 +12,9 @@ service, both in a folder that is taken away again. Each client pushes and pulls
 where a layer or a quota is too large; then skopeo and ctr straight, and buildah and podman through nginx, push and
 pull at the same time; and ctr straight, and oras-go through nginx, among more clients than the server has places for
 (check/crowded.py).
+*edges* (check/edges.py): two edges, nginx that hand out blobs from their own disks, before one registry: what they
+hand out, to whom, and what they pass on; skopeo and podman push and pull through one each, and skopeo pulls through
+both.
 
 What arrived is compared by digests; clients that are not installed are named. Every wait has an end, which is wrong
 where it is reached. The status is 3 where nginx or openssl is wanting, after what goes without them.
@@ -28,6 +31,7 @@ from concurrent.futures import ThreadPoolExecutor
 from asking import MIB, Check, is_there, say
 from client_kinds import CLIENTS, Curl, Docker, Skopeo
 from crowded import push_in_a_crowd
+from edges import go_through_edges
 from executables import REGISTRY
 from front import Front
 from layout import Layout
@@ -35,7 +39,7 @@ from logins import log_in
 from serving import basic, end, must
 from straight import all_at_once, go_straight
 
-WAYS = ["straight", "nginx"]
+WAYS = ["straight", "nginx", "edges"]
 
 
 def look_at_the_front(front):
@@ -179,12 +183,15 @@ def main():
     if "straight" in ways:
         go_straight(only)
         log_in(only)
+    through = {"nginx", "edges"}.intersection(ways)
     if "nginx" in ways and not lacking:
         go_through_nginx(only)
-    if "nginx" in ways and lacking:
+    if "edges" in ways and not lacking:
+        go_through_edges(only)
+    if through and lacking:
         print(f"check-clients needs {' and '.join(lacking)} for the ways through nginx", file=sys.stderr)
     print(f"{say.wrong} wrong" if say.wrong else "the clients were answered as they should be")
-    return 1 if say.wrong else 3 if "nginx" in ways and lacking else 0
+    return 1 if say.wrong else 3 if through and lacking else 0
 
 
 if __name__ == "__main__":

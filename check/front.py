@@ -24,6 +24,23 @@ http {{
 """
 
 
+def shipped(name, own):
+    """A file of deploy/nginx, in which what is each machine's own is another."""
+    with open(f"{NGINX}/{name}", encoding="utf-8") as it:
+        text = it.read()
+    for word, here in own.items():
+        assert text.count(word) == 1, word
+        text = text.replace(word, here)
+    return text
+
+
+def configuration():
+    """nginx.conf, which takes in the file site.conf beside it."""
+    folders = " ".join(f"{kind}_temp_path {kind};" for kind in ("client_body", "proxy", "fastcgi", "uwsgi", "scgi"))
+    types = "include /etc/nginx/mime.types;" if os.path.exists("/etc/nginx/mime.types") else ""
+    return CONFIGURATION.format(folders=folders, types=types)
+
+
 def shipped_options():
     """The further words of the service, as they are installed."""
     with open(f"{TOP}/deploy/firkhen.default", encoding="utf-8") as it:
@@ -50,10 +67,14 @@ class Front(Serving):
 
     def begin(self):
         super().begin()
-        nginx = shutil.which("nginx", path=os.environ["PATH"] + ":/usr/sbin")
-        self.start([nginx, "-p", self.room, "-c", f"{self.room}/nginx.conf", "-e", f"{self.room}/error.log"])
-        until(lambda: listens(self.port), "nginx")
+        self.nginx = self.start_nginx(self.room, self.port)
         self.trust = ssl.create_default_context(cafile=self.authority)
+
+    def start_nginx(self, folder, port):
+        nginx = shutil.which("nginx", path=os.environ["PATH"] + ":/usr/sbin")
+        process = self.start([nginx, "-p", folder, "-c", f"{folder}/nginx.conf", "-e", f"{folder}/error.log"])
+        until(lambda: listens(port), "nginx")
+        return process
 
     def configure(self):
         """The files as they are installed; in the site only what is each machine's own is another."""
@@ -66,17 +87,10 @@ class Front(Serving):
         for name, (password, token) in self.logins.items():
             tokens += must(f"{NGINX}/token-line", name, given=f"{password}\n{token}\n".encode()) + "\n"
         self.write("firkhen/tokens.conf", tokens, 0o600)
-        with open(f"{NGINX}/site.conf", encoding="utf-8") as it:
-            site = it.read()
         own = {
             "127.0.0.1:7000": f"127.0.0.1:{self.inner}",
             "listen 443 ssl;": f"listen 127.0.0.1:{self.port} ssl; listen 127.0.0.1:{self.plain};",
             "registry.example.com": "localhost",
         }
-        for shipped, here in own.items():
-            assert site.count(shipped) == 1, shipped
-            site = site.replace(shipped, here)
-        self.write("site.conf", site)
-        folders = " ".join(f"{kind}_temp_path {kind};" for kind in ("client_body", "proxy", "fastcgi", "uwsgi", "scgi"))
-        types = "include /etc/nginx/mime.types;" if os.path.exists("/etc/nginx/mime.types") else ""
-        self.write("nginx.conf", CONFIGURATION.format(folders=folders, types=types))
+        self.write("site.conf", shipped("site.conf", own))
+        self.write("nginx.conf", configuration())
