@@ -37,7 +37,7 @@ words_end_nowhere NoServer = refl
 words_end_nowhere ServerThere = refl
 words_end_nowhere NoSocket = refl
 
-neither_ends : (x y : Text) → has_line_end x ≡ false → has_line_end y ≡ false → has_line_end (x ++ y) ≡ false
+pub neither_ends : (x y : Text) → has_line_end x ≡ false → has_line_end y ≡ false → has_line_end (x ++ y) ≡ false
 neither_ends x y first second = list_any-append (λ b. b == 10) x y ∙ ap (λ (t : Bool). t || has_line_end y) first ∙ second
 
 reason_ends_nowhere : (place : Text) (cause : Cause) → has_line_end place ≡ false → has_line_end (reason_of place cause) ≡ false

@@ -1,12 +1,14 @@
 //! The second line on standard error: a place, and what is wrong there.
-ghost use Rattle.std.specs.Prelude.{◌≡◌, Option, OnOk};
+ghost use Rattle.std.specs.Prelude.{◌≡◌, ◌++◌, Option, OnOk, codes};
 ghost use Rattle.std.specs.Io.KnownBytes.{Appends};
 ghost use Rattle.oci_types.specs.Text.{Text};
 ghost use Rattle.registry_orders.specs.declared.cause.Cause.{Cause};
 ghost use Rattle.registry_orders.specs.Failures.{status_of};
 ghost use Rattle.registry_orders.specs.Causes.{words_of, line_of, line_if, lines_of, IsAtMostOneLine};
+ghost use Rattle.registry_orders.specs.Outputs.{newline, AppendsPart};
 
-use crate::failure::Failure;
+use crate::failure::{Failure, write_line};
+use crate::output::write_texts;
 use std::io;
 use std::io::Write;
 
@@ -97,20 +99,34 @@ impl Cause {
     }
 }
 
-/// Says `registry: PLACE: CAUSE`. Nothing is said of a place that has a line's end in it.
+/// Writes a place and what is wrong there, as a line.
+fn write_reason<'a, E: Write>(err: &mut E, place: &'a str, words: &'a str) -> io::Result<()>
+    ensures whole { OnOk result (Appends (E.contents err.old) (E.contents err.new)
+        (codes "registry: " ++ place.now ++ codes ": " ++ words.now ++ newline)) }
+    ensures part { AppendsPart (E.contents err.old) (E.contents err.new)
+        (codes "registry: " ++ place.now ++ codes ": " ++ words.now ++ newline) }
+{
+    write_texts(err, &["registry: ", place, ": ", words, "\n"])
+}
+
+/// Says `registry: PLACE: CAUSE`. Nothing is said of a place that has a line's end in it. Where that fails, a
+/// first part of the line was written.
 pub fn explain<E: Write>(err: &mut E, place: &str, cause: Cause) -> io::Result<()>
-    ensures { OnOk result (Appends (E.contents err.old) (E.contents err.new) (line_of place.now cause)) }
+    ensures whole { OnOk result (Appends (E.contents err.old) (E.contents err.new)
+        (line_of place.now cause)) }
+    ensures part { AppendsPart (E.contents err.old) (E.contents err.new) (line_of place.now cause) }
 {
     if place.as_bytes().contains(&b'\n') {
         return Ok(());
     }
-    let words = cause.words();
-    writeln!(err, "registry: {place}: {words}")
+    write_reason(err, place, cause.words())
 }
 
 /// The same, where a cause is known.
 fn explain_if<E: Write>(err: &mut E, place: &str, cause: Option<Cause>) -> io::Result<()>
-    ensures { OnOk result (Appends (E.contents err.old) (E.contents err.new) (line_if place.now cause)) }
+    ensures whole { OnOk result (Appends (E.contents err.old) (E.contents err.new)
+        (line_if place.now cause)) }
+    ensures part { AppendsPart (E.contents err.old) (E.contents err.new) (line_if place.now cause) }
 {
     match cause {
         Some(cause) => explain(err, place, cause),
@@ -118,17 +134,19 @@ fn explain_if<E: Write>(err: &mut E, place: &str, cause: Option<Cause>) -> io::R
     }
 }
 
-/// Says what failed, and on a line behind it, where that is known, what is wrong with a place.
+/// Says what failed, and on a line behind it, where that is known, what is wrong with a place. Where that
+/// fails, a first part of these lines was written.
 pub fn tell_at<E: Write>(
     err: &mut E,
     failure: Failure,
     place: &str,
     cause: Option<Cause>,
 ) -> io::Result<()>
-    ensures { OnOk result (Appends (E.contents err.old) (E.contents err.new)
+    ensures whole { OnOk result (Appends (E.contents err.old) (E.contents err.new)
         (lines_of failure place.now cause)) }
+    ensures part { AppendsPart (E.contents err.old) (E.contents err.new) (lines_of failure place.now cause) }
 {
-    match writeln!(err, "{failure}") {
+    match write_line(err, failure) {
         Ok(()) => explain_if(err, place, cause),
         Err(error) => Err(error),
     }
@@ -136,7 +154,8 @@ pub fn tell_at<E: Write>(
 
 /// Says what failed, as `tell_at` does, and gives the exit status.
 pub fn say_at<E: Write>(err: &mut E, failure: Failure, place: &str, cause: Option<Cause>) -> u8
-    ensures { result ≡ status_of failure }
+    ensures status { result ≡ status_of failure }
+    ensures said { AppendsPart (E.contents err.old) (E.contents err.new) (lines_of failure place.now cause) }
 {
     let _ = tell_at(err, failure, place, cause);
     failure.status()

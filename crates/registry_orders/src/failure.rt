@@ -1,11 +1,15 @@
-ghost use Rattle.std.specs.Prelude.{◌≡◌, MatchResult};
+ghost use Rattle.std.specs.Prelude.{◌≡◌, ◌++◌, MatchResult, OnOk};
+ghost use Rattle.std.specs.Io.KnownBytes.{Appends};
 ghost use Rattle.registry_orders.specs.Failures.{status_of, text_of, failure_of, failure_of_text};
+ghost use Rattle.registry_orders.specs.Outputs.{newline, AppendsPart};
 
+use crate::output::write_texts;
+use itoa::Buffer;
 use oci_types::NameFault;
 use registry_model::AdminFault;
 use std::alloc::AllocError;
-use std::fmt;
 use std::io::Write;
+use std::{fmt, io};
 
 /// Why the program ends with another status than 0.
 #[derive(Clone, Copy)]
@@ -107,11 +111,29 @@ impl<T: Drop> From<std::alloc::AllocFailed<T>> for Failure {
     }
 }
 
-/// Says why on standard error, and gives the exit status.
-pub fn say<E: Write>(err: &mut E, failure: Failure) -> u8
-    ensures { result ≡ status_of failure }
+/// Writes what is said of a failure, as a line. No memory is taken for it, since it may be want of memory.
+pub(crate) fn write_line<E: Write>(err: &mut E, failure: Failure) -> io::Result<()>
+    ensures whole { OnOk result (Appends (E.contents err.old) (E.contents err.new)
+        (text_of failure ++ newline)) }
+    ensures part { AppendsPart (E.contents err.old) (E.contents err.new) (text_of failure ++ newline) }
 {
-    let _ = writeln!(err, "{failure}");
+    match failure.words() {
+        Ok(words) => write_texts(err, &[words, "\n"]),
+        Err(found) => {
+            let mut digits = Buffer::new();
+            let found = digits.format(found);
+            write_texts(err, &["registry: schema ", found, " is not supported\n"])
+        }
+    }
+}
+
+/// Says why on standard error, and gives the exit status. Where standard error takes not the whole line, a
+/// first part of it was written.
+pub fn say<E: Write>(err: &mut E, failure: Failure) -> u8
+    ensures status { result ≡ status_of failure }
+    ensures said { AppendsPart (E.contents err.old) (E.contents err.new) (text_of failure ++ newline) }
+{
+    let _ = write_line(err, failure);
     failure.status()
 }
 

@@ -15,6 +15,7 @@ pub mod line;
 pub mod listing;
 pub mod options;
 pub mod orders;
+pub mod output;
 pub mod place;
 mod settings;
 pub mod tasks;

@@ -1,8 +1,9 @@
 //! Tokens that are not on the command line, but in a file or on standard input.
-ghost use Rattle.std.specs.Prelude.{◌≡◌, ◌||◌, IfOk, IfErr, IfSome, codes, is_some};
+ghost use Rattle.std.specs.Prelude.{◌≡◌, ◌||◌, IfOk, IfErr, OnErr, IfSome, codes, is_some};
+ghost use Rattle.std.specs.Io.KnownBytes.{Keeps};
 ghost use Rattle.clap.specs.Words.{found_of, rows_of, first_of};
 ghost use Rattle.registry_orders.specs.Failures.{IsOfWords};
-ghost use Rattle.registry_orders.specs.Tokens.{IsTokenFrom, IsNextByte, IsFirstLine};
+ghost use Rattle.registry_orders.specs.Tokens.{IsTokenFrom, IsNextByte, IsFirstLine, ReadsWithinLine};
 
 use crate::failure::Failure;
 use crate::given::text_given;
@@ -53,6 +54,7 @@ pub fn token_source<'a>(matches: &ArgMatches<'a>) -> Result<Option<TokenSource<'
 fn next_byte<R: Read>(reader: &mut R) -> Result<Option<u8>, Failure>
     ensures given { IfOk result (IsNextByte (R.remaining reader.old) (R.remaining reader.new)) }
     ensures refused { IfErr result IsOfWords }
+    ensures spared { OnErr result (Keeps (R.remaining reader.old) (R.remaining reader.new)) }
 {
     let mut byte = [0];
     match reader.read(&mut byte) {
@@ -67,6 +69,7 @@ fn first_line<R: Read>(alloc: Global, reader: &mut R) -> Result<Vec<u8>, Failure
     ensures given { IfOk result (λ line.
         IsFirstLine (R.remaining reader.old) (R.remaining reader.new) line.items) }
     ensures refused { IfErr result IsOfWords }
+    ensures within { ReadsWithinLine (R.remaining reader.old) (R.remaining reader.new) }
 {
     let mut line = Vec::new(alloc);
     for _ in 0..MOST_BYTES {
@@ -80,10 +83,12 @@ fn first_line<R: Read>(alloc: Global, reader: &mut R) -> Result<Vec<u8>, Failure
 }
 
 /// The token that is the first line of what a reader gives, without the line's end. No more is read than
-/// that line. `InvalidToken` where the line is no token; `InvalidOptions` where reading fails.
+/// that line, and of a longer one than a token's no more than 201 bytes. `InvalidToken` where the line is no
+/// token; `InvalidOptions` where reading fails.
 pub fn read_token<R: Read>(alloc: Global, reader: &mut R) -> Result<Token, Failure>
     ensures read { IfOk result (IsFirstLine (R.remaining reader.old) (R.remaining reader.new)) }
     ensures refused { IfErr result IsOfWords }
+    ensures within { ReadsWithinLine (R.remaining reader.old) (R.remaining reader.new) }
 {
     let line = first_line(alloc, reader)?;
     match str::from_utf8(line.as_slice()) {

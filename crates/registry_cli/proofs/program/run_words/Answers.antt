@@ -17,7 +17,7 @@ returns-in-Ok g c = record {
 
 pub returns-in-Err-Options : goal.returns-in-Err-Options
 returns-in-Err-Options g c = record {
-  runs = inr (inr (((λ l had. had), (λ l had. had)), inl (InvalidOptions, tt, (c.say_at.ensures, record { left = refl; held = refl }))));
+  runs = inr (inr (((λ l had. had), (λ l had. had)), inl (InvalidOptions, tt, (c.say_at.ensures.status, record { left = refl; held = refl }))));
   refused = λ more less. inl (record { left = refl; held = refl });
   status = search rules;
 }

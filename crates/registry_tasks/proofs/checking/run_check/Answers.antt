@@ -24,7 +24,7 @@ returns-in-Err g c =
     let undone = ap (λ w. w.out.now) c.in-Err.ensures.undone in
     let kept : c.out-1.given.0 ≡ c.args.out.now = search rules in
     record {
-      runs = inl (c.in-Err.ensures.never, (c.in-Err.failure, c.in-Err.ensures.refused, c.say_at.ensures, ap g.W.Write.contents kept));
-      failed = λ more. rw c.say_at.ensures (opening_status c.in-Err.failure c.in-Err.ensures.refused);
-      status = status_at_most c.in-Err.failure c.say_at.result c.say_at.ensures;
+      runs = inl (c.in-Err.ensures.never, (c.in-Err.failure, c.in-Err.ensures.refused, c.say_at.ensures.status, ap g.W.Write.contents kept));
+      failed = λ more. rw c.say_at.ensures.status (opening_status c.in-Err.failure c.in-Err.ensures.refused);
+      status = status_at_most c.in-Err.failure c.say_at.result c.say_at.ensures.status;
     }

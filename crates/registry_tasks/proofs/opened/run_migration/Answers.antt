@@ -8,7 +8,7 @@ returns-in-Ok g c = record { runs = (c.migrate.ensures.moved, inl refl); status 
 
 pub returns-in-Err : goal.returns-in-Err
 returns-in-Err g c = record {
-  runs = (c.migrate.ensures.moved, inr (c.in-Err.failure, c.in-Err.ensures.refused, c.say_at.ensures));
-  status = status_at_most c.in-Err.failure c.say_at.result c.say_at.ensures;
-  read = rw c.say_at.ensures (opening_read c.in-Err.failure c.in-Err.ensures.refused);
+  runs = (c.migrate.ensures.moved, inr (c.in-Err.failure, c.in-Err.ensures.refused, c.say_at.ensures.status));
+  status = status_at_most c.in-Err.failure c.say_at.result c.say_at.ensures.status;
+  read = rw c.say_at.ensures.status (opening_read c.in-Err.failure c.in-Err.ensures.refused);
 }

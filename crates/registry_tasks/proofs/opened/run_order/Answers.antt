@@ -29,8 +29,8 @@ returns-in-Err g c =
     let kept : c.out-1.given.0 ≡ c.args.out.now = search rules in
     let silent = ap g.W.Write.contents kept in
     record {
-      runs = inl (c.in-Err.ensures.never, (c.in-Err.failure, c.in-Err.ensures.refused, c.say_at.ensures, silent));
+      runs = inl (c.in-Err.ensures.never, (c.in-Err.failure, c.in-Err.ensures.refused, c.say_at.ensures.status, silent));
       silent = λ more less. silent;
-      status = status_at_most c.in-Err.failure c.say_at.result c.say_at.ensures;
-      read = rw c.say_at.ensures (opening_read c.in-Err.failure c.in-Err.ensures.refused);
+      status = status_at_most c.in-Err.failure c.say_at.result c.say_at.ensures.status;
+      read = rw c.say_at.ensures.status (opening_read c.in-Err.failure c.in-Err.ensures.refused);
     }

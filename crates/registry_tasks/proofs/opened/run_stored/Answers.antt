@@ -33,9 +33,9 @@ returns-in-Err g c =
     record {
       runs = inl (
         c.in-Err.ensures.never,
-        (c.in-Err.failure, c.in-Err.ensures.refused, c.say_at.ensures, ap g.W.Write.contents kept),
+        (c.in-Err.failure, c.in-Err.ensures.refused, c.say_at.ensures.status, ap g.W.Write.contents kept),
         ap g.R.Read.remaining left,
       );
-      failed = λ more. rw c.say_at.ensures (opening_status c.in-Err.failure c.in-Err.ensures.refused);
-      status = status_at_most c.in-Err.failure c.say_at.result c.say_at.ensures;
+      failed = λ more. rw c.say_at.ensures.status (opening_status c.in-Err.failure c.in-Err.ensures.refused);
+      status = status_at_most c.in-Err.failure c.say_at.result c.say_at.ensures.status;
     }

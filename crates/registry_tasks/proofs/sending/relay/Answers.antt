@@ -21,10 +21,10 @@ shown_read text status o (inr failed) two = omega arith
 
 pub returns-in_default : goal.returns-in_default
 returns-in_default g c = record {
-  relays = inr (c.in_default.ensures.none, c.say.ensures, refl);
+  relays = inr (c.in_default.ensures.none, c.say.ensures.status, refl);
   silent = λ more less. refl;
-  status = status_at_most ConnectionFailure c.say.result c.say.ensures;
-  read = sending_read ConnectionFailure c.say.result tt c.say.ensures;
+  status = status_at_most ConnectionFailure c.say.result c.say.ensures.status;
+  read = sending_read ConnectionFailure c.say.result tt c.say.ensures.status;
 }
 
 pub returns-then-status-eq0 : goal.returns-then-status-eq0

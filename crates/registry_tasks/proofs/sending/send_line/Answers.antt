@@ -14,8 +14,8 @@ returns-in-Ok g c = record {
 pub returns-in-Err : goal.returns-in-Err
 returns-in-Err g c = record {
   line = c.ask.ensures.asked;
-  sent = inr (c.in-Err.none.failure, c.in-Err.ensures.refused, c.say_at.ensures, refl);
+  sent = inr (c.in-Err.none.failure, c.in-Err.ensures.refused, c.say_at.ensures.status, refl);
   silent = λ more less. refl;
-  status = status_at_most c.in-Err.none.failure c.say_at.result c.say_at.ensures;
-  read = sending_read c.in-Err.none.failure c.say_at.result c.in-Err.ensures.refused c.say_at.ensures;
+  status = status_at_most c.in-Err.none.failure c.say_at.result c.say_at.ensures.status;
+  read = sending_read c.in-Err.none.failure c.say_at.result c.in-Err.ensures.refused c.say_at.ensures.status;
 }

@@ -13,8 +13,8 @@ returns-in-Ok g c = record {
 
 pub returns-in-Err : goal.returns-in-Err
 returns-in-Err g c = record {
-  sent = inr ((λ l had. had), c.say.ensures, refl);
+  sent = inr ((λ l had. had), c.say.ensures.status, refl);
   silent = λ more less. refl;
-  status = status_at_most OutOfMemory c.say.result c.say.ensures;
-  read = sending_read OutOfMemory c.say.result tt c.say.ensures;
+  status = status_at_most OutOfMemory c.say.result c.say.ensures.status;
+  read = sending_read OutOfMemory c.say.result tt c.say.ensures.status;
 }

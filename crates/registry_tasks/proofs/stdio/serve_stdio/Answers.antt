@@ -26,9 +26,9 @@ returns-in-Err g c =
       honest = end.ensures.honest;
       serves = λ honest. (
         end.result,
-        c.say.ensures ∙ ap status_if (sym c.in-Err.is ∙ c.ended.ensures.is ∙ ap (ended_as end.result) c.spent.ensures),
+        c.say.ensures.status ∙ ap status_if (sym c.in-Err.is ∙ c.ended.ensures.is ∙ ap (ended_as end.result) c.spent.ensures),
         end.ensures.serves honest,
       );
-      failed = λ more. rw c.say.ensures (connection_status c.in-Err.failure c.in-Err.ensures.fails);
-      status = status_at_most c.in-Err.failure c.say.result c.say.ensures;
+      failed = λ more. rw c.say.ensures.status (connection_status c.in-Err.failure c.in-Err.ensures.fails);
+      status = status_at_most c.in-Err.failure c.say.result c.say.ensures.status;
     }

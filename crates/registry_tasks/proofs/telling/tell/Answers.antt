@@ -3,12 +3,12 @@ use Rattle.std.specs.String.{string_bytes}
 use Rattle.registry_tasks.proofs.telling.tell.Goals as goal
 
 pub returns-then-eq : goal.returns-then-eq
-returns-then-eq g c = record { tells = (refl, inl (inr c.say.ensures, refl)); wanting = λ out. c.say.ensures }
+returns-then-eq g c = record { tells = (refl, inl (inr c.say.ensures.status, refl)); wanting = λ out. c.say.ensures.status }
 
 pub returns-in_default : goal.returns-in_default
 returns-in_default g c = record {
-  tells = (refl, inl (inr c.say-in_default.ensures, refl));
-  wanting = λ out. c.say-in_default.ensures;
+  tells = (refl, inl (inr c.say-in_default.ensures.status, refl));
+  wanting = λ out. c.say-in_default.ensures.status;
 }
 
 pub returns-then-use_stderr-clause-tells : goal.returns-then-use_stderr-clause-tells
@@ -20,4 +20,4 @@ returns-in-Ok-write_all-clause-tells g c =
     (refl, inr (inl (refl, string_bytes c.in-Ok.text, told)))
 
 pub returns-clause-tells : goal.returns-clause-tells
-returns-clause-tells g c = (refl, inr (inr c.say-in-Err.ensures))
+returns-clause-tells g c = (refl, inr (inr c.say-in-Err.ensures.status))

@@ -28,7 +28,7 @@ returns-in-Err g c =
     let none = c.in-Err.none.failure in
     record {
       runs = inr (lacks (acts (between g.K.Keeper.is_honest g.K.Keeper.state g.O.Opener.opens (g.O.Opener.had c.args.opener.now) (g.O.Opener.had c.args.opener.now))
-          (g.M.Messenger.had c.args.messenger.now) (g.M.Messenger.had c.args.messenger.now)) c.args.source c.say_at.result e ((λ l had. had), (λ l had. had)) c.token_of.ensures.spared (none, c.in-Err.ensures.refused, c.say_at.ensures, refl));
+          (g.M.Messenger.had c.args.messenger.now) (g.M.Messenger.had c.args.messenger.now)) c.args.source c.say_at.result e ((λ l had. had), (λ l had. had)) c.token_of.ensures.spared (none, c.in-Err.ensures.refused, c.say_at.ensures.status, refl));
       silent = λ more less. refl;
-      status = status_at_most none c.say_at.result c.say_at.ensures;
+      status = status_at_most none c.say_at.result c.say_at.ensures.status;
     }
