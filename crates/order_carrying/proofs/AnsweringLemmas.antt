@@ -18,6 +18,7 @@ use Rattle.registry_orders.specs.declared.orders.Order.TheVariants as order
 use Rattle.registry_orders.specs.Outputs.{Output, output}
 use Rattle.order_carrying.specs.Carrying.{CarriesOrder}
 use Rattle.registry_orders.specs.Orders.{told}
+use Rattle.registry_orders.proofs.OutputLemmas.{no_part}
 use Rattle.order_texts.specs.Table.{table_of}
 use Rattle.order_texts.specs.Answers.{failure_text}
 use Rattle.order_texts.proofs.AnswerLemmas.{done_text}
@@ -29,7 +30,7 @@ one_step s (order.Change change) r out s' h = inr (h.1.command, h.1.outcome, h.1
 one_step s order.Usage (Ok v) out s' h = inl h.1
 one_step s order.Usage (Err failure.OutOfMemory) out s' h = inl h.1
 one_step s order.Usage (Err failure.StorageFailure) out s' h = inr (command.Clear, Err fault.Storage, h.1)
-one_step s order.Usage (Err failure.ConnectionFailure) out s' h = inl h
+one_step s order.Usage (Err failure.ConnectionFailure) out s' h = inl h.1
 one_step s order.Usage (Err failure.NoRepo) out s' h = absurd h
 one_step s order.Usage (Err failure.NoGrant) out s' h = absurd h
 one_step s order.Usage (Err failure.RepoThere) out s' h = absurd h
@@ -43,7 +44,7 @@ one_step s (order.List l f) (Ok v) out s' h = inl h.3
 one_step s (order.List l f) (Err failure.NoRepo) out s' h = inl h.1
 one_step s (order.List l f) (Err failure.OutOfMemory) out s' h = inl h.1
 one_step s (order.List l f) (Err failure.StorageFailure) out s' h = inr (command.Clear, Err fault.Storage, h.1)
-one_step s (order.List l f) (Err failure.ConnectionFailure) out s' h = inl h
+one_step s (order.List l f) (Err failure.ConnectionFailure) out s' h = inl h.3
 one_step s (order.List l f) (Err failure.NoGrant) out s' h = absurd h
 one_step s (order.List l f) (Err failure.RepoThere) out s' h = absurd h
 one_step s (order.List l f) (Err failure.InvalidName) out s' h = absurd h
@@ -84,7 +85,7 @@ pub failure_keeps : (s : State) (o : Order) (f : Failure) (out : Output) (s' : S
 failure_keeps s (order.Change change) f out s' known h = refused_change s h.1.command h.1.outcome f s' known h.1.is h.1.does
 failure_keeps s order.Usage failure.OutOfMemory out s' known h = h.1
 failure_keeps s order.Usage failure.StorageFailure out s' known h = absurd (known refl)
-failure_keeps s order.Usage failure.ConnectionFailure out s' known h = h
+failure_keeps s order.Usage failure.ConnectionFailure out s' known h = h.1
 failure_keeps s order.Usage failure.NoRepo out s' known h = absurd h
 failure_keeps s order.Usage failure.NoGrant out s' known h = absurd h
 failure_keeps s order.Usage failure.RepoThere out s' known h = absurd h
@@ -97,7 +98,7 @@ failure_keeps s order.Usage failure.Damaged out s' known h = absurd h
 failure_keeps s (order.List l f) failure.NoRepo out s' known h = h.1
 failure_keeps s (order.List l f) failure.OutOfMemory out s' known h = h.1
 failure_keeps s (order.List l f) failure.StorageFailure out s' known h = absurd (known refl)
-failure_keeps s (order.List l f) failure.ConnectionFailure out s' known h = h
+failure_keeps s (order.List l f) failure.ConnectionFailure out s' known h = h.3
 failure_keeps s (order.List l f) failure.NoGrant out s' known h = absurd h
 failure_keeps s (order.List l f) failure.RepoThere out s' known h = absurd h
 failure_keeps s (order.List l f) failure.InvalidName out s' known h = absurd h
@@ -114,7 +115,7 @@ pub writes_nothing : (s : State) (o : Order) (f : Failure) (out : Output) (s' : 
 writes_nothing s (order.Change change) f out s' h = (refl, h.1)
 writes_nothing s order.Usage failure.OutOfMemory out s' h = (refl, h.1)
 writes_nothing s order.Usage failure.StorageFailure out s' h = (refl, h.1)
-writes_nothing s order.Usage failure.ConnectionFailure out s' h = h
+writes_nothing s order.Usage failure.ConnectionFailure out s' h = (no_part (Some []) (table_of (usages_of s.world)), h.1)
 writes_nothing s order.Usage failure.NoRepo out s' h = absurd h
 writes_nothing s order.Usage failure.NoGrant out s' h = absurd h
 writes_nothing s order.Usage failure.RepoThere out s' h = absurd h
@@ -127,7 +128,7 @@ writes_nothing s order.Usage failure.Damaged out s' h = absurd h
 writes_nothing s (order.List l f) failure.NoRepo out s' h = (refl, h.1, h.2)
 writes_nothing s (order.List l f) failure.OutOfMemory out s' h = (refl, h.1)
 writes_nothing s (order.List l f) failure.StorageFailure out s' h = (refl, h.1)
-writes_nothing s (order.List l f) failure.ConnectionFailure out s' h = h
+writes_nothing s (order.List l f) failure.ConnectionFailure out s' h = (h.0, h.1, no_part (Some []) h.0, h.3)
 writes_nothing s (order.List l f) failure.NoGrant out s' h = absurd h
 writes_nothing s (order.List l f) failure.RepoThere out s' h = absurd h
 writes_nothing s (order.List l f) failure.InvalidName out s' h = absurd h

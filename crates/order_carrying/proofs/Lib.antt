@@ -4,3 +4,4 @@ pub mod NamingLemmas
 pub mod GrantLemmas
 pub mod OrderStatuses
 pub mod AnsweringLemmas
+pub mod TableLemmas

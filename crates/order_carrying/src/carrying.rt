@@ -1,29 +1,28 @@
-ghost use Rattle.std.specs.Prelude.{◌≡◌, ◌≢◌, ◌<◌, ◌≤◌, OnOk, IfErr};
+ghost use Rattle.std.specs.Prelude.{◌≡◌, OnOk, IfErr};
 ghost use Rattle.std.specs.Io.KnownBytes.{Appends};
 ghost use Rattle.order_carrying.specs.Listed.{IsListText};
 ghost use Rattle.registry_orders.specs.Failures.{IsOfOrder};
 ghost use Rattle.registry_orders.specs.Orders.{Obeys};
-ghost use Rattle.registry_orders.specs.Outputs.{output};
-ghost use Rattle.order_carrying.specs.Carrying.{Shows, ShowsList, CarriesOrder, IsCarriedOut};
-ghost use Rattle.registry_orders.specs.Outputs.{IsSilent};
-ghost use Rattle.order_carrying.specs.Carrying.{IsSilentUnlessBroken};
+ghost use Rattle.registry_orders.specs.Outputs.{output, AppendsPart};
+ghost use Rattle.order_carrying.specs.Carrying.{Shows, ShowsList, CarriesOrder, IsSilentUnlessBroken};
 
 use crate::list_text;
 use oci_types::Fault;
-use order_texts::write_table;
+use order_texts::table_of;
 use registry_model::Keeper;
-use registry_orders::failure::{of_command, say};
+use registry_orders::failure::of_command;
+use registry_orders::output::write_text;
 use registry_orders::{Change, Failure, Form, Listing, Order};
 use registry_service::Service;
 use std::alloc::Global;
 use std::io::Write;
 
-/// How an order or a connection ended, and the keeper behind it.
+/// How an order ended, and the keeper behind it.
 #[derive(Drop)]
 pub struct Ended<K: Keeper> {
     pub keeper: K,
-    /// The exit status.
-    pub status: u8,
+    /// What failed, if anything did.
+    pub carried: Result<(), Failure>,
 }
 
 /// Makes a change.
@@ -44,6 +43,18 @@ fn make_change<K: Keeper>(
     }
 }
 
+/// Writes a text. Where that fails, a first part of it was written.
+fn show<W: Write>(out: &mut W, text: &str) -> Result<(), Failure>
+    ensures written { OnOk result (Appends (W.contents out.old) (W.contents out.new) text.now) }
+    ensures part { AppendsPart (W.contents out.old) (W.contents out.new) text.now }
+    ensures fails { IfErr result (λ failure. failure ≡ Failure.ConnectionFailure) }
+{
+    match write_text(out, text.as_bytes()) {
+        Ok(()) => Ok(()),
+        Err(_) => Err(Failure::ConnectionFailure),
+    }
+}
+
 /// Writes what each repository holds and may hold.
 fn show_usage<K: Keeper, W: Write>(
     alloc: Global,
@@ -58,23 +69,12 @@ fn show_usage<K: Keeper, W: Write>(
     ensures told { IfErr result IsOfOrder }
 {
     match service.usages(alloc) {
-        Ok(usages) => match write_table(out, usages.as_slice()) {
-            Ok(()) => Ok(()),
-            Err(_) => Err(Failure::ConnectionFailure),
+        Ok(usages) => match table_of(alloc, usages.as_slice()) {
+            Ok(table) => show(out, table.as_str()),
+            Err(_) => Err(Failure::OutOfMemory),
         },
         Err(Fault::Memory) => Err(Failure::OutOfMemory),
         Err(Fault::Storage) => Err(Failure::StorageFailure),
-    }
-}
-
-/// Writes a text.
-fn write_text<W: Write>(out: &mut W, text: &str) -> Result<(), Failure>
-    ensures written { OnOk result (Appends (W.contents out.old) (W.contents out.new) text.now) }
-    ensures fails { IfErr result (λ failure. failure ≡ Failure.ConnectionFailure) }
-{
-    match out.write_all(text.as_bytes()) {
-        Ok(()) => Ok(()),
-        Err(_) => Err(Failure::ConnectionFailure),
     }
 }
 
@@ -94,7 +94,7 @@ fn show_list<K: Keeper, W: Write>(
     ensures told { IfErr result IsOfOrder }
 {
     match list_text(alloc, service, listing, form) {
-        Ok(Some(text)) => write_text(out, text.as_str()),
+        Ok(Some(text)) => show(out, text.as_str()),
         Ok(None) => Err(Failure::NoRepo),
         Err(Fault::Memory) => Err(Failure::OutOfMemory),
         Err(Fault::Storage) => Err(Failure::StorageFailure),
@@ -103,8 +103,8 @@ fn show_list<K: Keeper, W: Write>(
 
 /// Carries out an order over a service that goes on. An order that is refused changes nothing, nor does
 /// one for which memory is wanting. `NoRepo` where the repository of a list is not there;
-/// `ConnectionFailure` where `out` takes the table of `Order::Usage` or the text of `Order::List` not whole;
-/// nothing else is written.
+/// `ConnectionFailure` where `out` takes the table of `Order::Usage` or the text of `Order::List` not whole,
+/// but a first part of it; nothing else is written.
 pub fn carry_over<K: Keeper, W: Write>(
     alloc: Global,
     service: &mut Service<K>,
@@ -125,34 +125,24 @@ pub fn carry_over<K: Keeper, W: Write>(
     }
 }
 
-/// Carries out an order over a keeper, and says on standard error what failed. The status is 0; 1
-/// where the order is refused; 3 where memory is wanting or the storage fails; 4 where writing fails.
-/// An order that is refused changes nothing, nor does one for which memory is wanting. Nothing is
-/// written to standard output but the table of `Order::Usage` and the text of `Order::List`.
-#[tactic(auto, using(crate::proofs::OrderStatuses::order_status))]
-pub fn carry_out<K: Keeper, W: Write, E: Write>(
+/// Carries out an order over a keeper, likewise, and gives the keeper back, and what failed.
+pub fn carry_out<K: Keeper, W: Write>(
     alloc: Global,
     keeper: K,
     order: &Order,
     out: &mut W,
-    err: &mut E,
 ) -> Ended<K>
     ensures honest { K.is_honest result.keeper → K.is_honest keeper }
     ensures carries { K.is_honest result.keeper
-        → IsCarriedOut (K.state keeper) order.now result.status
+        → CarriesOrder (K.state keeper) order.now result.carried
         (output (W.contents out.old) (W.contents out.new)) (K.state result.keeper) }
-    ensures silent { 0 < result.status → result.status < 4
-        → IsSilent (output (W.contents out.old) (W.contents out.new)) }
-    ensures status { result.status ≤ 4 }
-    ensures read { result.status ≢ 2 }
+    ensures silent { IsSilentUnlessBroken result.carried (output (W.contents out.old) (W.contents out.new)) }
+    ensures told { IfErr result.carried IsOfOrder }
 {
     let mut service = Service::new(keeper);
-    let status = match carry_over(alloc, &mut service, order, out) {
-        Ok(()) => 0,
-        Err(failure) => say(err, failure),
-    };
+    let carried = carry_over(alloc, &mut service, order, out);
     Ended {
         keeper: service.into_keeper(),
-        status,
+        carried,
     }
 }

@@ -6,7 +6,7 @@
 //! `write_failure`; the other end on `write_order` and `read_answer`. `laws` says that a line spells one
 //! order at most, and how long it is. The line that asks a server to stop is no order: `is_stop`,
 //! `write_stopping`. Of lists they rely on `text_of`, which gives the exact text of items, on `grants_of` and
-//! `items_of_grants`, which make the items of levels, and on `write_table`.
+//! `items_of_grants`, which make the items of levels, and on `table_of`.
 #![tactic(auto)]
 
 pub mod answer;
@@ -28,6 +28,6 @@ pub use grants::{grants_of, items_of_grants};
 pub use items::Item;
 pub use reading::{Unread, read_order};
 pub use stopping::{STOP, is_stop, write_stopping};
-pub use table::write_table;
+pub use table::table_of;
 pub use texts::text_of;
 pub use writing::{LONGEST_LINE, write_order};

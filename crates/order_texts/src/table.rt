@@ -1,11 +1,10 @@
-ghost use Rattle.std.specs.Prelude.{OnOk};
-ghost use Rattle.std.specs.Io.KnownBytes.{Appends};
+ghost use Rattle.std.specs.Prelude.{◌≡◌, ◌++◌, string_bytes, IfOk, OnOk};
 ghost use Rattle.order_texts.specs.Table.{rows_of, table_of};
 
 use oci_types::RepoName;
 use registry_model::Usage;
-use std::io::Write;
-use std::{fmt, io};
+use std::alloc::{AllocError, Global};
+use std::fmt;
 
 const HEADING: &str =
     "                used               quota     blobs manifests      tags  sessions name";
@@ -39,30 +38,28 @@ impl<'a> fmt::Display for Row<'a> {
     }
 }
 
-fn write_rows<W: Write>(out: &mut W, usages: &[(RepoName, Usage)]) -> io::Result<()>
-    ensures { OnOk result (Appends (W.contents out.old) (W.contents out.new) (rows_of usages.now)) }
+/// Writes the line of each repository.
+fn push_rows(text: &mut String, usages: &[(RepoName, Usage)]) -> Result<(), AllocError>
+    ensures { OnOk result (string_bytes text.new ≡ string_bytes text.old ++ rows_of usages.now) }
 {
     for (name, usage) in usages {
         let row = Row {
             name: name.as_str(),
             usage: *usage,
         };
-        match writeln!(out, "{row}") {
-            Ok(()) => {}
-            Err(error) => return Err(error),
-        }
+        writeln!(text, "{row}")?;
     }
     Ok(())
 }
 
-/// Writes the table of what repositories hold and may hold: a heading, and a line for each, with the
-/// used bytes and the quota right in 20 places, the numbers of blobs, manifests, tags and open upload
-/// sessions right in 10 places each, a space and the name (profile).
-pub fn write_table<W: Write>(out: &mut W, usages: &[(RepoName, Usage)]) -> io::Result<()>
-    ensures { OnOk result (Appends (W.contents out.old) (W.contents out.new) (table_of usages.now)) }
+/// The table of what repositories hold and may hold: a heading, and a line for each, with the used bytes and
+/// the quota right in 20 places, the numbers of blobs, manifests, tags and open upload sessions right in 10
+/// places each, a space and the name (profile).
+pub fn table_of(alloc: Global, usages: &[(RepoName, Usage)]) -> Result<String, AllocError>
+    ensures { IfOk result (λ text. string_bytes text ≡ table_of usages.now) }
 {
-    match writeln!(out, "{HEADING}") {
-        Ok(()) => write_rows(out, usages),
-        Err(error) => Err(error),
-    }
+    let mut text = String::new(alloc);
+    writeln!(text, "{HEADING}")?;
+    push_rows(&mut text, usages)?;
+    Ok(text)
 }

@@ -16,12 +16,14 @@ use Rattle.registry_orders.specs.declared.failure.Failure.TheVariants as failure
 use Rattle.registry_orders.specs.declared.options.Setup.{Setup}
 use Rattle.registry_orders.specs.declared.options.RepoOption.{RepoOption}
 use Rattle.registry_orders.specs.declared.options.GrantOption.{GrantOption}
-use Rattle.registry_orders.specs.Failures.{status_of, IsOfConnection, IsOfOpening, IsOfServing}
+use Rattle.registry_orders.specs.Failures.{status_of, status_if, IsOfConnection, IsOfOpening, IsOfServing}
+use Rattle.registry_orders.specs.Outputs.{Output, AppendsPart, IsSilent}
 use Rattle.registry_orders.specs.Setting.{with_repos, with_levels, levels_if, world_by, world_from, SetsUp}
 use Rattle.registry_tasks.specs.Checking.{IsOfCheck}
-use Rattle.registry_tasks.specs.Failures.{status_after}
+use Rattle.registry_tasks.specs.Failures.{ended_as}
+use Rattle.registry_tasks.specs.Telling.{TellsLine}
 use Rattle.registry_server.specs.Accepting.{Streams}
-use Rattle.registry_tasks.specs.Program.{GivesUp, IsUntouched, ServesFrom, ServesMemory, ServesSetUp, ServesStored, Tells}
+use Rattle.registry_tasks.specs.Program.{StopsFor, IsUntouched, ServesFrom, ServesMemory, RunsMemory, ServesSetUp, ServesOne, Tells}
 use Rattle.registry_model.specs.declared.settings.Settings.{Settings}
 
 -- a failed connection is told by 3 or 4
@@ -84,13 +86,15 @@ serving_of_opening failure.InvalidToken is = is
 serving_of_opening failure.InvalidOptions is = is
 
 -- and so they do where something is told of the words
-pub untouched_telling : (status : ℕ) (e : Streams) → Tells status e → 0 < status → status < 4 → IsUntouched e
-untouched_telling status e t more less = go t.1
+pub untouched_telling : (status : ℕ) (e : Streams) (errors : Output) → Tells status e errors → 0 < status → status < 4 → IsUntouched e
+untouched_telling status e errors t more less = go t.1
   where
-    go : (((status ≡ 2) ⊎ (status ≡ 3)) × (e.held' ≡ e.held)) ⊎ (((status ≡ 0) × (text : Text) × Appends e.held e.held' text) ⊎ (status ≡ 4)) → IsUntouched e
-    go (inl h) = record { left = t.0; held = h.1 }
+    go : (((status ≡ 2) × (text : Text) × AppendsPart errors.held errors.held' text × (e.held' ≡ e.held)) ⊎ ((status ≡ 3) × TellsLine failure.OutOfMemory errors × (e.held' ≡ e.held)))
+        ⊎ (((status ≡ 0) × (text : Text) × Appends e.held e.held' text × IsSilent errors) ⊎ ((status ≡ 4) × (text : Text) × AppendsPart e.held e.held' text × TellsLine failure.ConnectionFailure errors)) → IsUntouched e
+    go (inl (inl h)) = record { left = t.0; held = h.3 }
+    go (inl (inr h)) = record { left = t.0; held = h.2 }
     go (inr (inl z)) = absurd (let x = z.0 in omega arith)
-    go (inr (inr f)) = absurd (omega arith)
+    go (inr (inr f)) = absurd (let x = f.0 in omega arith)
 
 -- ---- status 2 is told of words alone
 
@@ -126,77 +130,69 @@ pub opening_read : (f : Failure) → IsOfOpening f → status_of f ≢ 2
 opening_read f is two = let more : 3 ≤ status_of f = serving_status f (serving_of_opening f is) in omega arith
 
 module _ (settings : Settings) where
-  pub served : (setup : Setup) (w : World) (status : ℕ) (e : Streams) → world_by setup ≡ Ok w → ServesFrom settings w status e → ServesMemory settings setup status e
-  served setup w status e m s = inr (subst (λ r. MatchResult r (λ w. ServesFrom settings w status e) (λ f. GivesUp f status e)) (sym m) s)
+  pub served : (setup : Setup) (w : World) (ended : Result (Unit {0}) Failure) (e : Streams) → world_by setup ≡ Ok w → ServesFrom settings w ended e → ServesMemory settings setup ended e
+  served setup w ended e m s = inr (subst (λ r. MatchResult r (λ w. ServesFrom settings w ended e) (λ f. StopsFor f ended e)) (sym m) s)
 
-  refused : (setup : Setup) (f : Failure) (status : ℕ) (e : Streams) → world_by setup ≡ Err f → GivesUp f status e → ServesMemory settings setup status e
-  refused setup f status e m g = inr (subst (λ r. MatchResult r (λ w. ServesFrom settings w status e) (λ f. GivesUp f status e)) (sym m) g)
+  refused : (setup : Setup) (f : Failure) (ended : Result (Unit {0}) Failure) (e : Streams) → world_by setup ≡ Err f → StopsFor f ended e → ServesMemory settings setup ended e
+  refused setup f ended e m g = inr (subst (λ r. MatchResult r (λ w. ServesFrom settings w ended e) (λ f. StopsFor f ended e)) (sym m) g)
 
-  pub stopped : (setup : Setup) (f : Failure) (s : State) (status : ℕ) (e : Streams) → SetsUp (world_by setup) (Err f) s → s.spent ≡ false → GivesUp f status e → ServesMemory settings setup status e
-  stopped setup failure.OutOfMemory s status e m spent g = inl g
-  stopped setup failure.StorageFailure s status e m spent g = absurd (let x : true ≡ false = sym m ∙ spent in cc)
-  stopped setup failure.NoRepo s status e m spent g = refused setup failure.NoRepo status e m g
-  stopped setup failure.NoGrant s status e m spent g = refused setup failure.NoGrant status e m g
-  stopped setup failure.RepoThere s status e m spent g = refused setup failure.RepoThere status e m g
-  stopped setup failure.InvalidName s status e m spent g = refused setup failure.InvalidName status e m g
-  stopped setup failure.InvalidToken s status e m spent g = refused setup failure.InvalidToken status e m g
-  stopped setup failure.InvalidOptions s status e m spent g = refused setup failure.InvalidOptions status e m g
-  stopped setup (failure.Schema n) s status e m spent g = refused setup (failure.Schema n) status e m g
-  stopped setup failure.NotARegistry s status e m spent g = refused setup failure.NotARegistry status e m g
-  stopped setup failure.Damaged s status e m spent g = refused setup failure.Damaged status e m g
-  stopped setup failure.ConnectionFailure s status e m spent g = refused setup failure.ConnectionFailure status e m g
+  pub stopped : (setup : Setup) (f : Failure) (s : State) (ended : Result (Unit {0}) Failure) (e : Streams) → SetsUp (world_by setup) (Err f) s → s.spent ≡ false → StopsFor f ended e → ServesMemory settings setup ended e
+  stopped setup failure.OutOfMemory s ended e m spent g = inl g
+  stopped setup failure.StorageFailure s ended e m spent g = absurd (let x : true ≡ false = sym m ∙ spent in cc)
+  stopped setup failure.NoRepo s ended e m spent g = refused setup failure.NoRepo ended e m g
+  stopped setup failure.NoGrant s ended e m spent g = refused setup failure.NoGrant ended e m g
+  stopped setup failure.RepoThere s ended e m spent g = refused setup failure.RepoThere ended e m g
+  stopped setup failure.InvalidName s ended e m spent g = refused setup failure.InvalidName ended e m g
+  stopped setup failure.InvalidToken s ended e m spent g = refused setup failure.InvalidToken ended e m g
+  stopped setup failure.InvalidOptions s ended e m spent g = refused setup failure.InvalidOptions ended e m g
+  stopped setup (failure.Schema n) s ended e m spent g = refused setup (failure.Schema n) ended e m g
+  stopped setup failure.NotARegistry s ended e m spent g = refused setup failure.NotARegistry ended e m g
+  stopped setup failure.Damaged s ended e m spent g = refused setup failure.Damaged ended e m g
+  stopped setup failure.ConnectionFailure s ended e m spent g = refused setup failure.ConnectionFailure ended e m g
 
   -- maps that began with nothing were set up
-  pub set_up_served : (setup : Setup) (status : ℕ) (e : Streams) (first : State) → first ≡ keeps no_world
-      → ServesSetUp {K = MapKeeper} (λ k. ⊤) (λ k. state_of k.repos k.grants) first settings setup status e → ServesMemory settings setup status e
-  set_up_served setup status e first empty s =
+  pub set_up_served : (setup : Setup) (ended : Result (Unit {0}) Failure) (e : Streams) (first : State) → first ≡ keeps no_world
+      → ServesSetUp {K = MapKeeper} (λ k. ⊤) (λ k. state_of k.repos k.grants) first settings setup ended e → ServesMemory settings setup ended e
+  set_up_served setup ended e first empty s =
       go (world_of s.middle.repos s.middle.grants) (world_of s.last.repos s.last.grants) s.begun (s.says tt).0 (s.says tt).1
     where
       go : (w w' : World) (begun : Result (Unit {0}) Failure) → SetsUp (world_from first.world setup) begun (keeps w)
-          → MatchResult begun (λ v. ServesStored settings status e (keeps w) (keeps w')) (λ f. GivesUp f status e) → ServesMemory settings setup status e
+          → MatchResult begun (λ v. ServesOne settings ended e (keeps w) (keeps w')) (λ f. StopsFor f ended e) → ServesMemory settings setup ended e
       go w w' (Ok v) made serves =
-          served setup w status e (subst (λ (x : State). world_from x.world setup ≡ Ok w) empty made)
+          served setup w ended e (subst (λ (x : State). world_from x.world setup ≡ Ok w) empty made)
           (record { end = serves.0; last = keeps w'; ends = serves.1; serves = serves.2 })
       go w w' (Err f) made g =
-          stopped setup f (keeps w) status e (subst (λ (x : State). SetsUp (world_from x.world setup) (Err f) (keeps w)) empty made) refl g
+          stopped setup f (keeps w) ended e (subst (λ (x : State). SetsUp (world_from x.world setup) (Err f) (keeps w)) empty made) refl g
 
-  after_serving : (w : World) (status : ℕ) (e : Streams) → ServesFrom settings w status e → 0 < status → status < 4 → ⊥
-  after_serving w status e s more less = go s.end s.ends
-    where
-      go : (end : End) → status ≡ status_after end false → ⊥
-      go ending.Closed i = omega arith
-      go ending.Cut i = omega arith
-      go (ending.Refused r) i = omega arith
-      go ending.ReadFailed i = omega arith
-      go (ending.WriteFailed n) i = omega arith
+  -- a connection over memory ends with 0 or 4
+  after_serving : (end : End) (ended : Result (Unit {0}) Failure) (status : ℕ) → ended ≡ ended_as end false → status ≡ status_if ended
+      → (status ≡ 0) ⊎ (status ≡ 4)
+  after_serving ending.Closed ended status i told = inl (told ∙ ap status_if i)
+  after_serving ending.Cut ended status i told = inl (told ∙ ap status_if i)
+  after_serving (ending.Refused r) ended status i told = inl (told ∙ ap status_if i)
+  after_serving ending.ReadFailed ended status i told = inr (told ∙ ap status_if i)
+  after_serving (ending.WriteFailed n) ended status i told = inr (told ∙ ap status_if i)
 
   -- over memory, status 1, 2 and 3 say that nothing was done
-  pub untouched_memory : (setup : Setup) (status : ℕ) (e : Streams) → ServesMemory settings setup status e → 0 < status → status < 4 → IsUntouched e
-  untouched_memory setup status e p more less = go p
+  pub untouched_memory : (setup : Setup) (status : ℕ) (e : Streams) (errors : Output) → RunsMemory settings setup status e errors → 0 < status → status < 4 → IsUntouched e
+  untouched_memory setup status e errors p more less = go p.1
     where
-      by : (r : Result World Failure) → MatchResult r (λ w. ServesFrom settings w status e) (λ f. GivesUp f status e) → IsUntouched e
-      by (Ok w) s = absurd (after_serving w status e s more less)
+      by : (r : Result World Failure) → MatchResult r (λ w. ServesFrom settings w p.0 e) (λ f. StopsFor f p.0 e) → IsUntouched e
+      by (Ok w) s = absurd (elim (after_serving s.end p.0 status s.ends p.2.0) [ inl z ↦ omega arith | inr z ↦ omega arith ])
       by (Err f) g = g.1
 
-      go : ServesMemory settings setup status e → IsUntouched e
+      go : ServesMemory settings setup p.0 e → IsUntouched e
       go (inl g) = g.1
       go (inr m) = by (world_by setup) m
 
-  serving_read : (w : World) (status : ℕ) (e : Streams) → ServesFrom settings w status e → status ≢ 2
-  serving_read w status e s two = go s.end s.ends
-    where
-      go : (end : End) → status ≡ status_after end false → ⊥
-      go ending.Closed i = omega arith
-      go ending.Cut i = omega arith
-      go (ending.Refused r) i = omega arith
-      go ending.ReadFailed i = omega arith
-      go (ending.WriteFailed n) i = omega arith
-
-  pub memory_read : (setup : Setup) (status : ℕ) (e : Streams) → ServesMemory settings setup status e → status ≢ 2
-  memory_read setup status e (inl g) two = let three : status ≡ 3 = g.0 in omega arith
-  memory_read setup status e (inr m) two = go (world_by setup) (setup_fault setup) m
+  pub memory_read : (setup : Setup) (status : ℕ) (e : Streams) (errors : Output) → RunsMemory settings setup status e errors → status ≢ 2
+  memory_read setup status e errors p two = all p.1
     where
       go : (r : Result World Failure) → ((f : Failure) → r ≡ Err f → status_of f ≡ 1)
-          → MatchResult r (λ w. ServesFrom settings w status e) (λ f. GivesUp f status e) → ⊥
-      go (Ok w) fault s = serving_read w status e s two
-      go (Err f) fault g = let one : status ≡ 1 = g.0 ∙ fault f refl in omega arith
+          → MatchResult r (λ w. ServesFrom settings w p.0 e) (λ f. StopsFor f p.0 e) → ⊥
+      go (Ok w) fault s = elim (after_serving s.end p.0 status s.ends p.2.0) [ inl z ↦ omega arith | inr z ↦ omega arith ]
+      go (Err f) fault g = let one : status ≡ 1 = p.2.0 ∙ ap status_if g.0 ∙ fault f refl in omega arith
+
+      all : ServesMemory settings setup p.0 e → ⊥
+      all (inl g) = let three : status ≡ 3 = p.2.0 ∙ ap status_if g.0 in omega arith
+      all (inr m) = go (world_by setup) (setup_fault setup) m

@@ -2,3 +2,4 @@ pub mod ExitStatuses
 pub mod SendingLemmas
 pub mod StatusBounds
 mod TokenLemmas
+pub mod OrderEnds

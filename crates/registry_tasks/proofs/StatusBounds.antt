@@ -3,10 +3,10 @@ use Rattle.std.proofs.Common.{arith, ◌≡◌, ◌<◌, ◌≤◌, ◌≢◌, �
 use Rattle.std.specs.Prelude.{IfErr}
 use Rattle.registry_orders.specs.declared.failure.Failure.{Failure}
 use Rattle.registry_orders.specs.declared.failure.Failure.TheVariants as failure
-use Rattle.registry_orders.specs.Failures.{status_of, status_if}
+use Rattle.registry_orders.specs.Failures.{status_of, status_if, IsOfConnection}
 use Rattle.registry_tasks.specs.Checking.{IsOfCheck}
 use Rattle.registry_tasks.specs.Sending.{IsOfSending}
-use Rattle.registry_tasks.proofs.ExitStatuses.{check_status}
+use Rattle.registry_tasks.proofs.ExitStatuses.{check_status, connection_status}
 
 most_status : (f : Failure) → status_of f ≤ 4
 most_status failure.NoRepo = omega arith
@@ -52,3 +52,8 @@ pub check_failed : (checked : Result (Unit {0}) Failure) (status : ℕ) → IfEr
     → status ≡ status_if checked → 0 < status → 3 ≤ status
 check_failed (Ok v) status fails told more = omega arith
 check_failed (Err f) status fails told more = let least = check_status f fails in rw told least
+
+pub connection_failed : (ended : Result (Unit {0}) Failure) (status : ℕ) → IfErr ended IsOfConnection
+    → status ≡ status_if ended → 0 < status → 3 ≤ status
+connection_failed (Ok v) status fails told more = omega arith
+connection_failed (Err f) status fails told more = let least = connection_status f fails in rw told least

@@ -7,20 +7,16 @@ use Rattle.registry_orders.specs.declared.tokens.TokenSource.{TokenSource}
 use Rattle.registry_orders.specs.declared.tokens.TokenSource.TheVariants.{Input, File}
 use Rattle.registry_orders.specs.declared.orders.TokenOrder.{TokenOrder}
 use Rattle.registry_orders.specs.Orders.{order_with}
+use Rattle.registry_orders.specs.Outputs.{Output}
 use Rattle.registry_server.specs.Accepting.{Streams}
-use Rattle.registry_tasks.specs.Acts.{Acts, DoesNothing}
-use Rattle.registry_tasks.specs.Opened.{output_of, RunsAt, GivesToken, IsReadFor, RunsTokenOrder, IsWithoutToken, LacksTokenOf}
+use Rattle.registry_tasks.specs.Acts.{Acts}
+use Rattle.registry_tasks.specs.Opened.{output_of, RunsAt, GivesToken, RunsTokenOrder}
 
-pub runs_with : {K : Type 0} (a : Acts K) (place : Place) (source : TokenSource) (order : TokenOrder) (status : ℕ) (e : Streams) (token : Text)
-    → GivesToken source e.left e.left' token → RunsAt a place (order_with order token) status (output_of e)
-    → RunsTokenOrder a place source order status e
-runs_with a place Input order status e token given runs = (token, given, runs)
-runs_with a place (File path) order status e token given runs = (given, (token, runs))
-
-pub lacks : {K : Type 0} (a : Acts K) (source : TokenSource) (status : ℕ) (e : Streams) → DoesNothing a → IsReadFor source e.left e.left'
-    → IsWithoutToken status (output_of e) → LacksTokenOf a source status e
-lacks a Input status e never spared without = (never, without)
-lacks a (File path) status e never spared without = (never, spared, without)
+pub runs_with : {K : Type 0} (a : Acts K) (place : Place) (source : TokenSource) (order : TokenOrder) (status : ℕ) (e : Streams) (errors : Output) (token : Text)
+    → GivesToken source e.left e.left' token → RunsAt a place (order_with order token) status (output_of e) errors
+    → RunsTokenOrder a place source order status e errors
+runs_with a place Input order status e errors token given runs = (token, given, runs)
+runs_with a place (File path) order status e errors token given runs = (given, (token, runs))
 
 pub whatever_it_is : {A E : Type 0} (r : Result A E) (P : A → Type 0) → ((x : A) → P x) → IfOk r P
 whatever_it_is (Ok x) P h = h x

@@ -1,12 +1,11 @@
 -- What a check of a registry comes to (profile).
-use Rattle.std.specs.Prelude.{◌≡◌, ◌≢◌, ℕ, true, [], Result, Ok, Err, ⊤}
+use Rattle.std.specs.Prelude.{◌≡◌, ◌≢◌, true, [], Result, Ok, Err, ⊤}
 use Rattle.std.specs.Io.KnownBytes.{Appends}
 use Rattle.registry_model.specs.Keeping.{State}
 use Rattle.registry_checking.specs.Wrongs.{wrongs_of}
 use Rattle.registry_checking.specs.Lines.{lines_of}
 use Rattle.registry_orders.specs.declared.failure.Failure.{Failure}
 use Rattle.registry_orders.specs.declared.failure.Failure.TheVariants.{OutOfMemory, StorageFailure, Damaged, ConnectionFailure}
-use Rattle.registry_orders.specs.Failures.{status_if}
 use Rattle.registry_orders.specs.Outputs.{Output, IsSilent}
 
 -- why a check does not end well: something is wrong, memory is wanting, or the storage or writing fails
@@ -27,8 +26,3 @@ Checks s (Err OutOfMemory) o s' = IsSilent o × (s' ≡ s)
 Checks s (Err StorageFailure) o s' = s'.spent ≡ true
 Checks s (Err ConnectionFailure) o s' = s' ≡ s
 Checks s (Err _) o s' = ⊥
-
--- a check, told by the exit status
-abbrev pub IsChecked : State → ℕ → Output → State → Type 0
-IsChecked s status o s' =
-    (result : Result (Unit {0}) Failure) × (status ≡ status_if result) × Checks s result o s'

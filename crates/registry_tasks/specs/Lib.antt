@@ -1,5 +1,6 @@
 pub mod Failures
 pub mod Acts
+pub mod Telling
 pub mod Program
 pub mod Sockets
 pub mod Sending

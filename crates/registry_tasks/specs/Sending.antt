@@ -9,8 +9,9 @@ use Rattle.order_texts.specs.Stopping.{stop_line}
 use Rattle.registry_orders.specs.declared.failure.Failure.{Failure}
 use Rattle.registry_orders.specs.declared.failure.Failure.TheVariants.{OutOfMemory, ConnectionFailure}
 use Rattle.registry_orders.specs.declared.orders.Order.{Order}
-use Rattle.registry_orders.specs.Outputs.{Output, IsSilent}
+use Rattle.registry_orders.specs.Outputs.{Output, AppendsPart, IsSilent}
 use Rattle.registry_orders.specs.Failures.{status_of}
+use Rattle.registry_tasks.specs.Telling.{TellsLine, TellsAt}
 
 -- why an order has no answer: want of memory, or the socket fails
 abbrev pub IsOfSending : Failure → Type 0
@@ -18,34 +19,38 @@ IsOfSending OutOfMemory = ⊤
 IsOfSending ConnectionFailure = ⊤
 IsOfSending _ = ⊥
 
--- the text was written, or writing failed
-abbrev pub Shows : Text → ℕ → Output → Type 0
-Shows text status o =
-    ((status ≡ 0) × Appends o.held o.held' text) ⊎ (status ≡ status_of ConnectionFailure)
+-- the text was written, or writing failed, a first part of the text was written, and that is told
+abbrev pub Shows : Text → ℕ → Output → Output → Type 0
+Shows text status o errors =
+    ((status ≡ 0) × Appends o.held o.held' text × IsSilent errors)
+    ⊎ ((status ≡ status_of ConnectionFailure) × AppendsPart o.held o.held' text
+    × TellsLine ConnectionFailure errors)
 
 -- the status of an order that a server did not carry out; of the command line it knows nothing
 abbrev pub relayed : ℕ → ℕ
 relayed said = if said == 2 then status_of ConnectionFailure else said
 
--- with status 0 the server's text is shown, and with any other nothing is written
-pub record RelaysAnswer (said : ℕ) (text : Text) (status : ℕ) (o : Output) : Type 0 where
-  pub done : said ≡ 0 → Shows text status o
-  pub not_done : said ≢ 0 → IsSilent o × (status ≡ relayed said)
+-- with status 0 the server's text is shown, and with any other it goes to standard error
+pub record RelaysAnswer (said : ℕ) (text : Text) (status : ℕ) (o errors : Output) : Type 0 where
+  pub done : said ≡ 0 → Shows text status o errors
+  pub not_done : said ≢ 0
+      → IsSilent o × (status ≡ relayed said) × AppendsPart errors.held errors.held' text
 
 abbrev pub IsNoAnswer : Text → Type 0
 IsNoAnswer bytes = (said : ℕ) (text : Text) → said ≤ 4 → ¬ (bytes ≡ answer_text said text)
 
--- what the bytes come to that a server gave: they are an answer, or they are none
-abbrev pub Relays : Text → ℕ → Output → Type 0
-Relays bytes status o =
-    ((said : ℕ) × (text : Text) × (bytes ≡ answer_text said text) × RelaysAnswer said text status o)
-    ⊎ (IsNoAnswer bytes × (status ≡ status_of ConnectionFailure) × IsSilent o)
+-- what the bytes come to that a server gave: they are an answer, or they are none, which is told
+abbrev pub Relays : Text → ℕ → Output → Output → Type 0
+Relays bytes status o errors =
+    ((said : ℕ) × (text : Text) × (bytes ≡ answer_text said text) × RelaysAnswer said text status o errors)
+    ⊎ (IsNoAnswer bytes × (status ≡ status_of ConnectionFailure) × IsSilent o
+    × TellsLine ConnectionFailure errors)
 
--- a server gave some bytes; or there is no answer, and nothing was written
-abbrev pub IsSent : ℕ → Output → Type 0
-IsSent status o =
-    ((bytes : Text) × Relays bytes status o)
-    ⊎ ((f : Failure) × IsOfSending f × (status ≡ status_of f) × IsSilent o)
+-- the server at the path gave some bytes; or there is no answer, which is told, and nothing was written
+abbrev pub IsSent : Text → ℕ → Output → Output → Type 0
+IsSent path status o errors =
+    ((bytes : Text) × Relays bytes status o errors)
+    ⊎ ((f : Failure) × IsOfSending f × (status ≡ status_of f) × IsSilent o × TellsAt f path errors)
 
 -- ---- which lines were sent, each to the server at a path: `had` and `had'` tell of those up to one moment
 -- and up to another
@@ -60,12 +65,13 @@ TakesLine had had' path line = (l : List (Text × Text)) → had l → had' (l +
 -- the order's line was sent to the server at the path, and no other; or memory was wanting for it, and none
 -- was
 abbrev pub SendsOrder : (List (Text × Text) → Type 0) → (List (Text × Text) → Type 0)
-    → Text → Order → ℕ → Output → Type 0
-SendsOrder had had' path order status o =
-    (TakesLine had had' path (line_of order) × IsSent status o)
-    ⊎ (TakesNone had had' × (status ≡ status_of OutOfMemory) × IsSilent o)
+    → Text → Order → ℕ → Output → Output → Type 0
+SendsOrder had had' path order status o errors =
+    (TakesLine had had' path (line_of order) × IsSent path status o errors)
+    ⊎ (TakesNone had had' × (status ≡ status_of OutOfMemory) × IsSilent o × TellsLine OutOfMemory errors)
 
 -- the line that asks the server at the path to stop was sent there, and no other
 abbrev pub SendsStop : (List (Text × Text) → Type 0) → (List (Text × Text) → Type 0)
-    → Text → ℕ → Output → Type 0
-SendsStop had had' path status o = TakesLine had had' path stop_line × IsSent status o
+    → Text → ℕ → Output → Output → Type 0
+SendsStop had had' path status o errors =
+    TakesLine had had' path stop_line × IsSent path status o errors

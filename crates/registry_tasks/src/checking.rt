@@ -1,19 +1,16 @@
 //! A registry in a database, looked at for what is wrong.
 ghost use Rattle.std.specs.Prelude.{◌≡◌, ◌≤◌, ◌<◌, [], IfErr};
 ghost use Rattle.registry_opening.specs.Openings.{between};
-ghost use Rattle.registry_orders.specs.Failures.{status_if};
 ghost use Rattle.registry_orders.specs.Outputs.{output};
 ghost use Rattle.registry_tasks.specs.Checking.{Checks, IsOfCheck};
 ghost use Rattle.registry_tasks.specs.Opened.{RunsCheck};
 
-use crate::opened::{Done, end_at};
+use crate::opened::{Done, end_at, fail_at};
 use oci_types::Fault;
 use registry_checking::{Watch, Wrong, look, write_wrongs};
 use registry_model::Keeper;
 use registry_opening::{Ended, Opener, Work};
 use registry_orders::Failure;
-use registry_orders::cause::say_at;
-use registry_orders::failure::say;
 use std::alloc::Global;
 use std::io::Write;
 
@@ -66,46 +63,32 @@ fn check_kept<K: Keeper, V: Watch, W: Write>(
     tell_wrongs(alloc, watch, keeper, &mut found, out)
 }
 
-/// Says why a check does not end well, and gives the exit status.
-fn told<E: Write>(checked: Result<(), Failure>, err: &mut E) -> u8
-    ensures { result ≡ status_if checked }
-{
-    match checked {
-        Ok(()) => 0,
-        Err(failure) => say(err, failure),
-    }
-}
-
 /// What a registry holds, looked at.
 #[derive(Drop)]
-struct CheckWork<'v, 'o, 'e, V, W: Write, E: Write> {
+struct CheckWork<'v, 'o, V, W: Write> {
     alloc: Global,
     watch: &'v V,
     out: &'o mut W,
-    err: &'e mut E,
 }
 
-impl<'v, 'o, 'e, K: Keeper, V: Watch, W: Write, E: Write> Work<K>
-    for CheckWork<'v, 'o, 'e, V, W, E> {
-    ghost use Rattle.registry_tasks.specs.Checking.{IsChecked};
-    ghost use Rattle.registry_tasks.specs.Opened.{EndsReading};
+impl<'v, 'o, K: Keeper, V: Watch, W: Write> Work<K> for CheckWork<'v, 'o, V, W> {
+    ghost use Rattle.std.specs.Prelude.{IfErr};
+    ghost use Rattle.registry_tasks.specs.Checking.{Checks, IsOfCheck};
 
     type Told = Done;
 
-    ghost does = { λ old s done new s'. IsChecked s done.status
+    ghost does = { λ old s done new s'. Checks s done.ended
         (output (W.contents old.out.now) (W.contents new.out.now)) s' };
 
-    ghost says = { λ old done new. (new.out.ghost_name ≡ old.out.ghost_name)
-        × (new.err.ghost_name ≡ old.err.ghost_name) × EndsReading done.status };
+    ghost says = { λ old done new. (new.out.ghost_name ≡ old.out.ghost_name) × IfErr done.ended IsOfCheck };
 
     fn work(&mut self, kept: K) -> Ended<K, Done> {
         let mut keeper = kept;
-        let checked = check_kept(self.alloc, self.watch, &mut keeper, self.out);
-        let status = told(checked, self.err);
+        let ended = check_kept(self.alloc, self.watch, &mut keeper, self.out);
         let spent = keeper.spent();
         Ended {
             keeper,
-            told: Done { status, spent },
+            told: Done { ended, spent },
         }
     }
 }
@@ -120,18 +103,14 @@ pub fn run_check<K: Keeper, O: Opener<K>, V: Watch, W: Write, E: Write>(
     err: &mut E,
 ) -> u8
     ensures runs { RunsCheck (between K.is_honest K.state O.opens (O.had opener.old) (O.had opener.new))
-        path.now result (output (W.contents out.old) (W.contents out.new)) }
+        path.now result (output (W.contents out.old) (W.contents out.new))
+        (output (E.contents err.old) (E.contents err.new)) }
     ensures failed { 0 < result → 3 ≤ result }
     ensures status { result ≤ 4 }
 {
-    let mut work = CheckWork {
-        alloc,
-        watch,
-        out,
-        err,
-    };
+    let mut work = CheckWork { alloc, watch, out };
     match opener.with_open(path, &mut work) {
         Ok(done) => end_at(opener, path, done, err),
-        Err(failure) => say_at(err, failure, path, opener.cause(path, failure)),
+        Err(failure) => fail_at(opener, path, failure, err),
     }
 }

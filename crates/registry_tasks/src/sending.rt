@@ -7,15 +7,17 @@ use crate::messenger::Messenger;
 use order_texts::{Answer, STOP, read_answer, write_order};
 use registry_orders::cause::say_at;
 use registry_orders::failure::say;
+use registry_orders::output::write_text;
 use registry_orders::{Failure, Order};
 use std::alloc::Global;
 use std::io::Write;
 
-/// Writes the text of an order that was carried out.
+/// Writes the text of an order that was carried out, or a first part of it, and says that this failed.
 fn show<W: Write, E: Write>(text: &[u8], out: &mut W, err: &mut E) -> u8
-    ensures { Shows text.now result (output (W.contents out.old) (W.contents out.new)) }
+    ensures { Shows text.now result (output (W.contents out.old) (W.contents out.new))
+        (output (E.contents err.old) (E.contents err.new)) }
 {
-    match out.write_all(text) {
+    match write_text(out, text) {
         Ok(()) => 0,
         Err(_) => say(err, Failure::ConnectionFailure),
     }
@@ -25,7 +27,8 @@ fn show<W: Write, E: Write>(text: &[u8], out: &mut W, err: &mut E) -> u8
 /// error. Bytes that are no answer are a failed connection. So is an answer that the line of the order was
 /// none, which is no mistake of whoever gave the order.
 fn relay<W: Write, E: Write>(bytes: &[u8], out: &mut W, err: &mut E) -> u8
-    ensures relays { Relays bytes.now result (output (W.contents out.old) (W.contents out.new)) }
+    ensures relays { Relays bytes.now result (output (W.contents out.old) (W.contents out.new))
+        (output (E.contents err.old) (E.contents err.new)) }
     ensures silent { 0 < result → result < 4
         → IsSilent (output (W.contents out.old) (W.contents out.new)) }
     ensures status { result ≤ 4 }
@@ -37,7 +40,7 @@ fn relay<W: Write, E: Write>(bytes: &[u8], out: &mut W, err: &mut E) -> u8
     if status == 0 {
         return show(text, out, err);
     }
-    let _ = err.write_all(text);
+    let _ = write_text(err, text);
     if status == 2 {
         Failure::ConnectionFailure.status()
     } else {
@@ -58,7 +61,8 @@ fn send_line<M: Messenger, W: Write, E: Write>(
     err: &mut E,
 ) -> u8
     ensures line { TakesLine (M.had messenger.old) (M.had messenger.new) path.now line.now }
-    ensures sent { IsSent result (output (W.contents out.old) (W.contents out.new)) }
+    ensures sent { IsSent path.now result (output (W.contents out.old) (W.contents out.new))
+        (output (E.contents err.old) (E.contents err.new)) }
     ensures silent { 0 < result → result < 4
         → IsSilent (output (W.contents out.old) (W.contents out.new)) }
     ensures status { result ≤ 4 }
@@ -81,7 +85,8 @@ pub fn send_order<M: Messenger, W: Write, E: Write>(
     err: &mut E,
 ) -> u8
     ensures sent { SendsOrder (M.had messenger.old) (M.had messenger.new) path.now order.now result
-        (output (W.contents out.old) (W.contents out.new)) }
+        (output (W.contents out.old) (W.contents out.new))
+        (output (E.contents err.old) (E.contents err.new)) }
     ensures silent { 0 < result → result < 4
         → IsSilent (output (W.contents out.old) (W.contents out.new)) }
     ensures status { result ≤ 4 }
@@ -103,7 +108,8 @@ pub fn send_stop<M: Messenger, W: Write, E: Write>(
     err: &mut E,
 ) -> u8
     ensures sent { SendsStop (M.had messenger.old) (M.had messenger.new) path.now result
-        (output (W.contents out.old) (W.contents out.new)) }
+        (output (W.contents out.old) (W.contents out.new))
+        (output (E.contents err.old) (E.contents err.new)) }
     ensures silent { 0 < result → result < 4
         → IsSilent (output (W.contents out.old) (W.contents out.new)) }
     ensures status { result ≤ 4 }

@@ -1,8 +1,9 @@
-ghost use Rattle.std.specs.Prelude.{◌≡◌, ◌<◌, ◌≤◌, IfErr};
+ghost use Rattle.std.specs.Prelude.{◌≡◌, IfErr};
 ghost use Rattle.registry_orders.specs.Failures.{IsOfConnection};
+ghost use Rattle.registry_orders.specs.Outputs.{output};
 ghost use Rattle.registry_orders.specs.Setting.{with_repos, with_levels, world_from, SetsUp};
 ghost use Rattle.registry_tasks.specs.Failures.{ended_as};
-ghost use Rattle.registry_tasks.specs.Program.{streams, ServesMemory, ServesSetUp, ServesStored};
+ghost use Rattle.registry_tasks.specs.Program.{streams, RunsMemory, ServesSetUp, ServesOne};
 
 use registry_http::End;
 use registry_maps::MapKeeper;
@@ -93,55 +94,48 @@ fn ended(end: End, spent: bool) -> Result<(), Failure>
     }
 }
 
-/// Serves one connection over the service with these settings, and says on standard error what failed. The
-/// status is 0; 4 where reading or writing failed; 3 where the service is spent at the end. A connection that
-/// was cut or refused is no failure.
-pub fn serve_stdio<R: Read, W: Write, E: Write, K: Keeper>(
+/// Serves one connection over the service with these settings. It fails where reading or writing did, or
+/// where the service is spent at the end. A connection that was cut or refused is no failure.
+pub fn serve_stdio<R: Read, W: Write, K: Keeper>(
     alloc: Global,
     service: &mut Service<K>,
     settings: Settings,
     reader: &mut R,
     out: &mut W,
-    err: &mut E,
-) -> u8
+) -> Result<(), Failure>
     ensures honest { K.is_honest service.new → K.is_honest service.old }
-    ensures serves { K.is_honest service.new → ServesStored settings result
+    ensures serves { K.is_honest service.new → ServesOne settings result
         (streams (R.remaining reader.old) (R.remaining reader.new) (W.contents out.old) (W.contents out.new))
         (K.state service.old) (K.state service.new) }
-    ensures failed { 0 < result → 3 ≤ result }
-    ensures status { result ≤ 4 }
+    ensures fails { IfErr result IsOfConnection }
 {
     let end = serve_connection(alloc, service, settings, reader, out);
-    match ended(end, service.spent()) {
-        Ok(()) => 0,
-        Err(failure) => say(err, failure),
-    }
+    ended(end, service.spent())
 }
 
 /// Sets a registry up, and serves one connection over it.
-fn serve_set_up<R: Read, W: Write, E: Write, K: Keeper + Drop>(
+fn serve_set_up<R: Read, W: Write, K: Keeper + Drop>(
     alloc: Global,
     keeper: K,
     settings: Settings,
     setup: &Setup,
     reader: &mut R,
     out: &mut W,
-    err: &mut E,
-) -> u8
+) -> Result<(), Failure>
     ensures { ServesSetUp K.is_honest K.state (K.state keeper) settings setup.now result
         (streams (R.remaining reader.old) (R.remaining reader.new)
         (W.contents out.old) (W.contents out.new)) }
 {
     let mut service = Service::new(keeper);
     match set_up(alloc, &mut service, setup) {
-        Ok(()) => serve_stdio(alloc, &mut service, settings, reader, out, err),
-        Err(failure) => say(err, failure),
+        Ok(()) => serve_stdio(alloc, &mut service, settings, reader, out),
+        Err(failure) => Err(failure),
     }
 }
 
 /// Serves one connection over a registry in memory that begins with this setup, with these settings, and
-/// says on standard error what failed. The status is that of `serve_stdio`; or that of the command that was
-/// refused, 1, or of want of memory, 3, and then nothing was read or written.
+/// says on standard error what failed. The status is 0; 4 where reading or writing failed; or that of the
+/// command that was refused, 1, or of want of memory, 3, and then nothing was read or written.
 pub fn serve_memory<R: Read, W: Write, E: Write>(
     alloc: Global,
     settings: Settings,
@@ -150,18 +144,15 @@ pub fn serve_memory<R: Read, W: Write, E: Write>(
     out: &mut W,
     err: &mut E,
 ) -> u8
-    ensures serves { ServesMemory settings setup.now result
+    ensures serves { RunsMemory settings setup.now result
         (streams (R.remaining reader.old) (R.remaining reader.new)
-        (W.contents out.old) (W.contents out.new)) }
+        (W.contents out.old) (W.contents out.new))
+        (output (E.contents err.old) (E.contents err.new)) }
 {
     // That maps are a keeper is proved anew at each call that is generic in one, so there is one such call.
-    serve_set_up(
-        alloc,
-        MapKeeper::new(alloc),
-        settings,
-        setup,
-        reader,
-        out,
-        err,
-    )
+    let keeper = MapKeeper::new(alloc);
+    match serve_set_up(alloc, keeper, settings, setup, reader, out) {
+        Ok(()) => 0,
+        Err(failure) => say(err, failure),
+    }
 }

@@ -5,7 +5,7 @@ ghost use Rattle.registry_orders.specs.Failures.{IsOfWords};
 ghost use Rattle.registry_orders.specs.Outputs.{IsSilent, output};
 ghost use Rattle.registry_tasks.specs.Acts.{acts};
 ghost use Rattle.registry_tasks.specs.Program.{streams};
-ghost use Rattle.registry_tasks.specs.Opened.{GivesToken, IsReadFor, RunsTokenOrder, LacksTokenOf};
+ghost use Rattle.registry_tasks.specs.Opened.{GivesToken, IsReadFor, place_of, RunsTokenOrder, LacksTokenOf};
 
 use crate::messenger::Messenger;
 use crate::opened::run_order_at;
@@ -28,7 +28,8 @@ struct NoToken<'a> {
 
 /// Why what was read at a place is no token.
 fn no_token(failure: Failure, place: &str) -> NoToken<'_>
-    ensures { result.failure ≡ failure }
+    ensures failure { result.failure ≡ failure }
+    ensures place { result.place.now ≡ place.now }
 {
     let cause = match failure {
         Failure::InvalidToken => Some(Cause::NoToken),
@@ -52,7 +53,8 @@ fn cause_of_file(kind: ErrorKind) -> Cause {
 
 /// The token that is the first line of the file at a path.
 fn token_in_file<'a>(rt: &HostRuntime, alloc: Global, path: &'a str) -> Result<Token, NoToken<'a>>
-    ensures { IfErr result (λ none. IsOfWords none.failure) }
+    ensures refused { IfErr result (λ none. IsOfWords none.failure) }
+    ensures placed { IfErr result (λ none. none.place.now ≡ path.now) }
 {
     let mut file = match fs::open(rt, path) {
         Ok(file) => file,
@@ -80,6 +82,7 @@ fn token_of<'a, R: Read>(
     ensures given { IfOk result (GivesToken source.entry (R.remaining reader.old) (R.remaining reader.new)) }
     ensures refused { IfErr result (λ none. IsOfWords none.failure) }
     ensures spared { IsReadFor source.entry (R.remaining reader.old) (R.remaining reader.new) }
+    ensures placed { IfErr result (λ none. none.place.now ≡ place_of source.entry) }
 {
     match source {
         TokenSource::Input => match read_token(alloc, reader) {
@@ -108,11 +111,11 @@ pub fn run_token_order<K: Keeper, O: Opener<K>, M: Messenger, R: Read, W: Write,
         × RunsTokenOrder (acts (between K.is_honest K.state O.opens (O.had opener.old) (O.had opener.new))
         (M.had messenger.old) (M.had messenger.new))
         place.entry source.entry order result (streams (R.remaining reader.old) (R.remaining reader.new)
-        (W.contents out.old) (W.contents out.new)))
+        (W.contents out.old) (W.contents out.new)) (output (E.contents err.old) (E.contents err.new)))
         ⊎ LacksTokenOf (acts (between K.is_honest K.state O.opens (O.had opener.old) (O.had opener.new))
         (M.had messenger.old) (M.had messenger.new))
         source.entry result (streams (R.remaining reader.old) (R.remaining reader.new)
-        (W.contents out.old) (W.contents out.new)) }
+        (W.contents out.old) (W.contents out.new)) (output (E.contents err.old) (E.contents err.new)) }
     ensures silent { 0 < result → result < 4
         → IsSilent (output (W.contents out.old) (W.contents out.new)) }
     ensures status { result ≤ 4 }

@@ -1,30 +1,37 @@
-use Rattle.std.proofs.Common.{rules, ◌≡◌, inl, inr, ap, subst}
+use Rattle.std.proofs.Common.{rules, ◌≡◌, Err, inl, inr, refl, ap, subst}
 use Rattle.registry_opening.specs.Openings.{between, Once}
 use Rattle.registry_orders.specs.Outputs.{output}
-use Rattle.registry_tasks.specs.Checking.{IsChecked}
+use Rattle.registry_tasks.specs.Checking.{Checks}
 use Rattle.registry_tasks.proofs.ExitStatuses.{opening_status}
-use Rattle.registry_tasks.proofs.StatusBounds.{status_at_most}
+use Rattle.registry_tasks.proofs.StatusBounds.{status_at_most, check_at_most, check_failed}
 use Rattle.registry_tasks.proofs.checking.run_check.Goals as goal
 
 pub returns-in-Ok : goal.returns-in-Ok
 returns-in-Ok g c =
     let same : c.with_open.new.work.out.now ≡ c.out-1.given.0 = search rules in
-    let says = c.in-Ok.ensures.says.2 in
+    let ended = c.in-Ok.done.ended in
+    let told = c.end_at.ensures.0 in
     record {
-      runs = rw c.end_at.ensures (inr (subst (λ x. Once (between g.K.Keeper.is_honest g.K.Keeper.state g.O.Opener.opens
-          (g.O.Opener.had c.args.opener.now) (g.O.Opener.had c.with_open.new.self)) c.args.path.now
-          (λ s s'. IsChecked s c.in-Ok.done.status (output (g.W.Write.contents c.args.out.now) (g.W.Write.contents x)) s'))
-          same c.in-Ok.ensures.worked));
-      failed = rw c.end_at.ensures says.0;
-      status = rw c.end_at.ensures says.1;
+      runs = (
+        ended,
+        inr (subst (λ x. Once (between g.K.Keeper.is_honest g.K.Keeper.state g.O.Opener.opens
+            (g.O.Opener.had c.args.opener.now) (g.O.Opener.had c.with_open.new.self)) c.args.path.now
+            (λ s s'. Checks s ended (output (g.W.Write.contents c.args.out.now) (g.W.Write.contents x)) s'))
+            same c.in-Ok.ensures.worked),
+        c.end_at.ensures,
+      );
+      failed = check_failed ended c.end_at.result c.in-Ok.ensures.says.1 told;
+      status = check_at_most ended c.end_at.result told;
     }
 
 pub returns-in-Err : goal.returns-in-Err
 returns-in-Err g c =
     let undone = ap (λ w. w.out.now) c.in-Err.ensures.undone in
     let kept : c.out-1.given.0 ≡ c.args.out.now = search rules in
+    let failure = c.in-Err.failure in
+    let told = c.fail_at.ensures.0 in
     record {
-      runs = inl (c.in-Err.ensures.never, (c.in-Err.failure, c.in-Err.ensures.refused, c.say_at.ensures.status, ap g.W.Write.contents kept));
-      failed = λ more. rw c.say_at.ensures.status (opening_status c.in-Err.failure c.in-Err.ensures.refused);
-      status = status_at_most c.in-Err.failure c.say_at.result c.say_at.ensures.status;
+      runs = (Err failure, inl (c.in-Err.ensures.never, (failure, c.in-Err.ensures.refused, refl, ap g.W.Write.contents kept)), c.fail_at.ensures);
+      failed = λ more. rw told (opening_status failure c.in-Err.ensures.refused);
+      status = status_at_most failure c.fail_at.result told;
     }

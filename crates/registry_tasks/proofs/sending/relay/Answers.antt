@@ -7,21 +7,21 @@ use Rattle.registry_tasks.specs.Sending.{Shows, relayed}
 use Rattle.registry_tasks.proofs.StatusBounds.{status_at_most, sending_read}
 use Rattle.registry_tasks.proofs.sending.relay.Goals as goal
 
-shown_silent : (text : Text) (status : ℕ) (o : Output) → Shows text status o → 0 < status → status < 4 → IsSilent o
-shown_silent text status o (inl shown) more less = absurd (let none = shown.0 in omega arith)
-shown_silent text status o (inr failed) more less = absurd (omega arith)
+shown_silent : (text : Text) (status : ℕ) (o errors : Output) → Shows text status o errors → 0 < status → status < 4 → IsSilent o
+shown_silent text status o errors (inl shown) more less = absurd (let none = shown.0 in omega arith)
+shown_silent text status o errors (inr failed) more less = absurd (let four = failed.0 in omega arith)
 
-shown_at_most : (text : Text) (status : ℕ) (o : Output) → Shows text status o → status ≤ 4
-shown_at_most text status o (inl shown) = let none = shown.0 in omega arith
-shown_at_most text status o (inr failed) = omega arith
+shown_at_most : (text : Text) (status : ℕ) (o errors : Output) → Shows text status o errors → status ≤ 4
+shown_at_most text status o errors (inl shown) = let none = shown.0 in omega arith
+shown_at_most text status o errors (inr failed) = let four = failed.0 in omega arith
 
-shown_read : (text : Text) (status : ℕ) (o : Output) → Shows text status o → status ≢ 2
-shown_read text status o (inl shown) two = let none = shown.0 in omega arith
-shown_read text status o (inr failed) two = omega arith
+shown_read : (text : Text) (status : ℕ) (o errors : Output) → Shows text status o errors → status ≢ 2
+shown_read text status o errors (inl shown) two = let none = shown.0 in omega arith
+shown_read text status o errors (inr failed) two = let four = failed.0 in omega arith
 
 pub returns-in_default : goal.returns-in_default
 returns-in_default g c = record {
-  relays = inr (c.in_default.ensures.none, c.say.ensures.status, refl);
+  relays = inr (c.in_default.ensures.none, c.say.ensures.status, refl, c.say.ensures.said);
   silent = λ more less. refl;
   status = status_at_most ConnectionFailure c.say.result c.say.ensures.status;
   read = sending_read ConnectionFailure c.say.result tt c.say.ensures.status;
@@ -40,9 +40,9 @@ returns-then-status-eq0 g c =
           not_done = λ some. absurd (some c.if-status-eq0.true);
         },
       );
-      silent = shown_silent said.text.now c.show.result _ c.show.ensures;
-      status = shown_at_most said.text.now c.show.result _ c.show.ensures;
-      read = shown_read said.text.now c.show.result _ c.show.ensures;
+      silent = shown_silent said.text.now c.show.result _ _ c.show.ensures;
+      status = shown_at_most said.text.now c.show.result _ _ c.show.ensures;
+      read = shown_read said.text.now c.show.result _ _ c.show.ensures;
     }
 
 pub returns-then-status-eq2 : goal.returns-then-status-eq2
@@ -55,7 +55,7 @@ returns-then-status-eq2 g c =
         c.in-Some.ensures.read,
         record {
           done = λ zero. absurd (c.if-status-eq0.false zero);
-          not_done = λ some. (refl, c.status.ensures ∙ ap relayed (sym c.if-status-eq2.true));
+          not_done = λ some. (refl, c.status.ensures ∙ ap relayed (sym c.if-status-eq2.true), c.write_text.ensures.part);
         },
       );
       silent = λ more less. refl;
@@ -77,7 +77,7 @@ returns-else-status-eq2 g c =
         c.in-Some.ensures.read,
         record {
           done = λ zero. absurd (c.if-status-eq0.false zero);
-          not_done = λ some. (refl, passed_on said.status c.if-status-eq2.false);
+          not_done = λ some. (refl, passed_on said.status c.if-status-eq2.false, c.write_text.ensures.part);
         },
       );
       silent = λ more less. refl;

@@ -12,10 +12,13 @@ returns-in-Ok g c = record {
 }
 
 pub returns-in-Err : goal.returns-in-Err
-returns-in-Err g c = record {
-  line = c.ask.ensures.asked;
-  sent = inr (c.in-Err.none.failure, c.in-Err.ensures.refused, c.say_at.ensures.status, refl);
-  silent = λ more less. refl;
-  status = status_at_most c.in-Err.none.failure c.say_at.result c.say_at.ensures.status;
-  read = sending_read c.in-Err.none.failure c.say_at.result c.in-Err.ensures.refused c.say_at.ensures.status;
-}
+returns-in-Err g c =
+    let none = c.in-Err.none in
+    let said = c.say_at.ensures in
+    record {
+      line = c.ask.ensures.asked;
+      sent = inr (none.failure, c.in-Err.ensures.refused, said.status, refl, (none.cause, said.said));
+      silent = λ more less. refl;
+      status = status_at_most none.failure c.say_at.result said.status;
+      read = sending_read none.failure c.say_at.result c.in-Err.ensures.refused said.status;
+    }

@@ -13,7 +13,7 @@ returns-in-Ok g c = record {
 
 pub returns-in-Err : goal.returns-in-Err
 returns-in-Err g c = record {
-  sent = inr ((λ l had. had), c.say.ensures.status, refl);
+  sent = inr ((λ l had. had), c.say.ensures.status, refl, c.say.ensures.said);
   silent = λ more less. refl;
   status = status_at_most OutOfMemory c.say.result c.say.ensures.status;
   read = sending_read OutOfMemory c.say.result tt c.say.ensures.status;

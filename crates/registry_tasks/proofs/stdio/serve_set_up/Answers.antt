@@ -18,5 +18,5 @@ returns g c = record {
   last = c.set_up.new.service;
   says = λ honest.
       let begins = rw c.new-service.ensures at (c.set_up.ensures.begins honest) in
-      (begins, rw c.in-Err.is (c.say.ensures.status, record { left = refl; held = refl }));
+      (begins, rw c.in-Err.is (refl, record { left = refl; held = refl }));
 }
