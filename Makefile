@@ -5,7 +5,7 @@ PROCESSORS := $(shell nproc)
 # The first run: a registry in memory, with one repository and one token.
 DEMO := stdio --memory --repo team/app=1000 --grant t1=team/app=3
 
-.PHONY: help demo build try test check edits dear check-file check-rows check-words check-hostile check-clients check-install
+.PHONY: help demo build try test check edits dear lint check-file check-rows check-words check-hostile check-clients check-install
 .PHONY: check-docs bench bench-quick bench-http install deb fmt clean
 
 # docs/PERFORMANCE.md has what was measured.
@@ -21,6 +21,7 @@ help:
 	@echo 'make edits CRATE=x   tries the must-fail edits of one crate (20 to 60 s each)'
 	@echo 'make dear CRATE=x    what takes long in a check of one crate, or with FN=f which goals of a function'
 	@echo '                     (after make build; 1 to 5 min)'
+	@echo 'make lint            lengths of files and lines, reasons of edits, tables of crates (1 s)'
 	@echo 'make check-file      a server'"'"'s file after pushes by curl, looked at by sqlite3'
 	@echo 'make check-rows      the worked examples by the program itself, over a file (after make test; 10 s)'
 	@echo 'make check-words     command lines, and what they say, end with and leave in files (after make test; 1 min)'
@@ -68,6 +69,10 @@ edits:
 FN =
 dear:
 	python3 check/dear.py $(CRATE) $(FN)
+
+# What no proof looks at: lengths, the reasons of edits, the tables of crates.
+lint:
+	@python3 check/lint.py
 
 # The merge gate. A check for each processor, four at most: by itself rt waits until more memory is free than
 # its checks take. What it leaves is build/registry, too.

@@ -7,8 +7,8 @@ text, and alone on a line for any lines. One shell has all commands of a page, i
 away again, with a home folder that has this checkout as `firkhen`. A command that ends in `&` goes on; it is
 waited for until it has printed what the page says.
 
-The picture in docs/ARCHITECTURE.md is compared with what check/house.py draws, and what all pages cite is looked up
-(check/citations.py). `make check-docs` calls this.
+The picture in docs/ARCHITECTURE.md is compared with what check/house.py draws, what docs/THEOREM.md quotes with the
+files that it names, and what all pages cite is looked up (check/citations.py). `make check-docs` calls this.
 (podman and skopeo note in /var/lib/containers/cache where they have seen blobs.)
 """
 import glob
@@ -23,6 +23,7 @@ import time
 from contextlib import suppress
 
 import citations
+import definitions
 import house
 from executables import TOP
 from serving import listens, until
@@ -196,6 +197,50 @@ def compare_picture():
         indented("\n".join(it for it in drawn.splitlines() if it not in there))
 
 
+def quotes(page):
+    """The blocks of a page between fences, each with its line and the file that was named last before it."""
+    path, block = None, None
+    with open(f"{TOP}/{page}", encoding="utf-8") as it:
+        for number, line in enumerate(it, 1):
+            if line == "```\n":
+                if block:
+                    yield *block[:2], "".join(block[2])
+                block = None if block else (number, path, [])
+            elif block:
+                block[2].append(line)
+            elif named := re.findall(r"`(crates/[\w/]+\.(?:antt|rt))`:$", line):
+                path = named[-1]
+
+
+def compare_quotes(page="docs/THEOREM.md"):
+    found = list(quotes(page))
+    wrong = []
+    for number, path, block in found:
+        with open(f"{TOP}/{path}", encoding="utf-8") as it:
+            if block not in it.read():
+                wrong.append(f"{page}:{number}: this is not in {path}")
+    for it in wrong:
+        say(False, it)
+    if not wrong:
+        say(len(found) > 10, f"{page}: {len(found)} quotations of definitions and contracts")
+    with open(f"{TOP}/{page}", encoding="utf-8") as it:
+        there = re.findall(r"(\d+) files with (\d+) lines of definitions", it.read())
+    counted = definitions.count(definitions.closure(definitions.FIRST))
+    say(there == [tuple(map(str, counted))], f"{page}: %d files with %d lines of definitions" % counted)
+
+
+def compare_counts(page="docs/TESTING.md"):
+    edits = len(glob.glob(f"{TOP}/crates/*/must-fail/*.edit"))
+    tests = 0
+    for path in glob.glob(f"{TOP}/crates/serving_tests/src/*.rt"):
+        with open(path, encoding="utf-8") as it:
+            tests += it.read().count("#[test]")
+    with open(f"{TOP}/{page}", encoding="utf-8") as it:
+        text = it.read()
+    for count, what in ((edits, "must-fail edits"), (tests, "tests of connections")):
+        say(f"- {count} {what}:" in text, f"{page}: {count} {what}")
+
+
 def look_up_citations():
     count, wrong = citations.look()
     for it in wrong:
@@ -216,6 +261,8 @@ def main():
         print("check-docs needs build/registry", file=sys.stderr)
         return 2
     compare_picture()
+    compare_quotes()
+    compare_counts()
     look_up_citations()
     left_out = 0
     for page in sys.argv[1:] or PAGES:
