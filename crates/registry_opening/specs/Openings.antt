@@ -1,6 +1,6 @@
 -- What an opener does between two moments: it opens a registry, has something done over it and closes it; or
 -- it takes one over.
-use Rattle.std.specs.Prelude.{◌≡◌, ◌∷◌, ◌++◌, ℕ, false, true, List, [], map, Option, All, IfSome}
+use Rattle.std.specs.Prelude.{◌≡◌, ◌∷◌, ◌++◌, ℕ, Bool, false, true, List, [], map, Option, All, IfSome}
 use Rattle.std.specs.List.{cons_option}
 use Rattle.registry_model.specs.Keeping.{State}
 
@@ -10,10 +10,10 @@ pub record Opening (K : Type 0) : Type 0 where
   pub first : K
   pub last : K
 
--- what is done at one path
+-- what is done at one path: a registry is opened there, or it is taken over or that fails
 pub data Deed (K : Type 0) : Type 0 where
   opened : Opening K → Deed K
-  moved : List ℕ → Deed K
+  moved : List ℕ → Bool → Deed K
 
 -- Two moments of an opener: which keepers return what was written, their states, in which states a registry
 -- at a path may be found, and what was done up to the one moment and up to the other.
@@ -37,9 +37,9 @@ Never {K} b = (l : List (Deed K)) → b.had l → b.had' l
 abbrev pub Just : {K : Type 0} → Between K → List (Deed K) → Type 0
 Just {K} b deeds = (l : List (Deed K)) → b.had l → b.had' (l ++ deeds)
 
--- the registry at the path was taken over, or it was tried, and nothing else was done
-abbrev pub TakesOver : {K : Type 0} → Between K → List ℕ → Type 0
-TakesOver {K} b path = Just b (moved path ∷ [])
+-- the registry at the path was taken over, or where `done` is false that failed, and nothing else was done
+abbrev pub TakesOver : {K : Type 0} → Between K → List ℕ → Bool → Type 0
+TakesOver {K} b path done = Just b (moved path done ∷ [])
 
 -- The registry at the path was opened, and this was done over it, as far as the storage has returned what was
 -- written.

@@ -1,4 +1,4 @@
-ghost use Rattle.std.specs.Prelude.{◌≡◌, ℕ, List, IfOk, IfErr};
+ghost use Rattle.std.specs.Prelude.{◌≡◌, ℕ, List, true, false, IfOk, IfErr, MatchResult};
 ghost use Rattle.registry_model.specs.Keeping.{State};
 ghost use Rattle.registry_opening.specs.Openings.{Deed, between, Once, Never, TakesOver};
 ghost use Rattle.registry_orders.specs.Failures.{IsOfOpening};
@@ -33,8 +33,11 @@ pub trait Opener<K: Keeper> {
     /// already, nothing is done. An error is as above.
     fn migrate(&mut self, path: &str) -> Result<(), Failure>
         ensures refused { IfErr result IsOfOpening }
-        ensures moved { TakesOver (between K.is_honest K.state opens (had self.old) (had self.new))
-            path.now };
+        ensures moved { MatchResult result
+            (λ done.
+            TakesOver (between K.is_honest K.state opens (had self.old) (had self.new)) path.now true)
+            (λ failure.
+            TakesOver (between K.is_honest K.state opens (had self.old) (had self.new)) path.now false) };
 
     /// What is wrong with the path of a registry that failed, as far as it can be seen there afterwards,
     /// while it is not open. It is for a message alone.

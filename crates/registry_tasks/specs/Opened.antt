@@ -1,6 +1,6 @@
 -- What tasks come to over a registry that is opened for them, and what the opener does meanwhile: the
 -- registry is opened once, or none is.
-use Rattle.std.specs.Prelude.{◌≡◌, ◌<◌, ◌≤◌, ℕ, ◌⊎◌, Option, Result, Err, IfErr, codes}
+use Rattle.std.specs.Prelude.{◌≡◌, ◌<◌, ◌≤◌, ℕ, ◌⊎◌, Option, Result, Err, IfErr, is_ok, codes}
 use Rattle.oci_types.specs.Text.{Text}
 use Rattle.registry_model.specs.declared.settings.Settings.{Settings}
 use Rattle.registry_orders.specs.declared.failure.Failure.{Failure}
@@ -111,7 +111,7 @@ RunsStored {K} b settings path status e errors = (ended : Result (Unit {0}) Fail
     × ((Never b × IsNotOpened ended (output_of e) × (e.left' ≡ e.left))
     ⊎ Once b path (ServesOne settings ended e)) × SaysEnd ended path status errors
 
--- the registry of schema 1 is taken over; or it is not opened
+-- the registry of schema 1 is taken over, or that failed
 abbrev pub EndsMigration : {K : Type 0} → Between K → Text → ℕ → Output → Type 0
 EndsMigration {K} b path status errors = (ended : Result (Unit {0}) Failure)
-    × TakesOver b path × IfErr ended IsOfOpening × SaysEnd ended path status errors
+    × TakesOver b path (is_ok ended) × IfErr ended IsOfOpening × SaysEnd ended path status errors

@@ -1,6 +1,6 @@
 -- Lines that are sent to the server that holds the registry: orders, and the one that ends it (profile). What
 -- the server does is its own contract.
-use Rattle.std.specs.Prelude.{◌≡◌, ◌≢◌, ◌≤◌, ℕ, ◌⊎◌, ◌==◌, ◌∷◌, ◌++◌, List, [], ⊤, if◌then◌else◌}
+use Rattle.std.specs.Prelude.{◌≡◌, ◌≢◌, ◌≤◌, ℕ, ◌⊎◌, ◌==◌, ◌∷◌, ◌++◌, List, [], Option, Some, None, ⊤, if◌then◌else◌}
 use Rattle.std.specs.Io.KnownBytes.{Appends}
 use Rattle.oci_types.specs.Text.{Text}
 use Rattle.order_texts.specs.Answers.{answer_text}
@@ -46,32 +46,44 @@ Relays bytes status o errors =
     ⊎ (IsNoAnswer bytes × (status ≡ status_of ConnectionFailure) × IsSilent o
     × TellsLine ConnectionFailure errors)
 
--- the server at the path gave some bytes; or there is no answer, which is told, and nothing was written
-abbrev pub IsSent : Text → ℕ → Output → Output → Type 0
-IsSent path status o errors =
-    ((bytes : Text) × Relays bytes status o errors)
-    ⊎ ((f : Failure) × IsOfSending f × (status ≡ status_of f) × IsSilent o × TellsAt f path errors)
+-- what the answer of the server at the path comes to; where there is none, that is told, and nothing was
+-- written
+abbrev pub IsAnswered : Text → Option Text → ℕ → Output → Output → Type 0
+IsAnswered path (Some bytes) status o errors = Relays bytes status o errors
+IsAnswered path None status o errors =
+    (f : Failure) × IsOfSending f × (status ≡ status_of f) × IsSilent o × TellsAt f path errors
 
--- ---- which lines were sent, each to the server at a path: `had` and `had'` tell of those up to one moment
--- and up to another
+-- ---- which lines were sent: `had` and `had'` tell of those up to one moment and up to another
 
-abbrev pub TakesNone : (List (Text × Text) → Type 0) → (List (Text × Text) → Type 0) → Type 0
-TakesNone had had' = (l : List (Text × Text)) → had l → had' l
+-- a line that was sent to the server at a path, and what it answered, if it did
+pub record Exchange : Type 0 where
+  pub path : Text
+  pub line : Text
+  pub answer : Option Text
 
--- this line alone
-abbrev pub TakesLine : (List (Text × Text) → Type 0) → (List (Text × Text) → Type 0) → Text → Text → Type 0
-TakesLine had had' path line = (l : List (Text × Text)) → had l → had' (l ++ (path, line) ∷ [])
+abbrev pub SendsNone : (List Exchange → Type 0) → (List Exchange → Type 0) → Type 0
+SendsNone had had' = (l : List Exchange) → had l → had' l
 
--- the order's line was sent to the server at the path, and no other; or memory was wanting for it, and none
--- was
-abbrev pub SendsOrder : (List (Text × Text) → Type 0) → (List (Text × Text) → Type 0)
+-- this line alone, with this answer
+abbrev pub Exchanges : (List Exchange → Type 0) → (List Exchange → Type 0)
+    → Text → Text → Option Text → Type 0
+Exchanges had had' path line answer = (l : List Exchange) → had l
+    → had' (l ++ record { path = path; line = line; answer = answer } ∷ [])
+
+-- this line was sent to the server at the path, and no other, and the status is of what that answered
+abbrev pub SendsLine : (List Exchange → Type 0) → (List Exchange → Type 0)
+    → Text → Text → ℕ → Output → Output → Type 0
+SendsLine had had' path line status o errors = (answer : Option Text)
+    × Exchanges had had' path line answer × IsAnswered path answer status o errors
+
+-- so was the order's line; or memory was wanting for it, and none was sent
+abbrev pub SendsOrder : (List Exchange → Type 0) → (List Exchange → Type 0)
     → Text → Order → ℕ → Output → Output → Type 0
 SendsOrder had had' path order status o errors =
-    (TakesLine had had' path (line_of order) × IsSent path status o errors)
-    ⊎ (TakesNone had had' × (status ≡ status_of OutOfMemory) × IsSilent o × TellsLine OutOfMemory errors)
+    SendsLine had had' path (line_of order) status o errors
+    ⊎ (SendsNone had had' × (status ≡ status_of OutOfMemory) × IsSilent o × TellsLine OutOfMemory errors)
 
--- the line that asks the server at the path to stop was sent there, and no other
-abbrev pub SendsStop : (List (Text × Text) → Type 0) → (List (Text × Text) → Type 0)
+-- so was the line that asks the server to stop
+abbrev pub SendsStop : (List Exchange → Type 0) → (List Exchange → Type 0)
     → Text → ℕ → Output → Output → Type 0
-SendsStop had had' path status o errors =
-    TakesLine had had' path stop_line × IsSent path status o errors
+SendsStop had had' path status o errors = SendsLine had had' path stop_line status o errors

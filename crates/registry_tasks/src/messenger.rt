@@ -1,8 +1,8 @@
 //! What takes lines to the servers that take orders, and brings what they answer.
-ghost use Rattle.std.specs.Prelude.{◌≡◌, ◌++◌, ℕ, List, OnOk, IfOk, IfErr, IfSome};
+ghost use Rattle.std.specs.Prelude.{◌≡◌, ◌++◌, List, Some, None, OnOk, IfOk, IfErr, IfSome, MatchResult};
 ghost use Rattle.std.specs.Io.KnownBytes.{Appends};
 ghost use Rattle.registry_orders.specs.Outputs.{newline};
-ghost use Rattle.registry_tasks.specs.Sending.{IsOfSending, TakesLine};
+ghost use Rattle.registry_tasks.specs.Sending.{IsOfSending, Exchange, Exchanges};
 
 use registry_orders::{Cause, Failure};
 use std::alloc::Global;
@@ -77,14 +77,16 @@ fn read_all<R: Read + Drop>(alloc: Global, reader: R) -> Result<Vec<u8>, Failure
 
 /// What takes lines to servers.
 pub trait Messenger {
-    // These were taken up to now, each to the server at a path.
-    ghost had: { Self → List (List ℕ × List ℕ) → Type 0 };
+    // These were taken up to now, and so they were answered.
+    ghost had: { Self → List Exchange → Type 0 };
 
     /// Takes a line, and its end, to the server that takes orders at the socket at a path, and brings all
     /// that it answers. An error is that there is no server or no answer, that it has more than 64 MiB, or
     /// want of memory; then the line may have come there or not.
     fn ask(&mut self, alloc: Global, path: &str, line: &str) -> Result<Vec<u8>, NoAnswer>
-        ensures asked { TakesLine (had self.old) (had self.new) path.now line.now }
+        ensures asked { MatchResult result
+            (λ answer. Exchanges (had self.old) (had self.new) path.now line.now (Some answer.items))
+            (λ none. Exchanges (had self.old) (had self.new) path.now line.now None) }
         ensures refused { IfErr result (λ none. IsOfSending none.failure) };
 }
 

@@ -1,7 +1,7 @@
 //! Lines that are sent to the server that holds the registry: orders, and the one that ends it.
 ghost use Rattle.std.specs.Prelude.{◌≡◌, ◌≢◌, ◌<◌, ◌≤◌};
 ghost use Rattle.registry_orders.specs.Outputs.{output, IsSilent};
-ghost use Rattle.registry_tasks.specs.Sending.{Shows, Relays, IsSent, TakesLine, SendsOrder, SendsStop};
+ghost use Rattle.registry_tasks.specs.Sending.{Shows, Relays, SendsLine, SendsOrder, SendsStop};
 
 use crate::messenger::Messenger;
 use order_texts::{Answer, STOP, read_answer, write_order};
@@ -60,8 +60,8 @@ fn send_line<M: Messenger, W: Write, E: Write>(
     out: &mut W,
     err: &mut E,
 ) -> u8
-    ensures line { TakesLine (M.had messenger.old) (M.had messenger.new) path.now line.now }
-    ensures sent { IsSent path.now result (output (W.contents out.old) (W.contents out.new))
+    ensures sent { SendsLine (M.had messenger.old) (M.had messenger.new) path.now line.now result
+        (output (W.contents out.old) (W.contents out.new))
         (output (E.contents err.old) (E.contents err.new)) }
     ensures silent { 0 < result → result < 4
         → IsSilent (output (W.contents out.old) (W.contents out.new)) }

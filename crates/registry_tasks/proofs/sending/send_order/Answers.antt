@@ -5,7 +5,7 @@ use Rattle.registry_tasks.proofs.sending.send_order.Goals as goal
 
 pub returns-in-Ok : goal.returns-in-Ok
 returns-in-Ok g c = record {
-  sent = inl (rw (c.as_str.ensures.value, c.in-Ok.ensures) at c.send_line.ensures.line, c.send_line.ensures.sent);
+  sent = inl (rw (c.as_str.ensures.value, c.in-Ok.ensures) at c.send_line.ensures.sent);
   silent = c.send_line.ensures.silent;
   status = c.send_line.ensures.status;
   read = c.send_line.ensures.read;

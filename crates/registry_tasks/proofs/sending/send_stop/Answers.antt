@@ -2,7 +2,7 @@ use Rattle.registry_tasks.proofs.sending.send_stop.Goals as goal
 
 pub returns : goal.returns
 returns g c = record {
-  sent = (c.send_line.ensures.line, c.send_line.ensures.sent);
+  sent = c.send_line.ensures.sent;
   silent = c.send_line.ensures.silent;
   status = c.send_line.ensures.status;
   read = c.send_line.ensures.read;
