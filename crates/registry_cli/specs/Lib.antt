@@ -1,3 +1,1 @@
-pub mod Running
 pub mod Databases
-pub mod Serving

@@ -1,18 +1,16 @@
 //! The program `registry`.
 //!
-//! `program::run_words` is what the words of a command line come to, over any opener of registries and with
-//! any ends for standard input, output and error; `stored::run_in_files` is that over databases in files.
-//! `databases::Databases` opens these: `specs/Databases.antt` says in which states it finds them, as far as
-//! the files return what was written. `main` gives them the ends of the process.
+//! `registry_program::run_words` is what the words of a command line come to, over any opener of registries
+//! and with any ends for standard input, output and error; `stored::run_in_files` is that over databases in
+//! files. `databases::Databases` opens these: `specs/Databases.antt` says in which states it finds them, as
+//! far as the files return what was written. `main` gives them the ends of the process.
 #![tactic(auto)]
 
 mod beginning;
 mod databases;
 mod files;
 mod looking;
-mod program;
 mod progress;
-mod serving;
 mod stored;
 
 use registry_orders::Failure;

@@ -5,12 +5,12 @@ ghost use Rattle.sqlite.specs.Files.{over_files};
 ghost use Rattle.registry_opening.specs.Openings.{between};
 ghost use Rattle.registry_tasks.specs.Acts.{acts};
 ghost use Rattle.registry_tasks.specs.Program.{streams};
-ghost use Rattle.registry_cli.specs.Running.{RunsWords, IsSparedFor};
+ghost use Rattle.registry_program.specs.Running.{RunsWords, IsSparedFor};
 ghost use Rattle.registry_store.specs.Kept.{IsHonest, shown};
 
-use crate::program::run_words;
 use registry_checking::Watch;
 use registry_opening::Opener;
+use registry_program::run_words;
 use registry_store::Store;
 use registry_tasks::Messenger;
 use sqlite::{Alter, FileStore};

@@ -6,7 +6,7 @@ ghost use Rattle.registry_opening.specs.Openings.{between};
 ghost use Rattle.registry_orders.specs.Failures.{IsOfServing};
 ghost use Rattle.registry_orders.specs.Outputs.{output};
 ghost use Rattle.registry_tasks.specs.Sockets.{ServesAddress, greeting};
-ghost use Rattle.registry_cli.specs.Serving.{ServesSpan, ServesSpans, IsStopped, Begins};
+ghost use Rattle.registry_program.specs.Serving.{ServesSpan, ServesSpans, IsStopped, Begins};
 
 use registry_loop::{Crowd, Doors, Gathering};
 use registry_model::{Keeper, Settings};
@@ -183,8 +183,8 @@ impl<'t, 'r, 'a, 'g, 'b, 'o, G: Gathering, W: Write> Server<'t, 'r, 'a, 'g, 'b, 
 impl<'t, 'r, 'a, 'g, 'b, 'o, K: Keeper, G: Gathering, W: Write> Work<K>
     for Server<'t, 'r, 'a, 'g, 'b, 'o, G, W> {
     ghost use Rattle.std.specs.Prelude.{◌≡◌, []};
-    ghost use Rattle.registry_cli.specs.declared.serving.Stop.TheVariants.{Spent};
-    ghost use Rattle.registry_cli.specs.Serving.{ServesSpan, GreetsFirst};
+    ghost use Rattle.registry_program.specs.declared.serving.Stop.TheVariants.{Spent};
+    ghost use Rattle.registry_program.specs.Serving.{ServesSpan, GreetsFirst};
 
     type Told = Stop;
 

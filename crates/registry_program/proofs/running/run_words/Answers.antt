@@ -3,8 +3,8 @@ use Rattle.registry_orders.specs.declared.failure.Failure.TheVariants.{InvalidOp
 use Rattle.registry_opening.specs.Openings.{between}
 use Rattle.registry_tasks.specs.Acts.{acts}
 use Rattle.registry_tasks.proofs.ExitStatuses.{untouched_telling}
-use Rattle.registry_cli.proofs.EndedTasks.{task_runs, task_spares}
-use Rattle.registry_cli.proofs.program.run_words.Goals as goal
+use Rattle.registry_program.proofs.EndedTasks.{task_runs, task_spares}
+use Rattle.registry_program.proofs.running.run_words.Goals as goal
 
 pub returns-in-Ok : goal.returns-in-Ok
 returns-in-Ok g c = record {

@@ -3,8 +3,8 @@ use Rattle.registry_opening.specs.Openings.{between}
 use Rattle.registry_tasks.specs.Acts.{acts}
 use Rattle.registry_tasks.specs.Program.{streams}
 use Rattle.registry_tasks.proofs.ExitStatuses.{memory_read, untouched_memory}
-use Rattle.registry_cli.proofs.EndedTasks.{order_spares}
-use Rattle.registry_cli.proofs.program.run_task.Goals as goal
+use Rattle.registry_program.proofs.EndedTasks.{order_spares}
+use Rattle.registry_program.proofs.running.run_task.Goals as goal
 
 pub returns-in-Memory : goal.returns-in-Memory
 returns-in-Memory g c = record {

@@ -19,7 +19,8 @@ use Rattle.registry_tasks.specs.Program.{IsUntouched, GivesUp, ServesMemory, Tel
 use Rattle.registry_tasks.specs.Sockets.{ServesAddress}
 use Rattle.registry_tasks.specs.Acts.{Acts, SendsNone, DoesNothing}
 use Rattle.registry_tasks.specs.Sending.{SendsStop}
-use Rattle.registry_tasks.specs.Opened.{output_of, RunsAt, RunsTokenOrder, LacksTokenOf, RunsCheck, RunsStored, EndsMigration}
+use Rattle.registry_tasks.specs.Opened.{output_of, RunsAt, RunsTokenOrder, LacksTokenOf, RunsCheck}
+use Rattle.registry_tasks.specs.Opened.{RunsStored, EndsMigration}
 
 -- connections over sockets with these settings and within these limits, over the registry at the path, which
 -- is opened again where its storage failed

@@ -1,7 +1,7 @@
 use Rattle.registry_opening.specs.Openings.{between}
 use Rattle.registry_opening.proofs.SpanLemmas.{none_so_far, ends_without}
-use Rattle.registry_cli.proofs.ServingLemmas.{served_address}
-use Rattle.registry_cli.proofs.serving.serve.Goals as goal
+use Rattle.registry_program.proofs.ServingLemmas.{served_address}
+use Rattle.registry_program.proofs.serving.serve.Goals as goal
 
 pub returns-in-Err : goal.returns-in-Err
 returns-in-Err g c =

@@ -1,5 +1,5 @@
-use Rattle.registry_cli.proofs.ServingLemmas.{not_begun}
-use Rattle.registry_cli.proofs.serving.ServerWork.work.Goals as goal
+use Rattle.registry_program.proofs.ServingLemmas.{not_begun}
+use Rattle.registry_program.proofs.serving.ServerWork.work.Goals as goal
 
 pub returns-in-Err-clause-does : goal.returns-in-Err-clause-does
 returns-in-Err-clause-does g c honest buffer none =

@@ -3,9 +3,9 @@ use Rattle.std.specs.Io.KnownBytes.{Appends}
 use Rattle.registry_tasks.specs.Sockets.{greeting}
 use Rattle.registry_opening.proofs.SpanLemmas.{none_so_far, one_more, ends_with, ends_without}
 use Rattle.registry_tasks.proofs.ExitStatuses.{serving_of_opening}
-use Rattle.registry_cli.specs.declared.serving.Stop.TheVariants.{Over, Spent, Failed}
-use Rattle.registry_cli.proofs.ServingLemmas.{greeted_then, has_greeted, over_ends, spent_says, spent_ends, failed_ends, greets_by}
-use Rattle.registry_cli.proofs.serving.serve_together.Goals as goal
+use Rattle.registry_program.specs.declared.serving.Stop.TheVariants.{Over, Spent, Failed}
+use Rattle.registry_program.proofs.ServingLemmas.{greeted_then, has_greeted, over_ends, spent_says, spent_ends, failed_ends, greets_by}
+use Rattle.registry_program.proofs.serving.serve_together.Goals as goal
 
 pub loop-init : goal.loop-init
 loop-init g c = record {

@@ -12,7 +12,7 @@ use Rattle.registry_orders.specs.Tasks.{IsTask}
 use Rattle.registry_server.specs.Accepting.{Streams}
 use Rattle.registry_tasks.specs.Acts.{Acts}
 use Rattle.registry_tasks.specs.Opened.{output_of, RunsTokenOrder, LacksTokenOf}
-use Rattle.registry_cli.specs.Running.{RunsWords, IsSparedFor, EndsTask, IsSparedBy}
+use Rattle.registry_program.specs.Running.{RunsWords, IsSparedFor, EndsTask, IsSparedBy}
 
 pub task_runs : {K : Type 0} (a : Acts K) (words : List Text) (task : Task) (status : ℕ) (e : Streams)
     → IsTask words task → EndsTask a task status e → RunsWords a words status e

@@ -1,8 +1,9 @@
+//! What the words of a command line come to.
 ghost use Rattle.std.specs.Prelude.{◌<◌, ◌≤◌, map};
 ghost use Rattle.registry_opening.specs.Openings.{between};
 ghost use Rattle.registry_tasks.specs.Acts.{acts};
 ghost use Rattle.registry_tasks.specs.Program.{streams};
-ghost use Rattle.registry_cli.specs.Running.{RunsServer, RunsWords, IsSparedFor, EndsTask, IsSparedBy};
+ghost use Rattle.registry_program.specs.Running.{RunsServer, RunsWords, IsSparedFor, EndsTask, IsSparedBy};
 ghost use Rattle.registry_orders.specs.Outputs.{output};
 
 use crate::serving::{Serving, serve};

@@ -11,8 +11,8 @@ use Rattle.registry_orders.specs.declared.limits.Limits.{Limits}
 use Rattle.registry_orders.specs.Failures.{IsOfServing}
 use Rattle.registry_loop.specs.Together.{ServesAll}
 use Rattle.registry_tasks.specs.Sockets.{greeting, EndsAs}
-use Rattle.registry_cli.specs.declared.serving.Stop.{Stop}
-use Rattle.registry_cli.specs.declared.serving.Stop.TheVariants.{Over, Spent, Failed}
+use Rattle.registry_program.specs.declared.serving.Stop.{Stop}
+use Rattle.registry_program.specs.declared.serving.Stop.TheVariants.{Over, Spent, Failed}
 
 -- Connections were served together, from none on, until all had gone or the storage failed; or nobody is
 -- served, since that failed as it was asked how many repositories there are.

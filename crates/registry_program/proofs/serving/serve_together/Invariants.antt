@@ -2,8 +2,8 @@ use Rattle.std.proofs.Common.{◌≡◌, []}
 use Rattle.registry_loop.specs.Together.{ServesAll}
 use Rattle.registry_opening.specs.Openings.{between}
 use Rattle.registry_opening.proofs.SpanLemmas.{SoFar}
-use Rattle.registry_cli.proofs.ServingLemmas.{HasGreeted}
-use Rattle.registry_cli.proofs.serving.serve_together.Given as goal
+use Rattle.registry_program.proofs.ServingLemmas.{HasGreeted}
+use Rattle.registry_program.proofs.serving.serve_together.Given as goal
 
 -- so far each opening ended with a storage that failed
 abbrev pub invariant-loop : goal.invariant-loop

@@ -10,10 +10,10 @@ use Rattle.registry_loop.specs.Together.{ServesAll, bounds_of}
 use Rattle.registry_orders.specs.declared.failure.Failure.{Failure}
 use Rattle.registry_orders.specs.Failures.{IsOfServing}
 use Rattle.registry_tasks.specs.Sockets.{greeting, EndsAs, ServesAddress}
-use Rattle.registry_cli.specs.declared.serving.Serving.{Serving}
-use Rattle.registry_cli.specs.declared.serving.Stop.{Stop}
-use Rattle.registry_cli.specs.declared.serving.Stop.TheVariants.{Over, Spent, Failed}
-use Rattle.registry_cli.specs.Serving.{Greets, GreetsFirst, ServesSpan, ServesSpans, Begins}
+use Rattle.registry_program.specs.declared.serving.Serving.{Serving}
+use Rattle.registry_program.specs.declared.serving.Stop.{Stop}
+use Rattle.registry_program.specs.declared.serving.Stop.TheVariants.{Over, Spent, Failed}
+use Rattle.registry_program.specs.Serving.{Greets, GreetsFirst, ServesSpan, ServesSpans, Begins}
 use Rattle.registry_model.specs.declared.settings.Settings.{Settings}
 use Rattle.registry_orders.specs.declared.limits.Limits.{Limits}
 use Rattle.registry_server.specs.Open.{none}
