@@ -33,8 +33,8 @@ help:
 	@echo 'make check-docs      the commands of the tutorial and other pages, and what they print (10 s)'
 	@echo 'make install         executable, man page, completion, service and nginx files (PREFIX, DESTDIR, SYSCONFDIR)'
 	@echo 'make deb             the same as a Debian package, build/firkhen_*.deb; make check-install looks at both'
-	@echo 'make bench           requests over loopback, on one connection and on many, beside docker-registry, sha256sum,'
-	@echo '                     dd and cat where installed; and how cost grows with what a registry holds'
+	@echo 'make bench           requests over loopback, on one connection and on many, beside docker-registry, nginx,'
+	@echo '                     sha256sum, dd and cat where installed; and how cost grows with what a registry holds'
 	@echo '                     (under 9 min, after make build; OLD=path: beside an older executable as well, 10 min)'
 	@echo 'make bench-quick     its ten lines that matter (60 s, after make build)'
 	@echo 'make bench-http      requests a second over standard input, beside cat and sha256sum'
@@ -128,7 +128,7 @@ check-install: build/registry
 check-docs: build/registry
 	python3 check/docs.py
 
-# Requests over loopback on a database file, beside docker-registry where installed, sha256sum, dd and cat
+# Requests over loopback on a database file, beside docker-registry and nginx where installed, sha256sum, dd and cat
 # (python3 with its sqlite3). OLD names an older executable, which is measured in the same run.
 OLD =
 bench: build

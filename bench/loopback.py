@@ -5,7 +5,8 @@ Each case is a number of requests on one kept connection, each reply read to its
 least of some rounds. Ratios within one run are what counts, so the servers take turns, part by part, and
 so does an older executable where one is named. Prints a table, and writes build/bench.json.
 The peer is docker-registry of the distribution with its filesystem driver, on the same disk; a whole push
-is POST with the bytes here, and POST and one PUT there. How cost grows has a table of its own (growth.py).
+is POST with the bytes here, and POST and one PUT there. Pulls by many clients are taken of both, and of the
+registry by an edge where nginx is installed (pulling.py). How cost grows has a table of its own (growth.py).
 """
 import argparse
 import json
@@ -21,12 +22,18 @@ import limits
 from cases import PARTS as CASES, QUICK, Cases, Plan
 from growth import GROWTH, shares
 from many import driven, many
+from pulling import BY_EDGE, NGINX, PULLS, pulls
 from servers import Docker, Firkhen, new_database
 
 REGISTRY = os.path.abspath("build/registry")
 US, OLD, DOCKER, LIMITS = "registry", "old", "docker-registry", "limits"
 # what each part consists of, one after the other
-PARTS = {**{name: (it,) for name, it in CASES.items()}, many.__name__: (many,), "growth": GROWTH}
+PARTS = {
+    **{name: (it,) for name, it in CASES.items()},
+    pulls.__name__: (pulls,),
+    many.__name__: (many,),
+    "growth": GROWTH,
+}
 QUICK_PARTS = ("blobs", "uploads", "manifests", "lists", "growing")
 # what one time is to be to others: the most that it may be of their sum
 AIMS = (
@@ -38,6 +45,7 @@ AIMS = (
     ("HEAD of 64 MiB", US, (("HEAD of 1 KiB", US),), 1.5),
     ("PATCH of 1 MiB into 60 MiB", US, (("PATCH of 1 MiB into 0", US),), 1.5),
     ("manifest GET, 1 at once", US, (("manifest GET, 1 at once", OLD),), 1.1),
+    (BY_EDGE, US, ((PULLS, DOCKER),), 1.0),
 )
 CLOSING, CLOSING_AIM = "the PUT of 64 MiB, one PATCH", 0.005
 
@@ -194,7 +202,7 @@ def main():
         return 2
     plan = QUICK if asked.quick else Plan()
     plan.rounds, plan.beside_old = asked.rounds or plan.rounds, bool(asked.old)
-    for program in limits.lacking() + [DOCKER] * (shutil.which(DOCKER) is None):
+    for program in limits.lacking() + [DOCKER] * (shutil.which(DOCKER) is None) + ["nginx"] * (NGINX is None):
         plan.notes.append(f"{program} is not installed: skipped")
     found = run(asked, plan)
     show(found, plan.lines)

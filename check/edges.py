@@ -10,6 +10,9 @@ import os
 import shutil
 import tempfile
 from concurrent.futures import ThreadPoolExecutor
+from http.client import IncompleteRead
+from http.server import BaseHTTPRequestHandler, ThreadingHTTPServer
+from threading import Thread
 
 from asking import MIB, Check, is_there, say
 from client_kinds import Curl, Podman, Skopeo
@@ -23,6 +26,8 @@ OWN = {"server", "date", "connection", "accept-ranges"}
 HOST = {"Host": "registry.example.com"}
 AT = "/v2/team/app/blobs"
 AT_ONCE = 8
+# of an edge that asks without TLS
+PLAIN = {"set $firkhen_registry https://": "set $firkhen_registry http://"}
 AWAY = b'{"errors":[{"code":"UNAVAILABLE","message":"the registry does not answer"}]}'
 
 
@@ -80,8 +85,7 @@ class Edges(Front):
     def begin(self):
         super().begin()
         self.far = self.start_edge("far", self.port, {}, self)
-        plain = {"set $firkhen_registry https://": "set $firkhen_registry http://"}
-        self.near = self.start_edge("near", self.inner, plain, self.straight())
+        self.near = self.start_edge("near", self.inner, PLAIN, self.straight())
         # (the table of names and passwords is the registry's nginx's)
         self.near.logins = {user: (token, token) for user, (_, token) in self.logins.items()}
 
@@ -273,10 +277,52 @@ def look_at_a_purge(edges, edge):
     path, body = edges.push(f"purge-{edge.name}")
     edge.read(path)
     key = hashlib.md5(path.encode()).hexdigest()
-    os.remove(f"{edge.kept}/{key[-1]}/{key[-3:-1]}/{key}")
+    file = f"{edge.kept}/{key[-1]}/{key[-3:-1]}/{key}"
+    if not say(os.path.exists(file), f"{edge.name}: the file of a blob is where it is said to be", file):
+        return
+    os.remove(file)
     before = handed(edge, "MISS")
     held = edge.read(path)[2] == body and handed(edge, "MISS") == before + 1 and edges.gets(path) == 2
     say(held, f"{edge.name}: a blob whose file was taken away is sent by the registry again")
+
+
+class Unsteady(BaseHTTPRequestHandler):
+    """A registry that says 200 to each HEAD; to a GET at first 503, then a reply that is cut off, and then the blob."""
+
+    body, gets = bytes_of("unsteady", MIB), 0
+
+    def log_message(self, *_):
+        pass
+
+    def begin(self, status):
+        self.send_response(status)
+        self.send_header("Content-Length", str(MIB))
+        self.end_headers()
+
+    def do_HEAD(self):
+        self.begin(200)
+
+    def do_GET(self):
+        Unsteady.gets += 1
+        self.begin(503 if self.gets == 1 else 200)
+        self.wfile.write(self.body[: MIB // self.gets] if self.gets < 3 else self.body)
+
+
+def look_at_an_unsteady_registry(edges):
+    """Only a blob that came whole, with 200, is kept."""
+    with ThreadingHTTPServer(("127.0.0.1", 0), Unsteady) as server:
+        Thread(target=server.serve_forever, daemon=True).start()
+        edge = edges.start_edge("unsteady", server.server_port, PLAIN, edges)
+        path, found = f"{AT}/sha256:{hashlib.sha256(Unsteady.body).hexdigest()}", []
+        for _ in range(4):
+            try:
+                status, _, got = edge.read(path)
+                found.append((status, got == Unsteady.body))
+            except IncompleteRead:
+                found.append("cut off")
+        held = found == [(503, True), "cut off", (200, True), (200, True)] and Unsteady.gets == 3 and handed(edge, "HIT") == 1
+        say(held, "an edge keeps no reply but 200, and none that was cut off", f"{found} {Unsteady.gets}")
+        server.shutdown()
 
 
 def look_at_another_certificate(edges, path):
@@ -348,4 +394,5 @@ def go_through_edges(only):
                 look_at_modes(edge)
             ask_clients(edges, layouts, only)
             look_at_another_certificate(edges, kept)
+            look_at_an_unsteady_registry(edges)
             look_at_nobody_behind(edges, kept, body)
