@@ -3,6 +3,7 @@
 ghost use Rattle.std.specs.Prelude.{◌<◌, ◌≤◌, true, map};
 ghost use Rattle.sqlite.specs.Files.{over_files};
 ghost use Rattle.registry_opening.specs.Openings.{between};
+ghost use Rattle.registry_orders.specs.Outputs.{output};
 ghost use Rattle.registry_tasks.specs.Acts.{acts};
 ghost use Rattle.registry_tasks.specs.Program.{streams};
 ghost use Rattle.registry_program.specs.Running.{RunsWords, IsSparedFor};
@@ -43,7 +44,8 @@ fn run_over<
         (M.had messenger.old) (M.had messenger.new))
         (map T.text words.now) result
         (streams (R.remaining reader.old) (R.remaining reader.new)
-        (W.contents out.old) (W.contents out.new)) }
+        (W.contents out.old) (W.contents out.new))
+        (output (E.contents err.old) (E.contents err.new)) }
     ensures refused { 0 < result → result < 3
         → IsSparedFor (map T.text words.now)
         (streams (R.remaining reader.old) (R.remaining reader.new)
@@ -79,7 +81,8 @@ pub fn run_in_files<
         O.opens (O.had opener.old) (O.had opener.new)) (M.had messenger.old) (M.had messenger.new))
         (map T.text words.now) result
         (streams (R.remaining reader.old) (R.remaining reader.new)
-        (W.contents out.old) (W.contents out.new)) }
+        (W.contents out.old) (W.contents out.new))
+        (output (E.contents err.old) (E.contents err.new)) }
     ensures refused { 0 < result → result < 3
         → IsSparedFor (map T.text words.now)
         (streams (R.remaining reader.old) (R.remaining reader.new)

@@ -15,10 +15,11 @@ use Rattle.registry_orders.specs.Outputs.{Output, IsSilent}
 use Rattle.registry_opening.specs.Openings.{Between, Never}
 use Rattle.registry_server.specs.Accepting.{Streams}
 use Rattle.registry_loop.specs.Together.{ServesAll}
-use Rattle.registry_tasks.specs.Program.{IsUntouched, GivesUp, ServesMemory, Tells}
+use Rattle.registry_tasks.specs.Program.{IsUntouched, GivesUp, RunsMemory, Tells}
 use Rattle.registry_tasks.specs.Sockets.{ServesAddress}
 use Rattle.registry_tasks.specs.Acts.{Acts, SendsNone, DoesNothing}
 use Rattle.registry_tasks.specs.Sending.{SendsStop}
+use Rattle.registry_tasks.specs.Telling.{TellsLine, TellsAt}
 use Rattle.registry_tasks.specs.Opened.{output_of, RunsAt, RunsTokenOrder, LacksTokenOf, RunsCheck}
 use Rattle.registry_tasks.specs.Opened.{RunsStored, EndsMigration}
 
@@ -31,46 +32,49 @@ RunsServer {K} b settings limits path status o =
 
 -- what a task comes to: a registry over memory that is set up so is served; or the one at the path is, by one
 -- connection or over sockets, or is taken over, or is looked at for what is wrong; or an order is carried out
--- or sent, or the line that ends a server is
-abbrev pub RunsTask : {K : Type 0} → Acts K → Task → ℕ → Streams → Type 0
-RunsTask {K} a (task.Memory setup settings) status e = DoesNothing a × ServesMemory settings setup status e
-RunsTask {K} a (task.Stored path settings) status e =
-    SendsNone a × RunsStored a.openings settings path.now status e
-RunsTask {K} a (task.Server path address connections limits beside settings) status e =
+-- or sent, or the line that ends a server is. What a server says on standard error is not said here
+abbrev pub RunsTask : {K : Type 0} → Acts K → Task → ℕ → Streams → Output → Type 0
+RunsTask {K} a (task.Memory setup settings) status e errors =
+    DoesNothing a × RunsMemory settings setup status e errors
+RunsTask {K} a (task.Stored path settings) status e errors =
+    SendsNone a × RunsStored a.openings settings path.now status e errors
+RunsTask {K} a (task.Server path address connections limits beside settings) status e errors =
     SendsNone a × (e.left' ≡ e.left) × RunsServer a.openings settings limits path.now status (output_of e)
-RunsTask {K} a (task.Order place order) status e =
-    (e.left' ≡ e.left) × RunsAt a place order status (output_of e)
-RunsTask {K} a (task.TokenOrder place source order) status e =
-    RunsTokenOrder a place source order status e
-RunsTask {K} a (task.Check path) status e =
-    SendsNone a × (e.left' ≡ e.left) × RunsCheck a.openings path.now status (output_of e)
-RunsTask {K} a (task.Migration path) status e =
-    SendsNone a × IsUntouched e × EndsMigration a.openings path.now status
-RunsTask {K} a (task.Stop path) status e =
-    Never a.openings × (e.left' ≡ e.left) × SendsStop a.sent a.sent' path.now status (output_of e)
+RunsTask {K} a (task.Order place order) status e errors =
+    (e.left' ≡ e.left) × RunsAt a place order status (output_of e) errors
+RunsTask {K} a (task.TokenOrder place source order) status e errors =
+    RunsTokenOrder a place source order status e errors
+RunsTask {K} a (task.Check path) status e errors =
+    SendsNone a × (e.left' ≡ e.left) × RunsCheck a.openings path.now status (output_of e) errors
+RunsTask {K} a (task.Migration path) status e errors =
+    SendsNone a × IsUntouched e × EndsMigration a.openings path.now status errors
+RunsTask {K} a (task.Stop path) status e errors =
+    Never a.openings × (e.left' ≡ e.left) × SendsStop a.sent a.sent' path.now status (output_of e) errors
 
--- words are not read, and nothing is done; or something is told of them: help, the version, or what is wrong
--- with words that do not fit the command line, and of others that memory is wanting
-abbrev pub IsNotRead : List Text → ℕ → Streams → Type 0
-IsNotRead words status e = ((f : Failure) × IsOfWords f × GivesUp f status e)
-    ⊎ (Tells status e × (fit words → status ≡ status_of OutOfMemory))
+-- words are not read, which is told, and nothing is done; or something is told of them: help, the version, or
+-- what is wrong with words that do not fit the command line, and of others that memory is wanting
+abbrev pub IsNotRead : List Text → ℕ → Streams → Output → Type 0
+IsNotRead words status e errors = ((f : Failure) × IsOfWords f × GivesUp f status e
+    × (TellsLine f errors ⊎ ((place : Text) × TellsAt f place errors)))
+    ⊎ (Tells status e errors × (fit words → status ≡ status_of OutOfMemory))
 
 -- the task wants a token, and there is none
-abbrev pub LacksToken : {K : Type 0} → Acts K → Task → ℕ → Streams → Type 0
-LacksToken {K} a (task.TokenOrder place source order) status e = LacksTokenOf a source status e
-LacksToken {K} a _ status e = ⊥
+abbrev pub LacksToken : {K : Type 0} → Acts K → Task → ℕ → Streams → Output → Type 0
+LacksToken {K} a (task.TokenOrder place source order) status e errors = LacksTokenOf a source status e errors
+LacksToken {K} a _ status e errors = ⊥
 
 -- a task is done, and then the status is not 2; or it wants a token, and there is none
-abbrev pub EndsTask : {K : Type 0} → Acts K → Task → ℕ → Streams → Type 0
-EndsTask {K} a task status e = ((status ≢ 2) × RunsTask a task status e) ⊎ LacksToken a task status e
+abbrev pub EndsTask : {K : Type 0} → Acts K → Task → ℕ → Streams → Output → Type 0
+EndsTask {K} a task status e errors =
+    ((status ≢ 2) × RunsTask a task status e errors) ⊎ LacksToken a task status e errors
 
 -- what words come to: the task that they spell is done, and then the status is not 2; or it wants a token,
 -- and there is none; or they are not read, and no registry is opened and nothing sent
-abbrev pub RunsWords : {K : Type 0} → Acts K → List Text → ℕ → Streams → Type 0
-RunsWords {K} a words status e =
-    ((task : Task) × IsTask words task × (status ≢ 2) × RunsTask a task status e)
-    ⊎ (((task : Task) × IsTask words task × LacksToken a task status e)
-    ⊎ (DoesNothing a × IsNotRead words status e))
+abbrev pub RunsWords : {K : Type 0} → Acts K → List Text → ℕ → Streams → Output → Type 0
+RunsWords {K} a words status e errors =
+    ((task : Task) × IsTask words task × (status ≢ 2) × RunsTask a task status e errors)
+    ⊎ (((task : Task) × IsTask words task × LacksToken a task status e errors)
+    ⊎ (DoesNothing a × IsNotRead words status e errors))
 
 -- the words take a line of standard input for a token
 abbrev pub IsByInput : Task → Type 0

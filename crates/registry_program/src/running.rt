@@ -61,7 +61,8 @@ fn run_task<K: Keeper, O: Opener<K>, M: Messenger, V: Watch, R: Read, W: Write, 
         (M.had messenger.old) (M.had messenger.new))
         task.entry result
         (streams (R.remaining reader.old) (R.remaining reader.new)
-        (W.contents out.old) (W.contents out.new)) }
+        (W.contents out.old) (W.contents out.new))
+        (output (E.contents err.old) (E.contents err.new)) }
     ensures refused { 0 < result → result < 3
         → IsSparedBy task.entry
         (streams (R.remaining reader.old) (R.remaining reader.new)
@@ -112,7 +113,8 @@ fn run_task<K: Keeper, O: Opener<K>, M: Messenger, V: Watch, R: Read, W: Write, 
 /// the command line, 3 storage, schema or memory, 4 a socket, reading or writing failed. What is wrong
 /// with the words is told before a database is opened or a server asked. With status 1 or 2 nothing was read
 /// or written, but for the line of standard input that the words take for a token. An order that is sent has
-/// the status and the text that the server answers.
+/// the status and the text that the server answers. Standard error gets a first part of the lines that tell
+/// how the task ended, or why there is none; what a server says there is not stated.
 pub fn run_words<
     K: Keeper,
     O: Opener<K>,
@@ -136,7 +138,8 @@ pub fn run_words<
         (M.had messenger.old) (M.had messenger.new))
         (map S.text words.now) result
         (streams (R.remaining reader.old) (R.remaining reader.new)
-        (W.contents out.old) (W.contents out.new)) }
+        (W.contents out.old) (W.contents out.new))
+        (output (E.contents err.old) (E.contents err.new)) }
     ensures refused { 0 < result → result < 3
         → IsSparedFor (map S.text words.now)
         (streams (R.remaining reader.old) (R.remaining reader.new)

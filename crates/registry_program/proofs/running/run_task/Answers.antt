@@ -10,10 +10,10 @@ pub returns-in-Memory : goal.returns-in-Memory
 returns-in-Memory g c = record {
   runs =
       let e = streams (g.R.Read.remaining c.args.reader.now) (g.R.Read.remaining c.serve_memory.new.reader) (g.W.Write.contents c.args.out.now) (g.W.Write.contents c.serve_memory.new.out) in
-      inl (memory_read c.in-Memory.settings c.in-Memory.setup c.serve_memory.result e c.serve_memory.ensures.serves, rw c.in-Memory.is (((λ l had. had), (λ l had. had)), c.serve_memory.ensures.serves));
+      inl (memory_read c.in-Memory.settings c.in-Memory.setup c.serve_memory.result e _ c.serve_memory.ensures.serves, rw c.in-Memory.is (((λ l had. had), (λ l had. had)), c.serve_memory.ensures.serves));
   refused = λ more less.
       let e = streams (g.R.Read.remaining c.args.reader.now) (g.R.Read.remaining c.serve_memory.new.reader) (g.W.Write.contents c.args.out.now) (g.W.Write.contents c.serve_memory.new.out) in
-      inl (untouched_memory c.in-Memory.settings c.in-Memory.setup c.serve_memory.result e c.serve_memory.ensures.serves more (omega arith));
+      inl (untouched_memory c.in-Memory.settings c.in-Memory.setup c.serve_memory.result e _ c.serve_memory.ensures.serves more (omega arith));
   status = search rules;
 }
 
@@ -45,7 +45,7 @@ returns-in-TokenOrder g c = record {
       let found = c.in-TokenOrder in
       rw found.is (order_spares (acts (between g.K.Keeper.is_honest g.K.Keeper.state g.O.Opener.opens (g.O.Opener.had c.args.opener.now)
       (g.O.Opener.had c.run_token_order.new.opener)) (g.M.Messenger.had c.args.messenger.now) (g.M.Messenger.had c.run_token_order.new.messenger))
-      found.place found.source found.order _ _ c.run_token_order.ensures.runs (c.run_token_order.ensures.silent more (omega arith)));
+      found.place found.source found.order _ _ _ c.run_token_order.ensures.runs (c.run_token_order.ensures.silent more (omega arith)));
   status = c.run_token_order.ensures.status;
 }
 
