@@ -117,7 +117,10 @@ def search(check, function):
 
 def main():
     crate, *function = sys.argv[1:] or [""]
-    found = {it.name: it for it in build.crates_below(build.PROGRAM)}.get(crate)
+    try:
+        found = build.crates_below(crate)[-1]
+    except KeyError:
+        found = None
     if found is None or len(function) > 1:
         print(__doc__, file=sys.stderr)
         return 2
