@@ -14,3 +14,4 @@ pub mod SeveralBlobs
 pub mod BytesStored
 pub mod SessionWrites
 pub mod KnownEnds
+pub mod ContentsStay

@@ -16,7 +16,7 @@ use Rattle.store_statements.specs.Keys.{has_key}
 use Rattle.store_statements.specs.Tables.{Tables}
 use Rattle.store_statements.specs.Registry.{is_repo, Agree, IsRegistry}
 use Rattle.store_statements.specs.World.{world_of}
-use Rattle.store_statements.specs.Changes.{with_digest, tag_columns, manifest_columns, Comes}
+use Rattle.store_statements.specs.Changes.{with_digest, tag_columns, manifest_columns, Comes, Grow}
 use Rattle.store_statements.proofs.BlobWorlds.{update_same}
 use Rattle.store_statements.proofs.Children.{some_is}
 use Rattle.store_statements.proofs.ManifestWorlds.{manifest_there}
@@ -32,12 +32,13 @@ use Rattle.store_writes.proofs.RowCounts.{none_changed}
 pub registry_inside : (s : State) → IsWhole s → IsRegistry (held s)
 registry_inside s is = record { tables = is.ready.holds.tables; agree = is.agree }
 
-turned : (old new : State) (t : Tables) (w : World) → IsReady new → held new ≡ t → t.repos ≡ (held old).repos → t.beside ≡ (held old).beside → (world_of t ≡ w) × IsRegistry t → Turns old new w
-turned old new t w ready same repos beside it = record {
+turned : (old new : State) (t : Tables) (w : World) → IsReady new → held new ≡ t → t.repos ≡ (held old).repos → t.beside ≡ (held old).beside → Grow (held old).contents t.contents → (world_of t ≡ w) × IsRegistry t → Turns old new w
+turned old new t w ready same repos beside grow it = record {
   whole = record { ready = ready; agree = subst Agree (sym same) it.1.agree };
   world = ap world_of same ∙ it.0;
   repos = ap (λ (x : Tables). x.repos) same ∙ repos;
   beside = ap (λ (x : Tables). x.beside) same ∙ beside;
+  grow = subst (λ (x : Tables). Grow (held old).contents x.contents) (sym same) grow;
 }
 
 -- ---- the tag
@@ -46,7 +47,7 @@ pub tag_was_set : (old new : State) (repo tag digest : List ℕ) → IsWhole old
     → Turns old new (tagged (world_of (held old)) repo (Some tag) digest)
 tag_was_set old new repo tag digest is there became =
     let found = some_is (find (has_key repo tag) (held old).tags) there in
-    turned old new (tags_changed (has_key repo tag) (with_digest digest) (held old)) _ became.0 became.1 refl refl (tag_set (held old) repo tag digest found.0 (registry_inside old is) found.1)
+    turned old new (tags_changed (has_key repo tag) (with_digest digest) (held old)) _ became.0 became.1 refl refl (λ id bytes e. e) (tag_set (held old) repo tag digest found.0 (registry_inside old is) found.1)
 
 -- none was set
 set_none : (a b : State) (repo tag digest : List ℕ) → find (has_key repo tag) (held a).tags ≡ None → Becomes b (tags_changed (has_key repo tag) (with_digest digest) (held a)) → held b ≡ held a
@@ -61,11 +62,11 @@ tag_came old mid new repo tag digest is there none became came =
     let same = set_none old mid repo tag digest none became in
     let comes : Comes (held old).tags (held new).tags (tag_columns repo tag digest) = subst (λ (t : Tables). Comes t.tags (held new).tags (tag_columns repo tag digest)) same came.comes in
     let others : held new ≡ record (held old) { tags = (held new).tags } = subst (λ (t : Tables). held new ≡ record t { tags = (held new).tags }) same came.others in
-    turned old new (record (held old) { tags = (held new).tags }) _ came.ready others refl refl (tag_added (held old) repo tag digest (held new).tags (registry_inside old is) there none comes)
+    turned old new (record (held old) { tags = (held new).tags }) _ came.ready others refl refl (λ id bytes e. e) (tag_added (held old) repo tag digest (held new).tags (registry_inside old is) there none comes)
 
 -- no tag is given
 pub no_tag : (old : State) (repo digest : List ℕ) → IsWhole old → Turns old old (tagged (world_of (held old)) repo None digest)
-no_tag old repo digest is = record { whole = is; world = sym (update_same (held old) repo (λ r. r) (λ r e. refl)); repos = refl; beside = refl }
+no_tag old repo digest is = record { whole = is; world = sym (update_same (held old) repo (λ r. r) (λ r e. refl)); repos = refl; beside = refl; grow = λ id bytes e. e }
 
 -- ---- the manifest
 
@@ -81,7 +82,7 @@ manifest_came old mid new id repo digest bytes is there none c m reads subject r
     let contents = (held mid).contents in
     let comes : Comes (held old).manifests (held new).manifests columns = subst (λ (t : Tables). Comes t.manifests (held new).manifests columns) c.others came.comes in
     let others : held new ≡ record (held old) { contents = contents; manifests = (held new).manifests } = subst (λ (t : Tables). held new ≡ record t { manifests = (held new).manifests }) c.others came.others in
-    turned old new (record (held old) { contents = contents; manifests = (held new).manifests }) _ came.ready others refl refl
+    turned old new (record (held old) { contents = contents; manifests = (held new).manifests }) _ came.ready others refl refl c.grow
     (manifest_stored (held old) contents repo digest bytes id (held new).manifests (registry_inside old is) there c.grow c.there none comes)
 
 -- ---- both
@@ -96,6 +97,7 @@ tagged_put old mid new repo digest bytes tag first second = record {
   world = second.world ∙ ap (λ w. tagged w repo tag digest) first.world ∙ put_tagged (world_of (held old)) repo digest bytes tag;
   repos = second.repos ∙ first.repos;
   beside = second.beside ∙ first.beside;
+  grow = λ id bytes e. second.grow id bytes (first.grow id bytes e);
 }
 
 -- the repository has the digest: the tag alone

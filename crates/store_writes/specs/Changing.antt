@@ -5,6 +5,7 @@ use Rattle.oci_types.specs.Digest.{matches}
 use Rattle.registry_model.specs.Ask.{text_in}
 use Rattle.registry_model.specs.Limits.{largest_manifest}
 use Rattle.registry_model.specs.Lookups.{put_manifest}
+use Rattle.store_statements.specs.Changes.{Grow}
 use Rattle.store_statements.specs.Keys.{of_first, has_key}
 use Rattle.store_statements.specs.Tables.{Tables, IsEmptyBeside}
 use Rattle.store_statements.specs.Registry.{Agree, is_repo}
@@ -50,9 +51,10 @@ Makes (TakeBlob repo digest) t u = u ≡ blobs_without (has_key repo.now digest.
 Makes (TakeBlobs repo digests) t u = u ≡ without_blob_links repo.now digests.now t
 Makes (AddManifest alloc repo digest bytes manifest tag) t u =
     StandsFor u (put_manifest (world_of t) repo.now digest.now bytes.now (text_in tag))
-    × (u.beside ≡ t.beside)
+    × (u.beside ≡ t.beside) × Grow t.contents u.contents
 Makes (SetTag repo tag digest) t u =
     StandsFor u (tagged (world_of t) repo.now (text_in tag) digest.now) × (u.beside ≡ t.beside)
+    × Grow t.contents u.contents
 Makes (TakeManifest repo digest) t u = u ≡ without_manifest repo.now digest.now t
 Makes (TakeTag repo tag) t u = u ≡ tags_without (has_key repo.now tag.now) t
 Makes (SetLevel token repo level) t u = LevelIsPut t u token.now repo.now level

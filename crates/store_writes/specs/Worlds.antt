@@ -7,6 +7,7 @@ use Rattle.oci_types.specs.Text.{Text}
 use Rattle.registry_model.specs.World.{World, repo_at, update_repo}
 use Rattle.registry_model.specs.Manifests.{with_tag}
 use Rattle.store_statements.specs.Keys.{has_key}
+use Rattle.store_statements.specs.Changes.{Grow}
 use Rattle.store_statements.specs.Tables.{Tables}
 use Rattle.store_statements.specs.Registry.{Agree, is_repo}
 use Rattle.store_statements.specs.World.{world_of}
@@ -17,12 +18,13 @@ pub record IsWhole (s : State) : Type 0 where
   pub ready : IsReady s
   pub agree : Agree (held s)
 
--- they still do, for this one, and the same repositories are there
+-- they still do, for this one; the same repositories are there, and each content that was
 pub record Turns (old new : State) (w : World) : Type 0 where
   pub whole : IsWhole new
   pub world : world_of (held new) ≡ w
   pub repos : (held new).repos ≡ (held old).repos
   pub beside : (held new).beside ≡ (held old).beside
+  pub grow : Grow (held old).contents (held new).contents
 
 -- tables that agree stand for this world
 abbrev pub StandsFor : Tables → World → Type 0

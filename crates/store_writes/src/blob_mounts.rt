@@ -3,7 +3,7 @@ ghost use Rattle.std.specs.Prelude.{◌≡◌, true, None, find};
 ghost use Rattle.registry_model.specs.World.{has_repo};
 ghost use Rattle.registry_model.specs.Lookups.{mount};
 ghost use Rattle.store_statements.specs.Keys.{has_key};
-ghost use Rattle.store_statements.specs.Between.{CrashLeaves, GoesBack, MakesWorld, StaysOnMemory};
+ghost use Rattle.store_statements.specs.Between.{CrashLeaves, GoesBack, MakesWorld, Relates, StaysOnMemory};
 ghost use Rattle.store_statements.specs.Clauses.{Lasts, TablesHave, WorldHas};
 
 use crate::change::Change;
@@ -23,6 +23,8 @@ fn mount_link<S: Alter>(
     ensures made { WorldHas S.Store conn.old (λ w. has_repo w to.now ≡ true)
         → TablesHave S.Store conn.old (λ t. find (has_key to.now digest.now) t.blobs ≡ None)
         → MakesWorld S.Store conn.old conn.new result (λ w. mount w from.now to.now digest.now) }
+    ensures stays { TablesHave S.Store conn.old (λ t. find (has_key to.now digest.now) t.blobs ≡ None)
+        → Relates S.Store conn.old conn.new result (λ t u. u.contents ≡ t.contents) }
     ensures memory { TablesHave S.Store conn.old (λ t. find (has_key to.now digest.now) t.blobs ≡ None)
         → StaysOnMemory S.Store conn.old conn.new result }
     ensures back { TablesHave S.Store conn.old (λ t. find (has_key to.now digest.now) t.blobs ≡ None)
@@ -57,6 +59,7 @@ pub fn mount<S: Alter>(
 ) -> Result<(), Fault>
     ensures made { WorldHas S.Store conn.old (λ w. has_repo w to.now ≡ true)
         → MakesWorld S.Store conn.old conn.new result (λ w. mount w from.now to.now digest.now) }
+    ensures stays { Relates S.Store conn.old conn.new result (λ t u. u.contents ≡ t.contents) }
     ensures memory { StaysOnMemory S.Store conn.old conn.new result }
     ensures back { GoesBack S.Store conn.old conn.new result }
     ensures crash { WorldHas S.Store conn.old (λ w. has_repo w to.now ≡ true)

@@ -4,7 +4,8 @@ ghost use Rattle.oci_types.specs.Digest.{matches};
 ghost use Rattle.registry_model.specs.Limits.{largest_blob};
 ghost use Rattle.registry_model.specs.World.{has_repo};
 ghost use Rattle.registry_model.specs.Lookups.{blob_at, put_blob};
-ghost use Rattle.store_statements.specs.Between.{CrashLeaves, GoesBack, MakesWorld, StaysOnMemory, Tells};
+ghost use Rattle.store_statements.specs.Changes.{Grow};
+ghost use Rattle.store_statements.specs.Between.{CrashLeaves, GoesBack, MakesWorld, Relates, StaysOnMemory, Tells};
 ghost use Rattle.store_statements.specs.Clauses.{Lasts, WorldHas};
 
 use crate::change::Change;
@@ -29,6 +30,7 @@ pub fn put_blob<S: Alter>(
         (λ w. put_blob w repo.now digest.now bytes.now) }
     ensures came { Tells S.Store conn.old conn.new result
         (λ w came. came ≡ is_none (blob_at w repo.now digest.now)) }
+    ensures grows { Relates S.Store conn.old conn.new result (λ t u. Grow t.contents u.contents) }
     ensures memory { StaysOnMemory S.Store conn.old conn.new result }
     ensures back { GoesBack S.Store conn.old conn.new result }
     ensures crash { WorldHas S.Store conn.old (λ w. has_repo w repo.now ≡ true)

@@ -2,7 +2,7 @@
 ghost use Rattle.std.specs.Prelude.{◌≡◌, true};
 ghost use Rattle.registry_model.specs.World.{has_repo};
 ghost use Rattle.registry_model.specs.Command.{grant, revoke, revoke_all};
-ghost use Rattle.store_statements.specs.Between.{CrashLeaves, GoesBack, MakesWorld, StaysOnMemory};
+ghost use Rattle.store_statements.specs.Between.{CrashLeaves, GoesBack, MakesWorld, Relates, StaysOnMemory};
 ghost use Rattle.store_statements.specs.Clauses.{KeepsInside, Lasts, LastsUncommitted, StepsInside, WorldHas};
 ghost use Rattle.store_writes.specs.Puts.{LevelIsPut};
 
@@ -20,6 +20,7 @@ pub fn revoke<S: Alter>(
     name: &RepoName,
 ) -> Result<(), Fault>
     ensures made { MakesWorld S.Store conn.old conn.new result (λ w. revoke w token.now name.now) }
+    ensures stays { Relates S.Store conn.old conn.new result (λ t u. u.contents ≡ t.contents) }
     ensures memory { StaysOnMemory S.Store conn.old conn.new result }
     ensures back { GoesBack S.Store conn.old conn.new result }
     ensures crash { CrashLeaves S.Store conn.old conn.new result (λ w. revoke w token.now name.now) }
@@ -37,6 +38,7 @@ pub fn revoke<S: Alter>(
 /// Takes every level of a token away.
 pub fn revoke_all<S: Alter>(conn: &mut Connection<S>, token: &Token) -> Result<(), Fault>
     ensures made { MakesWorld S.Store conn.old conn.new result (λ w. revoke_all w token.now) }
+    ensures stays { Relates S.Store conn.old conn.new result (λ t u. u.contents ≡ t.contents) }
     ensures memory { StaysOnMemory S.Store conn.old conn.new result }
     ensures back { GoesBack S.Store conn.old conn.new result }
     ensures crash { CrashLeaves S.Store conn.old conn.new result (λ w. revoke_all w token.now) }
@@ -80,6 +82,7 @@ pub fn grant<S: Alter>(
 ) -> Result<(), Fault>
     ensures made { WorldHas S.Store conn.old (λ w. has_repo w name.now ≡ true)
         → MakesWorld S.Store conn.old conn.new result (λ w. grant w token.now name.now level) }
+    ensures stays { Relates S.Store conn.old conn.new result (λ t u. u.contents ≡ t.contents) }
     ensures memory { StaysOnMemory S.Store conn.old conn.new result }
     ensures back { GoesBack S.Store conn.old conn.new result }
     ensures crash { WorldHas S.Store conn.old (λ w. has_repo w name.now ≡ true)

@@ -5,7 +5,7 @@ ghost use Rattle.sqlite.specs.Held.{state};
 ghost use Rattle.registry_model.specs.Lookups.{blob_at, session_size_at};
 ghost use Rattle.registry_model.specs.Closing.{session_matches, finish_as_is};
 ghost use Rattle.store_statements.specs.Keys.{has_key};
-ghost use Rattle.store_statements.specs.Between.{CrashLeaves, Finds, GoesBack, MakesWorld, StaysOnMemory, Tells};
+ghost use Rattle.store_statements.specs.Between.{CrashLeaves, Finds, GoesBack, MakesWorld, Relates, StaysOnMemory, Tells};
 ghost use Rattle.store_statements.specs.Clauses.{KeepsInside, Lasts, LastsUncommitted, TablesHave};
 ghost use Rattle.store_statements.specs.Held.{IsSettled};
 ghost use Rattle.store_writes.specs.Whole.{known_link, CrashEnds, DoneWhereSo, WholeEnds};
@@ -79,6 +79,7 @@ fn finish_whole<S: Alter>(
         (λ w. finish_as_is w repo.now number digest.now) }
     ensures came { Tells S.Store conn.old conn.new result
         (λ w came. came ≡ is_none (blob_at w repo.now digest.now)) }
+    ensures stays { Relates S.Store conn.old conn.new result (λ t u. u.contents ≡ t.contents) }
     ensures memory { StaysOnMemory S.Store conn.old conn.new result }
     ensures back { GoesBack S.Store conn.old conn.new result }
     ensures crash { TablesHave S.Store conn.old (λ t. Some link ≡ known_link t repo.now number digest.now)
@@ -126,6 +127,7 @@ pub fn finish_known<S: Alter>(
     ensures ended { Tells S.Store conn.old conn.new result (λ w end. IfSome end
         (λ e. (session_size_at w repo.now number ≡ Some e.size)
         × (e.came ≡ is_none (blob_at w repo.now digest.now)))) }
+    ensures stays { Relates S.Store conn.old conn.new result (λ t u. u.contents ≡ t.contents) }
     ensures memory { StaysOnMemory S.Store conn.old conn.new result }
     ensures back { GoesBack S.Store conn.old conn.new result }
     ensures crash { CrashEnds S.Store conn.old conn.new result

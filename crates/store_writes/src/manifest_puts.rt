@@ -11,7 +11,8 @@ ghost use Rattle.registry_model.specs.World.{has_repo};
 ghost use Rattle.store_statements.specs.Keys.{has_key};
 ghost use Rattle.store_statements.specs.Registry.{is_repo};
 ghost use Rattle.store_writes.specs.Worlds.{KeepsWhole, TurnsFresh, TurnsThere, IsWhole, tagged};
-ghost use Rattle.store_statements.specs.Between.{CrashLeaves, GoesBack, MakesWorld, StaysOnMemory};
+ghost use Rattle.store_statements.specs.Changes.{Grow};
+ghost use Rattle.store_statements.specs.Between.{CrashLeaves, GoesBack, MakesWorld, Relates, StaysOnMemory};
 ghost use Rattle.store_statements.specs.Clauses.{Lasts, LastsUncommitted, WorldHas};
 ghost use Rattle.store_statements.specs.Held.{held};
 
@@ -135,6 +136,8 @@ pub fn put_manifest<S: Alter>(
     ensures made { WorldHas S.Store conn.old (λ w. has_repo w repo.now ≡ true)
         → MakesWorld S.Store conn.old conn.new result
         (λ w. put_manifest w repo.now digest.now bytes.now (text_in tag.entry)) }
+    ensures grows { WorldHas S.Store conn.old (λ w. has_repo w repo.now ≡ true)
+        → Relates S.Store conn.old conn.new result (λ t u. Grow t.contents u.contents) }
     ensures memory { WorldHas S.Store conn.old (λ w. has_repo w repo.now ≡ true)
         → StaysOnMemory S.Store conn.old conn.new result }
     ensures back { WorldHas S.Store conn.old (λ w. has_repo w repo.now ≡ true)

@@ -1,7 +1,7 @@
 //! A repository is made, or its quota is set.
 ghost use Rattle.std.specs.Prelude.{◌≡◌, ◌<◌, ◌^◌};
 ghost use Rattle.registry_model.specs.Command.{set_repo};
-ghost use Rattle.store_statements.specs.Between.{CrashLeaves, GoesBack, MakesWorld, StaysOnMemory};
+ghost use Rattle.store_statements.specs.Between.{CrashLeaves, GoesBack, MakesWorld, Relates, StaysOnMemory};
 ghost use Rattle.store_statements.specs.Clauses.{KeepsInside, Lasts, LastsUncommitted, StepsInside};
 ghost use Rattle.store_writes.specs.Puts.{QuotaIsPut};
 
@@ -41,6 +41,7 @@ pub fn set_repo<S: Alter>(
     quota: Quota,
 ) -> Result<(), Fault>
     ensures made { MakesWorld S.Store conn.old conn.new result (λ w. set_repo w name.now quota.bytes) }
+    ensures stays { Relates S.Store conn.old conn.new result (λ t u. u.contents ≡ t.contents) }
     ensures memory { StaysOnMemory S.Store conn.old conn.new result }
     ensures back { GoesBack S.Store conn.old conn.new result }
     ensures crash { CrashLeaves S.Store conn.old conn.new result (λ w. set_repo w name.now quota.bytes) }

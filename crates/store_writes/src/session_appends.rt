@@ -3,7 +3,8 @@ ghost use Rattle.std.specs.Prelude.{◌≡◌, ◌<◌, ◌+◌, ◌^◌, true, 
 ghost use Rattle.registry_model.specs.Lookups.{append, session_at};
 ghost use Rattle.store_statements.specs.Keys.{has_start};
 ghost use Rattle.store_statements.specs.StepsFrom.{StepsFrom};
-ghost use Rattle.store_statements.specs.Between.{CrashLeaves, GoesBack, MakesWorld, StaysOnMemory};
+ghost use Rattle.store_statements.specs.Changes.{Grow};
+ghost use Rattle.store_statements.specs.Between.{CrashLeaves, GoesBack, MakesWorld, Relates, StaysOnMemory};
 ghost use Rattle.store_statements.specs.Clauses.{KeepsInside, Lasts, LastsUncommitted, WorldHas};
 ghost use Rattle.store_statements.specs.Steps.{Appended};
 
@@ -68,6 +69,7 @@ pub fn append<S: Alter>(
 ) -> Result<(), Fault>
     ensures made { WorldHas S.Store conn.old (λ w. is_some (session_at w repo.now number) ≡ true)
         → MakesWorld S.Store conn.old conn.new result (λ w. append w repo.now number bytes.now) }
+    ensures grows { Relates S.Store conn.old conn.new result (λ t u. Grow t.contents u.contents) }
     ensures memory { StaysOnMemory S.Store conn.old conn.new result }
     ensures back { GoesBack S.Store conn.old conn.new result }
     ensures crash { WorldHas S.Store conn.old (λ w. is_some (session_at w repo.now number) ≡ true)

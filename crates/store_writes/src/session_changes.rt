@@ -92,6 +92,7 @@ pub fn open_session<S: Alter>(conn: &mut Connection<S>, repo: &RepoName) -> Resu
         → IfOk result
         (λ n. (n ≡ last_number_at (world_in (state S.Store conn.old)) repo.now + 1) × SettlesOn
         (state S.Store conn.new) (open_session (world_in (state S.Store conn.old)) repo.now)) }
+    ensures stays { Relates S.Store conn.old conn.new result (λ t u. u.contents ≡ t.contents) }
     ensures memory { StaysOnMemory S.Store conn.old conn.new result }
     ensures back { GoesBack S.Store conn.old conn.new result }
     ensures crash { CrashLeaves S.Store conn.old conn.new result (λ w. open_session w repo.now) }

@@ -5,7 +5,8 @@ ghost use Rattle.registry_model.specs.Limits.{largest_blob};
 ghost use Rattle.registry_model.specs.Lookups.{finish, session_at};
 ghost use Rattle.store_statements.specs.Keys.{has_key};
 ghost use Rattle.store_statements.specs.StepsFrom.{StepsFrom};
-ghost use Rattle.store_statements.specs.Between.{CrashLeaves, GoesBack, MakesWorld, StaysOnMemory};
+ghost use Rattle.store_statements.specs.Changes.{Grow};
+ghost use Rattle.store_statements.specs.Between.{CrashLeaves, GoesBack, MakesWorld, Relates, StaysOnMemory};
 ghost use Rattle.store_statements.specs.Clauses.{KeepsInside, Lasts, LastsUncommitted, WorldHas};
 ghost use Rattle.store_statements.specs.Steps.{Finished};
 
@@ -59,6 +60,7 @@ pub fn finish<S: Alter>(
     ensures made { WorldHas S.Store conn.old (λ w. is_some (session_at w repo.now number) ≡ true)
         → MakesWorld S.Store conn.old conn.new result
         (λ w. finish w repo.now number digest.now bytes.now) }
+    ensures grows { Relates S.Store conn.old conn.new result (λ t u. Grow t.contents u.contents) }
     ensures memory { StaysOnMemory S.Store conn.old conn.new result }
     ensures back { GoesBack S.Store conn.old conn.new result }
     ensures crash { WorldHas S.Store conn.old (λ w. is_some (session_at w repo.now number) ≡ true)

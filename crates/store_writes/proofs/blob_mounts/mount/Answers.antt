@@ -13,8 +13,9 @@ use Rattle.store_statements.proofs.Transactions.{survives_all}
 use Rattle.store_statements.proofs.WritesAfterReads.{same_world}
 use Rattle.store_writes.proofs.MountLemmas.{no_storage, mounts_nothing, makes_from, same_mount}
 use Rattle.store_statements.proofs.Crashes.{back_from, crash_then, crash_failed, crash_same}
-use Rattle.store_statements.proofs.Alone.{less_err}
+use Rattle.store_statements.proofs.Alone.{less, less_err}
 use Rattle.registry_model.specs.Lookups as Lookups
+use Rattle.store_writes.proofs.ContentsStay.{same_from, same_read}
 use Rattle.store_writes.proofs.blob_mounts.mount.Goals as goal
 
 pub returns-in-Ok-Some : goal.returns-in-Ok-Some
@@ -27,6 +28,7 @@ returns-in-Ok-Some g c = record {
   crash = λ there clean is.
       crash_same g.S.Store c.args.conn.now c.find_blob_link.new.conn (λ w. Lookups.mount w c.args.from.now c.args.to.now c.args.digest.now) is (c.find_blob_link.ensures.kept clean is)
       (same_mount (state g.S.Store c.args.conn.now) c.args.from.now c.args.to.now c.args.digest.now c.in-Ok-Some.field-0-0 (rw (c.as_str-target.ensures.text, c.as_str-text.ensures.text) at (sym c.in-Ok-Some.field-0-is ∙ c.in-Ok-Some.ensures.found clean is)));
+  stays = λ clean is. same_read (state g.S.Store c.args.conn.now) (state g.S.Store c.find_blob_link.new.conn) (c.in-Ok-Some.ensures.settled clean is refl);
   survives = c.find_blob_link.ensures.survives;
 }
 
@@ -58,6 +60,11 @@ returns-in-Ok-None g c =
           (rw (c.as_str-source.ensures.text, c.as_str-target.ensures.text, c.as_str-text.ensures.text) at
           (c.mount_link.ensures.crash (λ clean. rw c.as_str-target.ensures.text (ap (λ (w : World). has_repo w c.args.to.now) (same_world old mid stays) ∙ there (was_clean c.find_blob_link.ensures.survives late)))
           (λ clean. still_none old mid c.as_str-target.result.now c.as_str-text.result.now stays (sym c.in-Ok-None.field-0-is ∙ c.in-Ok-None.ensures.found late is)) clean stays.0));
+      stays = λ clean is.
+          let late : HasCleanDisk mid = was_clean c.mount_link.ensures.survives clean in
+          let stays = c.in-Ok-None.ensures.settled late is refl in
+          less c.mount_link.result (λ it. same_from old mid stays new it)
+          (c.mount_link.ensures.stays (λ clean. still_none old mid c.as_str-target.result.now c.as_str-text.result.now stays (sym c.in-Ok-None.field-0-is ∙ c.in-Ok-None.ensures.found late is)) clean stays.0);
       survives = survives_all old mid new _ _ c.find_blob_link.ensures.survives c.mount_link.ensures.survives;
     }
 
@@ -67,5 +74,6 @@ returns-in-Err g c = record {
   memory = λ clean is memory. c.in-Err.ensures.settled clean is (no_storage _ (Option BlobLink) c.in-Err.fault memory);
   back = λ clean is. (c.find_blob_link.ensures.kept clean is).back;
   crash = λ there clean is. crash_failed g.S.Store c.args.conn.now c.find_blob_link.new.conn (λ w. Lookups.mount w c.args.from.now c.args.to.now c.args.digest.now) is (c.find_blob_link.ensures.kept clean is);
+  stays = λ clean is. tt;
   survives = c.find_blob_link.ensures.survives;
 }

@@ -15,6 +15,7 @@ use Rattle.store_writes.proofs.MountLemmas.{same_tables, no_storage, mounts}
 use Rattle.store_statements.proofs.Crashes.{back_from, crash_failed, crash_made}
 use Rattle.registry_model.specs.Lookups as Lookups
 use Rattle.store_statements.specs.StepsFrom.{LinkIsPut}
+use Rattle.store_writes.proofs.ContentsStay.{same_from}
 use Rattle.store_writes.proofs.blob_mounts.mount_link.Goals as goal
 
 pub make-requires : goal.make-requires
@@ -26,6 +27,7 @@ returns-in-Err g c = record {
   memory = λ fresh clean is memory. c.in-Err.ensures.settled clean is (no_storage _ (Option BlobLink) c.in-Err.fault memory);
   back = λ fresh clean is. (c.find_blob_link.ensures.kept clean is).back;
   crash = λ there fresh clean is. crash_failed g.S.Store c.args.conn.now c.find_blob_link.new.conn (λ w. Lookups.mount w c.args.from.now c.args.to.now c.args.digest.now) is (c.find_blob_link.ensures.kept clean is);
+  stays = λ fresh clean is. tt;
   survives = c.find_blob_link.ensures.survives;
 }
 
@@ -35,6 +37,7 @@ returns-in-Ok g c = record {
   memory = λ fresh clean is memory. absurd (never_storage memory);
   back = λ fresh clean is. (c.find_blob_link.ensures.kept clean is).back;
   crash = λ there fresh clean is. crash_failed g.S.Store c.args.conn.now c.find_blob_link.new.conn (λ w. Lookups.mount w c.args.from.now c.args.to.now c.args.digest.now) is (c.find_blob_link.ensures.kept clean is);
+  stays = λ fresh clean is. tt;
   survives = c.find_blob_link.ensures.survives;
 }
 
@@ -44,6 +47,7 @@ returns-in-Ok-2 g c = record {
   memory = λ fresh clean is memory. absurd (never_storage memory);
   back = λ fresh clean is. (c.find_blob_link.ensures.kept clean is).back;
   crash = λ there fresh clean is. crash_failed g.S.Store c.args.conn.now c.find_blob_link.new.conn (λ w. Lookups.mount w c.args.from.now c.args.to.now c.args.digest.now) is (c.find_blob_link.ensures.kept clean is);
+  stays = λ fresh clean is. tt;
   survives = c.find_blob_link.ensures.survives;
 }
 
@@ -77,5 +81,11 @@ returns-in-Ok-Some g c =
           crash_made g.S.Store c.args.conn.now c.make.new.conn (λ w. Lookups.mount w c.args.from.now c.args.to.now c.args.digest.now) c.find_blob_link.new.conn (λ t u. LinkIsPut t u c.args.to.now c.args.digest.now c.in-Ok-Some.link.size c.in-Ok-Some.link.content.id) is stays
           (λ s it. mounts old mid s c.args.from.now c.args.to.now c.args.digest.now c.in-Ok-Some.link is stays (there early) (let e = c.in-Ok-Some.ensures.found late is in let f = c.in-Ok-Some.field-0-is in cc) (fresh early) it.0 it.1) c.make.result c.make.result (λ X x. x)
           (c.make.ensures.crash (λ clean. ap (λ (t : Tables). find (has_key c.args.to.now c.args.digest.now) t.blobs) (same_tables old mid stays) ∙ fresh early) clean stays.0);
+      stays = λ fresh clean is.
+          let late : HasCleanDisk mid = was_clean c.make.ensures.survives clean in
+          let early : HasCleanDisk old = was_clean c.find_blob_link.ensures.survives late in
+          let stays = c.in-Ok-Some.ensures.settled late is refl in
+          less c.make.result (λ it. same_from old mid stays new (ap (λ (t : Tables). t.contents) it.1.others))
+          (c.make.ensures.made (λ clean. ap (λ (t : Tables). find (has_key c.args.to.now c.args.digest.now) t.blobs) (same_tables old mid stays) ∙ fresh early) clean stays.0);
       survives = survives_all old mid new _ _ c.find_blob_link.ensures.survives c.make.ensures.survives;
     }

@@ -14,9 +14,10 @@ use Rattle.store_statements.proofs.Transactions.{survives_all}
 use Rattle.store_statements.proofs.WritesAfterReads.{none_found, memory_told}
 use Rattle.store_writes.proofs.BlobWrites.{puts_there, puts_new, comes, is_there, same_blob}
 use Rattle.store_writes.proofs.Fitting.{blob_fits}
-use Rattle.store_statements.proofs.Crashes.{back_from, crash_done, crash_failed, crash_made, crash_same, crash_undone}
+use Rattle.store_statements.proofs.Crashes.{back_from, crash_done, crash_failed, crash_same, crash_undone}
 use Rattle.registry_model.specs.Lookups as Lookups
 use Rattle.store_statements.specs.Steps.{BlobStored}
+use Rattle.store_writes.proofs.ContentsStay.{grow_from, grow_same, same_read}
 use Rattle.store_writes.proofs.blob_puts.put_blob.Goals as goal
 
 pub make-requires : goal.make-requires
@@ -34,6 +35,7 @@ returns-in-Ok-Some g c = record {
   crash = λ there clean is.
       crash_same g.S.Store c.args.conn.now c.find_blob_link.new.conn (λ w. Lookups.put_blob w c.args.repo.now c.args.digest.now c.args.bytes.now) is (c.find_blob_link.ensures.kept clean is)
       (rw (c.as_str-repo.ensures.text, c.as_str-digest.ensures.text) at (same_blob (state g.S.Store c.args.conn.now) c.as_str-repo.result.now c.as_str-digest.result.now c.args.bytes.now c.in-Ok-Some.field-0-0 (sym c.in-Ok-Some.field-0-is ∙ c.in-Ok-Some.ensures.found clean is)));
+  grows = λ clean is. let stays = c.in-Ok-Some.ensures.settled clean is refl in grow_same (held (state g.S.Store c.args.conn.now)) (held (state g.S.Store c.find_blob_link.new.conn)) (same_read (state g.S.Store c.args.conn.now) (state g.S.Store c.find_blob_link.new.conn) stays);
   survives = c.find_blob_link.ensures.survives;
 }
 
@@ -44,6 +46,7 @@ returns-in-Err g c = record {
   memory = λ clean is memory. c.in-Err.ensures.settled clean is (memory_told (Option BlobLink) c.in-Err.fault memory);
   back = λ clean is. (c.find_blob_link.ensures.kept clean is).back;
   crash = λ there clean is. crash_failed g.S.Store c.args.conn.now c.find_blob_link.new.conn (λ w. Lookups.put_blob w c.args.repo.now c.args.digest.now c.args.bytes.now) is (c.find_blob_link.ensures.kept clean is);
+  grows = λ clean is. tt;
   survives = c.find_blob_link.ensures.survives;
 }
 
@@ -75,6 +78,11 @@ returns-in-Ok g c =
           crash_done g.S.Store c.args.conn.now c.make.new.conn (λ w. Lookups.put_blob w c.args.repo.now c.args.digest.now c.args.bytes.now) c.find_blob_link.new.conn (λ t u. BlobStored t u c.as_str-repo.result.now c.as_str-digest.result.now c.args.bytes.now) is stays
           (λ s it. puts_new old mid s c.args.repo.now c.args.digest.now c.args.bytes.now is (there (was_clean c.find_blob_link.ensures.survives late)) stays (rw (c.as_str-repo.ensures.text, c.as_str-digest.ensures.text) at none) (rw (c.as_str-repo.ensures.text, c.as_str-digest.ensures.text) at it))
           (c.in-Ok.ensures.crash (λ clean. still_none old mid c.as_str-repo.result.now c.as_str-digest.result.now stays found) clean stays.0);
+      grows = λ clean is.
+          let late = free clean in
+          let stays = c.in-Ok-None.ensures.settled late is refl in
+          let found = sym c.in-Ok-None.field-0-is ∙ c.in-Ok-None.ensures.found late is in
+          grow_from old mid stays new (c.in-Ok.ensures.made (λ clean. still_none old mid c.as_str-repo.result.now c.as_str-digest.result.now stays found) clean stays.0).1.grow;
       survives = survives_all old mid new _ _ c.find_blob_link.ensures.survives c.make.ensures.survives;
     }
 
@@ -102,5 +110,6 @@ returns-in-Err-make g c =
           crash_undone g.S.Store c.args.conn.now c.make.new.conn (λ w. Lookups.put_blob w c.args.repo.now c.args.digest.now c.args.bytes.now) c.find_blob_link.new.conn (λ t u. BlobStored t u c.as_str-repo.result.now c.as_str-digest.result.now c.args.bytes.now) is stays
           (λ s it. puts_new old mid s c.args.repo.now c.args.digest.now c.args.bytes.now is (there (was_clean c.find_blob_link.ensures.survives late)) stays (rw (c.as_str-repo.ensures.text, c.as_str-digest.ensures.text) at none) (rw (c.as_str-repo.ensures.text, c.as_str-digest.ensures.text) at it))
           (c.in-Err-make.ensures.crash (λ clean. still_none old mid c.as_str-repo.result.now c.as_str-digest.result.now stays found) clean stays.0);
+      grows = λ clean is. tt;
       survives = survives_all old mid new _ _ c.find_blob_link.ensures.survives c.make.ensures.survives;
     }

@@ -81,7 +81,7 @@ returns-in-TakeLevels g c = record {
 
 pub returns-in-AddManifest : goal.returns-in-AddManifest
 returns-in-AddManifest g c = record {
-  made = rw c.in-AddManifest.is (λ clean is asks. less c.add_tagged.result (λ it. (it.whole.ready, ((it.whole.agree, it.world), it.beside))) (c.add_tagged.ensures.made clean (record { ready = is; agree = asks.0 }) asks.1 asks.2));
+  made = rw c.in-AddManifest.is (λ clean is asks. less c.add_tagged.result (λ it. (it.whole.ready, ((it.whole.agree, it.world), it.beside, it.grow))) (c.add_tagged.ensures.made clean (record { ready = is; agree = asks.0 }) asks.1 asks.2));
   kept = rw c.in-AddManifest.is (λ clean is asks. c.add_tagged.ensures.kept clean (record { ready = is; agree = asks.0 }) asks.1 asks.2);
   same_reference = c.add_tagged.ensures.same_reference;
   survives = c.add_tagged.ensures.survives;
@@ -89,7 +89,7 @@ returns-in-AddManifest g c = record {
 
 pub returns-in-SetTag : goal.returns-in-SetTag
 returns-in-SetTag g c = record {
-  made = rw c.in-SetTag.is (λ clean is asks. less c.put_tag_if.result (λ it. (it.whole.ready, ((it.whole.agree, it.world), it.beside))) (c.put_tag_if.ensures.made clean (record { ready = is; agree = asks.0 }) asks.1));
+  made = rw c.in-SetTag.is (λ clean is asks. less c.put_tag_if.result (λ it. (it.whole.ready, ((it.whole.agree, it.world), it.beside, it.grow))) (c.put_tag_if.ensures.made clean (record { ready = is; agree = asks.0 }) asks.1));
   kept = rw c.in-SetTag.is (λ clean is asks. c.put_tag_if.ensures.kept clean (record { ready = is; agree = asks.0 }));
   same_reference = c.put_tag_if.ensures.same_reference;
   survives = c.put_tag_if.ensures.survives;

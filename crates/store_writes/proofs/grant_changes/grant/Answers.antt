@@ -1,4 +1,4 @@
-use Rattle.std.proofs.Common.{◌∙◌, sym, refl}
+use Rattle.std.proofs.Common.{◌∙◌, sym, refl, ap}
 use Rattle.sqlite.specs.State.{HasCleanDisk}
 use Rattle.sqlite.specs.Held.{state}
 use Rattle.store_statements.proofs.RepoWorlds.{has_repo_found}
@@ -10,6 +10,7 @@ use Rattle.store_writes.proofs.PutLemmas.{level_put}
 use Rattle.store_statements.proofs.Crashes.{crash_made}
 use Rattle.registry_model.specs.Command.{grant}
 use Rattle.store_writes.specs.Puts.{LevelIsPut}
+use Rattle.store_statements.specs.Tables.{Tables}
 use Rattle.store_writes.proofs.grant_changes.grant.Goals as goal
 
 pub returns : goal.returns
@@ -29,6 +30,7 @@ returns g c = record {
       crash_made g.S.Store c.args.conn.now c.make.new.conn (λ w. grant w c.args.token.now c.args.name.now c.args.level) c.args.conn.now (λ t u. LevelIsPut t u c.as_str.result.now c.as_str-2.result.now c.args.level) is (is, refl)
       (λ s it. makes s (held s) _ it.0 (level_put (held old) (held s) c.args.token.now c.args.name.now c.args.level (registry old is) (sym (has_repo_found (held old) c.args.name.now) ∙ there early) (rw (c.as_str.ensures.text, c.as_str-2.ensures.text) at it.1))) c.make.result c.make.result (λ X x. x)
       (c.make.ensures.crash (λ clean. tt) clean is);
+  stays = λ clean is. less c.make.result (λ it. ap (λ (t : Tables). t.contents) it.1.others) (c.make.ensures.made (λ early. tt) clean is);
   survives = c.make.ensures.survives;
 }
 

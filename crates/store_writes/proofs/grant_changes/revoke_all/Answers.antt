@@ -3,6 +3,9 @@ use Rattle.store_statements.specs.Keys.{of_first}
 use Rattle.store_statements.proofs.GrantWorlds.{token_taken}
 use Rattle.store_statements.specs.Steps.{grants_without}
 use Rattle.store_writes.proofs.Transacted.{crash_tables, made_tables}
+use Rattle.store_statements.specs.Tables.{Tables}
+use Rattle.store_statements.proofs.Alone.{less}
+use Rattle.std.proofs.Common.{ap}
 use Rattle.store_writes.proofs.grant_changes.revoke_all.Goals as goal
 
 pub returns : goal.returns
@@ -11,6 +14,7 @@ returns g c = record {
   memory = c.make.ensures.memory (λ clean. tt);
   back = c.make.ensures.back (λ clean. tt);
   crash = crash_tables g.S.Store c.args.conn.now c.make.new.conn c.make.result (λ w. revoke_all w c.args.token.now) (grants_without (of_first c.args.token.now)) (rw c.as_str.ensures.text at (c.make.ensures.crash (λ clean. tt))) (λ t is. token_taken t c.args.token.now is);
+  stays = λ clean is. less c.make.result (λ it. ap (λ (t : Tables). t.contents) it.1) (c.make.ensures.made (λ early. tt) clean is);
   survives = c.make.ensures.survives;
 }
 

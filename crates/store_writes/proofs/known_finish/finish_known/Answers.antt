@@ -11,6 +11,7 @@ use Rattle.store_statements.proofs.CleanBefore.{was_clean}
 use Rattle.store_statements.proofs.Checks.{never_done}
 use Rattle.store_statements.proofs.Checks.{survives_here}
 use Rattle.store_statements.proofs.Crashes.{back_from, kept_stayed}
+use Rattle.store_writes.proofs.ContentsStay.{same_from, same_read}
 use Rattle.store_writes.proofs.known_finish.finish_known.Goals as goal
 
 pub returns-then-number-gt-LARGEST : goal.returns-then-number-gt-LARGEST
@@ -21,6 +22,7 @@ returns-then-number-gt-LARGEST g c = record {
   memory = λ clean is memory. absurd (never_done memory);
   back = λ clean is. tt;
   crash = λ clean is. ends_kept g.S.Store c.args.conn.now c.args.conn.now c.args.repo.now c.args.number c.args.digest.now is (kept_stayed g.S.Store g.met.S.Store.settled c.args.conn.now c.args.conn.now is (is, refl));
+  stays = λ clean is. refl;
   survives = survives_here (state g.S.Store c.args.conn.now);
 }
 
@@ -49,6 +51,10 @@ returns-in-Ok g c = record {
       let late : HasCleanDisk mid = was_clean c.finish_whole.ensures.survives clean in
       let stays = c.in-Ok-Some.ensures.settled late is refl in
       rw (c.as_str-repo.ensures.text, c.as_str-digest.ensures.text) at (ends_done g.S.Store c.args.conn.now c.finish_whole.new.conn c.as_str-repo.result.now c.args.number c.as_str-digest.result.now c.find_known.new.conn c.in-Ok-Some.link is stays (sym c.in-Ok-Some.field-0-is ∙ c.in-Ok-Some.ensures.found late is) (c.in-Ok.ensures.crash (λ clean. still_known (state g.S.Store c.args.conn.now) (state g.S.Store c.find_known.new.conn) (c.in-Ok-Some.ensures.settled clean is refl) c.as_str-repo.result.now c.args.number c.as_str-digest.result.now c.in-Ok-Some.link (sym c.in-Ok-Some.field-0-is ∙ c.in-Ok-Some.ensures.found clean is)) clean stays.0));
+  stays = λ clean is.
+      let late : HasCleanDisk (state g.S.Store c.find_known.new.conn) = was_clean c.finish_whole.ensures.survives clean in
+      let stays = c.in-Ok-Some.ensures.settled late is refl in
+      same_from (state g.S.Store c.args.conn.now) (state g.S.Store c.find_known.new.conn) stays (state g.S.Store c.finish_whole.new.conn) (c.in-Ok.ensures.stays clean stays.0);
   survives = survives_all (state g.S.Store c.args.conn.now) (state g.S.Store c.find_known.new.conn) (state g.S.Store c.finish_whole.new.conn) _ _ c.find_known.ensures.survives c.finish_whole.ensures.survives;
 }
 
@@ -73,6 +79,7 @@ returns-in-Err-finish_whole g c = record {
       let late : HasCleanDisk mid = was_clean c.finish_whole.ensures.survives clean in
       let stays = c.in-Ok-Some.ensures.settled late is refl in
       rw (c.as_str-repo.ensures.text, c.as_str-digest.ensures.text) at (ends_undone g.S.Store c.args.conn.now c.finish_whole.new.conn c.as_str-repo.result.now c.args.number c.as_str-digest.result.now c.find_known.new.conn c.in-Ok-Some.link is stays (sym c.in-Ok-Some.field-0-is ∙ c.in-Ok-Some.ensures.found late is) (c.in-Err-finish_whole.ensures.crash (λ clean. still_known (state g.S.Store c.args.conn.now) (state g.S.Store c.find_known.new.conn) (c.in-Ok-Some.ensures.settled clean is refl) c.as_str-repo.result.now c.args.number c.as_str-digest.result.now c.in-Ok-Some.link (sym c.in-Ok-Some.field-0-is ∙ c.in-Ok-Some.ensures.found clean is)) clean stays.0));
+  stays = λ clean is. tt;
   survives = survives_all (state g.S.Store c.args.conn.now) (state g.S.Store c.find_known.new.conn) (state g.S.Store c.finish_whole.new.conn) _ _ c.find_known.ensures.survives c.finish_whole.ensures.survives;
 }
 
@@ -85,6 +92,7 @@ returns-in-Ok-None g c = record {
   memory = λ clean is memory. absurd (never_done memory);
   back = λ clean is. tt;
   crash = λ clean is. ends_kept g.S.Store c.args.conn.now c.find_known.new.conn c.args.repo.now c.args.number c.args.digest.now is (c.find_known.ensures.kept clean is);
+  stays = λ clean is. same_read (state g.S.Store c.args.conn.now) (state g.S.Store c.find_known.new.conn) (c.in-Ok-None.ensures.settled clean is refl);
   survives = c.find_known.ensures.survives;
 }
 
@@ -96,5 +104,6 @@ returns-in-Err g c = record {
   memory = λ clean is memory. c.in-Err.ensures.settled clean is (memory_told (Option BlobLink) c.in-Err.fault memory);
   back = λ clean is. (c.find_known.ensures.kept clean is).back;
   crash = λ clean is. ends_failed g.S.Store c.args.conn.now c.find_known.new.conn c.args.repo.now c.args.number c.args.digest.now is (c.find_known.ensures.kept clean is);
+  stays = λ clean is. tt;
   survives = c.find_known.ensures.survives;
 }

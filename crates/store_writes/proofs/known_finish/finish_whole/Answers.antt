@@ -1,4 +1,4 @@
-use Rattle.std.proofs.Common.{◌∙◌, true, false, refl, sym, ◌≡◌}
+use Rattle.std.proofs.Common.{◌∙◌, true, false, refl, sym, ◌≡◌, ap}
 use Rattle.std.specs.Prelude.{find, Option}
 use Rattle.sqlite.specs.State.{HasCleanDisk}
 use Rattle.sqlite.specs.Held.{state}
@@ -20,6 +20,8 @@ use Rattle.store_statements.proofs.Crashes.{back_from, crash_failed, crash_made}
 use Rattle.registry_model.specs.Closing.{finish_as_is}
 use Rattle.store_statements.specs.Steps.{sessions_without}
 use Rattle.store_writes.specs.Whole.{WholeEnds}
+use Rattle.store_statements.specs.Tables.{Tables}
+use Rattle.store_writes.proofs.ContentsStay.{same_from}
 use Rattle.store_writes.proofs.known_finish.finish_whole.Goals as goal
 
 pub returns-in-Ok-Some : goal.returns-in-Ok-Some
@@ -51,6 +53,9 @@ returns-in-Ok-Some g c =
           crash_made g.S.Store c.args.conn.now c.make.new.conn (λ w. finish_as_is w c.args.repo.now c.args.number c.args.digest.now) c.find_blob_link.new.conn (λ t u. u ≡ sessions_without (of_session c.args.repo.now c.args.number) t) is stays
           (λ s it. ends_there old mid s c.args.repo.now c.args.number c.args.digest.now c.args.link c.in-Ok-Some.field-0-0 is (known_is (held old) c.args.repo.now c.args.number (registry old is) c.args.digest.now c.args.link (known early)) stays (sym c.in-Ok-Some.field-0-is ∙ c.in-Ok-Some.ensures.found late is) (commits_as s _ it.0 it.1)) c.make.result c.tell_came.result (λ X x. came_so c.make.result false c.tell_came.result c.tell_came.ensures (λ it. it) x)
           (c.make.ensures.crash (λ early. tt) clean stays.0);
+      stays = λ clean is.
+          let stays = c.in-Ok-Some.ensures.settled (was_clean c.make.ensures.survives clean) is refl in
+          came_so c.make.result false c.tell_came.result c.tell_came.ensures (λ it. same_from old mid stays new (ap (λ (t : Tables). t.contents) it.1)) (c.make.ensures.made (λ early. tt) clean stays.0);
       survives = survives_all old mid new _ _ c.find_blob_link.ensures.survives c.make.ensures.survives;
     }
 
@@ -92,6 +97,12 @@ returns-in-Ok-None g c =
           crash_made g.S.Store c.args.conn.now c.make-in-Ok-None.new.conn (λ w. finish_as_is w c.args.repo.now c.args.number c.args.digest.now) c.find_blob_link.new.conn (λ t u. WholeEnds t u c.args.repo.now c.args.number c.args.digest.now c.args.link) is stays
           (λ s it. ends_new old mid s c.args.repo.now c.args.number c.args.digest.now c.args.link is (known_is (held old) c.args.repo.now c.args.number (registry old is) c.args.digest.now c.args.link (known early)) stays none it) c.make-in-Ok-None.result c.tell_came-in-Ok-None.result (λ X x. came_so c.make-in-Ok-None.result true c.tell_came-in-Ok-None.result c.tell_came-in-Ok-None.ensures (λ it. it) x)
           (c.make-in-Ok-None.ensures.crash (λ early. still_none old mid c.args.repo.now c.args.digest.now stays found) clean stays.0);
+      stays = λ clean is.
+          let late : HasCleanDisk mid = was_clean c.make-in-Ok-None.ensures.survives clean in
+          let stays = c.in-Ok-None.ensures.settled late is refl in
+          let found = sym c.in-Ok-None.field-0-is ∙ c.in-Ok-None.ensures.found late is in
+          came_so c.make-in-Ok-None.result true c.tell_came-in-Ok-None.result c.tell_came-in-Ok-None.ensures (λ it. same_from old mid stays new (ap (λ (t : Tables). t.contents) it.1.others))
+          (c.make-in-Ok-None.ensures.made (λ early. still_none old mid c.args.repo.now c.args.digest.now stays found) clean stays.0);
       survives = survives_all old mid new _ _ c.find_blob_link.ensures.survives c.make-in-Ok-None.ensures.survives;
     }
 
@@ -108,6 +119,7 @@ returns-in-Ok-None-2 g c = record {
   memory = λ clean is memory. absurd (never_storage memory);
   back = λ clean is. (c.find_blob_link.ensures.kept clean is).back;
   crash = λ known clean is. crash_failed g.S.Store c.args.conn.now c.find_blob_link.new.conn (λ w. finish_as_is w c.args.repo.now c.args.number c.args.digest.now) is (c.find_blob_link.ensures.kept clean is);
+  stays = λ clean is. tt;
   survives = c.find_blob_link.ensures.survives;
 }
 
@@ -118,5 +130,6 @@ returns-in-Err g c = record {
   memory = λ clean is memory. c.in-Err.ensures.settled clean is (memory_told (Option BlobLink) c.in-Err.fault memory);
   back = λ clean is. (c.find_blob_link.ensures.kept clean is).back;
   crash = λ known clean is. crash_failed g.S.Store c.args.conn.now c.find_blob_link.new.conn (λ w. finish_as_is w c.args.repo.now c.args.number c.args.digest.now) is (c.find_blob_link.ensures.kept clean is);
+  stays = λ clean is. tt;
   survives = c.find_blob_link.ensures.survives;
 }

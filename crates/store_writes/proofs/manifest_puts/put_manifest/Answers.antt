@@ -18,6 +18,8 @@ use Rattle.store_writes.proofs.ManifestPuts.{found_none, found_some, repo_there,
 use Rattle.store_statements.proofs.Crashes.{back_from, crash_failed, crash_made}
 use Rattle.registry_model.specs.Lookups as Lookups
 use Rattle.store_statements.specs.World.{world_of}
+use Rattle.store_statements.specs.Changes.{Grow}
+use Rattle.store_writes.proofs.ContentsStay.{grow_from}
 use Rattle.store_writes.proofs.manifest_puts.put_manifest.Goals as goal
 
 pub returns-in-Ok-Some : goal.returns-in-Ok-Some
@@ -46,9 +48,14 @@ returns-in-Ok-Some g c =
           let late : HasCleanDisk mid = was_clean c.make.ensures.survives clean in
           let stays = c.in-Ok-Some.ensures.settled late is refl in
           let some = found_some manifest_link c.in-Ok-Some.field-0-0 (find (has_key c.args.repo.now c.args.digest.now) (held old).manifests) (sym c.in-Ok-Some.field-0-is ∙ (rw (c.as_str-repo.ensures.text, c.as_str-digest.ensures.text) at (c.in-Ok-Some.ensures.found late is))) in
-          crash_made g.S.Store c.args.conn.now c.make.new.conn (λ w. Lookups.put_manifest w c.args.repo.now c.args.digest.now c.args.bytes.now (text_in c.args.tag)) c.find_manifest_link.new.conn (λ t u. StandsFor u (tagged (world_of t) c.as_str-repo.result.now (text_in c.args.tag) c.as_str-digest.result.now) × (u.beside ≡ t.beside)) is stays
+          crash_made g.S.Store c.args.conn.now c.make.new.conn (λ w. Lookups.put_manifest w c.args.repo.now c.args.digest.now c.args.bytes.now (text_in c.args.tag)) c.find_manifest_link.new.conn (λ t u. StandsFor u (tagged (world_of t) c.as_str-repo.result.now (text_in c.args.tag) c.as_str-digest.result.now) × (u.beside ≡ t.beside) × Grow t.contents u.contents) is stays
           (λ s it. made_there old mid s c.args.repo.now c.args.digest.now c.args.bytes.now (text_in c.args.tag) stays.1 some (stands s (tagged (world_in mid) c.args.repo.now (text_in c.args.tag) c.args.digest.now) it.0 (rw (c.as_str-repo.ensures.text, c.as_str-digest.ensures.text) at it.1.0))) c.make.result c.make.result (λ X x. x)
           (c.make.ensures.crash (λ clean. (stays.0.agree, rw c.as_str-repo.ensures.text (repo_there old mid c.args.repo.now stays.1 (there (was_clean c.find_manifest_link.ensures.survives late))))) clean stays.0);
+      grows = λ there clean is.
+          let late : HasCleanDisk mid = was_clean c.make.ensures.survives clean in
+          let stays = c.in-Ok-Some.ensures.settled late is refl in
+          less c.make.result (λ it. grow_from old mid stays new it.1.2)
+          (c.make.ensures.made (λ clean. (stays.0.agree, rw c.as_str-repo.ensures.text (repo_there old mid c.args.repo.now stays.1 (there (was_clean c.find_manifest_link.ensures.survives late))))) clean stays.0);
       survives = survives_all old mid new (λ _. ⊤) (λ _. ⊤) c.find_manifest_link.ensures.survives c.make.ensures.survives;
     }
 
@@ -80,9 +87,15 @@ returns-in-Ok-None g c =
           let late : HasCleanDisk mid = was_clean c.make-in-Ok-None.ensures.survives clean in
           let stays = c.in-Ok-None.ensures.settled late is refl in
           let none = found_none manifest_link (find (has_key c.as_str-repo.result.now c.as_str-digest.result.now) (held old).manifests) (sym c.in-Ok-None.field-0-is ∙ c.in-Ok-None.ensures.found late is) in
-          crash_made g.S.Store c.args.conn.now c.make-in-Ok-None.new.conn (λ w. Lookups.put_manifest w c.args.repo.now c.args.digest.now c.args.bytes.now (text_in c.args.tag)) c.find_manifest_link.new.conn (λ t u. StandsFor u (Lookups.put_manifest (world_of t) c.as_str-repo.result.now c.as_str-digest.result.now c.args.bytes.now (text_in c.args.tag)) × (u.beside ≡ t.beside)) is stays
+          crash_made g.S.Store c.args.conn.now c.make-in-Ok-None.new.conn (λ w. Lookups.put_manifest w c.args.repo.now c.args.digest.now c.args.bytes.now (text_in c.args.tag)) c.find_manifest_link.new.conn (λ t u. StandsFor u (Lookups.put_manifest (world_of t) c.as_str-repo.result.now c.as_str-digest.result.now c.args.bytes.now (text_in c.args.tag)) × (u.beside ≡ t.beside) × Grow t.contents u.contents) is stays
           (λ s it. made_new old mid s c.args.repo.now c.args.digest.now c.args.bytes.now (text_in c.args.tag) stays.1 (stands s (put_manifest (world_in mid) c.args.repo.now c.args.digest.now c.args.bytes.now (text_in c.args.tag)) it.0 (rw (c.as_str-repo.ensures.text, c.as_str-digest.ensures.text) at it.1.0))) c.make-in-Ok-None.result c.make-in-Ok-None.result (λ X x. x)
           (c.make-in-Ok-None.ensures.crash (λ clean. (stays.0.agree, rw c.as_str-repo.ensures.text (repo_there old mid c.args.repo.now stays.1 (there (was_clean c.find_manifest_link.ensures.survives late))), fresh_still old mid c.as_str-repo.result.now c.as_str-digest.result.now stays.1 none)) clean stays.0);
+      grows = λ there clean is.
+          let late : HasCleanDisk mid = was_clean c.make-in-Ok-None.ensures.survives clean in
+          let stays = c.in-Ok-None.ensures.settled late is refl in
+          let none = found_none manifest_link (find (has_key c.as_str-repo.result.now c.as_str-digest.result.now) (held old).manifests) (sym c.in-Ok-None.field-0-is ∙ c.in-Ok-None.ensures.found late is) in
+          less c.make-in-Ok-None.result (λ it. grow_from old mid stays new it.1.2)
+          (c.make-in-Ok-None.ensures.made (λ clean. (stays.0.agree, rw c.as_str-repo.ensures.text (repo_there old mid c.args.repo.now stays.1 (there (was_clean c.find_manifest_link.ensures.survives late))), fresh_still old mid c.as_str-repo.result.now c.as_str-digest.result.now stays.1 none)) clean stays.0);
       survives = survives_all old mid new (λ _. ⊤) (λ _. ⊤) c.find_manifest_link.ensures.survives c.make-in-Ok-None.ensures.survives;
     }
 
@@ -92,6 +105,7 @@ returns-in-Err g c = record {
   memory = λ there clean is memory. c.in-Err.ensures.settled clean is (memory_unspent ⊤ (Option ManifestLink) c.in-Err.fault _ refl memory);
   back = λ there clean is. (c.find_manifest_link.ensures.kept clean is).back;
   crash = λ there clean is. crash_failed g.S.Store c.args.conn.now c.find_manifest_link.new.conn (λ w. Lookups.put_manifest w c.args.repo.now c.args.digest.now c.args.bytes.now (text_in c.args.tag)) is (c.find_manifest_link.ensures.kept clean is);
+  grows = λ there clean is. tt;
   survives = c.find_manifest_link.ensures.survives;
 }
 

@@ -19,6 +19,7 @@ use Rattle.store_statements.proofs.Checks.{survives_here}
 use Rattle.store_writes.proofs.Fitting.{not_above}
 use Rattle.store_statements.proofs.Crashes.{back_from, kept_stayed, crash_failed, crash_made, crash_same}
 use Rattle.store_statements.specs.Steps.{Appended}
+use Rattle.store_writes.proofs.ContentsStay.{grow_from}
 use Rattle.store_writes.proofs.session_appends.append.Goals as goal
 
 pub as_str-repo-requires : goal.as_str-repo-requires
@@ -38,6 +39,7 @@ returns-then-is_empty g c = record {
   crash = λ is_open clean is.
       crash_same g.S.Store c.args.conn.now c.args.conn.now (λ w. Lookups.append w c.args.repo.now c.args.number c.args.bytes.now) is (kept_stayed g.S.Store g.met.S.Store.settled c.args.conn.now c.args.conn.now is (is, refl))
       (appends_nothing (state g.S.Store c.args.conn.now) c.args.repo.now c.args.number c.args.bytes.now is (is_open clean) (is_zero (length c.args.bytes.now) (sym c.is_empty.ensures ∙ c.if-is_empty.true))).1;
+  grows = λ clean is id bytes e. e;
   survives = survives_here (state g.S.Store c.args.conn.now);
 }
 
@@ -48,6 +50,7 @@ returns-then-number-gt-LARGEST g c = record {
   back = λ clean is is_open. (refl, refl);
   crash = λ is_open clean is.
       crash_failed g.S.Store c.args.conn.now c.args.conn.now (λ w. Lookups.append w c.args.repo.now c.args.number c.args.bytes.now) is (kept_stayed g.S.Store g.met.S.Store.settled c.args.conn.now c.args.conn.now is (is, refl));
+  grows = λ clean is. tt;
   survives = survives_here (state g.S.Store c.args.conn.now);
 }
 
@@ -58,6 +61,7 @@ returns-in-Err g c = record {
       c.find_upload.ensures.settled clean is (ap (λ (r : Result (Option ℕ) Fault). is_storage r) (c.in-Err.ensures.memory (fault_is memory)) ∙ memory_told (Option ℕ) c.in-Err.fault memory);
   back = λ clean is. (c.find_upload.ensures.kept clean is).back;
   crash = λ is_open clean is. crash_failed g.S.Store c.args.conn.now c.find_upload.new.conn (λ w. Lookups.append w c.args.repo.now c.args.number c.args.bytes.now) is (c.find_upload.ensures.kept clean is);
+  grows = λ clean is. tt;
   survives = c.find_upload.ensures.survives;
 }
 
@@ -90,5 +94,9 @@ returns-in-Ok g c =
           crash_made g.S.Store c.args.conn.now c.make.new.conn (λ w. Lookups.append w c.args.repo.now c.args.number c.args.bytes.now) c.find_upload.new.conn (λ t u. Appended t u c.as_str-repo.result.now c.args.number c.in-Ok.size c.args.bytes.now) is (stays late is)
           (λ s it. subst (λ name. SettlesOn s (Lookups.append (world_in old) name c.args.number c.args.bytes.now)) c.as_str-repo.ensures.text (appends old mid s c.as_str-repo.result.now c.args.number c.in-Ok.size c.args.bytes.now is (stays late is) (sized late is) more it)) c.make.result c.make.result (λ X x. x)
           (c.make.ensures.crash (λ clean. piece_free old mid c.as_str-repo.result.now c.args.number c.in-Ok.size is (stays clean is) (sized clean is)) clean (stays late is).0);
+      grows = λ clean is.
+          let late = early clean in
+          less c.make.result (λ it. grow_from old mid (stays late is) end it.1.grow)
+          (c.make.ensures.made (λ clean. piece_free old mid c.as_str-repo.result.now c.args.number c.in-Ok.size is (stays clean is) (sized clean is)) clean (stays late is).0);
       survives = survives_all old mid end _ _ c.find_upload.ensures.survives c.make.ensures.survives;
     }

@@ -1,4 +1,4 @@
-use Rattle.std.proofs.Common.{◌≡◌, ◌∙◌, ◌+◌, refl, sym, subst, Some}
+use Rattle.std.proofs.Common.{◌≡◌, ◌∙◌, ◌+◌, refl, sym, subst, Some, ap}
 use Rattle.std.specs.Prelude.{find, option_map, Option}
 use Rattle.sqlite.specs.State.{HasCleanDisk}
 use Rattle.sqlite.specs.Held.{state}
@@ -14,8 +14,10 @@ use Rattle.store_statements.proofs.SettledAfter.{stays_then}
 use Rattle.store_statements.proofs.Checks.{never_done, never_storage}
 use Rattle.store_writes.proofs.Fitting.{next_fits, next_is_number}
 use Rattle.registry_model.specs.Lookups as Lookups
-use Rattle.store_statements.proofs.Crashes.{back_from, crash_done, crash_failed, crash_made, crash_undone}
+use Rattle.store_statements.proofs.Crashes.{back_from, crash_done, crash_failed, crash_undone}
 use Rattle.store_statements.specs.Steps.{SessionOpened}
+use Rattle.store_statements.specs.Tables.{Tables}
+use Rattle.store_writes.proofs.ContentsStay.{same_from}
 use Rattle.store_writes.proofs.session_changes.open_session.Goals as goal
 
 pub returns-in-Ok-make : goal.returns-in-Ok-make
@@ -41,6 +43,12 @@ returns-in-Ok-make g c =
           crash_done g.S.Store c.args.conn.now c.make.new.conn (λ w. Lookups.open_session w c.args.repo.now) c.find_repo.new.conn (λ t u. SessionOpened t u c.as_str-repo.result.now (c.in-Ok-Some.row.last + 1)) is stays
           (λ s it. subst (λ name. SettlesOn s (Lookups.open_session (world_in old) name)) c.as_str-repo.ensures.text (opens old mid s c.as_str-repo.result.now c.in-Ok-Some.row.last is stays last it).1)
           (c.in-Ok-make.ensures.crash (λ early. number_behind old mid c.as_str-repo.result.now c.in-Ok-Some.row.last is stays last) clean stays.0);
+      stays = λ clean is.
+          let late : HasCleanDisk mid = was_clean c.make.ensures.survives clean in
+          let stays = c.in-Ok-Some.ensures.settled late is refl in
+          let last : Some c.in-Ok-Some.row.last ≡ option_map (λ r. natural_at r 3) (find (of_first c.as_str-repo.result.now) (held old).repos) =
+          last_found (find (of_first c.as_str-repo.result.now) (held old).repos) c.in-Ok-Some.row (sym c.in-Ok-Some.field-0-is ∙ c.in-Ok-Some.ensures.found late is) in
+          same_from old mid stays new (ap (λ (t : Tables). t.contents) (c.in-Ok-make.ensures.made (λ early. number_behind old mid c.as_str-repo.result.now c.in-Ok-Some.row.last is stays last) clean stays.0).1.others);
       survives = survives_all old mid new _ _ c.find_repo.ensures.survives c.make.ensures.survives;
     }
 
@@ -71,6 +79,7 @@ returns-in-Err-make g c =
           crash_undone g.S.Store c.args.conn.now c.make.new.conn (λ w. Lookups.open_session w c.args.repo.now) c.find_repo.new.conn (λ t u. SessionOpened t u c.as_str-repo.result.now (c.in-Ok-Some.row.last + 1)) is stays
           (λ s it. subst (λ name. SettlesOn s (Lookups.open_session (world_in old) name)) c.as_str-repo.ensures.text (opens old mid s c.as_str-repo.result.now c.in-Ok-Some.row.last is stays last it).1)
           (c.in-Err-make.ensures.crash (λ early. number_behind old mid c.as_str-repo.result.now c.in-Ok-Some.row.last is stays last) clean stays.0);
+      stays = λ clean is. tt;
       survives = survives_all old mid new _ _ c.find_repo.ensures.survives c.make.ensures.survives;
     }
 
@@ -89,6 +98,7 @@ returns-in-Ok g c = record {
   memory = λ clean is memory. absurd (never_storage memory);
   back = λ clean is. (c.find_repo.ensures.kept clean is).back;
   crash = λ clean is. crash_failed g.S.Store c.args.conn.now c.find_repo.new.conn (λ w. Lookups.open_session w c.args.repo.now) is (c.find_repo.ensures.kept clean is);
+  stays = λ clean is. tt;
   survives = c.find_repo.ensures.survives;
 }
 
@@ -98,6 +108,7 @@ returns-in-Ok-2 g c = record {
   memory = λ clean is memory. absurd (never_storage memory);
   back = λ clean is. (c.find_repo.ensures.kept clean is).back;
   crash = λ clean is. crash_failed g.S.Store c.args.conn.now c.find_repo.new.conn (λ w. Lookups.open_session w c.args.repo.now) is (c.find_repo.ensures.kept clean is);
+  stays = λ clean is. tt;
   survives = c.find_repo.ensures.survives;
 }
 
@@ -107,5 +118,6 @@ returns-in-Err g c = record {
   memory = λ clean is memory. c.in-Err.ensures.settled clean is (memory_told (Option RepoRow) c.in-Err.fault memory);
   back = λ clean is. (c.find_repo.ensures.kept clean is).back;
   crash = λ clean is. crash_failed g.S.Store c.args.conn.now c.find_repo.new.conn (λ w. Lookups.open_session w c.args.repo.now) is (c.find_repo.ensures.kept clean is);
+  stays = λ clean is. tt;
   survives = c.find_repo.ensures.survives;
 }

@@ -1,4 +1,4 @@
-use Rattle.std.proofs.Common.{◌∙◌, length, refl, sym, ◌≡◌}
+use Rattle.std.proofs.Common.{◌∙◌, length, refl, sym, ◌≡◌, ap}
 use Rattle.std.specs.Prelude.{find, Option}
 use Rattle.sqlite.specs.State.{HasCleanDisk}
 use Rattle.sqlite.specs.Held.{state}
@@ -19,6 +19,8 @@ use Rattle.store_writes.proofs.Fitting.{not_above, blob_fits}
 use Rattle.store_statements.proofs.Crashes.{back_from, kept_stayed, crash_failed, crash_made}
 use Rattle.registry_model.specs.Lookups as Lookups
 use Rattle.store_statements.specs.Steps.{Finished, sessions_without}
+use Rattle.store_statements.specs.Tables.{Tables}
+use Rattle.store_writes.proofs.ContentsStay.{grow_from, grow_same}
 use Rattle.store_writes.proofs.session_finish.finish.Goals as goal
 
 pub returns-in-Err : goal.returns-in-Err
@@ -27,6 +29,7 @@ returns-in-Err g c = record {
   memory = λ clean is memory. c.in-Err.ensures.settled clean is (memory_told (Option BlobLink) c.in-Err.fault memory);
   back = λ clean is. (c.find_blob_link.ensures.kept clean is).back;
   crash = λ is_open clean is. crash_failed g.S.Store c.args.conn.now c.find_blob_link.new.conn (λ w. Lookups.finish w c.args.repo.now c.args.number c.args.digest.now c.args.bytes.now) is (c.find_blob_link.ensures.kept clean is);
+  grows = λ clean is. tt;
   survives = c.find_blob_link.ensures.survives;
 }
 
@@ -37,6 +40,7 @@ returns-then-number-gt-LARGEST g c = record {
   back = λ clean is is_open. (refl, refl);
   crash = λ is_open clean is.
       crash_failed g.S.Store c.args.conn.now c.args.conn.now (λ w. Lookups.finish w c.args.repo.now c.args.number c.args.digest.now c.args.bytes.now) is (kept_stayed g.S.Store g.met.S.Store.settled c.args.conn.now c.args.conn.now is (is, refl));
+  grows = λ clean is. tt;
   survives = survives_here (state g.S.Store c.args.conn.now);
 }
 
@@ -70,6 +74,10 @@ returns-in-Ok-Some g c =
           crash_made g.S.Store c.args.conn.now c.make.new.conn (λ w. Lookups.finish w c.args.repo.now c.args.number c.args.digest.now c.args.bytes.now) c.find_blob_link.new.conn (λ t u. u ≡ sessions_without (of_session c.as_str-repo.result.now c.args.number) t) is stays
           (λ s it. rw (c.as_str-repo.ensures.text, c.as_str-digest.ensures.text) at (finishes_there old mid s c.as_str-repo.result.now c.args.number c.as_str-digest.result.now c.args.bytes.now c.in-Ok-Some.field-0-0 is stays (sym c.in-Ok-Some.field-0-is ∙ c.in-Ok-Some.ensures.found late is) (commits_as s _ it.0 it.1))) c.make.result c.make.result (λ X x. x)
           (c.make.ensures.crash (λ early. tt) clean stays.0);
+      grows = λ clean is.
+          let stays = c.in-Ok-Some.ensures.settled (was_clean c.make.ensures.survives clean) is refl in
+          less c.make.result (λ it. grow_from old mid stays new (grow_same (held mid) (held new) (ap (λ (t : Tables). t.contents) it.1)))
+          (c.make.ensures.made (λ early. tt) clean stays.0);
       survives = survives_all old mid new _ _ c.find_blob_link.ensures.survives c.make.ensures.survives;
     }
 
@@ -103,5 +111,11 @@ returns-in-Ok-None g c =
           crash_made g.S.Store c.args.conn.now c.make-in-Ok-None.new.conn (λ w. Lookups.finish w c.args.repo.now c.args.number c.args.digest.now c.args.bytes.now) c.find_blob_link.new.conn (λ t u. Finished t u c.as_str-repo.result.now c.args.number c.as_str-digest.result.now c.args.bytes.now) is stays
           (λ s it. finishes_new old mid s c.args.repo.now c.args.number c.args.digest.now c.args.bytes.now is (is_open (was_clean c.find_blob_link.ensures.survives late)) stays (rw (c.as_str-repo.ensures.text, c.as_str-digest.ensures.text) at none) (rw (c.as_str-repo.ensures.text, c.as_str-digest.ensures.text) at it)) c.make-in-Ok-None.result c.make-in-Ok-None.result (λ X x. x)
           (c.make-in-Ok-None.ensures.crash (λ early. still_none old mid c.as_str-repo.result.now c.as_str-digest.result.now stays found) clean stays.0);
+      grows = λ clean is.
+          let late : HasCleanDisk mid = was_clean c.make-in-Ok-None.ensures.survives clean in
+          let stays = c.in-Ok-None.ensures.settled late is refl in
+          let found = sym c.in-Ok-None.field-0-is ∙ c.in-Ok-None.ensures.found late is in
+          less c.make-in-Ok-None.result (λ it. grow_from old mid stays new it.1.grow)
+          (c.make-in-Ok-None.ensures.made (λ early. still_none old mid c.as_str-repo.result.now c.as_str-digest.result.now stays found) clean stays.0);
       survives = survives_all old mid new _ _ c.find_blob_link.ensures.survives c.make-in-Ok-None.ensures.survives;
     }
