@@ -1,9 +1,10 @@
 #!/usr/bin/env python3
 """Looks at what `make install` and `make deb` make, in a folder that is taken away again.
 
-The files and their modes; that a second installation leaves the administrator's files as they are; that the man
-page and the completion say what --help says, line by line; that the service's further words are options of `serve`;
-the unit, by systemd-analyze; and that the package has the same files. Tools that are not installed are named. `make check-install` calls this.
+The files and their modes; that each page which a page names is there; that a second installation leaves the
+administrator's files as they are; that the man page and the completion say what --help says, line by line; that
+the service's further words are options of `serve`; the unit, by systemd-analyze; and that the package has the same
+files. Tools that are not installed are named. `make check-install` calls this.
 """
 import glob
 import os
@@ -23,16 +24,17 @@ FILES = {
     "usr/lib/systemd/system/firkhen.service": 0o644,
     "usr/lib/systemd/system/firkhen.socket": 0o644,
     "usr/share/firkhen/token-line": 0o755,
-    "usr/share/doc/firkhen/CLIENTS.md": 0o644,
-    "usr/share/doc/firkhen/ENDPOINTS.md": 0o644,
-    "usr/share/doc/firkhen/OPERATIONS.md": 0o644,
-    "usr/share/doc/firkhen/SECURITY.md": 0o644,
     "etc/default/firkhen": 0o644,
     "etc/nginx/sites-available/firkhen": 0o644,
     "etc/nginx/sites-available/firkhen-edge": 0o644,
     "etc/nginx/firkhen/locations.conf": 0o644,
     "etc/nginx/firkhen/tokens.conf": 0o600,
 }
+DOCUMENTS = "usr/share/doc/firkhen"
+PAGES = [f"{TOP}/README.md", *glob.glob(f"{TOP}/docs/*.md")]
+FILES |= {f"{DOCUMENTS}/{os.path.basename(it)}": 0o644 for it in PAGES}
+# how pages name each other
+NAMED = re.compile(r"`docs/(\w+\.md)`|\]\((\w+\.md)(?:#[^)]*)?\)")
 # what a package has besides, and the man page under another name
 PACKAGED = {"usr/share/doc/firkhen/changelog.gz", "usr/share/doc/firkhen/copyright", "usr/share/man/man1/registry.1.gz"}
 # of ten: 0 is a service that can do nothing, and below 2 systemd says OK
@@ -81,6 +83,16 @@ def look_at_files(room):
     install(room)
     with open(tokens, encoding="utf-8") as it:
         say(it.read() == "mine\n", "a second installation leaves the table of tokens")
+    look_at_the_pages(f"{room}/{DOCUMENTS}")
+
+
+def look_at_the_pages(folder):
+    lacking = set()
+    for path in glob.glob(f"{folder}/*.md"):
+        with open(path, encoding="utf-8") as it:
+            named = {found[0] or found[1] for found in NAMED.findall(it.read())}
+        lacking |= {name for name in named if not os.path.exists(f"{folder}/{name}")}
+    say(not lacking, "each page that a page names", str(lacking))
 
 
 def helps():

@@ -25,8 +25,8 @@ sed "s,/usr/,$PREFIX/," "$top/deploy/firkhen.service" > "$made/firkhen.service"
 put 644 "$made/firkhen.service" "$DESTDIR$PREFIX/lib/systemd/system/firkhen.service"
 put 644 "$top/deploy/firkhen.socket" "$DESTDIR$PREFIX/lib/systemd/system/firkhen.socket"
 put 755 "$top/deploy/nginx/token-line" "$share/firkhen/token-line"
-for page in OPERATIONS CLIENTS SECURITY ENDPOINTS; do
-  put 644 "$top/docs/$page.md" "$share/doc/firkhen/$page.md"
+for page in "$top"/README.md "$top"/docs/*.md; do
+  put 644 "$page" "$share/doc/firkhen/$(basename "$page")"
 done
 keep 644 "$top/deploy/firkhen.default" "$DESTDIR$SYSCONFDIR/default/firkhen"
 keep 644 "$top/deploy/nginx/site.conf" "$DESTDIR$SYSCONFDIR/nginx/sites-available/firkhen"
