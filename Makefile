@@ -6,7 +6,7 @@ PROCESSORS := $(shell nproc)
 DEMO := stdio --memory --repo team/app=1000 --grant t1=team/app=3
 
 .PHONY: help demo build try test check edits dear lint check-file check-rows check-words check-hostile check-clients check-install
-.PHONY: check-docs bench bench-quick bench-http install deb fmt clean
+.PHONY: check-docs check-container bench bench-quick bench-http install deb fmt clean
 
 # docs/PERFORMANCE.md has what was measured.
 help:
@@ -30,6 +30,7 @@ help:
 	@echo 'make check-clients   curl, skopeo, ctr, buildah, podman, oras-go and docker straight and through nginx, those'
 	@echo '                     that are installed (deploy/install-clients.sh installs them), and two edges before one'
 	@echo '                     registry; ONLY=straight'
+	@echo 'make check-container the image of deploy/container, and the registry in it (10 s)'
 	@echo 'make check-docs      the commands of the tutorial and other pages, and what they print (10 s)'
 	@echo 'make install         executable, man page, completion, service and nginx files (PREFIX, DESTDIR, SYSCONFDIR)'
 	@echo 'make deb             the same as a Debian package, build/firkhen_*.deb; make check-install looks at both'
@@ -123,6 +124,10 @@ deb: build/registry
 # What these two make: files and modes, the man page and the completion beside --help, the unit by systemd-analyze.
 check-install: build/registry
 	python3 check/install.py
+
+# The image of deploy/container, and the registry in it (buildah, curl, root; 10 s).
+check-container: build/registry
+	python3 check/container.py
 
 # The commands of the pages, and what they print (python3, curl, skopeo, podman, nginx, openssl, sqlite3).
 check-docs: build/registry
