@@ -21,7 +21,7 @@ use Rattle.registry_model.specs.Decision.{Decision, refuses, tells, makes, withi
 use Rattle.registry_model.specs.Blobs.{blob_named, found_blob, found_size, read_blob, size_blob, delete_blob, without_blob, with_blob, created_blob, push_blob}
 use Rattle.registry_model.specs.Lookups.{blob_at, blob_size_at}
 use Rattle.registry_model.specs.Lookups as lookups
-use Rattle.registry_model.specs.Keeping.{State}
+use Rattle.registry_model.specs.Keeping.{Kept, goes_on}
 use Rattle.registry_model.specs.Limits.{largest_blob}
 use Rattle.registry_model.specs.Usage.{goes_over}
 use Rattle.registry_model.specs.Doing.{course_of_answer, answered}
@@ -39,13 +39,13 @@ size_told : (digest : Text) (o : Option ℕ) → found_size digest o ≡ tells (
 size_told digest None = refl
 size_told digest (Some size) = refl
 
-module _ (s s' : State) (name : Text) (unspent : s.spent ≡ false) (there : has_repo s.world name ≡ true) (act : Repo → Decision) (a b : Answer) where
+module _ (s s' : Kept) (name : Text) (unspent : s.spent ≡ false) (there : has_repo s.world name ≡ true) (act : Repo → Decision) (a b : Answer) where
   tells_it : ((r : Repo) → repo_at s.world name ≡ Some r → act r ≡ tells b) → s' ≡ s → a ≡ b → Done a name act s s'
   tells_it here stays e =
       let r = there_is (repo_at s.world name) there in told s s' name act r.0 r.1 a b e unspent stays (here r.0 r.1)
 
   makes_it : (change : Repo → Repo) → ((r : Repo) → repo_at s.world name ≡ Some r → act r ≡ makes b (change r))
-      → s' ≡ record { world = update_repo s.world name change (repo_at s.world name); spent = false } → a ≡ b → Done a name act s s'
+      → s' ≡ goes_on s (update_repo s.world name change (repo_at s.world name)) → a ≡ b → Done a name act s s'
   makes_it change here after e =
       let r = there_is (repo_at s.world name) there in made s s' name act r.0 r.1 a b e change after (here r.0 r.1)
 
@@ -56,7 +56,7 @@ named_there w name text valid r at = ap (λ b. cond b (get r.blobs text) None) v
 named_nothing : (text : Text) → is_digest text ≡ false → (r : Repo) → blob_named r text ≡ None
 named_nothing text invalid r = ap (λ b. cond b (get r.blobs text) None) invalid
 
-module _ (s s' : State) (name : Text) (unspent : s.spent ≡ false) (there : has_repo s.world name ≡ true) (text : Text) (a : Answer) where
+module _ (s s' : Kept) (name : Text) (unspent : s.spent ≡ false) (there : has_repo s.world name ≡ true) (text : Text) (a : Answer) where
   module _ (stays : s' ≡ s) where
     pub reads : is_digest text ≡ true → (found : Option Text) → found ≡ blob_at s.world name text → a ≡ (found_blob text found).reply → Done a name (λ r. read_blob r text) s s'
     reads valid found at e =
@@ -96,15 +96,15 @@ module _ (s s' : State) (name : Text) (unspent : s.spent ≡ false) (there : has
   some_size (Some bytes) e = refl
 
   pub deletes : is_digest text ≡ true → is_some (blob_size_at s.world name text) ≡ true
-      → s' ≡ record { world = lookups.delete_blob s.world name text; spent = false } → a ≡ bare_answer Accepted → Done a name (λ r. delete_blob r text) s s'
+      → s' ≡ goes_on s (lookups.delete_blob s.world name text) → a ≡ bare_answer Accepted → Done a name (λ r. delete_blob r text) s s'
   deletes valid some after e =
       makes_it s s' name unspent there (λ r. delete_blob r text) a (bare_answer Accepted) (λ r. without_blob r text)
       (λ r here. ap (λ b. cond b (makes (bare_answer Accepted) (without_blob r text)) (refuses BlobUnknown))
       (ap is_some (named_there s.world name text valid r here) ∙ some_size (blob_at s.world name text) some)) after e
 
 -- a blob of which there is a length is there
-pub sized_there : (s mid : State) (name digest : Text) (size : ℕ) → mid ≡ s → Some size ≡ blob_size_at s.world name digest → is_some (blob_at mid.world name digest) ≡ true
-sized_there s mid name digest size same at = subst (λ (x : State). is_some (blob_at x.world name digest) ≡ true) (sym same) (by_bytes (blob_at s.world name digest) at)
+pub sized_there : (s mid : Kept) (name digest : Text) (size : ℕ) → mid ≡ s → Some size ≡ blob_size_at s.world name digest → is_some (blob_at mid.world name digest) ≡ true
+sized_there s mid name digest size same at = subst (λ (x : Kept). is_some (blob_at x.world name digest) ≡ true) (sym same) (by_bytes (blob_at s.world name digest) at)
   where
     by_bytes : (o : Option Text) → Some size ≡ option_map length o → is_some o ≡ true
     by_bytes None e = absurd (cc)
@@ -141,7 +141,7 @@ module _ (r : Repo) (name text body : Text) where
       ap (λ b. cond (not (b && is_verified text)) (refuses InvalidDigest) (cond (nat_lt largest_blob (length body)) (refuses ContentTooLarge)
       (cond (not (matches text body)) (refuses DigestMismatch) (within_quota r (with_blob r text body) (created_blob name text))))) d
 
-module _ (s s' : State) (name : Text) (unspent : s.spent ≡ false) (there : has_repo s.world name ≡ true) (text body : Text) (a : Answer) where
+module _ (s s' : Kept) (name : Text) (unspent : s.spent ≡ false) (there : has_repo s.world name ≡ true) (text body : Text) (a : Answer) where
   module _ (stays : s' ≡ s) where
     pub pushes_invalid : is_digest text ≡ false → a ≡ refused InvalidDigest → Done a name (λ r. push_blob r name text body) s s'
     pushes_invalid d e =
@@ -167,7 +167,7 @@ module _ (s s' : State) (name : Text) (unspent : s.spent ≡ false) (there : has
       tells_it s s' name unspent there (λ r. within_quota r (with_blob r text body) (created_blob name text)) a (refused QuotaExceeded)
       (λ r here. ap (λ b. cond b (refuses QuotaExceeded) (makes (created_blob name text) (with_blob r text body))) (over_there r here true over)) stays e
 
-  pub adds : false ≡ blob_grows_over s.world name text (length body) 0 → s' ≡ record { world = lookups.put_blob s.world name text body; spent = false } → a ≡ created_blob name text
+  pub adds : false ≡ blob_grows_over s.world name text (length body) 0 → s' ≡ goes_on s (lookups.put_blob s.world name text body) → a ≡ created_blob name text
       → Done a name (λ r. within_quota r (with_blob r text body) (created_blob name text)) s s'
   adds within after e =
       makes_it s s' name unspent there (λ r. within_quota r (with_blob r text body) (created_blob name text)) a (created_blob name text) (λ r. with_blob r text body)
@@ -195,7 +195,7 @@ refusal_answers refusal Matches true e = ap (λ r. course_of_answer (refused r))
 refusal_answers refusal Matches false e = absurd (cc)
 
 -- a body that is not refused, added under the digest of the text
-pub push_added : (r : Result Reply Fault) (s s' : State) (name text body digest : Text) → digest ≡ text → is_digest text ≡ true
+pub push_added : (r : Result Reply Fault) (s s' : Kept) (name text body digest : Text) → digest ≡ text → is_digest text ≡ true
     → None ≡ push_refusal (verdict_of digest body) (nat_lt largest_blob (length body))
     → Operates r name (λ x. within_quota x (with_blob x digest body) (created_blob name digest)) s s' → Operates r name (λ x. push_blob x name text body) s s'
 push_added r s s' name text body digest same valid why h =

@@ -17,7 +17,7 @@ use Rattle.registry_model.specs.Answer.{Answer, refused}
 use Rattle.registry_model.specs.Decision.{refuses, tells, makes, within_quota}
 use Rattle.registry_model.specs.Blobs.{can_verify, created_blob}
 use Rattle.registry_model.specs.Sessions.{finished, range_checked, last_range_verdict, close_to, close_session}
-use Rattle.registry_model.specs.Keeping.{State, Writes}
+use Rattle.registry_model.specs.Keeping.{Kept, goes_on, Writes}
 use Rattle.registry_model.specs.Closing.{session_matches, WritesWhereSo}
 use Rattle.registry_model.specs.Lookups.{bytes_or_none, session_at}
 use Rattle.operation_parts.specs.Quota.{grows_over, new_length, blob_grows_over}
@@ -99,15 +99,15 @@ module _ (w : World) (name : Text) (number size : ℕ) (f : Found w name number 
       ∙ ap (λ o. makes (created_blob name digest) (finished f.repo number digest (bytes_or_none o))) (sym all_bytes)
 
 -- what a keeper tells that knew, or did not
-pub unmade : (e : Fault) (so : Bool) (made : World) (s s' : State) → WritesWhereSo (Err e) so made s s' → Writes {A = Reply} (Err e) made s s'
+pub unmade : (e : Fault) (so : Bool) (made : World) (s s' : Kept) → WritesWhereSo (Err e) so made s s' → Writes {A = Reply} (Err e) made s s'
 unmade Memory so made s s' h = h
 unmade Storage so made s s' h = tt
 
-pub known : (b so : Bool) (made : World) (s s' : State) → b ≡ true → WritesWhereSo (Ok b) so made s s' → (so ≡ true) × (s' ≡ record { world = made; spent = false })
+pub known : (b so : Bool) (made : World) (s s' : Kept) → b ≡ true → WritesWhereSo (Ok b) so made s s' → (so ≡ true) × (s' ≡ goes_on s made)
 known true so made s s' e h = h
 known false so made s s' e h = absurd cc
 
-pub unknown : (b so : Bool) (made : World) (s s' : State) → b ≡ false → WritesWhereSo (Ok b) so made s s' → s' ≡ s
+pub unknown : (b so : Bool) (made : World) (s s' : Kept) → b ≡ false → WritesWhereSo (Ok b) so made s s' → s' ≡ s
 unknown true so made s s' e h = absurd cc
 unknown false so made s s' e h = h
 
@@ -147,7 +147,7 @@ module _ (w : World) (name reference : Text) (u : Upload) (f : Found w name u.nu
 -- ---- what comes of an end
 
 -- no such session
-pub ends_unknown : (s s' : State) (name reference : Text) (given range : Option Text) (body : Text) → has_repo s.world name ≡ true → None ≡ upload_at s.world name reference → (a : Answer) → a ≡ refused UploadUnknown
+pub ends_unknown : (s s' : Kept) (name reference : Text) (given range : Option Text) (body : Text) → has_repo s.world name ≡ true → None ≡ upload_at s.world name reference → (a : Answer) → a ≡ refused UploadUnknown
     → s.spent ≡ false → s' ≡ s → Done a name (λ r. close_session r name reference given range body) s s'
 ends_unknown s s' name reference given range body there none a is unspent stays =
     let here = there_is (repo_at s.world name) there in
@@ -155,7 +155,7 @@ ends_unknown s s' name reference given range body there none a is unspent stays 
     (ap (close_to here.0 name given range body) (unnamed s.world name reference here.0 here.1 none))
 
 -- no digest
-ends_undigested : (s s' : State) (name reference : Text) (u : Upload) → Some u ≡ upload_at s.world name reference → (given range : Option Text) (body : Text) → given ≡ None → (a : Answer) → a ≡ refused InvalidDigest
+ends_undigested : (s s' : Kept) (name reference : Text) (u : Upload) → Some u ≡ upload_at s.world name reference → (given range : Option Text) (body : Text) → given ≡ None → (a : Answer) → a ≡ refused InvalidDigest
     → s.spent ≡ false → s' ≡ s → Done a name (λ r. close_session r name reference given range body) s s'
 ends_undigested s s' name reference u e given range body none a is unspent stays = by_session (found_session s.world name u.number u.size (upload_is s.world name reference u e).1)
   where
@@ -164,7 +164,7 @@ ends_undigested s s' name reference u e given range body none a is unspent stays
         told s s' name (λ r. close_session r name reference given range body) f.repo f.at a (refused InvalidDigest) is unspent stays
         (ap (λ o. close_session f.repo name reference o range body) none ∙ ap (close_to f.repo name None range body) (named s.world name reference u f e))
 
-module _ (s s' : State) (name reference : Text) (u : Upload) (e : Some u ≡ upload_at s.world name reference) (given range : Option Text) (body text : Text) (said : given ≡ Some text) where
+module _ (s s' : Kept) (name reference : Text) (u : Upload) (e : Some u ≡ upload_at s.world name reference) (given range : Option Text) (body text : Text) (said : given ≡ Some text) where
   f : Found s.world name u.number u.size
   f = found_session s.world name u.number u.size (upload_is s.world name reference u e).1
 
@@ -179,14 +179,14 @@ module _ (s s' : State) (name reference : Text) (u : Upload) (e : Some u ≡ upl
         told s s' name (λ r. close_session r name reference given range body) f.repo f.at a a refl unspent stays
         (ap (λ o. close_session f.repo name reference o range body) said ∙ put_refused s.world name reference u f e range body digest text read v is a h)
 
-    pub ends_taken : (result : Result Reply Fault) (s1 : State) → s1 ≡ s → None ≡ chunk_refusal v name u (length body)
+    pub ends_taken : (result : Result Reply Fault) (s1 : Kept) → s1 ≡ s → None ≡ chunk_refusal v name u (length body)
         → Operates result name (λ r. finish_with r name u.number digest (bytes_so_far r u.number ++ body)) s1 s' → Operates result name (λ r. close_session r name reference given range body) s s'
     ends_taken result s1 stays h comes =
         same_act result name (λ r. finish_with r name u.number digest (bytes_so_far r u.number ++ body)) (λ r. close_session r name reference given range body) s s1 s' f.repo stays f.at
         (ap (λ o. close_session f.repo name reference o range body) said ∙ put_taken s.world name reference u f e range body digest text read v is h) comes
 
 -- no digest is given, or one against which nothing can be verified
-pub ends_ungiven : (s s' : State) (name reference : Text) (u : Upload) → Some u ≡ upload_at s.world name reference → (given range : Option Text) (body : Text) → None ≡ given_digest given → (a : Answer) → a ≡ refused InvalidDigest
+pub ends_ungiven : (s s' : Kept) (name reference : Text) (u : Upload) → Some u ≡ upload_at s.world name reference → (given range : Option Text) (body : Text) → None ≡ given_digest given → (a : Answer) → a ≡ refused InvalidDigest
     → s.spent ≡ false → s' ≡ s → Done a name (λ r. close_session r name reference given range body) s s'
 ends_ungiven s s' name reference u e None range body none a is unspent stays = ends_undigested s s' name reference u e None range body refl a is unspent stays
 ends_ungiven s s' name reference u e (Some text) range body none a is unspent stays = ends_unverified s s' name reference u e (Some text) range body text refl a is unspent stays none

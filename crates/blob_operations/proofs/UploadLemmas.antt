@@ -23,7 +23,7 @@ use Rattle.registry_model.specs.Lookups as lookups
 use Rattle.operation_parts.specs.Quota.{grows_over, grows_over_at}
 use Rattle.blob_operations.specs.Uploads.{IsOpen, upload_at, next_number_at, chunk_refusal, bytes_so_far, append_more}
 use Rattle.blob_operations.specs.declared.uploads.Upload.{Upload}
-use Rattle.registry_model.specs.Keeping.{State}
+use Rattle.registry_model.specs.Keeping.{Kept, goes_on}
 use Rattle.operation_parts.proofs.QuotaLemmas.{append_over}
 use Rattle.operation_parts.proofs.RepoOutcomes.{Done, there_is, told, made}
 
@@ -49,29 +49,29 @@ pub found_session : (w : World) (name : Text) (number size : ℕ) → session_si
 found_session w name number size e = found_in w name number size (repo_at w name) refl e
 
 -- the session of an upload is open still
-pub open_there : (s mid : State) (name : Text) (u : Upload) → mid ≡ s → IsOpen s name u → is_some (session_at mid.world name u.number) ≡ true
-open_there s mid name u same is_open = subst (λ (x : State). is_some (session_at x.world name u.number) ≡ true) (sym same) (by_length (session_at s.world name u.number) is_open)
+pub open_there : (s mid : Kept) (name : Text) (u : Upload) → mid ≡ s → IsOpen s name u → is_some (session_at mid.world name u.number) ≡ true
+open_there s mid name u same is_open = subst (λ (x : Kept). is_some (session_at x.world name u.number) ≡ true) (sym same) (by_length (session_at s.world name u.number) is_open)
   where
     by_length : (o : Option Text) → option_map length o ≡ Some u.size → is_some o ≡ true
     by_length None e = absurd (cc)
     by_length (Some bytes) e = refl
 
 -- so there are bytes of it
-pub open_held : (s : State) (name : Text) (u : Upload) → IsOpen s name u → None ≡ session_at s.world name u.number → ⊥
+pub open_held : (s : Kept) (name : Text) (u : Upload) → IsOpen s name u → None ≡ session_at s.world name u.number → ⊥
 open_held s name u is_open none = absurd (let gone = ap (option_map length) none in cc)
 
 -- and a chunk behind them that fits
-pub held_fits : (s : State) (name : Text) (u : Upload) (bytes body all : Text) → IsOpen s name u → Some bytes ≡ session_at s.world name u.number → all ≡ bytes ++ body → u.size + length body ≤ largest_blob
+pub held_fits : (s : Kept) (name : Text) (u : Upload) (bytes body all : Text) → IsOpen s name u → Some bytes ≡ session_at s.world name u.number → all ≡ bytes ++ body → u.size + length body ≤ largest_blob
     → length all ≤ largest_blob
 held_fits s name u bytes body all is_open held is fits =
     let long : length bytes ≡ u.size = same_Some (length bytes) u.size (ap (option_map length) held ∙ is_open) in
     subst (λ t. length t ≤ largest_blob) (sym is) (omega (arith, length-append bytes body, long))
 
 -- and has as many bytes
-pub open_fits : (s mid : State) (name : Text) (u : Upload) (more : ℕ) → mid ≡ s → IsOpen s name u → u.size + more ≤ largest_blob
+pub open_fits : (s mid : Kept) (name : Text) (u : Upload) (more : ℕ) → mid ≡ s → IsOpen s name u → u.size + more ≤ largest_blob
     → length (bytes_or_none (session_at mid.world name u.number)) + more ≤ largest_blob
 open_fits s mid name u more same is_open fits =
-    subst (λ (x : State). length (bytes_or_none (session_at x.world name u.number)) + more ≤ largest_blob) (sym same)
+    subst (λ (x : Kept). length (bytes_or_none (session_at x.world name u.number)) + more ≤ largest_blob) (sym same)
     (subst (λ n. n + more ≤ largest_blob) (sym (by_length (session_at s.world name u.number) is_open)) fits)
   where
     by_length : (o : Option Text) → option_map length o ≡ Some u.size → length (bytes_or_none o) ≡ u.size
@@ -227,7 +227,7 @@ module _ (w : World) (name reference : Text) (u : Upload) (f : Found w name u.nu
       ∙ chunk_taken v name u (length body) (append_more f.repo name u.number body) h
 
 -- a chunk for no such session
-pub patch_unknown : (s s' : State) (name reference : Text) (range : Option Text) (body : Text) → has_repo s.world name ≡ true → None ≡ upload_at s.world name reference → (a : Answer) → a ≡ refused UploadUnknown
+pub patch_unknown : (s s' : Kept) (name reference : Text) (range : Option Text) (body : Text) → has_repo s.world name ≡ true → None ≡ upload_at s.world name reference → (a : Answer) → a ≡ refused UploadUnknown
     → s.spent ≡ false → s' ≡ s → Done a name (λ r. append_chunk r name reference range body) s s'
 patch_unknown s s' name reference range body there none a is unspent stays =
     let here = there_is (repo_at s.world name) there in
@@ -257,12 +257,12 @@ not_full many last k n e = by_tests (nat_le most_sessions many) (nat_le largest 
     by_tests false true few_is below_is e = absurd (cc)
     by_tests false false few_is below_is e = (grind (arith, nat_tests), grind (arith, nat_tests))
 
-pub next_fits : (s mid : State) (name : Text) (number : ℕ) → mid ≡ s → Some number ≡ next_number_at s.world name → (sessions_open_at mid.world name < most_sessions) × (last_number_at mid.world name < largest)
+pub next_fits : (s mid : Kept) (name : Text) (number : ℕ) → mid ≡ s → Some number ≡ next_number_at s.world name → (sessions_open_at mid.world name < most_sessions) × (last_number_at mid.world name < largest)
 next_fits s mid name number same e =
-    subst (λ (x : State). (sessions_open_at x.world name < most_sessions) × (last_number_at x.world name < largest)) (sym same)
+    subst (λ (x : Kept). (sessions_open_at x.world name < most_sessions) × (last_number_at x.world name < largest)) (sym same)
     (not_full (sessions_open_at s.world name) (last_number_at s.world name) number (last_number_at s.world name + 1) e)
 
-module _ (s mid : State) (name : Text) (there : has_repo s.world name ≡ true) (unspent : s.spent ≡ false) (first : mid ≡ s) (a : Answer) where
+module _ (s mid : Kept) (name : Text) (there : has_repo s.world name ≡ true) (unspent : s.spent ≡ false) (first : mid ≡ s) (a : Answer) where
   -- no more can be opened
   pub opens_none : None ≡ next_number_at s.world name → a ≡ refused TooManyUploads → Done a name (λ r. open_session r name) s mid
   opens_none none e =
@@ -271,18 +271,18 @@ module _ (s mid : State) (name : Text) (there : has_repo s.world name ≡ true) 
       (ap (λ b. cond b (refuses TooManyUploads) (makes (session_reply Accepted name (r.0.last + 1) 0) (opened r.0))) (none_next (is_full r.0) (r.0.last + 1) (none ∙ next_is s.world name r.0 r.1)))
 
   -- one more is
-  pub opens_next : (s' : State) (number : ℕ) → Some number ≡ next_number_at s.world name → s' ≡ record { world = lookups.open_session mid.world name; spent = false }
+  pub opens_next : (s' : Kept) (number : ℕ) → Some number ≡ next_number_at s.world name → s' ≡ goes_on mid (lookups.open_session mid.world name)
       → a ≡ session_reply Accepted name number 0 → Done a name (λ r. open_session r name) s s'
   opens_next s' number some after e =
       let r = there_is (repo_at s.world name) there in
       let next = some_next (is_full r.0) number (r.0.last + 1) (some ∙ next_is s.world name r.0 r.1) in
       made s s' name (λ r. open_session r name) r.0 r.1 a _ (e ∙ ap (λ n. session_reply Accepted name n 0) next.1) opened
-      (after ∙ ap {A = State} {B = State} (λ m. record { world = lookups.open_session m.world name; spent = false }) first)
+      (after ∙ ap {A = Kept} {B = Kept} (λ m. goes_on m (lookups.open_session m.world name)) first)
       (ap (λ b. cond b (refuses TooManyUploads) (makes (session_reply Accepted name (r.0.last + 1) 0) (opened r.0))) next.0)
 
 -- ---- how far a session is
 
-module _ (s s' : State) (name reference : Text) (unspent : s.spent ≡ false) (stays : s' ≡ s) (a : Answer) where
+module _ (s s' : Kept) (name reference : Text) (unspent : s.spent ≡ false) (stays : s' ≡ s) (a : Answer) where
   pub status_unknown : has_repo s.world name ≡ true → None ≡ upload_at s.world name reference → a ≡ refused UploadUnknown → Done a name (λ r. read_session r name reference) s s'
   status_unknown there none is =
       let here = there_is (repo_at s.world name) there in

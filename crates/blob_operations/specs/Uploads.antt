@@ -15,7 +15,7 @@ use Rattle.registry_model.specs.Limits.{largest, largest_blob, most_sessions}
 use Rattle.registry_model.specs.Answer.{Answer, refused}
 use Rattle.registry_model.specs.Decision.{Decision, refuses, within_quota}
 use Rattle.registry_model.specs.Blobs.{created_blob}
-use Rattle.registry_model.specs.Keeping.{State}
+use Rattle.registry_model.specs.Keeping.{Kept}
 use Rattle.registry_model.specs.Sessions.{appended, finished, session_reply, refuses_order}
 use Rattle.registry_model.specs.Lookups.{session_size_at, sessions_open_at, last_number_at, bytes_or_none}
 use Rattle.blob_operations.specs.declared.uploads.Upload.{Upload}
@@ -28,7 +28,7 @@ upload_at w name reference =
     (session_number_of reference)
 
 -- such a session is open
-abbrev pub IsOpen : State → Text → Upload → Type 0
+abbrev pub IsOpen : Kept → Text → Upload → Type 0
 IsOpen s name u = session_size_at s.world name u.number ≡ Some u.size
 
 -- the number that the next session gets, where one more may be opened

@@ -22,13 +22,13 @@ pub fn read_blob<K: Keeper>(
     name: &RepoName,
     text: &str,
 ) -> Result<Reply, Fault>
-    requires unspent { IsUnspent (K.state keeper.old) }
-    requires there { K.is_honest keeper.old → HasRepo (K.state keeper.old) name.now }
+    requires unspent { IsUnspent (K.kept keeper.old) }
+    requires there { K.is_honest keeper.old → HasRepo (K.kept keeper.old) name.now }
     ensures comes { K.is_honest keeper.new →
-        Operates result name.now (λ r. read_blob r text.now) (K.state keeper.old) (K.state keeper.new) }
+        Operates result name.now (λ r. read_blob r text.now) (K.kept keeper.old) (K.kept keeper.new) }
     ensures answers { Answers result }
     ensures carries { Carries result }
-    ensures spends { Spends result (K.state keeper.old) (K.state keeper.new) }
+    ensures spends { Spends result (K.kept keeper.old) (K.kept keeper.new) }
     ensures honest { K.is_honest keeper.new → K.is_honest keeper.old }
 {
     let digest = match found_or(read_digest(alloc, text), Refusal::BlobUnknown) {
@@ -48,12 +48,12 @@ pub fn size_blob<K: Keeper>(
     name: &RepoName,
     text: &str,
 ) -> Result<Reply, Fault>
-    requires unspent { IsUnspent (K.state keeper.old) }
-    requires there { K.is_honest keeper.old → HasRepo (K.state keeper.old) name.now }
+    requires unspent { IsUnspent (K.kept keeper.old) }
+    requires there { K.is_honest keeper.old → HasRepo (K.kept keeper.old) name.now }
     ensures comes { K.is_honest keeper.new →
-        Operates result name.now (λ r. size_blob r text.now) (K.state keeper.old) (K.state keeper.new) }
+        Operates result name.now (λ r. size_blob r text.now) (K.kept keeper.old) (K.kept keeper.new) }
     ensures answers { Answers result }
-    ensures spends { Spends result (K.state keeper.old) (K.state keeper.new) }
+    ensures spends { Spends result (K.kept keeper.old) (K.kept keeper.new) }
     ensures honest { K.is_honest keeper.new → K.is_honest keeper.old }
 {
     let digest = match found_or(read_digest(alloc, text), Refusal::BlobUnknown) {
@@ -73,13 +73,13 @@ pub fn delete_blob<K: Keeper>(
     name: &RepoName,
     text: &str,
 ) -> Result<Reply, Fault>
-    requires unspent { IsUnspent (K.state keeper.old) }
-    requires there { K.is_honest keeper.old → HasRepo (K.state keeper.old) name.now }
+    requires unspent { IsUnspent (K.kept keeper.old) }
+    requires there { K.is_honest keeper.old → HasRepo (K.kept keeper.old) name.now }
     ensures comes { K.is_honest keeper.new →
-        Operates result name.now (λ r. delete_blob r text.now) (K.state keeper.old) (K.state keeper.new) }
+        Operates result name.now (λ r. delete_blob r text.now) (K.kept keeper.old) (K.kept keeper.new) }
     ensures answers { Answers result }
     ensures carries { Carries result }
-    ensures spends { Spends result (K.state keeper.old) (K.state keeper.new) }
+    ensures spends { Spends result (K.kept keeper.old) (K.kept keeper.new) }
     ensures honest { K.is_honest keeper.new → K.is_honest keeper.old }
 {
     let digest = match found_or(read_digest(alloc, text), Refusal::BlobUnknown) {
@@ -105,16 +105,16 @@ fn add_blob<K: Keeper>(
     digest: Digest,
     body: &[u8],
 ) -> Result<Reply, Fault>
-    requires unspent { IsUnspent (K.state keeper.old) }
-    requires there { K.is_honest keeper.old → HasRepo (K.state keeper.old) name.now }
+    requires unspent { IsUnspent (K.kept keeper.old) }
+    requires there { K.is_honest keeper.old → HasRepo (K.kept keeper.old) name.now }
     requires matching { matches digest body.now ≡ true }
     requires fits { length body.now ≤ largest_blob }
     ensures comes { K.is_honest keeper.new → Operates result name.now
         (λ r. within_quota r (with_blob r digest body.now) (created_blob name.now digest))
-        (K.state keeper.old) (K.state keeper.new) }
+        (K.kept keeper.old) (K.kept keeper.new) }
     ensures answers { Answers result }
     ensures carries { Carries result }
-    ensures spends { Spends result (K.state keeper.old) (K.state keeper.new) }
+    ensures spends { Spends result (K.kept keeper.old) (K.kept keeper.new) }
     ensures honest { K.is_honest keeper.new → K.is_honest keeper.old }
 {
     let over = blob_goes_over(keeper, name, &digest, body.len() as u64, 0);
@@ -160,13 +160,13 @@ pub fn push_blob<K: Keeper>(
     text: &str,
     body: &[u8],
 ) -> Result<Reply, Fault>
-    requires unspent { IsUnspent (K.state keeper.old) }
-    requires there { K.is_honest keeper.old → HasRepo (K.state keeper.old) name.now }
+    requires unspent { IsUnspent (K.kept keeper.old) }
+    requires there { K.is_honest keeper.old → HasRepo (K.kept keeper.old) name.now }
     ensures comes { K.is_honest keeper.new → Operates result name.now
-        (λ r. push_blob r name.now text.now body.now) (K.state keeper.old) (K.state keeper.new) }
+        (λ r. push_blob r name.now text.now body.now) (K.kept keeper.old) (K.kept keeper.new) }
     ensures answers { Answers result }
     ensures carries { Carries result }
-    ensures spends { Spends result (K.state keeper.old) (K.state keeper.new) }
+    ensures spends { Spends result (K.kept keeper.old) (K.kept keeper.new) }
     ensures honest { K.is_honest keeper.new → K.is_honest keeper.old }
 {
     let digest = match found_or(read_digest(alloc, text), Refusal::InvalidDigest) {

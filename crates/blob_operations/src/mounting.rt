@@ -34,11 +34,11 @@ fn find_source<K: Keeper>(
     from: Option<&str>,
     digest: &Digest,
 ) -> Result<Option<Source>, Fault>
-    requires unspent { IsUnspent (K.state keeper.old) }
+    requires unspent { IsUnspent (K.kept keeper.old) }
     ensures found { K.is_honest keeper.new → Finds result
         (λ w. source_at w token.now (text_in from.entry) digest.now)
-        (K.state keeper.old) (K.state keeper.new) }
-    ensures spends { Spends result (K.state keeper.old) (K.state keeper.new) }
+        (K.kept keeper.old) (K.kept keeper.new) }
+    ensures spends { Spends result (K.kept keeper.old) (K.kept keeper.new) }
     ensures honest { K.is_honest keeper.new → K.is_honest keeper.old }
 {
     let Some(text) = from else {
@@ -68,16 +68,16 @@ fn mount_from<K: Keeper>(
     name: &RepoName,
     digest: Digest,
 ) -> Result<Reply, Fault>
-    requires unspent { IsUnspent (K.state keeper.old) }
-    requires there { K.is_honest keeper.old → HasRepo (K.state keeper.old) name.now }
+    requires unspent { IsUnspent (K.kept keeper.old) }
+    requires there { K.is_honest keeper.old → HasRepo (K.kept keeper.old) name.now }
     requires source { K.is_honest keeper.old →
-        blob_size_at (K.state keeper.old).world source.now.name digest ≡ Some source.now.size }
+        blob_size_at (K.kept keeper.old).world source.now.name digest ≡ Some source.now.size }
     ensures comes { K.is_honest keeper.new → OperatesWith result name.now
         (λ w r. mounts.mounted r name.now digest (blob_at w source.now.name digest))
-        (K.state keeper.old) (K.state keeper.new) }
+        (K.kept keeper.old) (K.kept keeper.new) }
     ensures answers { Answers result }
     ensures carries { Carries result }
-    ensures spends { Spends result (K.state keeper.old) (K.state keeper.new) }
+    ensures spends { Spends result (K.kept keeper.old) (K.kept keeper.new) }
     ensures honest { K.is_honest keeper.new → K.is_honest keeper.old }
 {
     match within_quota(blob_goes_over(keeper, name, &digest, source.size, 0)) {
@@ -102,14 +102,14 @@ pub fn mount_blob<K: Keeper>(
     digest: &str,
     from: Option<&str>,
 ) -> Result<Reply, Fault>
-    requires unspent { IsUnspent (K.state keeper.old) }
-    requires there { K.is_honest keeper.old → HasRepo (K.state keeper.old) name.now }
+    requires unspent { IsUnspent (K.kept keeper.old) }
+    requires there { K.is_honest keeper.old → HasRepo (K.kept keeper.old) name.now }
     ensures comes { K.is_honest keeper.new → OperatesWith result name.now
         (λ w r. mounts.mount_blob (w.grants token.now) (repo_at w) r name.now digest.now (text_in from.entry))
-        (K.state keeper.old) (K.state keeper.new) }
+        (K.kept keeper.old) (K.kept keeper.new) }
     ensures answers { Answers result }
     ensures carries { Carries result }
-    ensures spends { Spends result (K.state keeper.old) (K.state keeper.new) }
+    ensures spends { Spends result (K.kept keeper.old) (K.kept keeper.new) }
     ensures honest { K.is_honest keeper.new → K.is_honest keeper.old }
 {
     let wanted = match found_or(read_digest(alloc, digest), Refusal::InvalidDigest) {

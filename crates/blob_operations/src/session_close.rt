@@ -40,16 +40,16 @@ fn finish<K: Keeper>(
     digest: Digest,
     bytes: &[u8],
 ) -> Result<Reply, Fault>
-    requires unspent { IsUnspent (K.state keeper.old) }
-    requires open { K.is_honest keeper.old → IsOpen (K.state keeper.old) name.now upload }
+    requires unspent { IsUnspent (K.kept keeper.old) }
+    requires open { K.is_honest keeper.old → IsOpen (K.kept keeper.old) name.now upload }
     requires verified { is_verified digest ≡ true }
     requires fits { K.is_honest keeper.old → length bytes.now ≤ largest_blob }
     ensures comes { K.is_honest keeper.new → Operates result name.now
         (λ r. finish_with r name.now upload.number digest bytes.now)
-        (K.state keeper.old) (K.state keeper.new) }
+        (K.kept keeper.old) (K.kept keeper.new) }
     ensures answers { Answers result }
     ensures carries { Carries result }
-    ensures spends { Spends result (K.state keeper.old) (K.state keeper.new) }
+    ensures spends { Spends result (K.kept keeper.old) (K.kept keeper.new) }
     ensures honest { K.is_honest keeper.new → K.is_honest keeper.old }
 {
     let length = bytes.len() as u64;
@@ -81,16 +81,16 @@ fn close_read<K: Keeper>(
     digest: Digest,
     body: &[u8],
 ) -> Result<Reply, Fault>
-    requires unspent { IsUnspent (K.state keeper.old) }
-    requires open { K.is_honest keeper.old → IsOpen (K.state keeper.old) name.now upload }
+    requires unspent { IsUnspent (K.kept keeper.old) }
+    requires open { K.is_honest keeper.old → IsOpen (K.kept keeper.old) name.now upload }
     requires verified { is_verified digest ≡ true }
     requires fits { upload.size + length body.now ≤ largest_blob }
     ensures comes { K.is_honest keeper.new → Operates result name.now
         (λ r. finish_with r name.now upload.number digest (bytes_so_far r upload.number ++ body.now))
-        (K.state keeper.old) (K.state keeper.new) }
+        (K.kept keeper.old) (K.kept keeper.new) }
     ensures answers { Answers result }
     ensures carries { Carries result }
-    ensures spends { Spends result (K.state keeper.old) (K.state keeper.new) }
+    ensures spends { Spends result (K.kept keeper.old) (K.kept keeper.new) }
     ensures honest { K.is_honest keeper.new → K.is_honest keeper.old }
 {
     let held = keeper.session(alloc, name, upload.number);
@@ -116,16 +116,16 @@ fn close_with<K: Keeper>(
     digest: Digest,
     body: &[u8],
 ) -> Result<Reply, Fault>
-    requires unspent { IsUnspent (K.state keeper.old) }
-    requires open { K.is_honest keeper.old → IsOpen (K.state keeper.old) name.now upload }
+    requires unspent { IsUnspent (K.kept keeper.old) }
+    requires open { K.is_honest keeper.old → IsOpen (K.kept keeper.old) name.now upload }
     requires verified { is_verified digest ≡ true }
     requires fits { upload.size + length body.now ≤ largest_blob }
     ensures comes { K.is_honest keeper.new → Operates result name.now
         (λ r. finish_with r name.now upload.number digest (bytes_so_far r upload.number ++ body.now))
-        (K.state keeper.old) (K.state keeper.new) }
+        (K.kept keeper.old) (K.kept keeper.new) }
     ensures answers { Answers result }
     ensures carries { Carries result }
-    ensures spends { Spends result (K.state keeper.old) (K.state keeper.new) }
+    ensures spends { Spends result (K.kept keeper.old) (K.kept keeper.new) }
     ensures honest { K.is_honest keeper.new → K.is_honest keeper.old }
 {
     if upload.size == 0 {
@@ -165,14 +165,14 @@ pub fn close_session<K: Keeper>(
     range: Option<&[u8]>,
     body: &[u8],
 ) -> Result<Reply, Fault>
-    requires unspent { IsUnspent (K.state keeper.old) }
-    requires there { K.is_honest keeper.old → HasRepo (K.state keeper.old) name.now }
+    requires unspent { IsUnspent (K.kept keeper.old) }
+    requires there { K.is_honest keeper.old → HasRepo (K.kept keeper.old) name.now }
     ensures comes { K.is_honest keeper.new → Operates result name.now
         (λ r. sessions.close_session r name.now reference.now (text_in digest.entry) (text_in range.entry)
-        body.now) (K.state keeper.old) (K.state keeper.new) }
+        body.now) (K.kept keeper.old) (K.kept keeper.new) }
     ensures answers { Answers result }
     ensures carries { Carries result }
-    ensures spends { Spends result (K.state keeper.old) (K.state keeper.new) }
+    ensures spends { Spends result (K.kept keeper.old) (K.kept keeper.new) }
     ensures honest { K.is_honest keeper.new → K.is_honest keeper.old }
 {
     let upload = match found_or(find_upload(keeper, name, reference), Refusal::UploadUnknown) {

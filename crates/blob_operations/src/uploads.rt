@@ -34,10 +34,10 @@ pub fn find_upload<K: Keeper>(
     name: &RepoName,
     reference: &str,
 ) -> Result<Option<Upload>, Fault>
-    requires unspent { IsUnspent (K.state keeper.old) }
+    requires unspent { IsUnspent (K.kept keeper.old) }
     ensures found { K.is_honest keeper.new →
-        Finds result (λ w. upload_at w name.now reference.now) (K.state keeper.old) (K.state keeper.new) }
-    ensures spends { Spends result (K.state keeper.old) (K.state keeper.new) }
+        Finds result (λ w. upload_at w name.now reference.now) (K.kept keeper.old) (K.kept keeper.new) }
+    ensures spends { Spends result (K.kept keeper.old) (K.kept keeper.new) }
     ensures honest { K.is_honest keeper.new → K.is_honest keeper.old }
 {
     let Some(number) = session_number(reference) else {
@@ -52,8 +52,8 @@ pub fn find_upload<K: Keeper>(
 /// The number that the next upload session gets; `None` where no more can be opened.
 fn next_number<K: Keeper>(keeper: &mut K, name: &RepoName) -> Result<Option<u64>, Fault>
     ensures found { K.is_honest keeper.new →
-        Finds result (λ w. next_number_at w name.now) (K.state keeper.old) (K.state keeper.new) }
-    ensures spends { Spends result (K.state keeper.old) (K.state keeper.new) }
+        Finds result (λ w. next_number_at w name.now) (K.kept keeper.old) (K.kept keeper.new) }
+    ensures spends { Spends result (K.kept keeper.old) (K.kept keeper.new) }
     ensures honest { K.is_honest keeper.new → K.is_honest keeper.old }
 {
     let open = keeper.sessions_open(name)?;
@@ -72,13 +72,13 @@ pub fn open_session<K: Keeper>(
     alloc: Global,
     name: &RepoName,
 ) -> Result<Reply, Fault>
-    requires unspent { IsUnspent (K.state keeper.old) }
-    requires there { K.is_honest keeper.old → HasRepo (K.state keeper.old) name.now }
+    requires unspent { IsUnspent (K.kept keeper.old) }
+    requires there { K.is_honest keeper.old → HasRepo (K.kept keeper.old) name.now }
     ensures comes { K.is_honest keeper.new → Operates result name.now
-        (λ r. sessions.open_session r name.now) (K.state keeper.old) (K.state keeper.new) }
+        (λ r. sessions.open_session r name.now) (K.kept keeper.old) (K.kept keeper.new) }
     ensures answers { Answers result }
     ensures carries { Carries result }
-    ensures spends { Spends result (K.state keeper.old) (K.state keeper.new) }
+    ensures spends { Spends result (K.kept keeper.old) (K.kept keeper.new) }
     ensures honest { K.is_honest keeper.new → K.is_honest keeper.old }
 {
     let number = match found_or(next_number(keeper, name), Refusal::TooManyUploads) {
@@ -99,13 +99,13 @@ pub fn read_session<K: Keeper>(
     name: &RepoName,
     reference: &str,
 ) -> Result<Reply, Fault>
-    requires unspent { IsUnspent (K.state keeper.old) }
-    requires there { K.is_honest keeper.old → HasRepo (K.state keeper.old) name.now }
+    requires unspent { IsUnspent (K.kept keeper.old) }
+    requires there { K.is_honest keeper.old → HasRepo (K.kept keeper.old) name.now }
     ensures comes { K.is_honest keeper.new → Operates result name.now
-        (λ r. sessions.read_session r name.now reference.now) (K.state keeper.old) (K.state keeper.new) }
+        (λ r. sessions.read_session r name.now reference.now) (K.kept keeper.old) (K.kept keeper.new) }
     ensures answers { Answers result }
     ensures carries { Carries result }
-    ensures spends { Spends result (K.state keeper.old) (K.state keeper.new) }
+    ensures spends { Spends result (K.kept keeper.old) (K.kept keeper.new) }
     ensures honest { K.is_honest keeper.new → K.is_honest keeper.old }
 {
     let upload = match found_or(find_upload(keeper, name, reference), Refusal::UploadUnknown) {
@@ -164,14 +164,14 @@ fn append<K: Keeper>(
     upload: Upload,
     body: &[u8],
 ) -> Result<Reply, Fault>
-    requires unspent { IsUnspent (K.state keeper.old) }
-    requires open { K.is_honest keeper.old → IsOpen (K.state keeper.old) name.now upload }
+    requires unspent { IsUnspent (K.kept keeper.old) }
+    requires open { K.is_honest keeper.old → IsOpen (K.kept keeper.old) name.now upload }
     requires fits { upload.size + length body.now ≤ largest_blob }
     ensures comes { K.is_honest keeper.new → Operates result name.now
-        (λ r. append_more r name.now upload.number body.now) (K.state keeper.old) (K.state keeper.new) }
+        (λ r. append_more r name.now upload.number body.now) (K.kept keeper.old) (K.kept keeper.new) }
     ensures answers { Answers result }
     ensures carries { Carries result }
-    ensures spends { Spends result (K.state keeper.old) (K.state keeper.new) }
+    ensures spends { Spends result (K.kept keeper.old) (K.kept keeper.new) }
     ensures honest { K.is_honest keeper.new → K.is_honest keeper.old }
 {
     let length = body.len() as u64;
@@ -196,14 +196,14 @@ pub fn append_chunk<K: Keeper>(
     range: Option<&[u8]>,
     body: &[u8],
 ) -> Result<Reply, Fault>
-    requires unspent { IsUnspent (K.state keeper.old) }
-    requires there { K.is_honest keeper.old → HasRepo (K.state keeper.old) name.now }
+    requires unspent { IsUnspent (K.kept keeper.old) }
+    requires there { K.is_honest keeper.old → HasRepo (K.kept keeper.old) name.now }
     ensures comes { K.is_honest keeper.new → Operates result name.now
         (λ r. sessions.append_chunk r name.now reference.now (text_in range.entry) body.now)
-        (K.state keeper.old) (K.state keeper.new) }
+        (K.kept keeper.old) (K.kept keeper.new) }
     ensures answers { Answers result }
     ensures carries { Carries result }
-    ensures spends { Spends result (K.state keeper.old) (K.state keeper.new) }
+    ensures spends { Spends result (K.kept keeper.old) (K.kept keeper.new) }
     ensures honest { K.is_honest keeper.new → K.is_honest keeper.old }
 {
     let upload = match found_or(find_upload(keeper, name, reference), Refusal::UploadUnknown) {

@@ -9,7 +9,7 @@ use Rattle.registry_model.specs.World.{repo_at, has_repo}
 use Rattle.registry_model.specs.Answer.{Answer, refused}
 use Rattle.registry_model.specs.Lookups.{no_page, page_at}
 use Rattle.registry_model.specs.TagPage.{Page, page_behind, next_link, link_by, link_behind, size_in, text_or_empty, tags_reply, list_page, list_tags}
-use Rattle.registry_model.specs.Keeping.{State}
+use Rattle.registry_model.specs.Keeping.{Kept}
 use Rattle.operation_parts.proofs.RepoOutcomes.{there_is, Done, told}
 
 -- ---- where the next page begins
@@ -33,14 +33,14 @@ unsized : (o : Option (Option ℕ)) → ((n : Option ℕ) → o ≡ Some n → �
 unsized None h = refl
 unsized (Some n) h = absurd (h n refl)
 
-pub pages_nothing : (s : State) (name : Text) (n last : Option Text) → has_repo s.world name ≡ true → s.spent ≡ false
+pub pages_nothing : (s : Kept) (name : Text) (n last : Option Text) → has_repo s.world name ≡ true → s.spent ≡ false
     → (size : Option (Option ℕ)) → ((n : Option ℕ) → size ≡ Some n → ⊥) → size ≡ size_in n
     → (a : Answer) → a ≡ refused InvalidPageSize → Done a name (λ r. list_tags r name n last) s s
 pages_nothing s name n last there unspent size none read a e =
     let r = there_is (repo_at s.world name) there in
     told s s name (λ r. list_tags r name n last) r.0 r.1 a _ e unspent refl (ap (list_page r.0 name last) (sym read ∙ unsized size none))
 
-pub pages : (s s' : State) (name : Text) (n last : Option Text) → has_repo s.world name ≡ true → s.spent ≡ false → s' ≡ s → (size : Option ℕ) → Some size ≡ size_in n
+pub pages : (s s' : Kept) (name : Text) (n last : Option Text) → has_repo s.world name ≡ true → s.spent ≡ false → s' ≡ s → (size : Option ℕ) → Some size ≡ size_in n
     → (behind : Text) → behind ≡ text_or_empty last → (page : Page) → page ≡ page_at s.world name behind size
     → (a : Answer) → a ≡ tags_reply name size page → Done a name (λ r. list_tags r name n last) s s'
 pages s s' name n last there unspent stays size sized behind began page at a e =

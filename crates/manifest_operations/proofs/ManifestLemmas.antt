@@ -23,7 +23,7 @@ use Rattle.registry_model.specs.Decision.{Decision, refuses, tells, makes}
 use Rattle.registry_model.specs.Manifests.{reference_digest, kind_in, manifest_reply, manifest_of_digest, found_manifest, read_manifest, found_manifest_size, size_manifest, delete_tag, delete_digest, delete_manifest, without_tag, without_manifest}
 use Rattle.registry_model.specs.Lookups.{manifest_at, manifest_bytes_at, manifest_size_at, tag_at}
 use Rattle.registry_model.specs.Lookups as lookups
-use Rattle.registry_model.specs.Keeping.{State}
+use Rattle.registry_model.specs.Keeping.{Kept, goes_on}
 use Rattle.operation_parts.proofs.RepoOutcomes.{there_is, Done, told, made}
 use Rattle.operation_parts.specs.Operating.{Operates}
 
@@ -86,13 +86,13 @@ sized None size e = absurd (cc)
 sized (Some bytes) size e = refl
 
 -- deletion by a digest is that of the digest
-pub deletes_digest : (result : Result Reply Fault) (name reference digest : Text) (s s' : State) → digest ≡ reference → is_digest reference ≡ true
+pub deletes_digest : (result : Result Reply Fault) (name reference digest : Text) (s s' : Kept) → digest ≡ reference → is_digest reference ≡ true
     → Operates result name (λ r. delete_digest r digest) s s' → Operates result name (λ r. delete_manifest r reference) s s'
 deletes_digest result name reference digest s s' same d h =
     subst (λ (act : Repo → Decision). Operates result name act s s') (λ i r. by_digest reference digest same d r i) h
 
 -- what is neither a tag nor a digest is unknown
-pub deletes_nothing : (s : State) (name reference : Text) → has_repo s.world name ≡ true → s.spent ≡ false → is_reference reference ≡ false
+pub deletes_nothing : (s : Kept) (name reference : Text) → has_repo s.world name ≡ true → s.spent ≡ false → is_reference reference ≡ false
     → (a : Answer) → a ≡ refused ManifestUnknown → Done a name (λ r. delete_manifest r reference) s s
 deletes_nothing s name reference there unspent n a e =
     let r = there_is (repo_at s.world name) there in
@@ -101,20 +101,20 @@ deletes_nothing s name reference there unspent n a e =
     ∙ ap (λ b. cond b (delete_digest r.0 reference) (refuses ManifestUnknown)) (no_reference_is_no_digest reference n))
 
 -- and deletion by a tag that of the tag
-pub deletes_tag : (result : Result Reply Fault) (name reference tag : Text) (s s' : State) → tag ≡ reference → is_tag reference ≡ true
+pub deletes_tag : (result : Result Reply Fault) (name reference tag : Text) (s s' : Kept) → tag ≡ reference → is_tag reference ≡ true
     → Operates result name (λ r. delete_tag r tag) s s' → Operates result name (λ r. delete_manifest r reference) s s'
 deletes_tag result name reference tag s s' same t h =
     subst (λ (act : Repo → Decision). Operates result name act s s')
     (λ i r. (ap (delete_tag r) same ∙ sym (ap (λ b. cond b (delete_tag r reference) (cond (is_digest reference) (delete_digest r reference) (refuses ManifestUnknown))) t)) i) h
 
-module _ (s s' : State) (name : Text) (there : has_repo s.world name ≡ true) (unspent : s.spent ≡ false) (a : Answer) where
+module _ (s s' : Kept) (name : Text) (there : has_repo s.world name ≡ true) (unspent : s.spent ≡ false) (a : Answer) where
   pub tag_unknown : (tag : Text) → s' ≡ s → None ≡ tag_at s.world name tag → a ≡ refused ManifestUnknown → Done a name (λ r. delete_tag r tag) s s'
   tag_unknown tag stays none e =
       let r = there_is (repo_at s.world name) there in
       let here : get r.0.tags tag ≡ None = sym (none ∙ ap (λ o. option_and_then (λ (r : Repo). get r.tags tag) o) r.1) in
       told s s' name (λ r. delete_tag r tag) r.0 r.1 a _ e unspent stays (ap (λ o. cond (is_some o) (makes (bare_answer Accepted) (without_tag r.0 tag)) (refuses ManifestUnknown)) here)
 
-  pub tag_taken : (tag digest : Text) → Some digest ≡ tag_at s.world name tag → s' ≡ record { world = lookups.delete_tag s.world name tag; spent = false } → a ≡ bare_answer Accepted
+  pub tag_taken : (tag digest : Text) → Some digest ≡ tag_at s.world name tag → s' ≡ goes_on s (lookups.delete_tag s.world name tag) → a ≡ bare_answer Accepted
       → Done a name (λ r. delete_tag r tag) s s'
   tag_taken tag digest some after e =
       let r = there_is (repo_at s.world name) there in
@@ -133,7 +133,7 @@ module _ (s s' : State) (name : Text) (there : has_repo s.world name ≡ true) (
       unsized None e = refl
       unsized (Some bytes) e = absurd (cc)
 
-  pub digest_taken : (digest : Text) (size : Kind × ℕ) → Some size ≡ manifest_size_at s.world name digest → s' ≡ record { world = lookups.delete_manifest s.world name digest; spent = false }
+  pub digest_taken : (digest : Text) (size : Kind × ℕ) → Some size ≡ manifest_size_at s.world name digest → s' ≡ goes_on s (lookups.delete_manifest s.world name digest)
       → a ≡ bare_answer Accepted → Done a name (λ r. delete_digest r digest) s s'
   digest_taken digest size some after e =
       let r = there_is (repo_at s.world name) there in
@@ -142,12 +142,12 @@ module _ (s s' : State) (name : Text) (there : has_repo s.world name ≡ true) (
       made s s' name (λ r. delete_digest r digest) r.0 r.1 a _ e (λ r. without_manifest r digest) after
       (ap (λ b. cond b (makes (bare_answer Accepted) (without_manifest r.0 digest)) (refuses ManifestUnknown)) here)
 
-pub tag_there : (s mid : State) (name tag digest : Text) → mid ≡ s → Some digest ≡ tag_at s.world name tag → is_some (tag_at mid.world name tag) ≡ true
-tag_there s mid name tag digest same some = subst (λ (x : State). is_some (tag_at x.world name tag) ≡ true) (sym same) (ap is_some (sym some))
+pub tag_there : (s mid : Kept) (name tag digest : Text) → mid ≡ s → Some digest ≡ tag_at s.world name tag → is_some (tag_at mid.world name tag) ≡ true
+tag_there s mid name tag digest same some = subst (λ (x : Kept). is_some (tag_at x.world name tag) ≡ true) (sym same) (ap is_some (sym some))
 
-pub digest_there : (s mid : State) (name digest : Text) (size : Kind × ℕ) → mid ≡ s → Some size ≡ manifest_size_at s.world name digest → is_some (manifest_at mid.world name digest) ≡ true
+pub digest_there : (s mid : Kept) (name digest : Text) (size : Kind × ℕ) → mid ≡ s → Some size ≡ manifest_size_at s.world name digest → is_some (manifest_at mid.world name digest) ≡ true
 digest_there s mid name digest size same some =
-    subst (λ (x : State). is_some (manifest_at x.world name digest) ≡ true) (sym same) (shown (manifest_bytes_at s.world name digest) (sized (manifest_bytes_at s.world name digest) size some))
+    subst (λ (x : Kept). is_some (manifest_at x.world name digest) ≡ true) (sym same) (shown (manifest_bytes_at s.world name digest) (sized (manifest_bytes_at s.world name digest) size some))
   where
     shown : (o : Option Text) → is_some o ≡ true → is_some (option_map {U = Kind × Text} (λ bytes. (kind_in bytes, bytes)) o) ≡ true
     shown None e = absurd (cc)
@@ -173,8 +173,8 @@ sizes_bytes : (digest : Text) (o : Option Text)
 sizes_bytes digest None = refl
 sizes_bytes digest (Some bytes) = refl
 
-module _ (s : State) (name reference : Text) (there : has_repo s.world name ≡ true) (unspent : s.spent ≡ false) where
-  module _ (mid s' : State) (digest : Text) (names : Some digest ≡ option_and_then (λ r. reference_digest r reference) (repo_at s.world name))
+module _ (s : Kept) (name reference : Text) (there : has_repo s.world name ≡ true) (unspent : s.spent ≡ false) where
+  module _ (mid s' : Kept) (digest : Text) (names : Some digest ≡ option_and_then (λ r. reference_digest r reference) (repo_at s.world name))
       (first : mid ≡ s) (second : s' ≡ mid) where
     -- the reply of what was found, and nothing changed
     pub reads : (found : Option (Kind × Text)) → found ≡ manifest_at mid.world name digest → (a : Answer) → a ≡ read_reply digest found
@@ -183,7 +183,7 @@ module _ (s : State) (name reference : Text) (there : has_repo s.world name ≡ 
         let r = there_is (repo_at s.world name) there in
         let named : reference_digest r.0 reference ≡ Some digest = sym (names ∙ ap (λ o. option_and_then (λ r. reference_digest r reference) o) r.1) in
         let here : found ≡ option_map (λ bytes. (kind_in bytes, bytes)) (get r.0.manifests digest) =
-        at ∙ ap {A = State} (λ m. manifest_at m.world name digest) first
+        at ∙ ap {A = Kept} (λ m. manifest_at m.world name digest) first
         ∙ ap (λ o. option_map (λ bytes. (kind_in bytes, bytes)) (option_and_then (λ (r : Repo). get r.manifests digest) o)) r.1 in
         told s s' name (λ r. read_manifest r reference) r.0 r.1 a _ e unspent (second ∙ first)
         (ap (λ o. found_manifest (option_and_then (manifest_of_digest r.0) o)) named ∙ reads_bytes digest (get r.0.manifests digest)
@@ -195,21 +195,21 @@ module _ (s : State) (name reference : Text) (there : has_repo s.world name ≡ 
         let r = there_is (repo_at s.world name) there in
         let named : reference_digest r.0 reference ≡ Some digest = sym (names ∙ ap (λ o. option_and_then (λ r. reference_digest r reference) o) r.1) in
         let here : found ≡ option_map (λ bytes. (kind_in bytes, length bytes)) (get r.0.manifests digest) =
-        at ∙ ap {A = State} (λ m. manifest_size_at m.world name digest) first
+        at ∙ ap {A = Kept} (λ m. manifest_size_at m.world name digest) first
         ∙ ap (λ o. option_map (λ bytes. (kind_in bytes, length bytes)) (option_and_then (λ (r : Repo). get r.manifests digest) o)) r.1 in
         told s s' name (λ r. size_manifest r reference) r.0 r.1 a _ e unspent (second ∙ first)
         (ap (λ o. found_manifest_size (option_and_then (manifest_of_digest r.0) o)) named ∙ sizes_bytes digest (get r.0.manifests digest)
         ∙ ap (λ f. tells (size_reply digest f)) (sym here))
 
   -- the reference names nothing
-  pub reads_unnamed : (s' : State) → None ≡ option_and_then (λ r. reference_digest r reference) (repo_at s.world name) → s' ≡ s → (a : Answer) → a ≡ refused ManifestUnknown
+  pub reads_unnamed : (s' : Kept) → None ≡ option_and_then (λ r. reference_digest r reference) (repo_at s.world name) → s' ≡ s → (a : Answer) → a ≡ refused ManifestUnknown
       → Done a name (λ r. read_manifest r reference) s s'
   reads_unnamed s' none stays a e =
       let r = there_is (repo_at s.world name) there in
       let nothing : reference_digest r.0 reference ≡ None = sym (none ∙ ap (λ o. option_and_then (λ r. reference_digest r reference) o) r.1) in
       told s s' name (λ r. read_manifest r reference) r.0 r.1 a _ e unspent stays (ap (λ o. found_manifest (option_and_then (manifest_of_digest r.0) o)) nothing)
 
-  pub sizes_unnamed : (s' : State) → None ≡ option_and_then (λ r. reference_digest r reference) (repo_at s.world name) → s' ≡ s → (a : Answer) → a ≡ refused ManifestUnknown
+  pub sizes_unnamed : (s' : Kept) → None ≡ option_and_then (λ r. reference_digest r reference) (repo_at s.world name) → s' ≡ s → (a : Answer) → a ≡ refused ManifestUnknown
       → Done a name (λ r. size_manifest r reference) s s'
   sizes_unnamed s' none stays a e =
       let r = there_is (repo_at s.world name) there in

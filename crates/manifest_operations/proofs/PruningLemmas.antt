@@ -19,7 +19,7 @@ use Rattle.oci_types.specs.declared.fault.Fault.{Fault}
 use Rattle.registry_model.specs.World.{World, Repo, text_cmp, repo_at, with_repo, update_repo}
 use Rattle.registry_model.specs.Lookups.{blob_digests_at, manifest_digests_at}
 use Rattle.registry_model.specs.Pruning.{names_in, is_among, is_named, pruned, prune, without_blobs, delete_blobs}
-use Rattle.registry_model.specs.Keeping.{State, Writes}
+use Rattle.registry_model.specs.Keeping.{Kept, Writes}
 use Rattle.registry_model.proofs.TextOrder.{text_total}
 use Rattle.registry_model.proofs.BlobsTakenAway.{unnamed_taken}
 use Rattle.manifest_operations.specs.Pruning.{names_at, is_named_by, is_named_at, unnamed_of, unnamed_at}
@@ -98,13 +98,13 @@ named_in None q = refl
 named_in (Some r) q = by_value names_in q r.manifests
 
 -- what all manifests of a repository name is what some manifest of it names
-pub named_by_all : (s began : State) (name : Text) (has : Text → Bool) (manifests items : List Text) (index : ℕ)
+pub named_by_all : (s began : Kept) (name : Text) (has : Text → Bool) (manifests items : List Text) (index : ℕ)
     → ((q : Text) → has q ≡ is_named_by began.world name (take index items) q) → length items ≤ index
     → items ≡ manifests → manifests ≡ manifest_digests_at s.world name → began ≡ s → has ≡ is_named_at s.world name
 named_by_all s began name has manifests items index found over given told same i q =
     (found q
     ∙ ap (λ ds. is_named_by began.world name ds q) (take_all index items over ∙ given ∙ told)
-    ∙ ap {A = State} (λ s'. is_named_by s'.world name (manifest_digests_at s.world name) q) same
+    ∙ ap {A = Kept} (λ s'. is_named_by s'.world name (manifest_digests_at s.world name) q) same
     ∙ named_in (repo_at s.world name) q) i
 
 -- what one manifest more names
@@ -125,11 +125,11 @@ unnamed_in None = refl
 unnamed_in (Some r) = refl
 
 -- what is left of the blobs of a keeper's world without those that were told to be named
-pub unnamed_found : (s s1 : State) (name : Text) (has : Text → Bool) (blobs unnamed : List Text)
+pub unnamed_found : (s s1 : Kept) (name : Text) (has : Text → Bool) (blobs unnamed : List Text)
     → has ≡ is_named_at s.world name → s1 ≡ s → blobs ≡ blob_digests_at s1.world name
     → unnamed ≡ filter (λ digest. not (has digest)) blobs → unnamed ≡ unnamed_at s.world name
 unnamed_found s s1 name has blobs unnamed named first told left =
-    left ∙ ap (λ blobs. filter (λ digest. not (has digest)) blobs) (told ∙ ap {A = State} (λ s. blob_digests_at s.world name) first)
+    left ∙ ap (λ blobs. filter (λ digest. not (has digest)) blobs) (told ∙ ap {A = Kept} (λ s. blob_digests_at s.world name) first)
     ∙ ap (λ (p : Text → Bool). filter (λ digest. not (p digest)) (blob_digests_at s.world name)) named
     ∙ unnamed_in (repo_at s.world name)
 
@@ -143,10 +143,10 @@ pub pruned_at : (w : World) (name : Text) → delete_blobs w name (unnamed_at w 
 pruned_at w name = pruned_of w name (repo_at w name)
 
 -- what a keeper made of its world, by what it told before
-pub prunes : {A : Type 0} (result : Result A Fault) (s s1 s' : State) (name : Text) (unnamed digests : List Text)
+pub prunes : {A : Type 0} (result : Result A Fault) (s s1 s' : Kept) (name : Text) (unnamed digests : List Text)
     → unnamed ≡ unnamed_at s.world name → s1 ≡ s → digests ≡ unnamed
     → Writes result (delete_blobs s1.world name digests) s1 s' → Writes result (prune s.world name) s s'
 prunes result s s1 s' name unnamed digests told same given made =
     let after : delete_blobs s1.world name digests ≡ prune s.world name =
-    ap {A = State} (λ s. delete_blobs s.world name digests) same ∙ ap (delete_blobs s.world name) (given ∙ told) ∙ pruned_at s.world name in
-    subst (λ (w : World). Writes result w s s') after (subst (λ (x : State). Writes result (delete_blobs s1.world name digests) x s') same made)
+    ap {A = Kept} (λ s. delete_blobs s.world name digests) same ∙ ap (delete_blobs s.world name) (given ∙ told) ∙ pruned_at s.world name in
+    subst (λ (w : World). Writes result w s s') after (subst (λ (x : Kept). Writes result (delete_blobs s1.world name digests) x s') same made)

@@ -28,7 +28,7 @@ use Rattle.registry_model.specs.Answer.{Answer, refused}
 use Rattle.registry_model.specs.Decision.{Decision, refuses, makes, within_quota}
 use Rattle.registry_model.specs.Manifests.{content_type_fits, has_needs, with_manifest, created_manifest, push_read, push_manifest, pushed_digest, pushed_tag}
 use Rattle.registry_model.specs.Lookups.{blob_size_at, put_manifest}
-use Rattle.registry_model.specs.Keeping.{State}
+use Rattle.registry_model.specs.Keeping.{Kept, goes_on}
 use Rattle.operation_parts.specs.Operating.{Operates}
 use Rattle.operation_parts.specs.Quota.{grows_over, new_length, manifest_grows_over}
 use Rattle.manifest_operations.specs.Push.{has_needs_at, kept_answer, keep_manifest, push_typed, push_under, push_checked}
@@ -74,9 +74,9 @@ module _ (w : World) (name : Text) (needs : List Text) (index : ℕ) (digest : T
 
 -- ---- what is kept
 
-module _ (s : State) (name digest : Text) (tag : Option Text) (body : Text) (m : ManifestShown) (there : has_repo s.world name ≡ true) (unspent : s.spent ≡ false) where
+module _ (s : Kept) (name digest : Text) (tag : Option Text) (body : Text) (m : ManifestShown) (there : has_repo s.world name ≡ true) (unspent : s.spent ≡ false) where
   -- a needed blob is not there
-  pub needs_more : (s' : State) → s' ≡ s → (b : Bool) → b ≡ has_needs_at s.world name m.needs → b ≡ false
+  pub needs_more : (s' : Kept) → s' ≡ s → (b : Bool) → b ≡ has_needs_at s.world name m.needs → b ≡ false
       → (a : Answer) → a ≡ refused ManifestBlobUnknown → Done a name (λ r. keep_manifest r name digest tag body m) s s'
   needs_more s' same b found fails a e =
       let r = there_is (repo_at s.world name) there in
@@ -84,14 +84,14 @@ module _ (s : State) (name digest : Text) (tag : Option Text) (body : Text) (m :
       told s s' name (λ r. keep_manifest r name digest tag body m) r.0 r.1 a _ e unspent same
       (ap (λ b. cond (not b) (refuses ManifestBlobUnknown) (within_quota r.0 (with_manifest r.0 digest body tag) (created_manifest name digest m.subject))) test)
 
-  module _ (mid s' : State) (first : mid ≡ s) (second : s' ≡ mid) (b : Bool) (found : b ≡ has_needs_at s.world name m.needs) (all : b ≡ true)
+  module _ (mid s' : Kept) (first : mid ≡ s) (second : s' ≡ mid) (b : Bool) (found : b ≡ has_needs_at s.world name m.needs) (all : b ≡ true)
       (over : Bool) (asked : over ≡ manifest_grows_over mid.world name digest (length body)) where
     at_repo : (r : Repo) → repo_at s.world name ≡ Some r
         → keep_manifest r name digest tag body m ≡ cond over (refuses QuotaExceeded) (makes (created_manifest name digest m.subject) (with_manifest r digest body tag))
     at_repo r at =
         let test : has_needs r m.needs ≡ true = sym (needs_in (repo_at s.world name) r at m.needs) ∙ sym found ∙ all in
         let here : over ≡ grows_over r (new_length (get r.manifests digest) (length body)) 0 =
-        asked ∙ ap {A = State} (λ x. manifest_grows_over x.world name digest (length body)) first
+        asked ∙ ap {A = Kept} (λ x. manifest_grows_over x.world name digest (length body)) first
         ∙ ap (λ o. option_map_or (λ r. grows_over r (new_length (option_and_then (λ (r : Repo). get r.manifests digest) o) (length body)) 0) o
         (nat_lt 0 (new_length (option_and_then (λ (r : Repo). get r.manifests digest) o) (length body)))) at in
         ap (λ b. cond (not b) (refuses ManifestBlobUnknown) (within_quota r (with_manifest r digest body tag) (created_manifest name digest m.subject))) test
@@ -105,12 +105,12 @@ module _ (s : State) (name digest : Text) (tag : Option Text) (body : Text) (m :
         (at_repo r.0 r.1 ∙ ap (λ b. cond b (refuses QuotaExceeded) (makes (created_manifest name digest m.subject) (with_manifest r.0 digest body tag))) past)
 
     -- the manifest is kept
-    pub keeps_it : over ≡ false → (after : State) → after ≡ record { world = put_manifest s'.world name digest body tag; spent = false }
+    pub keeps_it : over ≡ false → (after : Kept) → after ≡ goes_on s' (put_manifest s'.world name digest body tag)
         → (a : Answer) → a ≡ created_manifest name digest m.subject → Done a name (λ r. keep_manifest r name digest tag body m) s after
     keeps_it fails after wrote a e =
         let r = there_is (repo_at s.world name) there in
         made s after name (λ r. keep_manifest r name digest tag body m) r.0 r.1 a _ e (λ r. with_manifest r digest body tag)
-        (wrote ∙ ap {A = State} {B = State} (λ m. record { world = put_manifest m.world name digest body tag; spent = false }) (second ∙ first))
+        (wrote ∙ ap {A = Kept} {B = Kept} (λ m. goes_on m (put_manifest m.world name digest body tag)) (second ∙ first))
         (at_repo r.0 r.1 ∙ ap (λ b. cond b (refuses QuotaExceeded) (makes (created_manifest name digest m.subject) (with_manifest r.0 digest body tag))) fails)
 
 -- what is kept is answered, with its content
@@ -123,7 +123,7 @@ kept_sent digest subject (Ok location) = refl
 kept_sent digest subject (Err e) = refl
 
 -- a content type of its kind
-pub of_its_kind : (s s' : State) (name digest : Text) (tag content_type : Option Text) (body : Text) (m : ManifestShown) (b : Bool) → b ≡ content_type_fits content_type m.kind → b ≡ true
+pub of_its_kind : (s s' : Kept) (name digest : Text) (tag content_type : Option Text) (body : Text) (m : ManifestShown) (b : Bool) → b ≡ content_type_fits content_type m.kind → b ≡ true
     → (a : Answer) → Done a name (λ r. keep_manifest r name digest tag body m) s s' → Done a name (λ r. push_typed r name digest tag content_type body m) s s'
 of_its_kind s s' name digest tag content_type body m b fits ok a h =
     subst (λ (act : Repo → Decision). Done a name act s s')
@@ -131,7 +131,7 @@ of_its_kind s s' name digest tag content_type body m b fits ok a h =
 
 -- ---- what is refused on the way
 
-module _ (s : State) (name digest : Text) (content_type : Option Text) (body : Text) (there : has_repo s.world name ≡ true) (unspent : s.spent ≡ false) where
+module _ (s : Kept) (name digest : Text) (content_type : Option Text) (body : Text) (there : has_repo s.world name ≡ true) (unspent : s.spent ≡ false) where
   -- a content type of another kind
   pub other_type : (tag : Option Text) (m : ManifestShown) (b : Bool) → b ≡ content_type_fits content_type m.kind → b ≡ false
       → (a : Answer) → a ≡ refused InvalidManifest → Done a name (λ r. push_typed r name digest tag content_type body m) s s
@@ -239,7 +239,7 @@ module _ (r : Repo) (name reference : Text) (content_type : Option Text) (body :
       ∙ checked (is_verified reference) (matches reference body)
 
 module _ (name reference : Text) (content_type : Option Text) (body : Text) where
-  module _ (s : State) (there : has_repo s.world name ≡ true) (unspent : s.spent ≡ false) (a : Answer) where
+  module _ (s : Kept) (there : has_repo s.world name ≡ true) (unspent : s.spent ≡ false) (a : Answer) where
     refuses_large_tag : is_tag reference ≡ true → nat_lt largest_manifest (length body) ≡ true → a ≡ refused ContentTooLarge
         → Done a name (λ r. push_manifest r name reference content_type body) s s
     refuses_large_tag t l e =
@@ -263,7 +263,7 @@ module _ (name reference : Text) (content_type : Option Text) (body : Text) wher
     refuses_large (Tag v) said l e = refuses_large_tag said.1 l e
     refuses_large (Digest v) said l e = refuses_large_digest said.1 l e
 
-  module _ (result : Result Reply Fault) (s s' : State) (fits : nat_lt largest_manifest (length body) ≡ false) where
+  module _ (result : Result Reply Fault) (s s' : Kept) (fits : nat_lt largest_manifest (length body) ≡ false) where
     pub pushes_tag : (tag : Text) → tag ≡ reference → is_tag reference ≡ true
         → Operates result name (λ r. push_under r name (sha256_digest body) (Some tag) content_type body (manifest_in body)) s s'
         → Operates result name (λ r. push_manifest r name reference content_type body) s s'

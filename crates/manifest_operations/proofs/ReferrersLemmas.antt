@@ -13,7 +13,7 @@ use Rattle.registry_model.specs.Answer.{Answer, Content, refused}
 use Rattle.registry_model.specs.Decision.{Decision, refuses, tells}
 use Rattle.registry_model.specs.Lookups.{manifests_on_at}
 use Rattle.registry_model.specs.Referrers.{referrer_in, is_wanted, filter_in, manifests_on, referrers_body, referrers_reply}
-use Rattle.registry_model.specs.Keeping.{State}
+use Rattle.registry_model.specs.Keeping.{Kept}
 use Rattle.manifest_operations.specs.Referrers.{lets_through, added_by, wanted_of, wanted_line}
 use Rattle.operation_parts.proofs.RepoOutcomes.{there_is, Done, told}
 
@@ -40,7 +40,7 @@ abbrev pub referring : (Text → Content) → Repo → Text → Option Text → 
 referring content r digest artifact_type =
     let wanted = filter_in artifact_type in cond (not (is_digest digest)) (refuses InvalidDigest) (tells (referrers_reply wanted (content (referrers_body r digest wanted))))
 
-pub refers_nothing : (content : Text → Content) (s : State) (name text : Text) (artifact_type : Option Text) → has_repo s.world name ≡ true → s.spent ≡ false → is_digest text ≡ false
+pub refers_nothing : (content : Text → Content) (s : Kept) (name text : Text) (artifact_type : Option Text) → has_repo s.world name ≡ true → s.spent ≡ false → is_digest text ≡ false
     → (a : Answer) → a ≡ refused InvalidDigest → Done a name (λ r. referring content r text artifact_type) s s
 refers_nothing content s name text artifact_type there unspent invalid a e =
     let r = there_is (repo_at s.world name) there in
@@ -48,7 +48,7 @@ refers_nothing content s name text artifact_type there unspent invalid a e =
     told s s name (λ r. referring content r text artifact_type) r.0 r.1 a _ e unspent refl
     (ap (λ b. cond (not b) (refuses InvalidDigest) (tells (referrers_reply wanted (content (referrers_body r.0 text wanted))))) invalid)
 
-pub refers : (content : Text → Content) (s s' : State) (name text digest : Text) (artifact_type : Option Text) → has_repo s.world name ≡ true → s.spent ≡ false → s' ≡ s
+pub refers : (content : Text → Content) (s s' : Kept) (name text digest : Text) (artifact_type : Option Text) → has_repo s.world name ≡ true → s.spent ≡ false → s' ≡ s
     → digest ≡ text → is_digest text ≡ true → (wanted : Option Text) → wanted ≡ filter_in artifact_type
     → (found : List (Text × Text)) → found ≡ manifests_on_at s.world name digest
     → (a : Answer) → a ≡ referrers_reply wanted (content (wanted_line wanted found)) → Done a name (λ r. referring content r text artifact_type) s s'

@@ -13,7 +13,7 @@ use Rattle.registry_model.specs.Answer.{Answer, answer_of, refused}
 use Rattle.registry_model.specs.Decision.{Decision}
 use Rattle.registry_model.specs.Doing.{course_of_answer, answered}
 use Rattle.registry_model.specs.Heads.{is_sent}
-use Rattle.registry_model.specs.Keeping.{State, WritesBy, Spends}
+use Rattle.registry_model.specs.Keeping.{Kept, WritesBy, Spends}
 use Rattle.operation_parts.specs.Operating.{Answers, Carries}
 use Rattle.operation_parts.proofs.RepoOutcomes.{Done}
 use Rattle.operation_parts.proofs.FailedCalls.{Clauses, Uncarried}
@@ -25,7 +25,7 @@ pub no_text : (o : Option Text) → o ≡ None → (t : Text) → o ≡ Some t �
 no_text o none t some = absurd (cc)
 
 -- a reply that was made, if there was memory for it
-pub replied : (r : Result Reply Fault) (b : Answer) (name : Text) (act : Repo → Decision) (s s' : State) (before late : Type 0)
+pub replied : (r : Result Reply Fault) (b : Answer) (name : Text) (act : Repo → Decision) (s s' : Kept) (before late : Type 0)
     → MatchResult r (λ reply. answer_of reply ≡ b) (λ f. f ≡ Memory) → course_of_answer b ≡ answered → is_sent b.body ≡ true
     → (late → s' ≡ s) → s.spent ≡ false → s'.spent ≡ false → (late → before) → (late → (a : Answer) → a ≡ b → Done a name act s s') → Clauses r name act s s' before late
 replied (Ok reply) b name act s s' before late is answers sent stays unspent kept honest done = record {
@@ -40,7 +40,7 @@ replied (Err f) b name act s s' before late is answers sent stays unspent kept h
     (let whole : Clauses (Err Memory) name act s s' before late = record { comes = stays; answers = tt; carries = tt; spends = (unspent, kept); honest = honest } in whole)
 
 -- the same of one that may have a length alone
-pub replied_size : (r : Result Reply Fault) (b : Answer) (name : Text) (act : Repo → Decision) (s s' : State) (before late : Type 0)
+pub replied_size : (r : Result Reply Fault) (b : Answer) (name : Text) (act : Repo → Decision) (s s' : Kept) (before late : Type 0)
     → MatchResult r (λ reply. answer_of reply ≡ b) (λ f. f ≡ Memory) → course_of_answer b ≡ answered
     → (late → s' ≡ s) → s.spent ≡ false → s'.spent ≡ false → (late → before) → (late → (a : Answer) → a ≡ b → Done a name act s s') → Uncarried r name act s s' before late
 replied_size (Ok reply) b name act s s' before late is answers stays unspent kept honest done = record {
@@ -54,17 +54,17 @@ replied_size (Err f) b name act s s' before late is answers stays unspent kept h
     (let whole : Uncarried (Err Memory) name act s s' before late = record { comes = stays; answers = tt; spends = (unspent, kept); honest = honest } in whole)
 
 -- the clauses of what gives a part of the reply
-abbrev pub Given : {A B : Type 0} → (A → B) → Result A Fault → B → World → State → State → Type 0 → Type 0 → Type 0
+abbrev pub Given : {A B : Type 0} → (A → B) → Result A Fault → B → World → Kept → Kept → Type 0 → Type 0 → Type 0
 Given {A} {B} show r value w s s' before late =
     record { comes : late → WritesBy {A = A} {B = B} show r value w s s'; spends : Spends {A = A} r s s'; honest : late → before }
 
 -- the clauses of an operation, by its reply and the world that it makes
-abbrev pub Whole : Result Reply Fault → Answer → World → State → State → Type 0 → Type 0 → Type 0
+abbrev pub Whole : Result Reply Fault → Answer → World → Kept → Kept → Type 0 → Type 0 → Type 0
 Whole r b w s s' before late =
     record { comes : late → WritesBy answer_of r b w s s'; answers : Answers r; carries : Carries r; spends : Spends r s s'; honest : late → before }
 
 -- a reply that says what it gave
-pub said : {A : Type 0} (say : A → Answer) (r : Result A Fault) (result : Result Reply Fault) (b : Answer) (w : World) (s s' : State) (before late : Type 0)
+pub said : {A : Type 0} (say : A → Answer) (r : Result A Fault) (result : Result Reply Fault) (b : Answer) (w : World) (s s' : Kept) (before late : Type 0)
     → Says say r result → ((it : A) → course_of_answer (say it) ≡ answered) → ((it : A) → is_sent (say it).body ≡ true) → Given say r b w s s' before late
     → Whole result b w s s' before late
 said say (Ok it) (Err f) b w s s' before late is answers sent h = absurd is
@@ -82,7 +82,7 @@ said {A} say (Err fault) result b w s s' before late is answers sent h = subst (
     by_fault Storage h = record { comes = λ honest. tt; answers = tt; carries = tt; spends = h.spends; honest = h.honest }
 
 -- a read that failed
-pub read_lost : {A B C D : Type 0} (show : A → B) (value : B) (w : World) (shown : C → D) (part : D) (r : Result A Fault) (e : Fault) (s mid s' : State) (early between late : Type 0)
+pub read_lost : {A B C D : Type 0} (show : A → B) (value : B) (w : World) (shown : C → D) (part : D) (r : Result A Fault) (e : Fault) (s mid s' : Kept) (early between late : Type 0)
     → IsErr r × IsErrAnd r (λ f. f ≡ e) → (between → mid ≡ s) → (between → early) → s.spent ≡ false → Told shown (Err e) part mid s' between late → Given show r value w s s' early late
 read_lost show value w shown part (Ok x) e s mid s' early between late is same before unspent h = absurd is.1
 read_lost {A} {B} {C} {D} show value w shown part (Err f) e s mid s' early between late is same before unspent h =
@@ -93,7 +93,7 @@ read_lost {A} {B} {C} {D} show value w shown part (Err f) e s mid s' early betwe
     by_fault Storage h = record { comes = λ honest. tt; spends = h.spends; honest = λ honest. before (h.honest honest) }
 
 -- a write that failed
-pub write_lost : (C : Type 0) {A B : Type 0} (show : A → B) (value : B) (w made : World) (r : Result A Fault) (e : Fault) (s mid s' : State) (early between late : Type 0)
+pub write_lost : (C : Type 0) {A B : Type 0} (show : A → B) (value : B) (w made : World) (r : Result A Fault) (e : Fault) (s mid s' : Kept) (early between late : Type 0)
     → IsErr r × IsErrAnd r (λ f. f ≡ e) → (between → mid ≡ s) → (between → early) → s.spent ≡ false → Written {A = C} made (Err e) mid s' between late → Given show r value w s s' early late
 write_lost C show value w made (Ok x) e s mid s' early between late is same before unspent h = absurd is.1
 write_lost C {A} {B} show value w made (Err f) e s mid s' early between late is same before unspent h =

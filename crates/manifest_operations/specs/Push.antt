@@ -13,7 +13,7 @@ use Rattle.registry_model.specs.declared.reply.Status.TheVariants.{Created}
 use Rattle.oci_types.specs.declared.fault.Fault.{Fault}
 use Rattle.registry_model.specs.Answer.{Answer, refused, bare_answer}
 use Rattle.registry_model.specs.Judging.{changed}
-use Rattle.registry_model.specs.Keeping.{State, WritesBy}
+use Rattle.registry_model.specs.Keeping.{Kept, WritesBy}
 use Rattle.registry_model.specs.World.{Repo, World, repo_at}
 use Rattle.registry_model.specs.Lookups.{blob_size_at}
 use Rattle.registry_model.specs.Manifests.{has_needs, with_manifest, created_manifest, content_type_fits}
@@ -46,7 +46,7 @@ kept_answer digest subject (Ok location) = record (bare_answer Created) {
 
 -- what comes of it in the repository of the name
 abbrev pub Keeps : Result (Result (String Global) Refusal) Fault
-    → Text → Text → Option Text → Option Text → Text → ManifestShown → State → State → Type 0
+    → Text → Text → Option Text → Option Text → Text → ManifestShown → Kept → Kept → Type 0
 Keeps result name digest tag content_type body m s s' =
     let decision = in_repo (repo_at s.world name) (λ r. push_typed r name digest tag content_type body m) in
     WritesBy (kept_answer digest m.subject) result decision.reply

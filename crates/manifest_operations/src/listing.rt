@@ -89,14 +89,14 @@ pub fn list_tags<K: Keeper>(
     n: Option<&str>,
     last: Option<&str>,
 ) -> Result<Reply, Fault>
-    requires unspent { IsUnspent (K.state keeper.old) }
-    requires there { K.is_honest keeper.old → HasRepo (K.state keeper.old) name.now }
+    requires unspent { IsUnspent (K.kept keeper.old) }
+    requires there { K.is_honest keeper.old → HasRepo (K.kept keeper.old) name.now }
     ensures comes { K.is_honest keeper.new → Operates result name.now
         (λ r. list_tags r name.now (text_in n.entry) (text_in last.entry))
-        (K.state keeper.old) (K.state keeper.new) }
+        (K.kept keeper.old) (K.kept keeper.new) }
     ensures answers { Answers result }
     ensures carries { Carries result }
-    ensures spends { Spends result (K.state keeper.old) (K.state keeper.new) }
+    ensures spends { Spends result (K.kept keeper.old) (K.kept keeper.new) }
     ensures honest { K.is_honest keeper.new → K.is_honest keeper.old }
 {
     let Some(n) = page_size(n) else {

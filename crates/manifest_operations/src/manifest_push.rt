@@ -25,10 +25,10 @@ use std::alloc::Global;
 
 /// Whether every needed blob is in the repository. Reads no blob.
 fn has_needs<K: Keeper>(keeper: &mut K, name: &RepoName, needs: &[Digest]) -> Result<bool, Fault>
-    requires unspent { IsUnspent (K.state keeper.old) }
+    requires unspent { IsUnspent (K.kept keeper.old) }
     ensures found { K.is_honest keeper.new →
-        Finds result (λ w. has_needs_at w name.now needs.now) (K.state keeper.old) (K.state keeper.new) }
-    ensures spends { Spends result (K.state keeper.old) (K.state keeper.new) }
+        Finds result (λ w. has_needs_at w name.now needs.now) (K.kept keeper.old) (K.kept keeper.new) }
+    ensures spends { Spends result (K.kept keeper.old) (K.kept keeper.new) }
     ensures honest { K.is_honest keeper.new → K.is_honest keeper.old }
 {
     for digest in needs {
@@ -51,15 +51,15 @@ fn keep<K: Keeper>(
     body: &[u8],
     manifest: &Manifest,
 ) -> Result<Result<String, Refusal>, Fault>
-    requires unspent { IsUnspent (K.state keeper.old) }
-    requires there { K.is_honest keeper.old → HasRepo (K.state keeper.old) name.now }
+    requires unspent { IsUnspent (K.kept keeper.old) }
+    requires there { K.is_honest keeper.old → HasRepo (K.kept keeper.old) name.now }
     requires matching { matches digest.now body.now ≡ true }
     requires reads { manifest_in body.now ≡ Ok (shown manifest.now) }
     requires fits { length body.now ≤ largest_manifest }
     ensures comes { K.is_honest keeper.new → Keeps result name.now
         digest.now (text_in tag.entry) (text_in content_type.entry) body.now (shown manifest.now)
-        (K.state keeper.old) (K.state keeper.new) }
-    ensures spends { Spends result (K.state keeper.old) (K.state keeper.new) }
+        (K.kept keeper.old) (K.kept keeper.new) }
+    ensures spends { Spends result (K.kept keeper.old) (K.kept keeper.new) }
     ensures honest { K.is_honest keeper.new → K.is_honest keeper.old }
 {
     if !content_type_fits(content_type, manifest.kind) {
@@ -111,17 +111,17 @@ fn keep_manifest<K: Keeper>(
     body: &[u8],
     manifest: Manifest,
 ) -> Result<Reply, Fault>
-    requires unspent { IsUnspent (K.state keeper.old) }
-    requires there { K.is_honest keeper.old → HasRepo (K.state keeper.old) name.now }
+    requires unspent { IsUnspent (K.kept keeper.old) }
+    requires there { K.is_honest keeper.old → HasRepo (K.kept keeper.old) name.now }
     requires matching { matches digest body.now ≡ true }
     requires reads { manifest_in body.now ≡ Ok (shown manifest) }
     requires fits { length body.now ≤ largest_manifest }
     ensures comes { K.is_honest keeper.new → Operates result name.now
         (λ r. push_typed r name.now digest (text_in tag.entry) (text_in content_type.entry) body.now
-        (shown manifest)) (K.state keeper.old) (K.state keeper.new) }
+        (shown manifest)) (K.kept keeper.old) (K.kept keeper.new) }
     ensures answers { Answers result }
     ensures carries { Carries result }
-    ensures spends { Spends result (K.state keeper.old) (K.state keeper.new) }
+    ensures spends { Spends result (K.kept keeper.old) (K.kept keeper.new) }
     ensures honest { K.is_honest keeper.new → K.is_honest keeper.old }
 {
     let kept = keep(
@@ -147,16 +147,16 @@ fn push_under<K: Keeper>(
     content_type: Option<&[u8]>,
     body: &[u8],
 ) -> Result<Reply, Fault>
-    requires unspent { IsUnspent (K.state keeper.old) }
-    requires there { K.is_honest keeper.old → HasRepo (K.state keeper.old) name.now }
+    requires unspent { IsUnspent (K.kept keeper.old) }
+    requires there { K.is_honest keeper.old → HasRepo (K.kept keeper.old) name.now }
     requires matching { matches digest body.now ≡ true }
     requires fits { length body.now ≤ largest_manifest }
     ensures comes { K.is_honest keeper.new → Operates result name.now
         (λ r. push_under r name.now digest (text_in tag.entry) (text_in content_type.entry) body.now
-        (manifest_in body.now)) (K.state keeper.old) (K.state keeper.new) }
+        (manifest_in body.now)) (K.kept keeper.old) (K.kept keeper.new) }
     ensures answers { Answers result }
     ensures carries { Carries result }
-    ensures spends { Spends result (K.state keeper.old) (K.state keeper.new) }
+    ensures spends { Spends result (K.kept keeper.old) (K.kept keeper.new) }
     ensures honest { K.is_honest keeper.new → K.is_honest keeper.old }
 {
     match read_manifest(alloc, body) {
@@ -186,15 +186,15 @@ fn push_by_tag<K: Keeper>(
     content_type: Option<&[u8]>,
     body: &[u8],
 ) -> Result<Reply, Fault>
-    requires unspent { IsUnspent (K.state keeper.old) }
-    requires there { K.is_honest keeper.old → HasRepo (K.state keeper.old) name.now }
+    requires unspent { IsUnspent (K.kept keeper.old) }
+    requires there { K.is_honest keeper.old → HasRepo (K.kept keeper.old) name.now }
     requires fits { length body.now ≤ largest_manifest }
     ensures comes { K.is_honest keeper.new → Operates result name.now
         (λ r. push_under r name.now (sha256_digest body.now) (Some tag.now) (text_in content_type.entry)
-        body.now (manifest_in body.now)) (K.state keeper.old) (K.state keeper.new) }
+        body.now (manifest_in body.now)) (K.kept keeper.old) (K.kept keeper.new) }
     ensures answers { Answers result }
     ensures carries { Carries result }
-    ensures spends { Spends result (K.state keeper.old) (K.state keeper.new) }
+    ensures spends { Spends result (K.kept keeper.old) (K.kept keeper.new) }
     ensures honest { K.is_honest keeper.new → K.is_honest keeper.old }
 {
     let Ok(digest) = Digest::of_sha256(alloc, body) else {
@@ -212,15 +212,15 @@ fn push_by_digest<K: Keeper>(
     content_type: Option<&[u8]>,
     body: &[u8],
 ) -> Result<Reply, Fault>
-    requires unspent { IsUnspent (K.state keeper.old) }
-    requires there { K.is_honest keeper.old → HasRepo (K.state keeper.old) name.now }
+    requires unspent { IsUnspent (K.kept keeper.old) }
+    requires there { K.is_honest keeper.old → HasRepo (K.kept keeper.old) name.now }
     requires fits { length body.now ≤ largest_manifest }
     ensures comes { K.is_honest keeper.new → Operates result name.now
         (λ r. push_checked r name.now digest (text_in content_type.entry) body.now
-        (verdict_of digest body.now)) (K.state keeper.old) (K.state keeper.new) }
+        (verdict_of digest body.now)) (K.kept keeper.old) (K.kept keeper.new) }
     ensures answers { Answers result }
     ensures carries { Carries result }
-    ensures spends { Spends result (K.state keeper.old) (K.state keeper.new) }
+    ensures spends { Spends result (K.kept keeper.old) (K.kept keeper.new) }
     ensures honest { K.is_honest keeper.new → K.is_honest keeper.old }
 {
     match digest.verifies(body) {
@@ -241,14 +241,14 @@ pub fn push_manifest<K: Keeper>(
     content_type: Option<&[u8]>,
     body: &[u8],
 ) -> Result<Reply, Fault>
-    requires unspent { IsUnspent (K.state keeper.old) }
-    requires there { K.is_honest keeper.old → HasRepo (K.state keeper.old) name.now }
+    requires unspent { IsUnspent (K.kept keeper.old) }
+    requires there { K.is_honest keeper.old → HasRepo (K.kept keeper.old) name.now }
     ensures comes { K.is_honest keeper.new → Operates result name.now
         (λ r. push_manifest r name.now reference.now (text_in content_type.entry) body.now)
-        (K.state keeper.old) (K.state keeper.new) }
+        (K.kept keeper.old) (K.kept keeper.new) }
     ensures answers { Answers result }
     ensures carries { Carries result }
-    ensures spends { Spends result (K.state keeper.old) (K.state keeper.new) }
+    ensures spends { Spends result (K.kept keeper.old) (K.kept keeper.new) }
     ensures honest { K.is_honest keeper.new → K.is_honest keeper.old }
 {
     let reference = match Reference::parse(alloc, reference) {

@@ -20,11 +20,11 @@ fn find_digest<K: Keeper>(
     name: &RepoName,
     reference: &str,
 ) -> Result<Option<Digest>, Fault>
-    requires unspent { IsUnspent (K.state keeper.old) }
-    requires there { K.is_honest keeper.old → HasRepo (K.state keeper.old) name.now }
+    requires unspent { IsUnspent (K.kept keeper.old) }
+    requires there { K.is_honest keeper.old → HasRepo (K.kept keeper.old) name.now }
     ensures found { K.is_honest keeper.new → FindsIn result name.now
-        (λ r. reference_digest r reference.now) (K.state keeper.old) (K.state keeper.new) }
-    ensures spends { Spends result (K.state keeper.old) (K.state keeper.new) }
+        (λ r. reference_digest r reference.now) (K.kept keeper.old) (K.kept keeper.new) }
+    ensures spends { Spends result (K.kept keeper.old) (K.kept keeper.new) }
     ensures honest { K.is_honest keeper.new → K.is_honest keeper.old }
 {
     match Reference::parse(alloc, reference) {
@@ -44,13 +44,13 @@ pub fn read_manifest<K: Keeper>(
     name: &RepoName,
     reference: &str,
 ) -> Result<Reply, Fault>
-    requires unspent { IsUnspent (K.state keeper.old) }
-    requires there { K.is_honest keeper.old → HasRepo (K.state keeper.old) name.now }
+    requires unspent { IsUnspent (K.kept keeper.old) }
+    requires there { K.is_honest keeper.old → HasRepo (K.kept keeper.old) name.now }
     ensures comes { K.is_honest keeper.new → Operates result name.now
-        (λ r. read_manifest r reference.now) (K.state keeper.old) (K.state keeper.new) }
+        (λ r. read_manifest r reference.now) (K.kept keeper.old) (K.kept keeper.new) }
     ensures answers { Answers result }
     ensures carries { Carries result }
-    ensures spends { Spends result (K.state keeper.old) (K.state keeper.new) }
+    ensures spends { Spends result (K.kept keeper.old) (K.kept keeper.new) }
     ensures honest { K.is_honest keeper.new → K.is_honest keeper.old }
 {
     let named = find_digest(keeper, alloc, name, reference);
@@ -74,12 +74,12 @@ pub fn size_manifest<K: Keeper>(
     name: &RepoName,
     reference: &str,
 ) -> Result<Reply, Fault>
-    requires unspent { IsUnspent (K.state keeper.old) }
-    requires there { K.is_honest keeper.old → HasRepo (K.state keeper.old) name.now }
+    requires unspent { IsUnspent (K.kept keeper.old) }
+    requires there { K.is_honest keeper.old → HasRepo (K.kept keeper.old) name.now }
     ensures comes { K.is_honest keeper.new → Operates result name.now
-        (λ r. size_manifest r reference.now) (K.state keeper.old) (K.state keeper.new) }
+        (λ r. size_manifest r reference.now) (K.kept keeper.old) (K.kept keeper.new) }
     ensures answers { Answers result }
-    ensures spends { Spends result (K.state keeper.old) (K.state keeper.new) }
+    ensures spends { Spends result (K.kept keeper.old) (K.kept keeper.new) }
     ensures honest { K.is_honest keeper.new → K.is_honest keeper.old }
 {
     let named = find_digest(keeper, alloc, name, reference);
@@ -103,13 +103,13 @@ fn delete_tag<K: Keeper>(
     name: &RepoName,
     tag: &Tag,
 ) -> Result<Reply, Fault>
-    requires unspent { IsUnspent (K.state keeper.old) }
-    requires there { K.is_honest keeper.old → HasRepo (K.state keeper.old) name.now }
+    requires unspent { IsUnspent (K.kept keeper.old) }
+    requires there { K.is_honest keeper.old → HasRepo (K.kept keeper.old) name.now }
     ensures comes { K.is_honest keeper.new →
-        Operates result name.now (λ r. delete_tag r tag.now) (K.state keeper.old) (K.state keeper.new) }
+        Operates result name.now (λ r. delete_tag r tag.now) (K.kept keeper.old) (K.kept keeper.new) }
     ensures answers { Answers result }
     ensures carries { Carries result }
-    ensures spends { Spends result (K.state keeper.old) (K.state keeper.new) }
+    ensures spends { Spends result (K.kept keeper.old) (K.kept keeper.new) }
     ensures honest { K.is_honest keeper.new → K.is_honest keeper.old }
 {
     match found_or(keeper.tag(alloc, name, tag), Refusal::ManifestUnknown) {
@@ -124,13 +124,13 @@ fn delete_digest<K: Keeper>(
     name: &RepoName,
     digest: &Digest,
 ) -> Result<Reply, Fault>
-    requires unspent { IsUnspent (K.state keeper.old) }
-    requires there { K.is_honest keeper.old → HasRepo (K.state keeper.old) name.now }
+    requires unspent { IsUnspent (K.kept keeper.old) }
+    requires there { K.is_honest keeper.old → HasRepo (K.kept keeper.old) name.now }
     ensures comes { K.is_honest keeper.new →
-        Operates result name.now (λ r. delete_digest r digest.now) (K.state keeper.old) (K.state keeper.new) }
+        Operates result name.now (λ r. delete_digest r digest.now) (K.kept keeper.old) (K.kept keeper.new) }
     ensures answers { Answers result }
     ensures carries { Carries result }
-    ensures spends { Spends result (K.state keeper.old) (K.state keeper.new) }
+    ensures spends { Spends result (K.kept keeper.old) (K.kept keeper.new) }
     ensures honest { K.is_honest keeper.new → K.is_honest keeper.old }
 {
     match found_or(keeper.manifest_size(name, digest), Refusal::ManifestUnknown) {
@@ -150,13 +150,13 @@ pub fn delete_manifest<K: Keeper>(
     name: &RepoName,
     reference: &str,
 ) -> Result<Reply, Fault>
-    requires unspent { IsUnspent (K.state keeper.old) }
-    requires there { K.is_honest keeper.old → HasRepo (K.state keeper.old) name.now }
+    requires unspent { IsUnspent (K.kept keeper.old) }
+    requires there { K.is_honest keeper.old → HasRepo (K.kept keeper.old) name.now }
     ensures comes { K.is_honest keeper.new → Operates result name.now
-        (λ r. delete_manifest r reference.now) (K.state keeper.old) (K.state keeper.new) }
+        (λ r. delete_manifest r reference.now) (K.kept keeper.old) (K.kept keeper.new) }
     ensures answers { Answers result }
     ensures carries { Carries result }
-    ensures spends { Spends result (K.state keeper.old) (K.state keeper.new) }
+    ensures spends { Spends result (K.kept keeper.old) (K.kept keeper.new) }
     ensures honest { K.is_honest keeper.new → K.is_honest keeper.old }
 {
     match Reference::parse(alloc, reference) {

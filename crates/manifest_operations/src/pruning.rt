@@ -38,9 +38,9 @@ pub fn names_at<K: Keeper>(
     manifest: &Digest,
 ) -> Result<Vec<Digest>, Fault>
     ensures found { K.is_honest keeper.new → ReadsBy digests_shown result
-        (names_at (K.state keeper.old).world name.now manifest.now)
-        (K.state keeper.old) (K.state keeper.new) }
-    ensures spends { Spends result (K.state keeper.old) (K.state keeper.new) }
+        (names_at (K.kept keeper.old).world name.now manifest.now)
+        (K.kept keeper.old) (K.kept keeper.new) }
+    ensures spends { Spends result (K.kept keeper.old) (K.kept keeper.new) }
     ensures honest { K.is_honest keeper.new → K.is_honest keeper.old }
 {
     match keeper.manifest(alloc, name, manifest)? {
@@ -68,9 +68,9 @@ fn named_at<K: Keeper>(
     name: &RepoName,
 ) -> Result<BTreeSet<Digest>, Fault>
     ensures found { K.is_honest keeper.new → ReadsBy has result
-        (is_named_at (K.state keeper.old).world name.now)
-        (K.state keeper.old) (K.state keeper.new) }
-    ensures spends { Spends result (K.state keeper.old) (K.state keeper.new) }
+        (is_named_at (K.kept keeper.old).world name.now)
+        (K.kept keeper.old) (K.kept keeper.new) }
+    ensures spends { Spends result (K.kept keeper.old) (K.kept keeper.new) }
     ensures honest { K.is_honest keeper.new → K.is_honest keeper.old }
 {
     let mut named = BTreeSet::new(alloc);
@@ -98,9 +98,9 @@ pub fn unnamed<K: Keeper>(
     name: &RepoName,
 ) -> Result<Vec<Digest>, Fault>
     ensures found { K.is_honest keeper.new → ReadsBy digests_shown result
-        (unnamed_at (K.state keeper.old).world name.now)
-        (K.state keeper.old) (K.state keeper.new) }
-    ensures spends { Spends result (K.state keeper.old) (K.state keeper.new) }
+        (unnamed_at (K.kept keeper.old).world name.now)
+        (K.kept keeper.old) (K.kept keeper.new) }
+    ensures spends { Spends result (K.kept keeper.old) (K.kept keeper.new) }
     ensures honest { K.is_honest keeper.new → K.is_honest keeper.old }
 {
     let named = named_at(keeper, alloc, name)?;
@@ -111,11 +111,11 @@ pub fn unnamed<K: Keeper>(
 
 /// Takes away the blobs of a repository that is there which none of its manifests names.
 pub fn prune<K: Keeper>(alloc: Global, keeper: &mut K, name: &RepoName) -> Result<(), Fault>
-    requires there { K.is_honest keeper.old → (K.state keeper.old).spent ≡ false
-        → has_repo (K.state keeper.old).world name.now ≡ true }
-    ensures made { K.is_honest keeper.new → Writes result (prune (K.state keeper.old).world name.now)
-        (K.state keeper.old) (K.state keeper.new) }
-    ensures spends { Spends result (K.state keeper.old) (K.state keeper.new) }
+    requires there { K.is_honest keeper.old → (K.kept keeper.old).spent ≡ false
+        → has_repo (K.kept keeper.old).world name.now ≡ true }
+    ensures made { K.is_honest keeper.new → Writes result (prune (K.kept keeper.old).world name.now)
+        (K.kept keeper.old) (K.kept keeper.new) }
+    ensures spends { Spends result (K.kept keeper.old) (K.kept keeper.new) }
     ensures honest { K.is_honest keeper.new → K.is_honest keeper.old }
 {
     let digests = unnamed(alloc, keeper, name)?;

@@ -11,7 +11,7 @@ use Rattle.registry_model.specs.Answer.{Answer, answer_of, refused}
 use Rattle.registry_model.specs.Decision.{Decision}
 use Rattle.registry_model.specs.Doing.{course_of_answer, answered}
 use Rattle.registry_model.specs.Heads.{is_sent}
-use Rattle.registry_model.specs.Keeping.{State, Writes, WritesBy, Spends}
+use Rattle.registry_model.specs.Keeping.{Kept, goes_on, Writes, WritesBy, Spends}
 use Rattle.operation_parts.specs.Early.{IsEarly, after}
 use Rattle.operation_parts.proofs.RepoOutcomes.{Done}
 use Rattle.operation_parts.proofs.FailedCalls.{Clauses}
@@ -19,7 +19,7 @@ use Rattle.operation_parts.proofs.ReadLemmas.{Told}
 
 -- the refusal, or the fault of the read
 pub refused_early : {A B : Type 0} (show : A → B) (IsRefused : A → Type 0) (refusal : Refusal) (r : Result A Fault) (value : B) (early : Result Reply Fault)
-    (name : Text) (act : Repo → Decision) (s s' : State) (before late : Type 0)
+    (name : Text) (act : Repo → Decision) (s s' : Kept) (before late : Type 0)
     → IsEarly IsRefused refusal r early → course_of_answer (refused refusal) ≡ answered → is_sent (refused refusal).body ≡ true → Told show r value s s' before late
     → (late → (v : A) → IsRefused v → show v ≡ value → s' ≡ s → (a : Answer) → a ≡ refused refusal → Done a name act s s') → Clauses early name act s s' before late
 refused_early show IsRefused refusal (Ok v) value (Err f) name act s s' before late is answers sent h done = absurd is.1
@@ -38,20 +38,20 @@ refused_early {A} {B} show IsRefused refusal (Err fault) value early name act s 
     by_fault Storage h = record { comes = λ honest. tt; answers = tt; carries = tt; spends = h.spends; honest = h.honest }
 
 -- the clauses of a write
-abbrev pub Written : {A : Type 0} → World → Result A Fault → State → State → Type 0 → Type 0 → Type 0
+abbrev pub Written : {A : Type 0} → World → Result A Fault → Kept → Kept → Type 0 → Type 0 → Type 0
 Written {A} w r s s' early late = record { made : late → Writes {A = A} r w s s'; spends : Spends {A = A} r s s'; honest : late → early }
 
 -- those of one that gives a value
-pub written_by : {A B : Type 0} (show : A → B) (value : B) (w : World) (r : Result A Fault) (s s' : State) (early late : Type 0)
+pub written_by : {A B : Type 0} (show : A → B) (value : B) (w : World) (r : Result A Fault) (s s' : Kept) (early late : Type 0)
     → record { made : late → WritesBy {A = A} {B = B} show r value w s s'; spends : Spends {A = A} r s s'; honest : late → early } → Written w r s s' early late
 written_by show value w (Ok v) s s' early late h = record { made = λ honest. (h.made honest).1; spends = h.spends; honest = h.honest }
 written_by show value w (Err Memory) s s' early late h = record { made = h.made; spends = h.spends; honest = h.honest }
 written_by show value w (Err Storage) s s' early late h = record { made = λ honest. tt; spends = h.spends; honest = h.honest }
 
-pub wrote : {A : Type 0} (w : World) (r : Result A Fault) (reply : Reply) (name : Text) (act : Repo → Decision) (s mid s' : State) (early between late : Type 0)
+pub wrote : {A : Type 0} (w : World) (r : Result A Fault) (reply : Reply) (name : Text) (act : Repo → Decision) (s mid s' : Kept) (early between late : Type 0)
     → (between → mid ≡ s) → (between → early) → s.spent ≡ false → Written w r mid s' between late
     → course_of_answer (answer_of reply) ≡ answered → is_sent (answer_of reply).body ≡ true
-    → (between → s' ≡ record { world = w; spent = false } → Done (answer_of reply) name act s s') → Clauses (after r reply) name act s s' early late
+    → (between → s' ≡ goes_on mid w → Done (answer_of reply) name act s s') → Clauses (after r reply) name act s s' early late
 wrote w (Ok v) reply name act s mid s' early between late same before unspent h answers sent done = record {
   comes = λ honest. done (h.honest honest) (h.made honest);
   answers = answers;
@@ -65,6 +65,6 @@ wrote w (Err Storage) reply name act s mid s' early between late same before uns
     record { comes = λ honest. tt; answers = tt; carries = tt; spends = h.spends; honest = λ honest. before (h.honest honest) }
 
 -- the reply of it, as the clauses have it
-pub after_it : {A : Type 0} (r : Result A Fault) (reply : Reply) (result : Result Reply Fault) (name : Text) (act : Repo → Decision) (s s' : State) (early late : Type 0)
+pub after_it : {A : Type 0} (r : Result A Fault) (reply : Reply) (result : Result Reply Fault) (name : Text) (act : Repo → Decision) (s s' : Kept) (early late : Type 0)
     → result ≡ after r reply → Clauses (after r reply) name act s s' early late → Clauses result name act s s' early late
 after_it r reply result name act s s' early late is h = subst (λ x. Clauses x name act s s' early late) (sym is) h

@@ -9,14 +9,14 @@ use Rattle.registry_model.specs.Heads.{is_sent}
 use Rattle.registry_model.specs.Decision.{Decision, in_repo}
 use Rattle.registry_model.specs.Judging.{changed}
 use Rattle.registry_model.specs.Doing.{course_of_answer, answered}
-use Rattle.registry_model.specs.Keeping.{State, WritesBy}
+use Rattle.registry_model.specs.Keeping.{Kept, WritesBy}
 
 -- the storage has not failed
-abbrev pub IsUnspent : State → Type 0
+abbrev pub IsUnspent : Kept → Type 0
 IsUnspent s = s.spent ≡ false
 
 -- the repository of the name is there
-abbrev pub HasRepo : State → Text → Type 0
+abbrev pub HasRepo : Kept → Text → Type 0
 HasRepo s name = has_repo s.world name ≡ true
 
 -- a reply, if there is one, answers: it is not that of a fault
@@ -28,17 +28,17 @@ abbrev pub Carries : Result Reply Fault → Type 0
 Carries r = IfOk r (λ reply. is_sent (answer_of reply).body ≡ true)
 
 -- the reply of the decision, and its change to the repository of the name, if there is one
-abbrev pub ComesOn : Result Reply Fault → Option Text → Decision → State → State → Type 0
+abbrev pub ComesOn : Result Reply Fault → Option Text → Decision → Kept → Kept → Type 0
 ComesOn r name decision s s' =
     WritesBy answer_of r decision.reply (changed s.world name decision.change) s s'
 
-abbrev pub Comes : Result Reply Fault → Text → Decision → State → State → Type 0
+abbrev pub Comes : Result Reply Fault → Text → Decision → Kept → Kept → Type 0
 Comes r name decision s s' = ComesOn r (Some name) decision s s'
 
 -- the same of an operation on that repository
-abbrev pub Operates : Result Reply Fault → Text → (Repo → Decision) → State → State → Type 0
+abbrev pub Operates : Result Reply Fault → Text → (Repo → Decision) → Kept → Kept → Type 0
 Operates r name act s s' = Comes r name (in_repo (repo_at s.world name) act) s s'
 
 -- and of one that looks at the rest of the world too
-abbrev pub OperatesWith : Result Reply Fault → Text → (World → Repo → Decision) → State → State → Type 0
+abbrev pub OperatesWith : Result Reply Fault → Text → (World → Repo → Decision) → Kept → Kept → Type 0
 OperatesWith r name act s s' = Operates r name (act s.world) s s'

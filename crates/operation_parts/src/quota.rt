@@ -28,10 +28,10 @@ pub fn goes_over<K: Keeper>(
     added: u64,
     gone: u64,
 ) -> Result<bool, Fault>
-    requires unspent { IsUnspent (K.state keeper.old) }
+    requires unspent { IsUnspent (K.kept keeper.old) }
     ensures found { K.is_honest keeper.new →
-        Finds result (λ w. grows_over_at w name.now added gone) (K.state keeper.old) (K.state keeper.new) }
-    ensures spends { Spends result (K.state keeper.old) (K.state keeper.new) }
+        Finds result (λ w. grows_over_at w name.now added gone) (K.kept keeper.old) (K.kept keeper.new) }
+    ensures spends { Spends result (K.kept keeper.old) (K.kept keeper.new) }
     ensures honest { K.is_honest keeper.new → K.is_honest keeper.old }
 {
     if added <= gone {
@@ -51,10 +51,10 @@ pub fn blob_goes_over<K: Keeper>(
     length: u64,
     gone: u64,
 ) -> Result<bool, Fault>
-    requires unspent { IsUnspent (K.state keeper.old) }
+    requires unspent { IsUnspent (K.kept keeper.old) }
     ensures found { K.is_honest keeper.new → Finds result
-        (λ w. blob_grows_over w name.now digest.now length gone) (K.state keeper.old) (K.state keeper.new) }
-    ensures spends { Spends result (K.state keeper.old) (K.state keeper.new) }
+        (λ w. blob_grows_over w name.now digest.now length gone) (K.kept keeper.old) (K.kept keeper.new) }
+    ensures spends { Spends result (K.kept keeper.old) (K.kept keeper.new) }
     ensures honest { K.is_honest keeper.new → K.is_honest keeper.old }
 {
     if !goes_over(keeper, name, length, gone)? {
@@ -71,10 +71,10 @@ pub fn manifest_goes_over<K: Keeper>(
     digest: &Digest,
     length: u64,
 ) -> Result<bool, Fault>
-    requires unspent { IsUnspent (K.state keeper.old) }
+    requires unspent { IsUnspent (K.kept keeper.old) }
     ensures found { K.is_honest keeper.new → Finds result
-        (λ w. manifest_grows_over w name.now digest.now length) (K.state keeper.old) (K.state keeper.new) }
-    ensures spends { Spends result (K.state keeper.old) (K.state keeper.new) }
+        (λ w. manifest_grows_over w name.now digest.now length) (K.kept keeper.old) (K.kept keeper.new) }
+    ensures spends { Spends result (K.kept keeper.old) (K.kept keeper.new) }
     ensures honest { K.is_honest keeper.new → K.is_honest keeper.old }
 {
     if !goes_over(keeper, name, length, 0)? {

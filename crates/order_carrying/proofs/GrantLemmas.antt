@@ -10,7 +10,7 @@ use Rattle.registry_model.specs.declared.level.Level.{Level}
 use Rattle.registry_model.specs.declared.grant.Grant.{Grant}
 use Rattle.registry_model.specs.World.{World, has_repo}
 use Rattle.registry_model.specs.Lookups.{AreLevelsOver, grants_on, repo_names_of}
-use Rattle.registry_model.specs.Keeping.{State}
+use Rattle.registry_model.specs.Keeping.{Kept}
 use Rattle.registry_model.proofs.TextOrder.{one_list}
 use Rattle.registry_orders.specs.declared.listing.Form.{Form}
 use Rattle.registry_orders.specs.declared.listing.Shown.{Shown}
@@ -106,7 +106,7 @@ grants_read name asked shown items read levels same is = is ∙ ap (grants_of na
 pub no_grants : (w : World) (o : Option Text) (name : Text) (asked : Option Text) (shown : Shown) (b : Bool) → o ≡ Some name → b ≡ has_repo w name → b ≡ false → AreGrantsOf w o asked shown None
 no_grants w o name asked shown b some told none = rw (some, sym told ∙ none) refl
 
-pub grants_there : (s mid : State) (o : Option Text) (name : Text) (asked : Option Text) (shown : Shown) (b : Bool) (items : List ItemShown) → o ≡ Some name → b ≡ has_repo s.world name → b ≡ true → mid ≡ s
+pub grants_there : (s mid : Kept) (o : Option Text) (name : Text) (asked : Option Text) (shown : Shown) (b : Bool) (items : List ItemShown) → o ≡ Some name → b ≡ has_repo s.world name → b ≡ true → mid ≡ s
     → AreGrantsOn mid.world name asked shown items → AreGrantsOf s.world o asked shown (Some items)
 grants_there s mid o name asked shown b items some told there same on =
-    rw (some, sym told ∙ there) (subst (λ (z : State). AreGrantsOn z.world name asked shown items) same on)
+    rw (some, sym told ∙ there) (subst (λ (z : Kept). AreGrantsOn z.world name asked shown items) same on)

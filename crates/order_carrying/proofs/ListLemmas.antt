@@ -10,7 +10,7 @@ use Rattle.oci_types.specs.Text.{Text}
 use Rattle.registry_model.specs.World.{World, Repo, text_cmp, repo_at, has_repo}
 use Rattle.registry_model.specs.Lookups.{blob_digests_at, repo_names_of, tags_at}
 use Rattle.registry_model.specs.Pruning.{names_in, is_among}
-use Rattle.registry_model.specs.Keeping.{State}
+use Rattle.registry_model.specs.Keeping.{Kept}
 use Rattle.manifest_operations.specs.Pruning.{unnamed_of, unnamed_at}
 use Rattle.manifest_operations.proofs.PruningLemmas.{found_each}
 use Rattle.registry_orders.specs.declared.listing.Held.{Held}
@@ -26,18 +26,18 @@ one_item_more : {A B : Type 0} (h : A → Option B) (xs : List A) (x : A) (o : O
 one_item_more h xs x o e = ap (λ o. filter_map h xs ++ cons_option o []) e ∙ sym (filter_map-append h xs (x ∷ []))
 
 -- one item more of a world that is the one before
-pub found_more : {A B : Type 0} (h : World → A → Option B) (s s1 : State) (items items' : List B) (yielded : List A) (x : A) (o : Option B)
+pub found_more : {A B : Type 0} (h : World → A → Option B) (s s1 : Kept) (items items' : List B) (yielded : List A) (x : A) (o : Option B)
     → items ≡ filter_map (h s.world) yielded → items' ≡ items ++ cons_option o [] → o ≡ h s1.world x → s1 ≡ s
     → items' ≡ filter_map (h s.world) (yielded ++ x ∷ [])
 found_more h s s1 items items' yielded x o found added told same =
     added ∙ ap (λ xs. xs ++ cons_option o []) found
-    ∙ one_item_more (h s.world) yielded x o (told ∙ ap {A = State} (λ z. h z.world x) same)
+    ∙ one_item_more (h s.world) yielded x o (told ∙ ap {A = Kept} (λ z. h z.world x) same)
 
 -- what was made of all that a loop went over, in a world that is the one before
-pub all_found : {A B : Type 0} (h : World → List A → List B) (s s1 : State) (items : List B) (yielded all given : List A)
+pub all_found : {A B : Type 0} (h : World → List A → List B) (s s1 : Kept) (items : List B) (yielded all given : List A)
     → items ≡ h s1.world yielded → map (λ x. x) yielded ≡ all → all ≡ given → s1 ≡ s → items ≡ h s.world given
 all_found h s s1 items yielded all given found whole told same =
-    found ∙ ap (h s1.world) (sym (map-id yielded) ∙ whole ∙ told) ∙ ap {A = State} (λ x. h x.world given) same
+    found ∙ ap (h s1.world) (sym (map-id yielded) ∙ whole ∙ told) ∙ ap {A = Kept} (λ x. h x.world given) same
 
 -- ---- repositories
 
@@ -133,12 +133,12 @@ blobs_in (Some r) =
 pub blobs_are : (w : World) (name : Text) → filter_map (blob_item_at w name (namings_at w name)) (blob_digests_at w name) ≡ held_at w name Blobs
 blobs_are w name = blobs_in (repo_at w name)
 
-pub blobs_found : (s s1 s2 : State) (name : Text) (items : List ItemShown) (yielded all : List Text)
+pub blobs_found : (s s1 s2 : Kept) (name : Text) (items : List ItemShown) (yielded all : List Text)
     → items ≡ filter_map (blob_item_at s2.world name (namings_at s2.world name)) yielded → map (λ x. x) yielded ≡ all
     → s1 ≡ s → all ≡ blob_digests_at s1.world name → s2 ≡ s1 → items ≡ held_at s.world name Blobs
 blobs_found s s1 s2 name items yielded all found whole first told second =
     all_found (λ w ds. filter_map (blob_item_at w name (namings_at w name)) ds) s s2 items yielded all (blob_digests_at s.world name) found whole
-    (told ∙ ap {A = State} (λ x. blob_digests_at x.world name) first) (second ∙ first)
+    (told ∙ ap {A = Kept} (λ x. blob_digests_at x.world name) first) (second ∙ first)
     ∙ blobs_are s.world name
 
 -- ---- blobs that no manifest names
@@ -160,7 +160,7 @@ all_held : (what : Held) (o : Option Repo) (items : List ItemShown) → is_some 
 all_held what None items h e = cc
 all_held what (Some r) items h e = ap Some e
 
-pub listed_there : (s mid : State) (name : Text) (what : Held) (b : Bool) (items : List ItemShown) → b ≡ has_repo s.world name → b ≡ true → mid ≡ s
+pub listed_there : (s mid : Kept) (name : Text) (what : Held) (b : Bool) (items : List ItemShown) → b ≡ has_repo s.world name → b ≡ true → mid ≡ s
     → items ≡ held_at mid.world name what → Some items ≡ option_map (held_of what) (repo_at s.world name)
 listed_there s mid name what b items told there same is =
-    all_held what (repo_at s.world name) items (sym told ∙ there) (is ∙ ap {A = State} (λ z. held_at z.world name what) same)
+    all_held what (repo_at s.world name) items (sym told ∙ there) (is ∙ ap {A = Kept} (λ z. held_at z.world name what) same)

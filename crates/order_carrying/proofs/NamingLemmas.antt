@@ -24,7 +24,7 @@ use Rattle.oci_types.specs.Text.{Text}
 use Rattle.registry_model.specs.World.{World, Repo, text_cmp, repo_at}
 use Rattle.registry_model.specs.Lookups.{blob_digests_at, manifest_digests_at}
 use Rattle.registry_model.specs.Pruning.{is_among}
-use Rattle.registry_model.specs.Keeping.{State, digests_shown}
+use Rattle.registry_model.specs.Keeping.{Kept, digests_shown}
 use Rattle.registry_model.proofs.TextOrder.{text_total, bytes_same}
 use Rattle.manifest_operations.specs.Pruning.{names_at}
 use Rattle.order_carrying.specs.Reading.{naming_at, namings_at, namers_among}
@@ -207,7 +207,7 @@ behind true xs m = refl
 behind false xs m = sym (append-nil xs)
 
 -- one manifest more, in a world that is the one before
-pub manifest_more : (s s1 s2 : State) (name : Text) (items : List Text) (index : ℕ) (manifest : Text) (names : List Text) (q : Text) (old new : List Text)
+pub manifest_more : (s s1 s2 : Kept) (name : Text) (items : List Text) (index : ℕ) (manifest : Text) (names : List Text) (q : Text) (old new : List Text)
     → index < length items → manifest ≡ get_or items index manifest → items ≡ manifest_digests_at s.world name
     → old ≡ namers_among (map (naming_at s1.world name) (take index items)) q → names ≡ names_at s2.world name manifest → s2 ≡ s1
     → new ≡ cond (is_among names q) (with_namer old manifest) old
@@ -221,19 +221,19 @@ manifest_more s s1 s2 name items index manifest names q old new low at told foun
     let is_new : is_among old manifest ≡ false =
     ap (λ xs. is_among xs manifest) found ∙ some_of_them (names_at s1.world name) ms manifest q (manifest_is_new s.world name items index manifest told low at) in
     put
-    ∙ ap (λ ns. cond (is_among ns q) (with_namer old manifest) old) (named ∙ ap {A = State} (λ x. names_at x.world name manifest) stays)
+    ∙ ap (λ ns. cond (is_among ns q) (with_namer old manifest) old) (named ∙ ap {A = Kept} (λ x. names_at x.world name manifest) stays)
     ∙ ap (λ xs. cond is_named xs old) (new_namer old manifest is_new) ∙ behind is_named old manifest
     ∙ ap (λ xs. xs ++ cond is_named (manifest ∷ []) []) found
     ∙ sym (one_more (names_at s1.world name) ms manifest q) ∙ sym (ap (λ ms. namers_among (map naming ms) q) more)
 
 -- all manifests
-pub all_manifests : (s s1 : State) (name : Text) (namers : Text → List Text) (items told : List Text) (index : ℕ)
+pub all_manifests : (s s1 : Kept) (name : Text) (namers : Text → List Text) (items told : List Text) (index : ℕ)
     → ((q : Text) → namers q ≡ namers_among (map (naming_at s1.world name) (take index items)) q) → length items ≤ index
     → items ≡ told → told ≡ manifest_digests_at s.world name → s1 ≡ s → namers ≡ namers_among (namings_at s.world name)
 all_manifests s s1 name namers items told index found over given is same i q =
     (found q
     ∙ ap (λ ms. namers_among (map (naming_at s1.world name) ms) q) (take_all index items over ∙ given ∙ is)
-    ∙ ap {A = State} (λ x. namers_among (map (naming_at x.world name) (manifest_digests_at s.world name)) q) same) i
+    ∙ ap {A = Kept} (λ x. namers_among (map (naming_at x.world name) (manifest_digests_at s.world name)) q) same) i
 
 -- ---- what is left of them
 
@@ -245,7 +245,7 @@ still_there yielded digest q before old new kept taken is_new =
     taken ∙ cond-false (bytes_eq digest q) [] old (or_parts _ _ (or_parts _ _ others).1).0 ∙ kept (or_parts _ _ others).0
 
 -- what was taken is what the world's manifests say
-pub taken_of : (s began : State) (name digest : Text) (namers : Text → List Text) (now given : List Text) → given ≡ now → now ≡ namers digest
+pub taken_of : (s began : Kept) (name digest : Text) (namers : Text → List Text) (now given : List Text) → given ≡ now → now ≡ namers digest
     → namers ≡ namers_among (namings_at s.world name) → began ≡ s → given ≡ namers_among (namings_at began.world name) digest
 taken_of s began name digest namers now given taken kept read same =
-    taken ∙ kept ∙ (λ i. read i digest) ∙ ap {A = State} (λ x. namers_among (namings_at x.world name) digest) (sym same)
+    taken ∙ kept ∙ (λ i. read i digest) ∙ ap {A = Kept} (λ x. namers_among (namings_at x.world name) digest) (sym same)

@@ -3,7 +3,7 @@ use Rattle.std.specs.Prelude.{◌≡◌, true, Option, Some, None, Result, Ok, E
 use Rattle.std.specs.Io.KnownBytes.{Appends}
 use Rattle.oci_types.specs.Text.{Text}
 use Rattle.registry_model.specs.Lookups.{usages_of}
-use Rattle.registry_model.specs.Keeping.{State}
+use Rattle.registry_model.specs.Keeping.{Kept}
 use Rattle.registry_orders.specs.declared.failure.Failure.{Failure}
 use Rattle.registry_orders.specs.declared.failure.Failure.TheVariants.{NoRepo, OutOfMemory, StorageFailure, ConnectionFailure}
 use Rattle.registry_orders.specs.declared.orders.Order.{Order}
@@ -15,7 +15,7 @@ use Rattle.order_carrying.specs.Listed.{IsListText}
 
 -- the table of the world was written; or memory was wanting, the storage failed, or writing did and a first
 -- part of the table was written; the world stays
-abbrev pub Shows : State → Result (Unit {0}) Failure → Output → State → Type 0
+abbrev pub Shows : Kept → Result (Unit {0}) Failure → Output → Kept → Type 0
 Shows s (Ok v) o s' = Appends o.held o.held' (table_of (usages_of s.world)) × (s' ≡ s)
 Shows s (Err OutOfMemory) o s' = IsSilent o × (s' ≡ s)
 Shows s (Err StorageFailure) o s' = IsSilent o × (s'.spent ≡ true)
@@ -25,7 +25,7 @@ Shows s (Err _) o s' = ⊥
 
 -- a text that is so was written; or there is none, since the repository is not there; or memory was wanting,
 -- the storage failed, or writing did and a first part of the text was written; the world stays
-abbrev pub ShowsList : State → (Option Text → Type 0) → Result (Unit {0}) Failure → Output → State → Type 0
+abbrev pub ShowsList : Kept → (Option Text → Type 0) → Result (Unit {0}) Failure → Output → Kept → Type 0
 ShowsList s IsSo (Ok v) o s' = (text : Text) × IsSo (Some text) × Appends o.held o.held' text × (s' ≡ s)
 ShowsList s IsSo (Err NoRepo) o s' = IsSilent o × (s' ≡ s) × IsSo None
 ShowsList s IsSo (Err OutOfMemory) o s' = IsSilent o × (s' ≡ s)
@@ -34,7 +34,7 @@ ShowsList s IsSo (Err ConnectionFailure) o s' =
     (text : Text) × IsSo (Some text) × AppendsPart o.held o.held' text × (s' ≡ s)
 ShowsList s IsSo (Err _) o s' = ⊥
 
-abbrev pub CarriesOrder : State → Order → Result (Unit {0}) Failure → Output → State → Type 0
+abbrev pub CarriesOrder : Kept → Order → Result (Unit {0}) Failure → Output → Kept → Type 0
 CarriesOrder s (asked.Change change) result o s' = IsSilent o × Obeys s change result s'
 CarriesOrder s asked.Usage result o s' = Shows s result o s'
 CarriesOrder s (asked.List listing form) result o s' =

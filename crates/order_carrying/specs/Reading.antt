@@ -8,7 +8,7 @@ use Rattle.oci_types.specs.declared.fault.Fault.TheVariants.{Memory, Storage}
 use Rattle.registry_model.specs.World.{World, repo_at}
 use Rattle.registry_model.specs.Lookups.{blob_size_at, manifest_digests_at}
 use Rattle.registry_model.specs.Pruning.{is_among}
-use Rattle.registry_model.specs.Keeping.{State}
+use Rattle.registry_model.specs.Keeping.{Kept}
 use Rattle.manifest_operations.specs.Pruning.{names_at}
 use Rattle.registry_orders.specs.declared.listing.Held.{Held}
 use Rattle.order_texts.specs.declared.items.Item.{Item}
@@ -41,7 +41,7 @@ abbrev pub text_if : Option (String Global) → Option Text
 text_if o = option_map string_bytes o
 
 -- a text that is so was told, or that there is none, as a keeper's read tells a value
-abbrev pub TellsText : Result (Option (String Global)) Fault → (Option Text → Type 0) → State → State → Type 0
+abbrev pub TellsText : Result (Option (String Global)) Fault → (Option Text → Type 0) → Kept → Kept → Type 0
 TellsText (Ok o) IsSo s s' = IsSo (text_if o) × (s' ≡ s)
 TellsText (Err Memory) IsSo s s' = s' ≡ s
 TellsText (Err Storage) IsSo s s' = ⊤

@@ -16,10 +16,10 @@ fn answer_order<K: Keeper>(
     order: &Order,
 ) -> Result<Vec<u8>, AllocError>
     ensures honest { K.is_honest service.new → K.is_honest service.old }
-    ensures steps { K.is_honest service.new → IsOneStep (K.state service.old) (K.state service.new) }
+    ensures steps { K.is_honest service.new → IsOneStep (K.kept service.old) (K.kept service.new) }
     ensures answers { K.is_honest service.new → IfOk result (λ bytes.
-        IsAnswered (K.state service.old) order.now bytes.items (K.state service.new)) }
-    ensures unsaid { K.is_honest service.new → OnErr result (K.state service.new ≡ K.state service.old) }
+        IsAnswered (K.kept service.old) order.now bytes.items (K.kept service.new)) }
+    ensures unsaid { K.is_honest service.new → OnErr result (K.kept service.new ≡ K.kept service.old) }
 {
     // What changes the registry is told in memory that is taken first.
     let lost = write_failure(alloc, Failure::StorageFailure)?;
@@ -45,10 +45,10 @@ pub fn answer_line<K: Keeper>(
     line: &[u8],
 ) -> Result<Vec<u8>, AllocError>
     ensures honest { K.is_honest service.new → K.is_honest service.old }
-    ensures steps { K.is_honest service.new → IsOneStep (K.state service.old) (K.state service.new) }
+    ensures steps { K.is_honest service.new → IsOneStep (K.kept service.old) (K.kept service.new) }
     ensures answers { K.is_honest service.new → IfOk result (λ bytes.
-        AnswersLine (K.state service.old) line.now bytes.items (K.state service.new)) }
-    ensures unsaid { K.is_honest service.new → OnErr result (K.state service.new ≡ K.state service.old) }
+        AnswersLine (K.kept service.old) line.now bytes.items (K.kept service.new)) }
+    ensures unsaid { K.is_honest service.new → OnErr result (K.kept service.new ≡ K.kept service.old) }
 {
     match read_order(alloc, line) {
         Ok(order) => answer_order(alloc, service, &order),

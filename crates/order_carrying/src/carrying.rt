@@ -34,7 +34,7 @@ fn make_change<K: Keeper>(
 ) -> Result<(), Failure>
     ensures honest { K.is_honest service.new → K.is_honest service.old }
     ensures obeys { K.is_honest service.new
-        → Obeys (K.state service.old) change.now result (K.state service.new) }
+        → Obeys (K.kept service.old) change.now result (K.kept service.new) }
     ensures told { IfErr result IsOfOrder }
 {
     match service.admin(alloc, &change.command()) {
@@ -63,8 +63,8 @@ fn show_usage<K: Keeper, W: Write>(
 ) -> Result<(), Failure>
     ensures honest { K.is_honest service.new → K.is_honest service.old }
     ensures shows { K.is_honest service.new
-        → Shows (K.state service.old) result
-        (output (W.contents out.old) (W.contents out.new)) (K.state service.new) }
+        → Shows (K.kept service.old) result
+        (output (W.contents out.old) (W.contents out.new)) (K.kept service.new) }
     ensures silent { IsSilentUnlessBroken result (output (W.contents out.old) (W.contents out.new)) }
     ensures told { IfErr result IsOfOrder }
 {
@@ -88,8 +88,8 @@ fn show_list<K: Keeper, W: Write>(
 ) -> Result<(), Failure>
     ensures honest { K.is_honest service.new → K.is_honest service.old }
     ensures shows { K.is_honest service.new
-        → ShowsList (K.state service.old) (IsListText (K.state service.old).world listing.now form) result
-        (output (W.contents out.old) (W.contents out.new)) (K.state service.new) }
+        → ShowsList (K.kept service.old) (IsListText (K.kept service.old).world listing.now form) result
+        (output (W.contents out.old) (W.contents out.new)) (K.kept service.new) }
     ensures silent { IsSilentUnlessBroken result (output (W.contents out.old) (W.contents out.new)) }
     ensures told { IfErr result IsOfOrder }
 {
@@ -113,8 +113,8 @@ pub fn carry_over<K: Keeper, W: Write>(
 ) -> Result<(), Failure>
     ensures honest { K.is_honest service.new → K.is_honest service.old }
     ensures carries { K.is_honest service.new
-        → CarriesOrder (K.state service.old) order.now result
-        (output (W.contents out.old) (W.contents out.new)) (K.state service.new) }
+        → CarriesOrder (K.kept service.old) order.now result
+        (output (W.contents out.old) (W.contents out.new)) (K.kept service.new) }
     ensures silent { IsSilentUnlessBroken result (output (W.contents out.old) (W.contents out.new)) }
     ensures told { IfErr result IsOfOrder }
 {
@@ -134,8 +134,8 @@ pub fn carry_out<K: Keeper, W: Write>(
 ) -> Ended<K>
     ensures honest { K.is_honest result.keeper → K.is_honest keeper }
     ensures carries { K.is_honest result.keeper
-        → CarriesOrder (K.state keeper) order.now result.carried
-        (output (W.contents out.old) (W.contents out.new)) (K.state result.keeper) }
+        → CarriesOrder (K.kept keeper) order.now result.carried
+        (output (W.contents out.old) (W.contents out.new)) (K.kept result.keeper) }
     ensures silent { IsSilentUnlessBroken result.carried (output (W.contents out.old) (W.contents out.new)) }
     ensures told { IfErr result.carried IsOfOrder }
 {

@@ -22,9 +22,9 @@ fn on_one<K: Keeper>(
     shown: Shown,
 ) -> Result<Vec<Item>, Fault>
     ensures found { K.is_honest service.new → ReadsSo
-        (λ items. AreGrantsOn (K.state service.old).world name.now asked.now shown (items_shown items))
-        result (K.state service.old) (K.state service.new) }
-    ensures spends { Spends result (K.state service.old) (K.state service.new) }
+        (λ items. AreGrantsOn (K.kept service.old).world name.now asked.now shown (items_shown items))
+        result (K.kept service.old) (K.kept service.new) }
+    ensures spends { Spends result (K.kept service.old) (K.kept service.new) }
     ensures honest { K.is_honest service.new → K.is_honest service.old }
 {
     let levels = service.levels(alloc, name)?;
@@ -42,10 +42,10 @@ fn on_all<K: Keeper>(
     shown: Shown,
 ) -> Result<Option<Vec<Item>>, Fault>
     ensures found { K.is_honest service.new → ReadsSo
-        (λ items. let w = (K.state service.old).world in
+        (λ items. let w = (K.kept service.old).world in
         IsSomeAnd (items_if items) (AreGrantsOver w (keys w.repos) asked.now shown))
-        result (K.state service.old) (K.state service.new) }
-    ensures spends { Spends result (K.state service.old) (K.state service.new) }
+        result (K.kept service.old) (K.kept service.new) }
+    ensures spends { Spends result (K.kept service.old) (K.kept service.new) }
     ensures honest { K.is_honest service.new → K.is_honest service.old }
 {
     let grants = service.grants(alloc)?;
@@ -64,9 +64,9 @@ pub fn grants<K: Keeper>(
     shown: Shown,
 ) -> Result<Option<Vec<Item>>, Fault>
     ensures found { K.is_honest service.new → ReadsSo
-        (λ items. AreGrantsOf (K.state service.old).world name.now asked.now shown (items_if items))
-        result (K.state service.old) (K.state service.new) }
-    ensures spends { Spends result (K.state service.old) (K.state service.new) }
+        (λ items. AreGrantsOf (K.kept service.old).world name.now asked.now shown (items_if items))
+        result (K.kept service.old) (K.kept service.new) }
+    ensures spends { Spends result (K.kept service.old) (K.kept service.new) }
     ensures honest { K.is_honest service.new → K.is_honest service.old }
 {
     match name {

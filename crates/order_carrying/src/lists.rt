@@ -19,9 +19,9 @@ fn items<K: Keeper>(
     listing: &Listing,
 ) -> Result<Option<Vec<Item>>, Fault>
     ensures found { K.is_honest service.new
-        → ReadsSo (λ items. AreListed (K.state service.old).world listing.now (items_if items)) result
-        (K.state service.old) (K.state service.new) }
-    ensures spends { Spends result (K.state service.old) (K.state service.new) }
+        → ReadsSo (λ items. AreListed (K.kept service.old).world listing.now (items_if items)) result
+        (K.kept service.old) (K.kept service.new) }
+    ensures spends { Spends result (K.kept service.old) (K.kept service.new) }
     ensures honest { K.is_honest service.new → K.is_honest service.old }
 {
     match listing {
@@ -46,9 +46,9 @@ pub fn list_text<K: Keeper>(
     form: Form,
 ) -> Result<Option<String>, Fault>
     ensures found { K.is_honest service.new
-        → TellsText result (IsListText (K.state service.old).world listing.now form)
-        (K.state service.old) (K.state service.new) }
-    ensures spends { Spends result (K.state service.old) (K.state service.new) }
+        → TellsText result (IsListText (K.kept service.old).world listing.now form)
+        (K.kept service.old) (K.kept service.new) }
+    ensures spends { Spends result (K.kept service.old) (K.kept service.new) }
     ensures honest { K.is_honest service.new → K.is_honest service.old }
 {
     match items(alloc, service, listing)? {

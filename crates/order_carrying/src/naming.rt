@@ -75,9 +75,9 @@ impl Namers {
         name: &RepoName,
     ) -> Result<Namers, Fault>
         ensures found { K.is_honest service.new
-            → ReadsBy namers_in result (namers_among (namings_at (K.state service.old).world name.now))
-            (K.state service.old) (K.state service.new) }
-        ensures spends { Spends result (K.state service.old) (K.state service.new) }
+            → ReadsBy namers_in result (namers_among (namings_at (K.kept service.old).world name.now))
+            (K.kept service.old) (K.kept service.new) }
+        ensures spends { Spends result (K.kept service.old) (K.kept service.new) }
         ensures honest { K.is_honest service.new → K.is_honest service.old }
     {
         let manifests = service.manifest_digests(alloc, name)?;

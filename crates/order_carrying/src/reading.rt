@@ -27,9 +27,9 @@ fn push(items: &mut Vec<Item>, item: Item) -> Result<(), Fault>
 /// The repositories, in byte order of their names.
 pub fn repos<K: Keeper>(alloc: Global, service: &mut Service<K>) -> Result<Option<Vec<Item>>, Fault>
     ensures found { K.is_honest service.new
-        → ReadsBy items_if result (Some (repos_of (K.state service.old).world))
-        (K.state service.old) (K.state service.new) }
-    ensures spends { Spends result (K.state service.old) (K.state service.new) }
+        → ReadsBy items_if result (Some (repos_of (K.kept service.old).world))
+        (K.kept service.old) (K.kept service.new) }
+    ensures spends { Spends result (K.kept service.old) (K.kept service.new) }
     ensures honest { K.is_honest service.new → K.is_honest service.old }
 {
     let names = service.repo_names(alloc)?;
@@ -47,9 +47,9 @@ fn tags<K: Keeper>(
     name: &RepoName,
 ) -> Result<Option<Vec<Item>>, Fault>
     ensures found { K.is_honest service.new
-        → ReadsBy items_if result (Some (held_at (K.state service.old).world name.now Held.Tags))
-        (K.state service.old) (K.state service.new) }
-    ensures spends { Spends result (K.state service.old) (K.state service.new) }
+        → ReadsBy items_if result (Some (held_at (K.kept service.old).world name.now Held.Tags))
+        (K.kept service.old) (K.kept service.new) }
+    ensures spends { Spends result (K.kept service.old) (K.kept service.new) }
     ensures honest { K.is_honest service.new → K.is_honest service.old }
 {
     let tags = service.tags(alloc, name)?;
@@ -93,9 +93,9 @@ fn blobs<K: Keeper>(
     name: &RepoName,
 ) -> Result<Option<Vec<Item>>, Fault>
     ensures found { K.is_honest service.new
-        → ReadsBy items_if result (Some (held_at (K.state service.old).world name.now Held.Blobs))
-        (K.state service.old) (K.state service.new) }
-    ensures spends { Spends result (K.state service.old) (K.state service.new) }
+        → ReadsBy items_if result (Some (held_at (K.kept service.old).world name.now Held.Blobs))
+        (K.kept service.old) (K.kept service.new) }
+    ensures spends { Spends result (K.kept service.old) (K.kept service.new) }
     ensures honest { K.is_honest service.new → K.is_honest service.old }
 {
     let mut namers = Namers::read(alloc, service, name)?;
@@ -116,9 +116,9 @@ fn unnamed<K: Keeper>(
     name: &RepoName,
 ) -> Result<Option<Vec<Item>>, Fault>
     ensures found { K.is_honest service.new
-        → ReadsBy items_if result (Some (held_at (K.state service.old).world name.now Held.Unnamed))
-        (K.state service.old) (K.state service.new) }
-    ensures spends { Spends result (K.state service.old) (K.state service.new) }
+        → ReadsBy items_if result (Some (held_at (K.kept service.old).world name.now Held.Unnamed))
+        (K.kept service.old) (K.kept service.new) }
+    ensures spends { Spends result (K.kept service.old) (K.kept service.new) }
     ensures honest { K.is_honest service.new → K.is_honest service.old }
 {
     let digests = service.unnamed(alloc, name)?;
@@ -137,9 +137,9 @@ pub fn held<K: Keeper>(
     what: Held,
 ) -> Result<Option<Vec<Item>>, Fault>
     ensures found { K.is_honest service.new
-        → ReadsBy items_if result (Some (held_at (K.state service.old).world name.now what))
-        (K.state service.old) (K.state service.new) }
-    ensures spends { Spends result (K.state service.old) (K.state service.new) }
+        → ReadsBy items_if result (Some (held_at (K.kept service.old).world name.now what))
+        (K.kept service.old) (K.kept service.new) }
+    ensures spends { Spends result (K.kept service.old) (K.kept service.new) }
     ensures honest { K.is_honest service.new → K.is_honest service.old }
 {
     match what {

@@ -6,7 +6,7 @@ use Rattle.std.specs.Prelude.{MatchOption, OnErr}
 use Rattle.std.proofs.lemmas.Bool.Decides.{nat_tests}
 use Rattle.std.proofs.lemmas.List.Elements.{All-nil, All-cons, All-append}
 use Rattle.oci_types.specs.Text.{Text}
-use Rattle.registry_model.specs.Keeping.{State}
+use Rattle.registry_model.specs.Keeping.{Kept}
 use Rattle.order_carrying.specs.Answering.{AnswersLine}
 use Rattle.order_texts.specs.Stopping.{stop_line, stop_answer}
 use Rattle.order_sockets.specs.Calling.{Called, fresh, line_in, CarriesOutLine, Obeys, Attends, AttendsAll, Come, Stay}
@@ -35,13 +35,13 @@ pub found_line : (heard : Text) (end k : ℕ) → Some end ≡ position (λ byte
 found_line heard end k e is =
     ap (option_map (λ n. take n heard)) (sym e) ∙ ap Some (sym (take_min end heard) ∙ ap (λ (n : ℕ). take n heard) (sym is))
 
-pub obeyed_line : (P : Type 0) (heard line : Text) (new : Called) (s s' : State) → line_in heard ≡ Some line → new.answered ≡ true → Obeys line new s s'
+pub obeyed_line : (P : Type 0) (heard line : Text) (new : Called) (s s' : Kept) → line_in heard ≡ Some line → new.answered ≡ true → Obeys line new s s'
     → MatchOption (line_in heard) P (λ l. (new.answered ≡ true) × Obeys l new s s')
 obeyed_line P heard line new s s' e a o =
     subst (λ (x : Option Text). MatchOption x P (λ l. (new.answered ≡ true) × Obeys l new s s')) (sym e) (a, o)
 
 -- what is done of a line, where it asks the server to stop exactly if it says so
-pub obeyed_by : (line : Text) (stops : Bool) (new : Called) (s s' : State) → (stops ≡ true → line ≡ stop_line) → (line ≡ stop_line → stops ≡ true) → new.stops ≡ stops
+pub obeyed_by : (line : Text) (stops : Bool) (new : Called) (s s' : Kept) → (stops ≡ true → line ≡ stop_line) → (line ≡ stop_line → stops ≡ true) → new.stops ≡ stops
     → (line ≡ stop_line → s' ≡ s) → (line ≡ stop_line → (new.answer ≡ stop_answer) ⊎ (new.over ≡ true))
     → (line ≢ stop_line → CarriesOutLine line new s s') → Obeys line new s s'
 obeyed_by line true new s s' is back e same answered carried =
@@ -51,7 +51,7 @@ obeyed_by line false new s s' is back e same answered carried =
     inr (other, e, carried other)
 
 -- what was carried out is told, as far as it goes
-pub told : (old mid new : Called) (s s' : State) → new.heard ≡ mid.heard → new.answered ≡ mid.answered → new.answer ≡ mid.answer
+pub told : (old mid new : Called) (s s' : Kept) → new.heard ≡ mid.heard → new.answered ≡ mid.answered → new.answer ≡ mid.answer
     → (mid.over ≡ true → new.over ≡ true) → (mid.answered ≡ false → new.over ≡ mid.over) → new.stops ≡ mid.stops → Attends old mid s s' → Attends old new s s'
 told old mid new s s' h a w over unsaid stops x = record {
   before = λ e. let b = x.before e in (a ∙ b.0, h ∙ b.1, w ∙ b.2, b.3);
@@ -77,8 +77,8 @@ told old mid new s s' h a w over unsaid stops x = record {
     quiet_on (inr e) = inr (sym a ∙ e)
 
 -- one more was attended
-pub attended_more : (old new : List Called) (c d : Called) (s t s' : State) → AttendsAll old new s t → Attends c d t s' → AttendsAll (old ++ c ∷ []) (new ++ d ∷ []) s s'
-attended_more [] [] c d s t s' x y = (s', subst (λ (k : State). Attends c d k s') x y, refl)
+pub attended_more : (old new : List Called) (c d : Called) (s t s' : Kept) → AttendsAll old new s t → Attends c d t s' → AttendsAll (old ++ c ∷ []) (new ++ d ∷ []) s s'
+attended_more [] [] c d s t s' x y = (s', subst (λ (k : Kept). Attends c d k s') x y, refl)
 attended_more [] (e ∷ new) c d s t s' x y = absurd x
 attended_more (b ∷ old) [] c d s t s' x y = absurd x
 attended_more (b ∷ old) (e ∷ new) c d s t s' x y = (x.0, x.1, attended_more old new c d x.0 t s' x.2 y)
@@ -158,7 +158,7 @@ rest_more i xs ys d v lt lt' e =
     let rest : drop (i + 1) xs ≡ drop (i + 1) ys = cc in
     drop-set-lt (i + 1) xs i v (omega arith) ∙ rest
 
-pub attended_step : (i : ℕ) (xs ys : List Caller) (d v : Caller) (s t s' : State) → i < length xs → i < length ys → drop i xs ≡ drop i ys
+pub attended_step : (i : ℕ) (xs ys : List Caller) (d v : Caller) (s t s' : Kept) → i < length xs → i < length ys → drop i xs ≡ drop i ys
     → Attends (called (get_or xs i d)) (called v) t s' → AttendsAll (all_called (take i ys)) (all_called (take i xs)) s t
     → AttendsAll (all_called (take (i + 1) ys)) (all_called (take (i + 1) (set xs i v))) s s'
 attended_step i xs ys d v s t s' lt lt' e one all =

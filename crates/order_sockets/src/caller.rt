@@ -75,12 +75,12 @@ fn answer_to<K: Keeper>(
     line: &[u8],
 ) -> Result<Vec<u8>, AllocError>
     ensures honest { K.is_honest service.new → K.is_honest service.old }
-    ensures same { line.now ≡ stop_line → K.state service.new ≡ K.state service.old }
+    ensures same { line.now ≡ stop_line → K.kept service.new ≡ K.kept service.old }
     ensures stops { line.now ≡ stop_line → IfOk result (λ bytes. bytes.items ≡ stop_answer) }
-    ensures steps { K.is_honest service.new → IsOneStep (K.state service.old) (K.state service.new) }
+    ensures steps { K.is_honest service.new → IsOneStep (K.kept service.old) (K.kept service.new) }
     ensures answers { K.is_honest service.new → line.now ≢ stop_line → IfOk result (λ bytes.
-        AnswersLine (K.state service.old) line.now bytes.items (K.state service.new)) }
-    ensures unsaid { K.is_honest service.new → OnErr result (K.state service.new ≡ K.state service.old) }
+        AnswersLine (K.kept service.old) line.now bytes.items (K.kept service.new)) }
+    ensures unsaid { K.is_honest service.new → OnErr result (K.kept service.new ≡ K.kept service.old) }
 {
     if is_stop(line) {
         return write_stopping(alloc);
@@ -192,9 +192,9 @@ impl Caller {
         ensures honest { K.is_honest service.new → K.is_honest service.old }
         ensures heard { self.new.heard ≡ self.old.heard }
         ensures obeys { K.is_honest service.new → MatchOption (line_in self.old.heard.items)
-            ((called self.new ≡ called self.old) × (K.state service.new ≡ K.state service.old))
+            ((called self.new ≡ called self.old) × (K.kept service.new ≡ K.kept service.old))
             (λ line. (self.new.answered ≡ true)
-            × Obeys line (called self.new) (K.state service.old) (K.state service.new)) }
+            × Obeys line (called self.new) (K.kept service.old) (K.kept service.new)) }
     {
         let Some(end) = line_end(&self.heard) else {
             return;
@@ -258,7 +258,7 @@ impl Caller {
     fn go_on<K: Keeper>(&mut self, alloc: Global, service: &mut Service<K>, now: Duration)
         ensures honest { K.is_honest service.new → K.is_honest service.old }
         ensures attends { K.is_honest service.new
-            → Attends (called self.old) (called self.new) (K.state service.old) (K.state service.new) }
+            → Attends (called self.old) (called self.new) (K.kept service.old) (K.kept service.new) }
     {
         self.hear(now);
         if !self.answered && !self.over {
@@ -270,7 +270,7 @@ impl Caller {
     pub fn attend<K: Keeper>(&mut self, alloc: Global, service: &mut Service<K>, now: Duration)
         ensures honest { K.is_honest service.new → K.is_honest service.old }
         ensures attends { K.is_honest service.new
-            → Attends (called self.old) (called self.new) (K.state service.old) (K.state service.new) }
+            → Attends (called self.old) (called self.new) (K.kept service.old) (K.kept service.new) }
     {
         self.go_on(alloc, service, now);
         self.tell(now);

@@ -85,7 +85,7 @@ fn attend_each<K: Keeper>(
 )
     ensures honest { K.is_honest service.new → K.is_honest service.old }
     ensures attends { K.is_honest service.new → AttendsAll (all_called callers.old) (all_called callers.new)
-        (K.state service.old) (K.state service.new) }
+        (K.kept service.old) (K.kept service.new) }
 {
     for caller in callers.iter_mut() {
         caller.attend(alloc, service, now);
@@ -286,10 +286,10 @@ impl Callers {
         ensures honest { K.is_honest service.new → K.is_honest service.old }
         ensures attends { K.is_honest service.new
             → AttendsRound (all_called self.old.callers.items) (all_called self.new.callers.items)
-            (K.state service.old) (K.state service.new) }
+            (K.kept service.old) (K.kept service.new) }
         ensures stops { K.is_honest service.new
             → NotesStop (all_called self.old.callers.items) (all_called self.new.callers.items)
-            self.old.stopping self.new.stopping (K.state service.old) (K.state service.new) }
+            self.old.stopping self.new.stopping (K.kept service.old) (K.kept service.new) }
     {
         self.accept_all(alloc, registry, now);
         attend_each(&mut self.callers, alloc, service, now);

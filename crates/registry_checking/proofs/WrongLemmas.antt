@@ -10,22 +10,23 @@ use Rattle.oci_types.specs.Text.{Text}
 use Rattle.oci_types.specs.declared.fault.Fault.{Fault}
 use Rattle.oci_types.specs.declared.fault.Fault.TheVariants.{Memory, Storage}
 use Rattle.registry_model.specs.World.{World}
-use Rattle.registry_model.specs.Keeping.{State, Reads, Spends}
+use Rattle.registry_model.specs.Keeping as keeping
+use Rattle.registry_model.specs.Keeping.{Reads, Spends}
 use Rattle.registry_checking.specs.declared.wrong.Wrong.{Wrong}
 use Rattle.registry_checking.specs.Wrongs.{Notes, IsNoted}
 
 -- what is said where something is noted, and what is wrong is `found`
-abbrev pub Noting : Result (Unit {0}) Fault → List Wrong → List Wrong → List Wrong → State → State → Type 0 → Type 0 → Type 0
+abbrev pub Noting : Result (Unit {0}) Fault → List Wrong → List Wrong → List Wrong → keeping.Kept → keeping.Kept → Type 0 → Type 0 → Type 0
 Noting r found old new s s' before after =
     record { found : after → Notes r found old new s s'; spends : Spends r s s'; honest : after → before }
 
 -- what a read says
-abbrev pub Reading : {A : Type 0} → Result A Fault → A → State → State → Type 0 → Type 0 → Type 0
+abbrev pub Reading : {A : Type 0} → Result A Fault → A → keeping.Kept → keeping.Kept → Type 0 → Type 0 → Type 0
 Reading {A} r v s s' before after =
     record { found : after → Reads {A = A} r v s s'; spends : Spends {A = A} r s s'; honest : after → before }
 
 -- a read's fault is passed on, whatever is wrong
-pub unread : {A : Type 0} (v : A) (r : Result (Unit {0}) Fault) (e : Fault) (found old : List Wrong) (s s' : State) (before after : Type 0)
+pub unread : {A : Type 0} (v : A) (r : Result (Unit {0}) Fault) (e : Fault) (found old : List Wrong) (s s' : keeping.Kept) (before after : Type 0)
     → IsErr r × IsErrAnd r (λ f. f ≡ e) → Reading (Err e) v s s' before after → Noting r found old old s s' before after
 unread v (Ok x) e found old s s' before after is h = absurd is.1
 unread {A} v (Err f) e found old s s' before after is h = by_fault f (subst (λ x. Reading {A = A} (Err x) v s s' before after) (sym is.1) h)
@@ -35,7 +36,7 @@ unread {A} v (Err f) e found old s s' before after is h = by_fault f (subst (λ 
     by_fault Storage h = record { found = λ honest. tt; spends = h.spends; honest = h.honest }
 
 -- so is that of the first of several reads, and that of a later one
-pub read_failed : {A B : Type 0} (v : A) (value : B) (r : Result B Fault) (e : Fault) (s s' : State) (before after : Type 0)
+pub read_failed : {A B : Type 0} (v : A) (value : B) (r : Result B Fault) (e : Fault) (s s' : keeping.Kept) (before after : Type 0)
     → IsErr r × IsErrAnd r (λ f. f ≡ e) → Reading (Err e) v s s' before after → Reading r value s s' before after
 read_failed v value (Ok x) e s s' before after is h = absurd is.1
 read_failed {A} {B} v value (Err f) e s s' before after is h = by_fault f (subst (λ x. Reading {A = A} (Err x) v s s' before after) (sym is.1) h)
@@ -44,7 +45,7 @@ read_failed {A} {B} v value (Err f) e s s' before after is h = by_fault f (subst
     by_fault Memory h = record { found = h.found; spends = h.spends; honest = h.honest }
     by_fault Storage h = record { found = λ honest. tt; spends = h.spends; honest = h.honest }
 
-pub later_failed : {A B : Type 0} (v : A) (value : B) (r : Result B Fault) (e : Fault) (s mid s' : State) (before between after : Type 0)
+pub later_failed : {A B : Type 0} (v : A) (value : B) (r : Result B Fault) (e : Fault) (s mid s' : keeping.Kept) (before between after : Type 0)
     → IsErr r × IsErrAnd r (λ f. f ≡ e) → Reading (Err e) v mid s' between after → (between → mid ≡ s) → s.spent ≡ false → (between → before)
     → Reading r value s s' before after
 later_failed v value (Ok x) e s mid s' before between after is h same unspent early = absurd is.1
@@ -56,7 +57,7 @@ later_failed {A} {B} v value (Err f) e s mid s' before between after is h same u
     by_fault Storage h = record { found = λ honest. tt; spends = h.spends; honest = λ honest. early (h.honest honest) }
 
 -- what is made of what reads told
-pub judged : {A : Type 0} (r : Result A Fault) (made value : A) (s s' : State) (before after : Type 0)
+pub judged : {A : Type 0} (r : Result A Fault) (made value : A) (s s' : keeping.Kept) (before after : Type 0)
     → MatchResult r (λ found. found ≡ made) (λ fault. fault ≡ Memory) → (after → (made ≡ value) × (s' ≡ s)) → s.spent ≡ false → s'.spent ≡ false → (after → before)
     → Reading r value s s' before after
 judged (Ok x) made value s s' before after told read unspent late early =
@@ -66,7 +67,7 @@ judged (Err Memory) made value s s' before after told read unspent late early =
 judged (Err Storage) made value s s' before after told read unspent late early = absurd (let bad : Storage ≡ Memory = told in cc)
 
 -- and so is the fault of a part
-pub passed_on : (r : Result (Unit {0}) Fault) (e : Fault) (found others old new : List Wrong) (s s' : State) (before after : Type 0)
+pub passed_on : (r : Result (Unit {0}) Fault) (e : Fault) (found others old new : List Wrong) (s s' : keeping.Kept) (before after : Type 0)
     → IsErr r × IsErrAnd r (λ f. f ≡ e) → Noting (Err e) others old new s s' before after → Noting r found old new s s' before after
 passed_on (Ok x) e found others old new s s' before after is h = absurd is.1
 passed_on (Err f) e found others old new s s' before after is h = by_fault f (subst (λ x. Noting (Err x) others old new s s' before after) (sym is.1) h)
@@ -76,13 +77,13 @@ passed_on (Err f) e found others old new s s' before after is h = by_fault f (su
     by_fault Storage h = record { found = λ honest. tt; spends = h.spends; honest = h.honest }
 
 -- one part behind another
-pub joined : (r : Result (Unit {0}) Fault) (v : Unit {0}) (first : List Wrong) (second : World → List Wrong) (old mid new : List Wrong) (s s1 s' : State) (before between after : Type 0)
+pub joined : (r : Result (Unit {0}) Fault) (v : Unit {0}) (first : List Wrong) (second : World → List Wrong) (old mid new : List Wrong) (s s1 s' : keeping.Kept) (before between after : Type 0)
     → Noting (Ok v) first old mid s s1 before between → Noting r (second s1.world) mid new s1 s' between after → Noting r (first ++ second s.world) old new s s' before after
 joined (Ok x) v first second old mid new s s1 s' before between after h k = record {
   found = λ honest.
       let early = h.found (k.honest honest) in
       let late = k.found honest in (
-        late.0 ∙ ap (λ (x : State). mid ++ second x.world) early.1 ∙ ap (λ xs. xs ++ second s.world) early.0 ∙ append_assoc old first (second s.world),
+        late.0 ∙ ap (λ (x : keeping.Kept). mid ++ second x.world) early.1 ∙ ap (λ xs. xs ++ second s.world) early.0 ∙ append_assoc old first (second s.world),
         late.1 ∙ early.1,
       );
   spends = (h.spends.0, k.spends.1);
@@ -97,14 +98,14 @@ joined (Err Storage) v first second old mid new s s1 s' before between after h k
     record { found = λ honest. tt; spends = k.spends; honest = λ honest. h.honest (k.honest honest) }
 
 -- what is wrong with all that a read told, in one after the other
-pub of_all_read : {A : Type 0} (r : Result (Unit {0}) Fault) (made : World → List A → List Wrong) (given told all : List A) (old new : List Wrong) (s s1 s' : State) (before between after : Type 0)
+pub of_all_read : {A : Type 0} (r : Result (Unit {0}) Fault) (made : World → List A → List Wrong) (given told all : List A) (old new : List Wrong) (s s1 s' : keeping.Kept) (before between after : Type 0)
     → given ≡ told → (between → (told ≡ all) × (s1 ≡ s)) → s.spent ≡ false → (between → before) → Noting r (made s1.world given) old new s1 s' between after
     → Noting r (made s.world all) old new s s' before after
 of_all_read (Ok x) made given told all old new s s1 s' before between after is read unspent early k = record {
   found = λ honest.
       let first = read (k.honest honest) in
       let late = k.found honest in (
-        late.0 ∙ ap (λ (x : State). old ++ made x.world given) first.1 ∙ ap (λ xs. old ++ made s.world xs) (is ∙ first.0),
+        late.0 ∙ ap (λ (x : keeping.Kept). old ++ made x.world given) first.1 ∙ ap (λ xs. old ++ made s.world xs) (is ∙ first.0),
         late.1 ∙ first.1,
       );
   spends = (unspent, k.spends.1);
@@ -119,7 +120,7 @@ of_all_read (Err Storage) made given told all old new s s1 s' before between aft
     record { found = λ honest. tt; spends = k.spends; honest = λ honest. early (k.honest honest) }
 
 -- a read, noted
-pub noted : (found : Result (Option Wrong) Fault) (r : Result (Unit {0}) Fault) (o : Option Wrong) (old new : List Wrong) (s s' : State) (before after : Type 0)
+pub noted : (found : Result (Option Wrong) Fault) (r : Result (Unit {0}) Fault) (o : Option Wrong) (old new : List Wrong) (s s' : keeping.Kept) (before after : Type 0)
     → IsNoted found r old new → Reading found o s s' before after → Noting r (cons_option o []) old new s s' before after
 noted (Ok v) (Ok x) o old new s s' before after is h = record {
   found = λ honest. let told = h.found honest in (is ∙ ap (λ o. old ++ cons_option o []) told.0, told.1);
@@ -139,11 +140,11 @@ noted (Err e) (Err f) o old new s s' before after is h = subst (λ f. Noting (Er
 -- ---- one after the other
 
 -- so far what is wrong with these stands behind what stood there before, and nothing changed
-abbrev pub SoFar : List Wrong → List Wrong → List Wrong → State → State → Type 0 → Type 0 → Type 0
+abbrev pub SoFar : List Wrong → List Wrong → List Wrong → keeping.Kept → keeping.Kept → Type 0 → Type 0 → Type 0
 SoFar found old now s s' before after =
     record { unspent : s'.spent ≡ false; honest : after → before; same : after → s' ≡ s; found : after → now ≡ old ++ found }
 
-module _ (v : Unit {0}) (found old now new : List Wrong) (one : World → List Wrong) (s s1 s' : State) (before between after : Type 0) (so_far : SoFar found old now s s1 before between) where
+module _ (v : Unit {0}) (found old now new : List Wrong) (one : World → List Wrong) (s s1 s' : keeping.Kept) (before between after : Type 0) (so_far : SoFar found old now s s1 before between) where
   pub one_more : (next : List Wrong) → Noting (Ok v) (one s1.world) now new s1 s' between after → found ++ one s.world ≡ next → SoFar next old new s s' before after
   one_more next k e = record {
     unspent = k.spends.1;
@@ -151,12 +152,12 @@ module _ (v : Unit {0}) (found old now new : List Wrong) (one : World → List W
     same = λ honest. (k.found honest).1 ∙ so_far.same (k.honest honest);
     found = λ honest.
         let early = k.honest honest in
-        (k.found honest).0 ∙ ap (λ (x : State). now ++ one x.world) (so_far.same early) ∙ ap (λ xs. xs ++ one s.world) (so_far.found early)
+        (k.found honest).0 ∙ ap (λ (x : keeping.Kept). now ++ one x.world) (so_far.same early) ∙ ap (λ xs. xs ++ one s.world) (so_far.found early)
         ∙ append_assoc old found (one s.world) ∙ ap (λ xs. old ++ xs) e;
   }
 
 -- it ends where one cannot be looked at
-pub stopped : (r : Result (Unit {0}) Fault) (e : Fault) (found all others old now new : List Wrong) (s s1 s' : State) (before between after : Type 0) → SoFar found old now s s1 before between
+pub stopped : (r : Result (Unit {0}) Fault) (e : Fault) (found all others old now new : List Wrong) (s s1 s' : keeping.Kept) (before between after : Type 0) → SoFar found old now s s1 before between
     → s.spent ≡ false → IsErr r × IsErrAnd r (λ f. f ≡ e) → Noting (Err e) others now new s1 s' between after → Noting r all old new s s' before after
 stopped (Ok x) e found all others old now new s s1 s' before between after so_far unspent is k = absurd is.1
 stopped (Err f) e found all others old now new s s1 s' before between after so_far unspent is k =
@@ -171,7 +172,7 @@ stopped (Err f) e found all others old now new s s1 s' before between after so_f
     by_fault Storage k = record { found = λ honest. tt; spends = k.spends; honest = λ honest. so_far.honest (k.honest honest) }
 
 -- and else behind the last
-pub done : (found all old now : List Wrong) (s s' : State) (before after : Type 0) → SoFar found old now s s' before after → s.spent ≡ false → found ≡ all
+pub done : (found all old now : List Wrong) (s s' : keeping.Kept) (before after : Type 0) → SoFar found old now s s' before after → s.spent ≡ false → found ≡ all
     → Noting (Ok tt) all old now s s' before after
 done found all old now s s' before after so_far unspent e = record {
   found = λ honest. (so_far.found honest ∙ ap (λ xs. old ++ xs) e, so_far.same honest);

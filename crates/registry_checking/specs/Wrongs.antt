@@ -11,7 +11,7 @@ use Rattle.oci_types.specs.declared.manifest_fault.ManifestFault.{ManifestFault}
 use Rattle.oci_types.specs.declared.kind.Kind.{Kind}
 use Rattle.oci_types.specs.Manifest.{ManifestShown, manifest_in}
 use Rattle.registry_model.specs.World.{Repo, World}
-use Rattle.registry_model.specs.Keeping.{State}
+use Rattle.registry_model.specs.Keeping as keeping
 use Rattle.registry_model.specs.Lookups.{blob_at, blob_size_at, blob_digests_at, manifest_at, manifest_size_at, manifest_digests_at, tag_at, page_at, usages_of}
 use Rattle.registry_checking.specs.declared.looking.Kept.{Kept}
 use Rattle.registry_checking.specs.declared.looking.Kept.TheVariants.{Blob, Manifest}
@@ -96,7 +96,8 @@ wrongs_of w = flat_map (λ u. wrongs_at w u.0) (usages_of w)
 -- ---- what a keeper's reads found
 
 -- what was found was put behind the others, as a keeper's read tells a value
-abbrev pub Notes : Result (Unit {0}) Fault → List Wrong → List Wrong → List Wrong → State → State → Type 0
+abbrev pub Notes : Result (Unit {0}) Fault → List Wrong → List Wrong → List Wrong
+    → keeping.Kept → keeping.Kept → Type 0
 Notes (Ok v) found old new s s' = (new ≡ old ++ found) × (s' ≡ s)
 Notes (Err Memory) found old new s s' = s' ≡ s
 Notes (Err Storage) found old new s s' = ⊤

@@ -20,9 +20,9 @@ fn look_at_blob<K: Keeper>(
     digest: &Digest,
 ) -> Result<Option<Wrong>, Fault>
     ensures found { K.is_honest keeper.new
-        → Reads result (wrong_blob_at (K.state keeper.old).world repo.now digest.now)
-        (K.state keeper.old) (K.state keeper.new) }
-    ensures spends { Spends result (K.state keeper.old) (K.state keeper.new) }
+        → Reads result (wrong_blob_at (K.kept keeper.old).world repo.now digest.now)
+        (K.kept keeper.old) (K.kept keeper.new) }
+    ensures spends { Spends result (K.kept keeper.old) (K.kept keeper.new) }
     ensures honest { K.is_honest keeper.new → K.is_honest keeper.old }
 {
     let bytes = keeper.blob(alloc, repo, digest)?;
@@ -38,9 +38,9 @@ fn look_at_manifest<K: Keeper>(
     digest: &Digest,
 ) -> Result<Option<Wrong>, Fault>
     ensures found { K.is_honest keeper.new
-        → Reads result (wrong_manifest_at (K.state keeper.old).world repo.now digest.now)
-        (K.state keeper.old) (K.state keeper.new) }
-    ensures spends { Spends result (K.state keeper.old) (K.state keeper.new) }
+        → Reads result (wrong_manifest_at (K.kept keeper.old).world repo.now digest.now)
+        (K.kept keeper.old) (K.kept keeper.new) }
+    ensures spends { Spends result (K.kept keeper.old) (K.kept keeper.new) }
     ensures honest { K.is_honest keeper.new → K.is_honest keeper.old }
 {
     let kept = keeper.manifest(alloc, repo, digest)?;
@@ -56,9 +56,9 @@ fn look_at_tag<K: Keeper>(
     tag: Tag,
 ) -> Result<Option<Wrong>, Fault>
     ensures found { K.is_honest keeper.new
-        → Reads result (wrong_tag_at (K.state keeper.old).world repo.now tag)
-        (K.state keeper.old) (K.state keeper.new) }
-    ensures spends { Spends result (K.state keeper.old) (K.state keeper.new) }
+        → Reads result (wrong_tag_at (K.kept keeper.old).world repo.now tag)
+        (K.kept keeper.old) (K.kept keeper.new) }
+    ensures spends { Spends result (K.kept keeper.old) (K.kept keeper.new) }
     ensures honest { K.is_honest keeper.new → K.is_honest keeper.old }
 {
     let named = keeper.tag(alloc, repo, &tag)?;
@@ -85,9 +85,9 @@ fn look_at_one<K: Keeper>(
     digest: &Digest,
 ) -> Result<Option<Wrong>, Fault>
     ensures found { K.is_honest keeper.new
-        → Reads result (wrong_at kept (K.state keeper.old).world repo.now digest.now)
-        (K.state keeper.old) (K.state keeper.new) }
-    ensures spends { Spends result (K.state keeper.old) (K.state keeper.new) }
+        → Reads result (wrong_at kept (K.kept keeper.old).world repo.now digest.now)
+        (K.kept keeper.old) (K.kept keeper.new) }
+    ensures spends { Spends result (K.kept keeper.old) (K.kept keeper.new) }
     ensures honest { K.is_honest keeper.new → K.is_honest keeper.old }
 {
     match kept {
@@ -106,11 +106,11 @@ fn look_at_all<K: Keeper, W: Watch>(
     progress: &mut Progress<'_, W>,
     wrongs: &mut Vec<Wrong>,
 ) -> Result<(), Fault>
-    requires { (K.state keeper.old).spent ≡ false }
+    requires { (K.kept keeper.old).spent ≡ false }
     ensures found { K.is_honest keeper.new
-        → Notes result (filter_map (wrong_at kept (K.state keeper.old).world repo.now) digests.now)
-        wrongs.old.items wrongs.new.items (K.state keeper.old) (K.state keeper.new) }
-    ensures spends { Spends result (K.state keeper.old) (K.state keeper.new) }
+        → Notes result (filter_map (wrong_at kept (K.kept keeper.old).world repo.now) digests.now)
+        wrongs.old.items wrongs.new.items (K.kept keeper.old) (K.kept keeper.new) }
+    ensures spends { Spends result (K.kept keeper.old) (K.kept keeper.new) }
     ensures honest { K.is_honest keeper.new → K.is_honest keeper.old }
 {
     for digest in digests {
@@ -130,9 +130,9 @@ fn look_at_blobs<K: Keeper, W: Watch>(
     wrongs: &mut Vec<Wrong>,
 ) -> Result<(), Fault>
     ensures found { K.is_honest keeper.new
-        → Notes result (wrong_blobs_at (K.state keeper.old).world repo.now)
-        wrongs.old.items wrongs.new.items (K.state keeper.old) (K.state keeper.new) }
-    ensures spends { Spends result (K.state keeper.old) (K.state keeper.new) }
+        → Notes result (wrong_blobs_at (K.kept keeper.old).world repo.now)
+        wrongs.old.items wrongs.new.items (K.kept keeper.old) (K.kept keeper.new) }
+    ensures spends { Spends result (K.kept keeper.old) (K.kept keeper.new) }
     ensures honest { K.is_honest keeper.new → K.is_honest keeper.old }
 {
     let digests = keeper.blob_digests(alloc, repo)?;
@@ -148,9 +148,9 @@ fn look_at_manifests<K: Keeper, W: Watch>(
     wrongs: &mut Vec<Wrong>,
 ) -> Result<(), Fault>
     ensures found { K.is_honest keeper.new
-        → Notes result (wrong_manifests_at (K.state keeper.old).world repo.now)
-        wrongs.old.items wrongs.new.items (K.state keeper.old) (K.state keeper.new) }
-    ensures spends { Spends result (K.state keeper.old) (K.state keeper.new) }
+        → Notes result (wrong_manifests_at (K.kept keeper.old).world repo.now)
+        wrongs.old.items wrongs.new.items (K.kept keeper.old) (K.kept keeper.new) }
+    ensures spends { Spends result (K.kept keeper.old) (K.kept keeper.new) }
     ensures honest { K.is_honest keeper.new → K.is_honest keeper.old }
 {
     let digests = keeper.manifest_digests(alloc, repo)?;
@@ -173,9 +173,9 @@ fn look_at_tags<K: Keeper>(
     wrongs: &mut Vec<Wrong>,
 ) -> Result<(), Fault>
     ensures found { K.is_honest keeper.new
-        → Notes result (wrong_tags_at (K.state keeper.old).world repo.now)
-        wrongs.old.items wrongs.new.items (K.state keeper.old) (K.state keeper.new) }
-    ensures spends { Spends result (K.state keeper.old) (K.state keeper.new) }
+        → Notes result (wrong_tags_at (K.kept keeper.old).world repo.now)
+        wrongs.old.items wrongs.new.items (K.kept keeper.old) (K.kept keeper.new) }
+    ensures spends { Spends result (K.kept keeper.old) (K.kept keeper.new) }
     ensures honest { K.is_honest keeper.new → K.is_honest keeper.old }
 {
     let (tags, _) = keeper.tags_after(alloc, repo, "", None)?;
@@ -195,9 +195,9 @@ fn look_at_repo<K: Keeper, W: Watch>(
     wrongs: &mut Vec<Wrong>,
 ) -> Result<(), Fault>
     ensures found { K.is_honest keeper.new
-        → Notes result (wrongs_at (K.state keeper.old).world repo.now)
-        wrongs.old.items wrongs.new.items (K.state keeper.old) (K.state keeper.new) }
-    ensures spends { Spends result (K.state keeper.old) (K.state keeper.new) }
+        → Notes result (wrongs_at (K.kept keeper.old).world repo.now)
+        wrongs.old.items wrongs.new.items (K.kept keeper.old) (K.kept keeper.new) }
+    ensures spends { Spends result (K.kept keeper.old) (K.kept keeper.new) }
     ensures honest { K.is_honest keeper.new → K.is_honest keeper.old }
 {
     look_at_blobs(alloc, keeper, repo, progress, wrongs)?;
@@ -213,11 +213,11 @@ fn look_at_repos<K: Keeper, W: Watch>(
     progress: &mut Progress<'_, W>,
     wrongs: &mut Vec<Wrong>,
 ) -> Result<(), Fault>
-    requires { (K.state keeper.old).spent ≡ false }
+    requires { (K.kept keeper.old).spent ≡ false }
     ensures found { K.is_honest keeper.new
-        → Notes result (flat_map (λ u. wrongs_at (K.state keeper.old).world u.0) usages.now)
-        wrongs.old.items wrongs.new.items (K.state keeper.old) (K.state keeper.new) }
-    ensures spends { Spends result (K.state keeper.old) (K.state keeper.new) }
+        → Notes result (flat_map (λ u. wrongs_at (K.kept keeper.old).world u.0) usages.now)
+        wrongs.old.items wrongs.new.items (K.kept keeper.old) (K.kept keeper.new) }
+    ensures spends { Spends result (K.kept keeper.old) (K.kept keeper.new) }
     ensures honest { K.is_honest keeper.new → K.is_honest keeper.old }
 {
     for (repo, _) in usages {
@@ -236,9 +236,9 @@ pub fn look<K: Keeper, W: Watch>(
     wrongs: &mut Vec<Wrong>,
 ) -> Result<(), Fault>
     ensures found { K.is_honest keeper.new
-        → Notes result (wrongs_of (K.state keeper.old).world)
-        wrongs.old.items wrongs.new.items (K.state keeper.old) (K.state keeper.new) }
-    ensures spends { Spends result (K.state keeper.old) (K.state keeper.new) }
+        → Notes result (wrongs_of (K.kept keeper.old).world)
+        wrongs.old.items wrongs.new.items (K.kept keeper.old) (K.kept keeper.new) }
+    ensures spends { Spends result (K.kept keeper.old) (K.kept keeper.new) }
     ensures honest { K.is_honest keeper.new → K.is_honest keeper.old }
 {
     let usages = keeper.usages(alloc)?;

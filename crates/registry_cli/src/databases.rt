@@ -71,7 +71,7 @@ fn of_opening(fault: OpenFault) -> Failure
 
 impl<F: Supposed> Opener<Store<FileStore<FileFrom<F>>>> for Databases<'_, F> {
     ghost use Rattle.std.specs.Prelude.{⊤};
-    ghost use Rattle.registry_model.specs.Keeping.{State};
+    ghost use Rattle.registry_model.specs.Keeping.{Kept};
     ghost use Rattle.sqlite.specs.WalFiles.{image_at};
     ghost use Rattle.registry_cli.specs.Databases.{MayOpen};
 

@@ -1,6 +1,6 @@
 -- Connections that are served together, from none on.
 use Rattle.std.proofs.Common.{ℕ, [], ◌∷◌, ◌++◌, inl, inr, refl, sym, subst}
-use Rattle.registry_model.specs.Keeping.{State}
+use Rattle.registry_model.specs.Keeping.{State, Kept, state_of}
 use Rattle.registry_model.specs.declared.settings.Settings.{Settings}
 use Rattle.registry_model.specs.Team.{orders}
 use Rattle.registry_model.specs.Runs.{did}
@@ -52,6 +52,6 @@ beside_none s u = passed_none u s
 pub beside_then : (s t r : State) → PassesBeside s t → PassesBeside t r → PassesBeside s r
 beside_then s t r x y u = passed_then u s u t u r (x u) (y u)
 
-pub beside_step : (s s' : State) → IsOneStep s s' → PassesBeside s s'
-beside_step s s' (inl e) u = subst (Passed u s u) (sym e) (passed_none u s)
-beside_step s s' (inr x) u = (elsewhere (orders x.0) (did x.1) ∷ [], (u, s', (refl, x.2), (refl, refl)))
+pub beside_step : (k k' : Kept) → IsOneStep k k' → PassesBeside (state_of k) (state_of k')
+beside_step k k' (inl e) u = subst (λ (x : Kept). Passed u (state_of k) u (state_of x)) (sym e) (passed_none u (state_of k))
+beside_step k k' (inr x) u = (elsewhere (orders x.0) (did x.1) ∷ [], (u, state_of k', (refl, x.2), (refl, refl)))

@@ -1,6 +1,6 @@
 -- Connections that are served together (profile).
 use Rattle.std.specs.Prelude.{◌≡◌, ◌/◌, ◌*◌, ℕ, zero, suc, min, List, [], ◌++◌}
-use Rattle.registry_model.specs.Keeping.{State}
+use Rattle.registry_model.specs.Keeping.{State, Kept, state_of}
 use Rattle.registry_model.specs.declared.settings.Settings.{Settings}
 use Rattle.registry_server.specs.declared.bounds.Bounds.{Bounds}
 use Rattle.registry_orders.specs.declared.limits.Limits.{Limits}
@@ -49,36 +49,36 @@ PassesBeside s s' = (u : Open) → Passed u s u s'
 
 -- One round. Calls of connections lead to some state; there each of those who give orders is attended,
 -- whether they were there or came; and calls of connections lead on.
-pub record Round (u : Open) (c : List Called) (s : State) (u' : Open) (c' : List Called) (s' : State)
+pub record Round (u : Open) (c : List Called) (k : Kept) (u' : Open) (c' : List Called) (k' : Kept)
     : Type 0 where
   pub mid : Open
-  pub before : State
-  pub behind : State
-  pub leads : Leads u s mid before
+  pub before : Kept
+  pub behind : Kept
+  pub leads : Leads u (state_of k) mid (state_of before)
   pub attends : AttendsRound c c' before behind
-  pub goes_on : Leads mid behind u' s'
+  pub goes_on : Leads mid (state_of behind) u' (state_of k')
 
 -- so many rounds, each over those whom the one before left
-abbrev pub Rounds : ℕ → Open → List Called → State → Open → List Called → State → Type 0
-Rounds zero u c s u' c' s' = (u' ≡ u) × (c' ≡ c) × (s' ≡ s)
-Rounds (suc n) u c s u' c' s' =
-    (v : Open) × (d : List Called) × (t : State) × Rounds n u c s v d t × Round v d t u' c' s'
+abbrev pub Rounds : ℕ → Open → List Called → Kept → Open → List Called → Kept → Type 0
+Rounds zero u c k u' c' k' = (u' ≡ u) × (c' ≡ c) × (k' ≡ k)
+Rounds (suc n) u c k u' c' k' =
+    (v : Open) × (d : List Called) × (t : Kept) × Rounds n u c k v d t × Round v d t u' c' k'
 
 -- some rounds, and behind them calls of connections alone
-pub record GoesRounds (u : Open) (c : List Called) (s : State) (u' : Open) (s' : State) : Type 0 where
+pub record GoesRounds (u : Open) (c : List Called) (k : Kept) (u' : Open) (k' : Kept) : Type 0 where
   pub count : ℕ
   pub mid : Open
   pub there : List Called
-  pub state : State
-  pub rounds : Rounds count u c s mid there state
-  pub ends : Leads mid state u' s'
+  pub behind : Kept
+  pub rounds : Rounds count u c k mid there behind
+  pub ends : Leads mid (state_of behind) u' (state_of k')
 
 -- the same from no connection on, with these settings and within these bounds, where these give orders
-abbrev pub ServesRounds : Settings → Bounds → List Called → State → State → Type 0
-ServesRounds settings bounds c s s' = (last : Open) × GoesRounds (none settings bounds) c s last s'
+abbrev pub ServesRounds : Settings → Bounds → List Called → Kept → Kept → Type 0
+ServesRounds settings bounds c k k' = (last : Open) × GoesRounds (none settings bounds) c k last k'
 
 -- Served together with these settings, at most so many at once and within this buffer, from nobody on: what
 -- is done beside connections is what those who give orders have said.
-abbrev pub ServesAll : Settings → ℕ → ℕ → State → State → Type 0
-ServesAll settings at_once buffer s s' =
-    ServesWithin settings at_once buffer s s' × ServesRounds settings (bounds_of at_once buffer) [] s s'
+abbrev pub ServesAll : Settings → ℕ → ℕ → Kept → Kept → Type 0
+ServesAll settings at_once buffer k k' = ServesWithin settings at_once buffer (state_of k) (state_of k')
+    × ServesRounds settings (bounds_of at_once buffer) [] k k'

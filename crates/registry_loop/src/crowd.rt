@@ -1,5 +1,6 @@
 //! Many sockets by readiness, in one thread.
 ghost use Rattle.std.specs.Prelude.{◌≡◌, [], true, false, IfOk, OnOk, OnErr};
+ghost use Rattle.registry_model.specs.Keeping.{state_of};
 ghost use Rattle.registry_server.specs.Events.{Carries, Leads};
 ghost use Rattle.registry_server.specs.Showing.{connected};
 ghost use Rattle.registry_server.specs.Lives.{NoneSilent};
@@ -128,8 +129,9 @@ impl<'a, T: Clock, E: Write> Crowd<'a, T, E> {
         service: &mut Service<K>,
     ) -> bool
         ensures honest { K.is_honest service.new → K.is_honest service.old }
-        ensures leads { K.is_honest service.new → Leads (connected connections.old) (K.state service.old)
-            (connected connections.new) (K.state service.new) }
+        ensures leads { K.is_honest service.new → Leads
+            (connected connections.old) (state_of (K.kept service.old))
+            (connected connections.new) (state_of (K.kept service.new)) }
         ensures limits { self.new.limits ≡ self.old.limits }
         ensures callers { all_called self.new.callers.callers.items
             ≡ all_called self.old.callers.callers.items }
@@ -164,8 +166,9 @@ impl<'a, T: Clock, E: Write> Crowd<'a, T, E> {
         service: &mut Service<K>,
     )
         ensures honest { K.is_honest service.new → K.is_honest service.old }
-        ensures leads { K.is_honest service.new → Leads (connected connections.old) (K.state service.old)
-            (connected connections.new) (K.state service.new) }
+        ensures leads { K.is_honest service.new → Leads
+            (connected connections.old) (state_of (K.kept service.old))
+            (connected connections.new) (state_of (K.kept service.new)) }
         ensures limits { self.new.limits ≡ self.old.limits }
         ensures callers { all_called self.new.callers.callers.items
             ≡ all_called self.old.callers.callers.items }
@@ -185,7 +188,7 @@ impl<'a, T: Clock, E: Write> Crowd<'a, T, E> {
         ensures honest { K.is_honest service.new → K.is_honest service.old }
         ensures attends { K.is_honest service.new
             → AttendsRound (all_called self.old.callers.callers.items)
-            (all_called self.new.callers.callers.items) (K.state service.old) (K.state service.new) }
+            (all_called self.new.callers.callers.items) (K.kept service.old) (K.kept service.new) }
         ensures limits { self.new.limits ≡ self.old.limits }
     {
         let now = self.sockets.now;
@@ -203,7 +206,7 @@ impl<'a, T: Clock, E: Write> Crowd<'a, T, E> {
         ensures honest { K.is_honest service.new → K.is_honest service.old }
         ensures attends { K.is_honest service.new
             → AttendsRound (all_called self.old.callers.callers.items)
-            (all_called self.new.callers.callers.items) (K.state service.old) (K.state service.new) }
+            (all_called self.new.callers.callers.items) (K.kept service.old) (K.kept service.new) }
         ensures same { connected connections.new ≡ connected connections.old }
         ensures limits { self.new.limits ≡ self.old.limits }
     {
@@ -257,10 +260,11 @@ impl<'a, T: Clock, E: Write> Crowd<'a, T, E> {
     ) -> io::Result<()>
         ensures honest { K.is_honest service.new → K.is_honest service.old }
         ensures round { K.is_honest service.new → OnOk result (Round
-            (connected connections.old) (all_called self.old.callers.callers.items) (K.state service.old)
-            (connected connections.new) (all_called self.new.callers.callers.items) (K.state service.new)) }
-        ensures failed { K.is_honest service.new → OnErr result (Leads (connected connections.old)
-            (K.state service.old) (connected connections.new) (K.state service.new)
+            (connected connections.old) (all_called self.old.callers.callers.items) (K.kept service.old)
+            (connected connections.new) (all_called self.new.callers.callers.items) (K.kept service.new)) }
+        ensures failed { K.is_honest service.new → OnErr result (Leads
+            (connected connections.old) (state_of (K.kept service.old))
+            (connected connections.new) (state_of (K.kept service.new))
             × (all_called self.new.callers.callers.items ≡ all_called self.old.callers.callers.items)) }
         ensures limits { self.new.limits ≡ self.old.limits }
         ensures none { OnOk result (NoneSilent (most_silence self.old.limits) connections.new) }
@@ -284,11 +288,11 @@ impl<'a, T: Clock, E: Write> Crowd<'a, T, E> {
     ) -> io::Result<bool>
         ensures honest { K.is_honest service.new → K.is_honest service.old }
         ensures serves { K.is_honest service.new → GoesRounds
-            (connected connections.old) (all_called self.old.callers.callers.items) (K.state service.old)
-            (connected connections.new) (K.state service.new) }
+            (connected connections.old) (all_called self.old.callers.callers.items) (K.kept service.old)
+            (connected connections.new) (K.kept service.new) }
         ensures none { OnOk result (self.new.callers.callers.items ≡ []) }
         ensures limits { self.new.limits ≡ self.old.limits }
-        ensures spent { IfOk result (λ over. over ≡ false → (K.state service.new).spent ≡ true) }
+        ensures spent { IfOk result (λ over. over ≡ false → (K.kept service.new).spent ≡ true) }
     {
         for _ in 0..u64::MAX {
             if service.spent() {

@@ -1,5 +1,6 @@
 //! Connections that are served together.
 ghost use Rattle.std.specs.Prelude.{◌≡◌, ℕ, List, [], true, false, IfOk, OnOk};
+ghost use Rattle.registry_model.specs.Keeping.{state_of};
 ghost use Rattle.registry_loop.specs.Together.{ServesTogether, ServesWithin, ServesRounds, bounds_of};
 ghost use Rattle.order_sockets.specs.Calling.{Called};
 
@@ -40,12 +41,14 @@ pub trait Gathering {
     ) -> io::Result<bool>
         ensures honest { K.is_honest service.new → K.is_honest service.old }
         ensures serves { K.is_honest service.new
-            → ServesTogether settings at_once (K.state service.old) (K.state service.new) }
+            → ServesTogether settings at_once
+            (state_of (K.kept service.old)) (state_of (K.kept service.new)) }
         ensures within { K.is_honest service.new
-            → ServesWithin settings at_once (buffer self.old) (K.state service.old) (K.state service.new) }
+            → ServesWithin settings at_once (buffer self.old)
+            (state_of (K.kept service.old)) (state_of (K.kept service.new)) }
         ensures rounds { K.is_honest service.new → ServesRounds settings (bounds_of at_once (buffer self.old))
-            (callers self.old) (K.state service.old) (K.state service.new) }
+            (callers self.old) (K.kept service.old) (K.kept service.new) }
         ensures none { OnOk result (callers self.new ≡ []) }
         ensures buffer { buffer self.new ≡ buffer self.old }
-        ensures spent { IfOk result (λ over. over ≡ false → (K.state service.new).spent ≡ true) };
+        ensures spent { IfOk result (λ over. over ≡ false → (K.kept service.new).spent ≡ true) };
 }

@@ -18,8 +18,8 @@ use Rattle.registry_model.specs.declared.level.Level.{Level}
 use Rattle.registry_maps.specs.declared.repository.Repository.{Repository}
 use Rattle.registry_model.specs.World.{text_cmp, Repo, Grants, World, repo_at, is_known, new_repo, update_repo, with_grants}
 use Rattle.registry_model.specs.Command.{set_repo, drop_repo, grant, revoke, revoke_all}
-use Rattle.registry_model.specs.Keeping.{State, ReadsBy, ReadsSo, Writes, WritesBy, Spends}
-use Rattle.registry_maps.specs.Maps.{seen, repo_of, levels_in, grants_in, world_of, state_of, Makes, Puts, or_memory}
+use Rattle.registry_model.specs.Keeping.{Kept, bare, nothing_held, ReadsBy, ReadsSo, Writes, WritesBy, Spends}
+use Rattle.registry_maps.specs.Maps.{seen, repo_of, levels_in, grants_in, world_of, kept_of, Makes, Puts, or_memory}
 use Rattle.registry_model.proofs.TextOrder.{text_total, exact_texts, bytes_same}
 use Rattle.registry_maps.proofs.SeenMaps.{same_test, get_seen, seen_put, seen_removed, seen_stays, at_some, at_none, remove_empty}
 
@@ -34,24 +34,24 @@ Granted = BTreeMap Text Levels
 
 -- ---- answers that may want memory
 
-pub reads_memory : {A B : Type 0} (show : A → B) (r : Result A AllocError) (q : Result A Fault) (value : B) (s : State) → q ≡ or_memory r
+pub reads_memory : {A B : Type 0} (show : A → B) (r : Result A AllocError) (q : Result A Fault) (value : B) (s : Kept) → q ≡ or_memory r
     → IfOk r (λ v. show v ≡ value) → ReadsBy show q value s s
 reads_memory show (Ok v) q value s e h = subst (λ x. ReadsBy show x value s s) (sym e) (h, refl)
 reads_memory show (Err x) q value s e h = subst (λ x. ReadsBy show x value s s) (sym e) refl
 
-pub reads_so_memory : {A : Type 0} (IsSo : A → Type 0) (r : Result A AllocError) (q : Result A Fault) (s : State) → q ≡ or_memory r
+pub reads_so_memory : {A : Type 0} (IsSo : A → Type 0) (r : Result A AllocError) (q : Result A Fault) (s : Kept) → q ≡ or_memory r
     → IfOk r IsSo → ReadsSo IsSo q s s
 reads_so_memory IsSo (Ok v) q s e h = subst (λ x. ReadsSo IsSo x s s) (sym e) (h, refl)
 reads_so_memory IsSo (Err x) q s e h = subst (λ x. ReadsSo IsSo x s s) (sym e) refl
 
-pub spends_memory : {A : Type 0} (r : Result A AllocError) (q : Result A Fault) (s t : State) → q ≡ or_memory r → s.spent ≡ false → t.spent ≡ false → Spends q s t
+pub spends_memory : {A : Type 0} (r : Result A AllocError) (q : Result A Fault) (s t : Kept) → q ≡ or_memory r → s.spent ≡ false → t.spent ≡ false → Spends q s t
 spends_memory (Ok v) q s t e h k = subst (λ x. Spends x s t) (sym e) (h, k)
 spends_memory (Err x) q s t e h k = subst (λ x. Spends x s t) (sym e) (h, k)
 
 pub writes_memory : (m n : Repos) (g h : Granted) (r : Result (Unit {0}) AllocError) (q : Result (Unit {0}) Fault) (w : World) → q ≡ or_memory r
-    → Makes r w (world_of m g) (world_of n h) → Writes q w (state_of m g) (state_of n h)
-writes_memory m n g h (Ok v) q w e made = subst (λ x. Writes x w (state_of m g) (state_of n h)) (sym e) (ap {A = World} {B = State} (λ x. record { world = x; spent = false }) made)
-writes_memory m n g h (Err x) q w e made = subst (λ y. Writes y w (state_of m g) (state_of n h)) (sym e) (ap {A = World} {B = State} (λ y. record { world = y; spent = false }) made)
+    → Makes r w (world_of m g) (world_of n h) → Writes q w (kept_of m g) (kept_of n h)
+writes_memory m n g h (Ok v) q w e made = subst (λ x. Writes x w (kept_of m g) (kept_of n h)) (sym e) (ap {A = World} {B = Kept} (λ x. bare x) made)
+writes_memory m n g h (Err x) q w e made = subst (λ y. Writes y w (kept_of m g) (kept_of n h)) (sym e) (ap {A = World} {B = Kept} (λ y. bare y) made)
 
 module _ (m : Repos) (g : Granted) (name : Text) where
   pub repo_some : (given : Option (Bor Repository)) (b : Bor Repository) → given ≡ Some b → option_copied given ≡ btree.get text_cmp m name → repo_at (world_of m g) name ≡ Some (repo_of b.now)
@@ -78,57 +78,57 @@ lent_none m name given is e = sym (ap option_copied_mut is) ∙ e
 
 -- a change where no repository is makes nothing
 pub nothing_made : (m : Repos) (g : Granted) (name : Text) (change : Repo → Repo) → None ≡ btree.get text_cmp m name
-    → state_of m g ≡ record { world = update_repo (world_of m g) name change (repo_at (world_of m g) name); spent = false }
-nothing_made m g name change none = ap (λ o. record { world = update_repo (world_of m g) name change o; spent = false }) (sym (repo_unlent m g name none))
+    → kept_of m g ≡ bare (update_repo (world_of m g) name change (repo_at (world_of m g) name))
+nothing_made m g name change none = ap (λ o. bare (update_repo (world_of m g) name change o)) (sym (repo_unlent m g name none))
 
 module _ (m n : Repos) (g : Granted) (name : Text) (old new : Repository)
     (there : Some old ≡ btree.get text_cmp m name) (h : Updates text_cmp m n name (Some new)) where
   -- the repository was changed
   pub changed_by : (change : Repo → Repo) → repo_of new ≡ change (repo_of old)
-      → state_of n g ≡ record { world = update_repo (world_of m g) name change (repo_at (world_of m g) name); spent = false }
+      → kept_of n g ≡ bare (update_repo (world_of m g) name change (repo_at (world_of m g) name))
   changed_by change e =
-      ap (λ r. record { world = record { repos = r; grants = grants_in g }; spent = false }) (seen_put text_total exact_texts repo_of name m n new h ∙ ap (insert (seen text_cmp repo_of m.entries) name) e)
-      ∙ ap (λ o. record { world = update_repo (world_of m g) name change o; spent = false }) (sym (repo_lent m g name old there))
+      ap (λ r. bare (record { repos = r; grants = grants_in g })) (seen_put text_total exact_texts repo_of name m n new h ∙ ap (insert (seen text_cmp repo_of m.entries) name) e)
+      ∙ ap (λ o. bare (update_repo (world_of m g) name change o)) (sym (repo_lent m g name old there))
 
   -- the repository shows as it did
-  pub stays_so : repo_of new ≡ repo_of old → state_of n g ≡ state_of m g
-  stays_so e = ap (λ r. record { world = record { repos = r; grants = grants_in g }; spent = false }) (seen_stays text_total exact_texts repo_of name m n old new h (sym there) e)
+  pub stays_so : repo_of new ≡ repo_of old → kept_of n g ≡ kept_of m g
+  stays_so e = ap (λ r. bare (record { repos = r; grants = grants_in g })) (seen_stays text_total exact_texts repo_of name m n old new h (sym there) e)
 
   pub write_made : (r : Result (Unit {0}) AllocError) (q : Result (Unit {0}) Fault) (change : Repo → Repo) → q ≡ or_memory r → Makes r (change (repo_of old)) (repo_of old) (repo_of new)
-      → Writes q (update_repo (world_of m g) name change (repo_at (world_of m g) name)) (state_of m g) (state_of n g)
-  write_made (Ok v) q change e made = subst (λ x. Writes x (update_repo (world_of m g) name change (repo_at (world_of m g) name)) (state_of m g) (state_of n g)) (sym e) (changed_by change made)
-  write_made (Err x) q change e made = subst (λ x. Writes x (update_repo (world_of m g) name change (repo_at (world_of m g) name)) (state_of m g) (state_of n g)) (sym e) (stays_so made)
+      → Writes q (update_repo (world_of m g) name change (repo_at (world_of m g) name)) (kept_of m g) (kept_of n g)
+  write_made (Ok v) q change e made = subst (λ x. Writes x (update_repo (world_of m g) name change (repo_at (world_of m g) name)) (kept_of m g) (kept_of n g)) (sym e) (changed_by change made)
+  write_made (Err x) q change e made = subst (λ x. Writes x (update_repo (world_of m g) name change (repo_at (world_of m g) name)) (kept_of m g) (kept_of n g)) (sym e) (stays_so made)
 
   pub world_made : (r : Result (Unit {0}) AllocError) (change : Repo → Repo) → Makes r (change (repo_of old)) (repo_of old) (repo_of new)
       → Makes r (update_repo (world_of m g) name change (repo_at (world_of m g) name)) (world_of m g) (world_of n g)
-  world_made (Ok v) change made = ap (λ (s : State). s.world) (changed_by change made)
-  world_made (Err x) change made = ap (λ (s : State). s.world) (stays_so made)
+  world_made (Ok v) change made = ap (λ (s : Kept). s.world) (changed_by change made)
+  world_made (Err x) change made = ap (λ (s : Kept). s.world) (stays_so made)
 
   pub number_made : (r : Result ℕ AllocError) (q : Result ℕ Fault) (value : ℕ) (change : Repo → Repo) → q ≡ or_memory r → IfOk r (λ v. v ≡ value) → Makes r (change (repo_of old)) (repo_of old) (repo_of new)
-      → WritesBy (λ v. v) q value (update_repo (world_of m g) name change (repo_at (world_of m g) name)) (state_of m g) (state_of n g)
-  number_made (Ok v) q value change e is made = subst (λ x. WritesBy (λ v. v) x value (update_repo (world_of m g) name change (repo_at (world_of m g) name)) (state_of m g) (state_of n g)) (sym e) (is, changed_by change made)
-  number_made (Err x) q value change e is made = subst (λ x. WritesBy (λ v. v) x value (update_repo (world_of m g) name change (repo_at (world_of m g) name)) (state_of m g) (state_of n g)) (sym e) (stays_so made)
+      → WritesBy (λ v. v) q value (update_repo (world_of m g) name change (repo_at (world_of m g) name)) (kept_of m g) (kept_of n g)
+  number_made (Ok v) q value change e is made = subst (λ x. WritesBy (λ v. v) x value (update_repo (world_of m g) name change (repo_at (world_of m g) name)) (kept_of m g) (kept_of n g)) (sym e) (is, changed_by change made)
+  number_made (Err x) q value change e is made = subst (λ x. WritesBy (λ v. v) x value (update_repo (world_of m g) name change (repo_at (world_of m g) name)) (kept_of m g) (kept_of n g)) (sym e) (stays_so made)
 
   -- the quota was set
-  pub quota_set : (quota : ℕ) → repo_of new ≡ record (repo_of old) { quota = quota } → state_of n g ≡ record { world = set_repo (world_of m g) name quota; spent = false }
+  pub quota_set : (quota : ℕ) → repo_of new ≡ record (repo_of old) { quota = quota } → kept_of n g ≡ bare (set_repo (world_of m g) name quota)
   quota_set quota e = rw (repo_lent m g name old there)
-      (ap (λ r. record { world = record { repos = r; grants = grants_in g }; spent = false }) (seen_put text_total exact_texts repo_of name m n new h ∙ ap (insert (seen text_cmp repo_of m.entries) name) e))
+      (ap (λ r. bare (record { repos = r; grants = grants_in g })) (seen_put text_total exact_texts repo_of name m n new h ∙ ap (insert (seen text_cmp repo_of m.entries) name) e))
 
 -- a repository was made
 pub repo_made : (m n : Repos) (g : Granted) (name : Text) (new : Repository) (quota : ℕ) → None ≡ btree.get text_cmp m name
-    → Updates text_cmp m n name (Some new) → repo_of new ≡ new_repo quota → state_of n g ≡ record { world = set_repo (world_of m g) name quota; spent = false }
+    → Updates text_cmp m n name (Some new) → repo_of new ≡ new_repo quota → kept_of n g ≡ bare (set_repo (world_of m g) name quota)
 repo_made m n g name new quota none h e = rw (repo_unlent m g name none)
-    (ap (λ r. record { world = record { repos = r; grants = grants_in g }; spent = false }) (seen_put text_total exact_texts repo_of name m n new h ∙ ap (insert (seen text_cmp repo_of m.entries) name) e))
+    (ap (λ r. bare (record { repos = r; grants = grants_in g })) (seen_put text_total exact_texts repo_of name m n new h ∙ ap (insert (seen text_cmp repo_of m.entries) name) e))
 
 pub repo_puts : (m n : Repos) (g : Granted) (name key : Text) (new : Repository) (quota : ℕ) (r : Result (Unit {0}) AllocError) (q : Result (Unit {0}) Fault)
     → None ≡ btree.get text_cmp m name → key ≡ name → Puts text_cmp r key new m n → repo_of new ≡ new_repo quota → q ≡ or_memory r
-    → Writes q (set_repo (world_of m g) name quota) (state_of m g) (state_of n g)
+    → Writes q (set_repo (world_of m g) name quota) (kept_of m g) (kept_of n g)
 repo_puts m n g name key new quota (Ok x) q none is h e told =
-    subst (λ y. Writes y (set_repo (world_of m g) name quota) (state_of m g) (state_of n g)) (sym told)
+    subst (λ y. Writes y (set_repo (world_of m g) name quota) (kept_of m g) (kept_of n g)) (sym told)
     (repo_made m n g name new quota none (subst (λ k. Updates text_cmp m n k (Some new)) is h) e)
 repo_puts m n g name key new quota (Err x) q none is h e told =
-    subst (λ y. Writes y (set_repo (world_of m g) name quota) (state_of m g) (state_of n g)) (sym told)
-    (ap (λ es. record { world = record { repos = seen text_cmp repo_of es; grants = grants_in g }; spent = false }) h)
+    subst (λ y. Writes y (set_repo (world_of m g) name quota) (kept_of m g) (kept_of n g)) (sym told)
+    (ap (λ es. bare (record { repos = seen text_cmp repo_of es; grants = grants_in g })) h)
 
 -- ---- grants
 
@@ -168,17 +168,19 @@ grants_updated token m n levels h other =
 
 module _ (m : Repos) (g n : Granted) (token : Text) (levels : Levels) (h : Updates text_cmp g n token (Some levels)) where
   -- the grants of the token were changed
-  pub granted_so : (grants : Grants) → levels_in levels.entries ≡ grants → state_of m n ≡ record { world = with_grants (world_of m g) token grants; spent = false }
+  pub granted_so : (grants : Grants) → levels_in levels.entries ≡ grants → kept_of m n ≡ bare (with_grants (world_of m g) token grants)
   granted_so grants e = λ i. record {
     world = record { repos = seen text_cmp repo_of m.entries; grants = λ other. (grants_updated token g n levels h other ∙ ap (λ x. cond (bytes_eq other token) x (grants_in g other)) e) i };
     spent = false;
+    held = nothing_held;
   }
 
   -- the levels show as they did
-  pub grants_stay : levels_in levels.entries ≡ grants_in g token → state_of m n ≡ state_of m g
+  pub grants_stay : levels_in levels.entries ≡ grants_in g token → kept_of m n ≡ kept_of m g
   grants_stay e = λ i. record {
     world = record { repos = seen text_cmp repo_of m.entries; grants = λ other. (grants_updated token g n levels h other ∙ step other (bytes_eq other token) refl) i };
     spent = false;
+    held = nothing_held;
   }
     where
       step : (other : Text) (b : Bool) → bytes_eq other token ≡ b → cond b (levels_in levels.entries) (grants_in g other) ≡ grants_in g other
@@ -187,33 +189,35 @@ module _ (m : Repos) (g n : Granted) (token : Text) (levels : Levels) (h : Updat
 
   pub grant_writes : (r : Result (Unit {0}) AllocError) (q : Result (Unit {0}) Fault) (old : Levels) (name : Text) (level : Level) → Some old ≡ btree.get text_cmp g token → q ≡ or_memory r
       → Makes r (insert (levels_in old.entries) name level) (levels_in old.entries) (levels_in levels.entries)
-      → Writes q (grant (world_of m g) token name level) (state_of m g) (state_of m n)
-  grant_writes (Ok v) q old name level there e made = subst (λ x. Writes x (grant (world_of m g) token name level) (state_of m g) (state_of m n)) (sym e)
+      → Writes q (grant (world_of m g) token name level) (kept_of m g) (kept_of m n)
+  grant_writes (Ok v) q old name level there e made = subst (λ x. Writes x (grant (world_of m g) token name level) (kept_of m g) (kept_of m n)) (sym e)
       (granted_so (insert (grants_in g token) name level) (made ∙ ap (λ x. insert x name level) (sym (granted g token old there))))
-  grant_writes (Err x) q old name level there e made = subst (λ x. Writes x (grant (world_of m g) token name level) (state_of m g) (state_of m n)) (sym e)
+  grant_writes (Err x) q old name level there e made = subst (λ x. Writes x (grant (world_of m g) token name level) (kept_of m g) (kept_of m n)) (sym e)
       (grants_stay (made ∙ sym (granted g token old there)))
 
 -- a token without grants is given one level
 pub first_grant : (m : Repos) (g n : Granted) (token key name : Text) (level : Level) (levels : Levels) (r : Result (Unit {0}) AllocError) (q : Result (Unit {0}) Fault)
     → None ≡ btree.get text_cmp g token → key ≡ token → Puts text_cmp r key levels g n → levels_in levels.entries ≡ insert empty name level → q ≡ or_memory r
-    → Writes q (grant (world_of m g) token name level) (state_of m g) (state_of m n)
+    → Writes q (grant (world_of m g) token name level) (kept_of m g) (kept_of m n)
 first_grant m g n token key name level levels (Ok x) q none is h e told =
-    subst (λ y. Writes y (grant (world_of m g) token name level) (state_of m g) (state_of m n)) (sym told)
+    subst (λ y. Writes y (grant (world_of m g) token name level) (kept_of m g) (kept_of m n)) (sym told)
     (granted_so m g n token levels (subst (λ k. Updates text_cmp g n k (Some levels)) is h) (insert (grants_in g token) name level)
     (e ∙ sym (ap (λ x. insert x name level) (ungranted g token none))))
 first_grant m g n token key name level levels (Err x) q none is h e told =
-    subst (λ y. Writes y (grant (world_of m g) token name level) (state_of m g) (state_of m n)) (sym told)
-    (ap {A = List (Text × Levels)} {B = State} (λ es. record {
+    subst (λ y. Writes y (grant (world_of m g) token name level) (kept_of m g) (kept_of m n)) (sym told)
+    (ap {A = List (Text × Levels)} {B = Kept} (λ es. record {
       world = record { repos = seen text_cmp repo_of m.entries; grants = λ t. option_map_or (λ (l : Levels). levels_in l.entries) (lookup (is_at (text_cmp t)) es) empty };
       spent = false;
+      held = nothing_held;
     }) h)
 
 -- a token without grants has no level to take
 pub nothing_revoked : (m : Repos) (g : Granted) (token name : Text) → None ≡ btree.get text_cmp g token
-    → state_of m g ≡ record { world = revoke (world_of m g) token name; spent = false }
+    → kept_of m g ≡ bare (revoke (world_of m g) token name)
 nothing_revoked m g token name none = λ i. record {
   world = record { repos = seen text_cmp repo_of m.entries; grants = λ other. step other (bytes_eq other token) refl i };
   spent = false;
+  held = nothing_held;
 }
   where
     step : (other : Text) (b : Bool) → bytes_eq other token ≡ b → grants_in g other ≡ cond b (remove (grants_in g token) name) (grants_in g other)
@@ -222,10 +226,11 @@ nothing_revoked m g token name none = λ i. record {
 
 -- a token whose entry went has no level
 pub all_revoked : (m : Repos) (g n : Granted) (token : Text) → Updates text_cmp g n token None
-    → state_of m n ≡ record { world = revoke_all (world_of m g) token; spent = false }
+    → kept_of m n ≡ bare (revoke_all (world_of m g) token)
 all_revoked m g n token h = λ i. record {
   world = record { repos = seen text_cmp repo_of m.entries; grants = λ other. at other i };
   spent = false;
+  held = nothing_held;
 }
   where
     step : (other : Text) (b : Bool) → option_map_or (λ (l : Levels). levels_in l.entries) (cond b None (btree.get text_cmp g other)) empty ≡ cond b empty (grants_in g other)
@@ -241,10 +246,11 @@ all_revoked m g n token h = λ i. record {
 -- each token's levels are those without the name
 pub repo_dropped : (m n : Repos) (g d : Granted) (name : Text) → Updates text_cmp m n name None
     → ((token : Text) → grants_in d token ≡ remove (grants_in g token) name)
-    → state_of n d ≡ record { world = drop_repo (world_of m g) name; spent = false }
+    → kept_of n d ≡ bare (drop_repo (world_of m g) name)
 repo_dropped m n g d name h k = λ i. record {
   world = record { repos = seen_removed text_total exact_texts repo_of name m n h i; grants = λ token. k token i };
   spent = false;
+  held = nothing_held;
 }
 
 -- the levels of each token, after one was taken from all

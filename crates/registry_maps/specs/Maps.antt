@@ -14,7 +14,7 @@ use Rattle.oci_types.specs.declared.fault.Fault.TheVariants.{Memory}
 use Rattle.registry_model.specs.declared.level.Level.{Level}
 use Rattle.registry_maps.specs.declared.repository.Repository.{Repository}
 use Rattle.registry_model.specs.World.{text_cmp, Repo, Grants, World}
-use Rattle.registry_model.specs.Keeping.{State}
+use Rattle.registry_model.specs.Keeping.{Kept, bare}
 
 -- entries, each value as it is shown
 abbrev pub seen : {K X Y : Type 0} → (R : K → K → Ordering) → (X → Y) → List (K × X) → FinMap R Y
@@ -49,8 +49,8 @@ grants_in m token = option_map_or (λ levels. levels_in levels.entries) (btree.g
 abbrev pub world_of : BTreeMap Text Repository → BTreeMap Text (BTreeMap Text Level) → World
 world_of repos grants = record { repos = seen text_cmp repo_of repos.entries; grants = grants_in grants }
 
-abbrev pub state_of : BTreeMap Text Repository → BTreeMap Text (BTreeMap Text Level) → State
-state_of repos grants = record { world = world_of repos grants; spent = false }
+abbrev pub kept_of : BTreeMap Text Repository → BTreeMap Text (BTreeMap Text Level) → Kept
+kept_of repos grants = bare (world_of repos grants)
 
 -- ---- what may want memory
 

@@ -1,7 +1,7 @@
 //! The keeper over ordered maps.
 ghost use Rattle.std.specs.Prelude.{◌≡◌};
 ghost use Rattle.registry_model.specs.World.{no_world};
-ghost use Rattle.registry_model.specs.Doing.{keeps};
+ghost use Rattle.registry_model.specs.Keeping.{bare};
 
 mod blobs;
 mod last_number;
@@ -37,7 +37,7 @@ impl Drop for MapKeeper {
 impl MapKeeper {
     /// A keeper of the empty world, whose maps grow by this allocator; takes no memory.
     pub fn new(alloc: Global) -> MapKeeper
-        ensures { ⟦<MapKeeper as Keeper>⟧.state result ≡ keeps no_world }
+        ensures { ⟦<MapKeeper as Keeper>⟧.kept result ≡ bare no_world }
     {
         MapKeeper {
             alloc,
@@ -49,9 +49,9 @@ impl MapKeeper {
 
 impl Keeper for MapKeeper {
     ghost use Rattle.std.specs.Prelude.{⊤};
-    ghost use Rattle.registry_maps.specs.Maps.{state_of};
+    ghost use Rattle.registry_maps.specs.Maps.{kept_of};
 
-    ghost state = { λ k. state_of k.repos k.grants };
+    ghost kept = { λ k. kept_of k.repos k.grants };
 
     ghost is_honest = { λ _. ⊤ };
 

@@ -7,6 +7,7 @@ pub mod ResourceLaws
 pub mod OwnLaws
 pub mod AsideLaws
 pub mod RunLaws
+pub mod HeldLaws
 pub mod ChangedMaps
 pub mod MapSums
 pub mod SoundRepositories

@@ -8,7 +8,7 @@ use Rattle.oci_types.specs.declared.fault.Fault.{Fault}
 use Rattle.oci_types.specs.declared.fault.Fault.TheVariants.{Memory, Storage}
 use Rattle.registry_model.specs.World.{World}
 use Rattle.registry_model.specs.Lookups.{session_at, bytes_or_none, finish}
-use Rattle.registry_model.specs.Keeping.{State}
+use Rattle.registry_model.specs.Keeping.{Kept, goes_on}
 
 -- the session is open, and its bytes match the digest
 abbrev pub session_matches : World → Text → ℕ → Text → Bool
@@ -22,8 +22,8 @@ finish_as_is w name number digest =
 
 -- a write that is made only where this is so, to the world w; an answer that it was not made says nothing of
 -- whether it is so, and nothing changes then
-abbrev pub WritesWhereSo : Result Bool Fault → Bool → World → State → State → Type 0
-WritesWhereSo (Ok true) so w s s' = (so ≡ true) × (s' ≡ record { world = w; spent = false })
-WritesWhereSo (Ok false) so w s s' = s' ≡ s
-WritesWhereSo (Err Memory) so w s s' = s' ≡ s
-WritesWhereSo (Err Storage) so w s s' = ⊤
+abbrev pub WritesWhereSo : Result Bool Fault → Bool → World → Kept → Kept → Type 0
+WritesWhereSo (Ok true) so w k k' = (so ≡ true) × (k' ≡ goes_on k w)
+WritesWhereSo (Ok false) so w k k' = k' ≡ k
+WritesWhereSo (Err Memory) so w k k' = k' ≡ k
+WritesWhereSo (Err Storage) so w k k' = ⊤

@@ -1,5 +1,5 @@
--- What the calls of a keeper say of the world that it keeps.
-use Rattle.std.specs.Prelude.{◌≡◌, ℕ, Bool, true, false, List, map, Option, Result, Ok, Err, ⊤, Vec, option_map}
+-- What the calls of a keeper say of the world that it keeps, and of what it holds beside the world.
+use Rattle.std.specs.Prelude.{◌≡◌, ℕ, Bool, true, false, List, map, Option, None, Result, Ok, Err, ⊤, Vec, option_map}
 use Rattle.std.specs.declared.alloc.Global.{Global}
 use Rattle.oci_types.specs.Text.{Text}
 use Rattle.oci_types.specs.declared.fault.Fault.{Fault}
@@ -9,46 +9,76 @@ use Rattle.registry_model.specs.declared.quota.Usage.{Usage}
 use Rattle.registry_model.specs.TagPage.{Page}
 use Rattle.registry_model.specs.World.{World}
 
--- the world, and whether the storage has failed, after which the world says nothing
+-- the world, and whether the storage has failed, after which the world says nothing: what requests see
 pub record State : Type 0 where
   pub world : World
   pub spent : Bool
 
+-- beside the world, under the numbers of connections: the bytes of bodies that came so far, and contents that
+-- go out
+pub record Held : Type 0 where
+  pub stages : ℕ → Option Text
+  pub pins : ℕ → Option Text
+
+abbrev pub nothing_held : Held
+nothing_held = record { stages = λ _. None; pins = λ _. None }
+
+-- what a keeper keeps: a state, and what is held beside it
+pub record Kept : Type 0 where
+  pub world : World
+  pub spent : Bool
+  pub held : Held
+
+abbrev pub state_of : Kept → State
+state_of k = record { world = k.world; spent = k.spent }
+
+-- the keeper goes on with this world, and holds what it held
+abbrev pub goes_on : Kept → World → Kept
+goes_on k w = record { world = w; spent = false; held = k.held }
+
+-- this world, with nothing held beside it
+abbrev pub bare : World → Kept
+bare w = record { world = w; spent = false; held = nothing_held }
+
+-- where the storage has not failed, it had not failed before, and what is held is as it was
+abbrev pub HeldStays : Kept → Kept → Type 0
+HeldStays k k' = k'.spent ≡ false → (k.spent ≡ false) × (k'.held ≡ k.held)
+
 -- what a call asks of the world: this is so where the keeper is honest and not spent
-abbrev pub Asks : Type 0 → State → (World → Type 0) → Type 0
-Asks honest s IsSo = honest → s.spent ≡ false → IsSo s.world
+abbrev pub Asks : Type 0 → Kept → (World → Type 0) → Type 0
+Asks honest k IsSo = honest → k.spent ≡ false → IsSo k.world
 
 -- a read gives the value, or gives up, and nothing changes; of a keeper whose storage fails nothing is known
-abbrev pub ReadsBy : {A B : Type 0} → (A → B) → Result A Fault → B → State → State → Type 0
-ReadsBy show (Ok v) value s s' = (show v ≡ value) × (s' ≡ s)
-ReadsBy show (Err Memory) value s s' = s' ≡ s
-ReadsBy show (Err Storage) value s s' = ⊤
+abbrev pub ReadsBy : {A B : Type 0} → (A → B) → Result A Fault → B → Kept → Kept → Type 0
+ReadsBy show (Ok v) value k k' = (show v ≡ value) × (k' ≡ k)
+ReadsBy show (Err Memory) value k k' = k' ≡ k
+ReadsBy show (Err Storage) value k k' = ⊤
 
 -- a read gives a value of which something is so, or gives up, and nothing changes
-abbrev pub ReadsSo : {A : Type 0} → (A → Type 0) → Result A Fault → State → State → Type 0
-ReadsSo IsSo (Ok v) s s' = IsSo v × (s' ≡ s)
-ReadsSo IsSo (Err Memory) s s' = s' ≡ s
-ReadsSo IsSo (Err Storage) s s' = ⊤
+abbrev pub ReadsSo : {A : Type 0} → (A → Type 0) → Result A Fault → Kept → Kept → Type 0
+ReadsSo IsSo (Ok v) k k' = IsSo v × (k' ≡ k)
+ReadsSo IsSo (Err Memory) k k' = k' ≡ k
+ReadsSo IsSo (Err Storage) k k' = ⊤
 
-abbrev pub Reads : {A : Type 0} → Result A Fault → A → State → State → Type 0
-Reads {A} r value s s' = ReadsBy {A = A} {B = A} (λ v. v) r value s s'
+abbrev pub Reads : {A : Type 0} → Result A Fault → A → Kept → Kept → Type 0
+Reads {A} r value k k' = ReadsBy {A = A} {B = A} (λ v. v) r value k k'
 
--- a write leads to the world w, or gives up and nothing changes
-abbrev pub WritesBy : {A B : Type 0} → (A → B) → Result A Fault → B → World → State → State → Type 0
-WritesBy show (Ok v) value w s s' = (show v ≡ value) × (s' ≡ record { world = w; spent = false })
-WritesBy show (Err Memory) value w s s' = s' ≡ s
-WritesBy show (Err Storage) value w s s' = ⊤
+-- a write leads to the world w and leaves what is held, or gives up and nothing changes
+abbrev pub WritesBy : {A B : Type 0} → (A → B) → Result A Fault → B → World → Kept → Kept → Type 0
+WritesBy show (Ok v) value w k k' = (show v ≡ value) × (k' ≡ goes_on k w)
+WritesBy show (Err Memory) value w k k' = k' ≡ k
+WritesBy show (Err Storage) value w k k' = ⊤
 
-abbrev pub Writes : {A : Type 0} → Result A Fault → World → State → State → Type 0
-Writes (Ok v) w s s' = s' ≡ record { world = w; spent = false }
-Writes (Err Memory) w s s' = s' ≡ s
-Writes (Err Storage) w s s' = ⊤
+abbrev pub Writes : {A : Type 0} → Result A Fault → World → Kept → Kept → Type 0
+Writes (Ok v) w k k' = k' ≡ goes_on k w
+Writes (Err Memory) w k k' = k' ≡ k
+Writes (Err Storage) w k k' = ⊤
 
 -- the storage fails exactly where the answer says so, and from then on each answer says so
-abbrev pub Spends : {A : Type 0} → Result A Fault → State → State → Type 0
-Spends (Ok v) s s' = (s.spent ≡ false) × (s'.spent ≡ false)
-Spends (Err Memory) s s' = (s.spent ≡ false) × (s'.spent ≡ false)
-Spends (Err Storage) s s' = s'.spent ≡ true
+abbrev pub Spends : {A : Type 0} → Result A Fault → Kept → Kept → Type 0
+Spends (Ok v) k k' = (k.spent ≡ false) × (k'.spent ≡ false)
+Spends (Err Memory) k k' = (k.spent ≡ false) × (k'.spent ≡ false)
+Spends (Err Storage) k k' = k'.spent ≡ true
 
 -- the bytes that a vector holds, if there is one
 abbrev pub bytes_in : Option (Vec ℕ Global) → Option Text

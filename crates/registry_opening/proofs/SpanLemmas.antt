@@ -3,18 +3,18 @@ use Rattle.std.proofs.Common.{◌≡◌, ◌∙◌, ℕ, true, List, [], ◌∷�
 use Rattle.std.proofs.lemmas.List.{append-nil, append_assoc, map-append}
 use Rattle.std.proofs.lemmas.List.Elements.{All-push, All-nil}
 use Rattle.std.specs.List.{All, cons_option}
-use Rattle.registry_model.specs.Keeping.{State}
+use Rattle.registry_model.specs.Keeping.{Kept}
 use Rattle.registry_opening.specs.Openings.{Opening, Deed, opened, Between, between, Never, Just, Once, Spans, IsOver, EndsSpent}
 
 -- these so far, and each ended spent
-pub record SoFar {K : Type 0} (b : Between K) (path : List ℕ) (Says : State → State → Type 0) : Type 0 where
+pub record SoFar {K : Type 0} (b : Between K) (path : List ℕ) (Says : Kept → Kept → Type 0) : Type 0 where
   pub spent : List (Opening K)
   pub just : Just b (map opened spent)
   pub all_spent : All (EndsSpent b) spent
   pub all_over : All (IsOver b path Says) spent
 
-pub none_so_far : {K : Type 0} (h : K → Type 0) (t : K → State) (opens : List ℕ → State → Type 0) (path : List ℕ)
-    (had : List (Deed K) → Type 0) (Says : State → State → Type 0) → SoFar (between h t opens had had) path Says
+pub none_so_far : {K : Type 0} (h : K → Type 0) (t : K → Kept) (opens : List ℕ → Kept → Type 0) (path : List ℕ)
+    (had : List (Deed K) → Type 0) (Says : Kept → Kept → Type 0) → SoFar (between h t opens had had) path Says
 none_so_far {K} h t opens path had Says = record {
   spent = [];
   just = λ l is. subst had (sym (append-nil l)) is;
@@ -23,8 +23,8 @@ none_so_far {K} h t opens path had Says = record {
 }
 
 -- what is said of an opening may be said more weakly
-pub is_over : {K : Type 0} (h : K → Type 0) (t : K → State) (opens : List ℕ → State → Type 0) (path : List ℕ)
-    (had had' : List (Deed K) → Type 0) (Q Says : State → State → Type 0) → ((s s' : State) → Q s s' → Says s s')
+pub is_over : {K : Type 0} (h : K → Type 0) (t : K → Kept) (opens : List ℕ → Kept → Type 0) (path : List ℕ)
+    (had had' : List (Deed K) → Type 0) (Q Says : Kept → Kept → Type 0) → ((s s' : Kept) → Q s s' → Says s s')
     → (o : Opening K) → IsOver (between h t opens had had') path Q o → IsOver (between h t opens had had') path Says o
 is_over {K} h t opens path had had' Q Says weaker o is =
     (is.0, λ honest. ((is.1 honest).0, (is.1 honest).1, weaker (t o.first) (t o.last) (is.1 honest).2))
@@ -37,9 +37,9 @@ both_just {K} had mid had' first o x y l is =
     let e = append_assoc l (map opened first) (opened o ∷ []) ∙ ap (λ (m : List (Deed K)). l ++ m) (sym (map-append opened first (o ∷ []))) in
     subst had' e (y (l ++ map opened first) (x l is))
 
-pub one_more : {K : Type 0} (h : K → Type 0) (t : K → State) (opens : List ℕ → State → Type 0) (path : List ℕ)
-    (had mid had' : List (Deed K) → Type 0) (Q Says : State → State → Type 0)
-    → ((s s' : State) → Q s s' → Says s s') → ((s s' : State) → Q s s' → s'.spent ≡ true)
+pub one_more : {K : Type 0} (h : K → Type 0) (t : K → Kept) (opens : List ℕ → Kept → Type 0) (path : List ℕ)
+    (had mid had' : List (Deed K) → Type 0) (Q Says : Kept → Kept → Type 0)
+    → ((s s' : Kept) → Q s s' → Says s s') → ((s s' : Kept) → Q s s' → s'.spent ≡ true)
     → SoFar (between h t opens had mid) path Says → Once (between h t opens mid had') path Q → SoFar (between h t opens had had') path Says
 one_more {K} h t opens path had mid had' Q Says weaker ends so once =
     let o = once.opening in
@@ -52,9 +52,9 @@ one_more {K} h t opens path had mid had' Q Says weaker ends so once =
           (is_over h t opens path had had' Q Says weaker o once.is);
     }
 
-unfoldable pub ends_with : {K : Type 0} (h : K → Type 0) (t : K → State) (opens : List ℕ → State → Type 0) (path : List ℕ)
-    (had mid had' : List (Deed K) → Type 0) (Q Says Ends : State → State → Type 0)
-    → ((s s' : State) → Q s s' → Ends s s')
+unfoldable pub ends_with : {K : Type 0} (h : K → Type 0) (t : K → Kept) (opens : List ℕ → Kept → Type 0) (path : List ℕ)
+    (had mid had' : List (Deed K) → Type 0) (Q Says Ends : Kept → Kept → Type 0)
+    → ((s s' : Kept) → Q s s' → Ends s s')
     → SoFar (between h t opens had mid) path Says → Once (between h t opens mid had') path Q
     → Spans (between h t opens had had') path Says Ends
 ends_with {K} h t opens path had mid had' Q Says Ends weaker so once = record {
@@ -66,8 +66,8 @@ ends_with {K} h t opens path had mid had' Q Says Ends weaker so once = record {
   last_over = is_over h t opens path had had' Q Ends weaker once.opening once.is;
 }
 
-pub ends_without : {K : Type 0} (h : K → Type 0) (t : K → State) (opens : List ℕ → State → Type 0) (path : List ℕ)
-    (had mid had' : List (Deed K) → Type 0) (Says Ends : State → State → Type 0)
+pub ends_without : {K : Type 0} (h : K → Type 0) (t : K → Kept) (opens : List ℕ → Kept → Type 0) (path : List ℕ)
+    (had mid had' : List (Deed K) → Type 0) (Says Ends : Kept → Kept → Type 0)
     → SoFar (between h t opens had mid) path Says → Never (between h t opens mid had')
     → Spans (between h t opens had had') path Says Ends
 ends_without {K} h t opens path had mid had' Says Ends so never = record {

@@ -1,5 +1,5 @@
 ghost use Rattle.std.specs.Prelude.{◌≡◌, ℕ, List, true, false, IfOk, IfErr, MatchResult};
-ghost use Rattle.registry_model.specs.Keeping.{State};
+ghost use Rattle.registry_model.specs.Keeping.{Kept};
 ghost use Rattle.registry_opening.specs.Openings.{Deed, between, Once, Never, TakesOver};
 ghost use Rattle.registry_orders.specs.Failures.{IsOfOpening};
 
@@ -10,7 +10,7 @@ use registry_orders::{Cause, Failure};
 /// What opens registries over databases; `K` is the keeper that an opening gives.
 pub trait Opener<K: Keeper> {
     // The states in which a registry at a path may be found.
-    ghost opens: { List ℕ → State → Type 0 };
+    ghost opens: { List ℕ → Kept → Type 0 };
 
     // These were done up to now, one after the other.
     ghost had: { Self → List (Deed K) → Type 0 };
@@ -21,12 +21,12 @@ pub trait Opener<K: Keeper> {
     /// schema, or that the database is no registry, and then no work was done.
     fn with_open<W: Work<K>>(&mut self, path: &str, work: &mut W) -> Result<W::Told, Failure>
         ensures worked { IfOk result (λ told.
-            Once (between K.is_honest K.state opens (had self.old) (had self.new)) path.now
+            Once (between K.is_honest K.kept opens (had self.old) (had self.new)) path.now
             (λ s s'. W.does work.old s told work.new s')) }
         ensures says { IfOk result (λ told. W.says work.old told work.new) }
         ensures refused { IfErr result IsOfOpening }
         ensures never { IfErr result (λ failure.
-            Never (between K.is_honest K.state opens (had self.old) (had self.new))) }
+            Never (between K.is_honest K.kept opens (had self.old) (had self.new))) }
         ensures undone { IfErr result (λ failure. work.new ≡ work.old) };
 
     /// Takes over the registry of schema 1 at a path, so that it can be opened; where it is of schema 2
@@ -35,9 +35,9 @@ pub trait Opener<K: Keeper> {
         ensures refused { IfErr result IsOfOpening }
         ensures moved { MatchResult result
             (λ done.
-            TakesOver (between K.is_honest K.state opens (had self.old) (had self.new)) path.now true)
+            TakesOver (between K.is_honest K.kept opens (had self.old) (had self.new)) path.now true)
             (λ failure.
-            TakesOver (between K.is_honest K.state opens (had self.old) (had self.new)) path.now false) };
+            TakesOver (between K.is_honest K.kept opens (had self.old) (had self.new)) path.now false) };
 
     /// What is wrong with the path of a registry that failed, as far as it can be seen there afterwards,
     /// while it is not open. It is for a message alone.

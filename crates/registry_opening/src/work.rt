@@ -1,4 +1,4 @@
-ghost use Rattle.registry_model.specs.Keeping.{State};
+ghost use Rattle.registry_model.specs.Keeping.{Kept};
 
 use registry_model::Keeper;
 
@@ -14,7 +14,7 @@ pub trait Work<K: Keeper> {
 
     // What is done, from the state of the keeper before to that behind it, as far as the storage returned
     // what was written.
-    ghost does: { Self → State → Self.Told → Self → State → Type 0 };
+    ghost does: { Self → Kept → Self.Told → Self → Kept → Type 0 };
 
     // What holds of it whatever the storage did.
     ghost says: { Self → Self.Told → Self → Type 0 };
@@ -23,6 +23,6 @@ pub trait Work<K: Keeper> {
     fn work(&mut self, kept: K) -> Ended<K, Self::Told>
         ensures honest { K.is_honest result.keeper → K.is_honest kept }
         ensures does { K.is_honest result.keeper
-            → does self.old (K.state kept) result.told self.new (K.state result.keeper) }
+            → does self.old (K.kept kept) result.told self.new (K.kept result.keeper) }
         ensures says { says self.old result.told self.new };
 }

@@ -5,7 +5,7 @@ use Rattle.oci_types.specs.Text.{Text}
 use Rattle.registry_model.specs.declared.admin.AdminCommand.{AdminCommand}
 use Rattle.registry_model.specs.declared.admin.AdminCommand.TheVariants as command
 use Rattle.registry_model.specs.declared.admin.AdminFault.{AdminFault}
-use Rattle.registry_model.specs.Keeping.{State}
+use Rattle.registry_model.specs.Keeping.{Kept, state_of, HeldStays}
 use Rattle.registry_model.specs.Doing.{CarriesOut}
 use Rattle.registry_orders.specs.declared.failure.Failure.{Failure}
 use Rattle.registry_orders.specs.declared.orders.Change.{Change}
@@ -129,11 +129,12 @@ abbrev pub told : Result (Unit {0}) AdminFault → Result (Unit {0}) Failure
 told (Ok v) = Ok tt
 told (Err fault) = Err (failure_of fault)
 
--- the change was made, or why not, as the command that says the same
-pub record Obeys (s : State) (change : Change) (result : Result (Unit {0}) Failure)
-    (s' : State) : Type 0 where
+-- the change was made, or why not, as the command that says the same; what is held beside the world stays
+pub record Obeys (k : Kept) (change : Change) (result : Result (Unit {0}) Failure)
+    (k' : Kept) : Type 0 where
   pub command : AdminCommand
   pub outcome : Result (Unit {0}) AdminFault
   pub says : IsCommandOf change command
   pub is : result ≡ told outcome
-  pub does : CarriesOut s command outcome s'
+  pub does : CarriesOut (state_of k) command outcome (state_of k')
+  pub holds : HeldStays k k'

@@ -5,7 +5,7 @@ use Rattle.std.specs.Io.KnownBytes.{Appends}
 use Rattle.registry_opening.specs.Openings.{Between}
 use Rattle.registry_orders.specs.Outputs.{output}
 use Rattle.oci_types.specs.Text.{Text}
-use Rattle.registry_model.specs.Keeping.{State}
+use Rattle.registry_model.specs.Keeping.{Kept, state_of}
 use Rattle.registry_loop.specs.Together.{ServesAll, bounds_of}
 use Rattle.registry_orders.specs.declared.failure.Failure.{Failure}
 use Rattle.registry_orders.specs.Failures.{IsOfServing}
@@ -36,7 +36,7 @@ has_greeted before after h mid h' e x y = subst (λ b. HasGreeted b h h') (sym e
 
 -- ---- what is done over an opening, by how it ended
 
-module _ (x y : Serving) (same : x ≡ y) (stop : Stop) (s s' : State) (q : ServesSpan x.settings x.limits stop s s') where
+module _ (x y : Serving) (same : x ≡ y) (stop : Stop) (s s' : Kept) (q : ServesSpan x.settings x.limits stop s s') where
   together : ServesAll x.settings x.limits.at_once x.limits.buffer s s' → ServesAll y.settings y.limits.at_once y.limits.buffer s s'
   together z = subst (λ (v : Serving). ServesAll v.settings v.limits.at_once v.limits.buffer s s') same z
 
@@ -64,19 +64,19 @@ greets_by before after stop to h h' e x = subst (λ (z : Stop). GreetsFirst befo
 
 -- ---- nobody is served yet
 
-none_served : (settings : Settings) (at_once buffer : ℕ) (s : State) → ServesAll settings at_once buffer s s
+none_served : (settings : Settings) (at_once buffer : ℕ) (s : Kept) → ServesAll settings at_once buffer s s
 none_served settings at_once buffer s =
     let u = none settings (bounds_of at_once buffer) in
-    (within_none settings at_once buffer s, (u, ends_rounds u [] s u [] s u s (no_round u [] s) (leads_none u s)))
+    (within_none settings at_once buffer (state_of s), (u, ends_rounds u [] s u [] s u s (no_round u [] s) (leads_none u (state_of s))))
 
-pub not_begun : (settings : Settings) (limits : Limits) (f : Failure) (s s' : State) → Begins (Err f) s s' → ServesSpan settings limits (Failed f) s s'
+pub not_begun : (settings : Settings) (limits : Limits) (f : Failure) (s s' : Kept) → Begins (Err f) s s' → ServesSpan settings limits (Failed f) s s'
 not_begun settings limits f s s' (inl same) =
-    inl (subst (λ (k : State). ServesAll settings limits.at_once limits.buffer s k) (sym same) (none_served settings limits.at_once limits.buffer s))
+    inl (subst (λ (k : Kept). ServesAll settings limits.at_once limits.buffer s k) (sym same) (none_served settings limits.at_once limits.buffer s))
 not_begun settings limits f s s' (inr lost) = inr lost
 
 -- ---- both ends of it
 
-pub served_address : {K : Type 0} (b : Between K) (path : Text) (Says : State → State → Type 0) (result : Result (Unit {0}) Failure) (h h' : Option Text)
+pub served_address : {K : Type 0} (b : Between K) (path : Text) (Says : Kept → Kept → Type 0) (result : Result (Unit {0}) Failure) (h h' : Option Text)
     → ServesSpans b path Says result → OnOk result (Appends h h' greeting) → IfErr result IsOfServing → ServesAddress b path Says result (output h h')
 served_address b path Says (Ok v) h h' x greets fails = (x.0, (x.1, greets))
 served_address b path Says (Err f) h h' x greets fails = (x.0, fails)

@@ -2,7 +2,7 @@
 use Rattle.std.specs.Prelude.{◌≡◌, ◌⊎◌, Bool, true, false, Option, is_some, Result, Ok, Err, ⊤}
 use Rattle.std.specs.Io.KnownBytes.{Appends}
 use Rattle.oci_types.specs.Text.{Text}
-use Rattle.registry_model.specs.Keeping.{State}
+use Rattle.registry_model.specs.Keeping.{Kept}
 use Rattle.registry_model.specs.declared.settings.Settings.{Settings}
 use Rattle.registry_opening.specs.Openings.{Between, Opening, Spans}
 use Rattle.registry_orders.specs.declared.failure.Failure.{Failure}
@@ -16,7 +16,7 @@ use Rattle.registry_program.specs.declared.serving.Stop.TheVariants.{Over, Spent
 
 -- Connections were served together, from none on, until all had gone or the storage failed; or nobody is
 -- served, since that failed as it was asked how many repositories there are.
-abbrev pub ServesSpan : Settings → Limits → Stop → State → State → Type 0
+abbrev pub ServesSpan : Settings → Limits → Stop → Kept → Kept → Type 0
 ServesSpan settings limits Over s s' = ServesAll settings limits.at_once limits.buffer s s'
 ServesSpan settings limits Spent s s' =
     ServesAll settings limits.at_once limits.buffer s s' × (s'.spent ≡ true)
@@ -29,7 +29,7 @@ IsStopped _ = ⊤
 
 -- before anybody is served: nothing is done; or the storage failed, as it was asked how many repositories
 -- there are
-abbrev pub Begins : Result (Unit {0}) Failure → State → State → Type 0
+abbrev pub Begins : Result (Unit {0}) Failure → Kept → Kept → Type 0
 Begins (Ok v) s s' = s' ≡ s
 Begins (Err f) s s' = (s' ≡ s) ⊎ ((f ≡ StorageFailure) × (s'.spent ≡ true))
 
@@ -49,7 +49,7 @@ IsOfLast {K} (Ok v) last = is_some last ≡ true
 IsOfLast {K} (Err f) last = ⊤
 
 -- this was done over the registry at the path, which is opened again where its storage failed
-abbrev pub ServesSpans : {K : Type 0} → Between K → Text → (State → State → Type 0)
+abbrev pub ServesSpans : {K : Type 0} → Between K → Text → (Kept → Kept → Type 0)
     → Result (Unit {0}) Failure → Type 0
 ServesSpans {K} b path Says result =
     (spans : Spans b path Says (EndsAs Says result)) × IsOfLast {K = K} result spans.last

@@ -32,7 +32,7 @@ fn run_server<'a, K: Keeper, O: Opener<K>, W: Write, E: Write>(
     out: &mut W,
     err: &mut E,
 ) -> u8
-    ensures runs { RunsServer (between K.is_honest K.state O.opens (O.had opener.old) (O.had opener.new))
+    ensures runs { RunsServer (between K.is_honest K.kept O.opens (O.had opener.old) (O.had opener.new))
         serving.entry.settings serving.entry.limits path.now
         result (output (W.contents out.old) (W.contents out.new)) }
     ensures failed { 0 < result → 3 ≤ result }
@@ -57,7 +57,7 @@ fn run_task<K: Keeper, O: Opener<K>, M: Messenger, V: Watch, R: Read, W: Write, 
     out: &mut W,
     err: &mut E,
 ) -> u8
-    ensures runs { EndsTask (acts (between K.is_honest K.state O.opens (O.had opener.old) (O.had opener.new))
+    ensures runs { EndsTask (acts (between K.is_honest K.kept O.opens (O.had opener.old) (O.had opener.new))
         (M.had messenger.old) (M.had messenger.new))
         task.entry result
         (streams (R.remaining reader.old) (R.remaining reader.new)
@@ -134,7 +134,7 @@ pub fn run_words<
     out: &mut W,
     err: &mut E,
 ) -> u8
-    ensures runs { RunsWords (acts (between K.is_honest K.state O.opens (O.had opener.old) (O.had opener.new))
+    ensures runs { RunsWords (acts (between K.is_honest K.kept O.opens (O.had opener.old) (O.had opener.new))
         (M.had messenger.old) (M.had messenger.new))
         (map S.text words.now) result
         (streams (R.remaining reader.old) (R.remaining reader.new)

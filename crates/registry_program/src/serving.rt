@@ -59,7 +59,7 @@ fn serve_gathered<K: Keeper, G: Gathering>(
     ensures honest { K.is_honest result.keeper → K.is_honest kept }
     ensures serves { K.is_honest result.keeper
         → G.buffer gathering.old ≡ limits.buffer → G.callers gathering.old ≡ []
-        → ServesSpan settings limits result.told (K.state kept) (K.state result.keeper) }
+        → ServesSpan settings limits result.told (K.kept kept) (K.kept result.keeper) }
     ensures buffer { G.buffer gathering.new ≡ G.buffer gathering.old }
     ensures none { result.told ≡ Stop.Spent → G.callers gathering.new ≡ [] }
     ensures fails { IsStopped result.told }
@@ -129,7 +129,7 @@ impl<'t, 'r, 'a, 'g, 'b, 'o, G: Gathering, W: Write> Server<'t, 'r, 'a, 'g, 'b, 
     /// Binds the address and the socket for orders, and says on standard error what is served.
     fn listen<K: Keeper>(&mut self, kept: &mut K) -> Result<(), Failure>
         ensures honest { K.is_honest kept.new → K.is_honest kept.old }
-        ensures begins { K.is_honest kept.new → Begins result (K.state kept.old) (K.state kept.new) }
+        ensures begins { K.is_honest kept.new → Begins result (K.kept kept.old) (K.kept kept.new) }
         ensures fails { IfErr result IsOfServing }
         ensures same { self.new.out ≡ self.old.out }
         ensures gathering { self.new.gathering.ghost_name ≡ self.old.gathering.ghost_name }
@@ -162,7 +162,7 @@ impl<'t, 'r, 'a, 'g, 'b, 'o, G: Gathering, W: Write> Server<'t, 'r, 'a, 'g, 'b, 
     /// The same, and says on standard output that connections are taken.
     fn begin<K: Keeper>(&mut self, kept: &mut K) -> Result<(), Failure>
         ensures honest { K.is_honest kept.new → K.is_honest kept.old }
-        ensures begins { K.is_honest kept.new → Begins result (K.state kept.old) (K.state kept.new) }
+        ensures begins { K.is_honest kept.new → Begins result (K.kept kept.old) (K.kept kept.new) }
         ensures fails { IfErr result IsOfServing }
         ensures same { self.new.out.ghost_name ≡ self.old.out.ghost_name }
         ensures gathering { self.new.gathering.ghost_name ≡ self.old.gathering.ghost_name }
@@ -238,7 +238,7 @@ fn serve_together<'a, K: Keeper, O: Opener<K>, G: Gathering, W: Write>(
     requires buffer { G.buffer gathering.old ≡ task.now.serving.limits.buffer }
     requires none { G.callers gathering.old ≡ [] }
     ensures spans { ServesSpans
-        (between K.is_honest K.state O.opens (O.had opener.old) (O.had opener.new)) task.now.path.now
+        (between K.is_honest K.kept O.opens (O.had opener.old) (O.had opener.new)) task.now.path.now
         (ServesAll task.now.serving.settings task.now.serving.limits.at_once
         task.now.serving.limits.buffer) result }
     ensures greets { OnOk result (Appends (W.contents out.old) (W.contents out.new) greeting) }
@@ -281,7 +281,7 @@ pub fn serve<'a, K: Keeper, O: Opener<K>, W: Write, E: Write>(
     err: &mut E,
 ) -> (Result<(), Failure>, Option<NotBound<'a>>)
     ensures { ServesAddress
-        (between K.is_honest K.state O.opens (O.had opener.old) (O.had opener.new)) path.now
+        (between K.is_honest K.kept O.opens (O.had opener.old) (O.had opener.new)) path.now
         (ServesAll serving.entry.settings serving.entry.limits.at_once serving.entry.limits.buffer) result.0
         (output (W.contents out.old) (W.contents out.new)) }
 {

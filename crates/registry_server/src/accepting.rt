@@ -1,4 +1,5 @@
 //! The next connection of a listener, served to its end.
+ghost use Rattle.registry_model.specs.Keeping.{state_of};
 ghost use Rattle.registry_server.specs.Accepting.{ServesNext};
 
 use crate::serve_connection;
@@ -20,7 +21,7 @@ pub fn serve_one<K: Keeper>(
 ) -> io::Result<End>
     ensures honest { K.is_honest service.new → K.is_honest service.old }
     ensures serves { K.is_honest service.new
-        → ServesNext settings result (K.state service.old) (K.state service.new) }
+        → ServesNext settings result (state_of (K.kept service.old)) (state_of (K.kept service.new)) }
 {
     let stream = match listener.accept() {
         Ok((stream, _)) => stream,

@@ -5,6 +5,7 @@ ghost use Rattle.httparse.specs.Grammar.{RequestHead};
 ghost use Rattle.registry_model.specs.Answer.{answer_of, busy_answer, failed_answer};
 ghost use Rattle.registry_model.specs.Ask.{ask_of};
 ghost use Rattle.registry_model.specs.Doing.{Does};
+ghost use Rattle.registry_model.specs.Keeping.{state_of};
 ghost use Rattle.registry_http.specs.Asking.{ask_in, verb_of, path_text, query_in, keys_in};
 ghost use Rattle.registry_http.specs.Decoding.{cow_text, keys_shown};
 ghost use Rattle.registry_http.specs.Reading.{HeadFits, IsHeadAt};
@@ -95,8 +96,8 @@ pub fn answer<K: Keeper>(
     ensures asked { (h : RequestHead) → IsHeadAt head.now fields.now spans.now h
         → IsAsked result.1 h (answer_of result.0) }
     ensures does { K.is_honest service.new → (h : RequestHead) → IsHeadAt head.now fields.now spans.now h
-        → Does (K.state service.old) (ask_in settings h body.now) (answer_of result.0)
-        (K.state service.new) }
+        → Does (state_of (K.kept service.old)) (ask_in settings h body.now) (answer_of result.0)
+        (state_of (K.kept service.new)) }
     ensures carries { is_head (verb_of (span_bytes head.now spans.now.method)) ≡ false
         → is_sent (answer_of result.0).body ≡ true }
     ensures honest { K.is_honest service.new → K.is_honest service.old }

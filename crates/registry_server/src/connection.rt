@@ -3,6 +3,7 @@ ghost use Rattle.registry_server.specs.Open.{LastAt, StirredAt, conversation_of}
 ghost use Rattle.registry_server.specs.Slots.{slots_of, IsMoved};
 ghost use Rattle.registry_server.specs.declared.connection.Connection.{Connection};
 ghost use Rattle.oci_types.specs.Text.{Text};
+ghost use Rattle.registry_model.specs.Keeping.{state_of};
 
 use crate::life::Life;
 use crate::sums::Sums;
@@ -138,7 +139,8 @@ impl Connection {
         ensures honest { K.is_honest service.new → K.is_honest service.old }
         ensures number { result.number ≡ self.old.number }
         ensures acts { Becomes (λ c c'. K.is_honest service.new
-            → Happens settings (acted result.step) c (K.state service.old) c' (K.state service.new))
+            → Happens settings (acted result.step) c (state_of (K.kept service.old)) c'
+            (state_of (K.kept service.new)))
             (goes_on result.step (slot_of self.new).conversation) (slot_of self.old) (slot_of self.new) }
         ensures fewer { coming_len (slot_of self.new).conversation
             ≤ coming_len (slot_of self.old).conversation }
@@ -147,8 +149,9 @@ impl Connection {
             (slot_of self.new).conversation sums.old }
         ensures tells { K.is_honest service.new → (b said : Text)
             → Holds settings (slot_of self.old).conversation b said
-            → Tells settings result.step b said (slot_of self.old).conversation (K.state service.old)
-            (K.state service.new) (slot_of self.new).conversation None result.report }
+            → Tells settings result.step b said (slot_of self.old).conversation
+            (state_of (K.kept service.old)) (state_of (K.kept service.new))
+            (slot_of self.new).conversation None result.report }
     {
         sums.take(&self.conversation);
         let step = self

@@ -1,4 +1,5 @@
 ghost use Rattle.std.specs.Prelude.{◌≡◌, true, false, ◌<◌, ◌≤◌, ◌^◌, ◌⊎◌, ◌↔◌, length, option_map, if◌then◌else◌, ◌==◌, Some, None, All, IsTrue, IfOk, IfErr, IfSome, IfNone};
+ghost use Rattle.registry_model.specs.Keeping.{state_of};
 ghost use Rattle.registry_server.specs.Open.{are_numbered};
 ghost use Rattle.registry_server.specs.Room.{IsWithin};
 ghost use Rattle.registry_server.specs.Held.{IsKept};
@@ -339,8 +340,8 @@ impl Connections {
         ensures honest { K.is_honest service.new → K.is_honest service.old }
         ensures takes { IfSome result (λ turn. TakesTurn turn.number turn.step
             (λ c c'. (K.is_honest service.new
-            → Happens (connected self.old).settings (acted turn.step) c (K.state service.old)
-            c' (K.state service.new))
+            → Happens (connected self.old).settings (acted turn.step) c (state_of (K.kept service.old))
+            c' (state_of (K.kept service.new)))
             × (coming_len c' ≤ coming_len c))
             (connected self.old).slots (connected self.new).slots
             × (connected self.new ≡ with_slots (connected self.old) (connected self.new).slots)
@@ -349,11 +350,11 @@ impl Connections {
             × (All (λ s. s.stirred ≡ false) (connected self.old).slots
             ⊎ ((connected self.old).bounds.going ≤ going_sum (connected self.old).slots))) }
         ensures tells { K.is_honest service.new → IfSome result (λ turn.
-            TellsTurn turn.number turn.step turn.report (connected self.old) (K.state service.old)
-            (connected self.new) (K.state service.new)) }
+            TellsTurn turn.number turn.step turn.report (connected self.old) (state_of (K.kept service.old))
+            (connected self.new) (state_of (K.kept service.new))) }
         ensures lives { LivesOn self.old self.new }
-        ensures leads { K.is_honest service.new → Leads (connected self.old) (K.state service.old)
-            (connected self.new) (K.state service.new) }
+        ensures leads { K.is_honest service.new → Leads (connected self.old) (state_of (K.kept service.old))
+            (connected self.new) (state_of (K.kept service.new)) }
     {
         if !self.has_room_for_reply() {
             return None;

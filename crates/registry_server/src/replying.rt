@@ -2,6 +2,7 @@ ghost use Rattle.std.specs.Prelude.{◌≡◌, ◌≤◌, length, take, Option, 
 ghost use Rattle.oci_types.specs.Text.{Text};
 ghost use Rattle.registry_model.specs.Answer.{Answer};
 ghost use Rattle.registry_model.specs.Doing.{Does};
+ghost use Rattle.registry_model.specs.Keeping.{state_of};
 ghost use Rattle.registry_http.specs.Asking.{ask_in};
 ghost use Rattle.registry_http.specs.Spelling.{Item, closes};
 ghost use Rattle.registry_http.specs.Serving.{reply_for};
@@ -56,7 +57,8 @@ pub fn reply_to<K: Keeper>(
     ensures closing { (i : Item) → IsTaken taken.now fields.now spans.now i
         → IfOk result (λ closing. closing ≡ closes i) }
     ensures replies { K.is_honest service.new → (i : Item) → IsTaken taken.now fields.now spans.now i
-        → (a : Answer) × Does (K.state service.old) (ask_in settings i.head i.body) a (K.state service.new)
+        → (a : Answer) × Does (state_of (K.kept service.old)) (ask_in settings i.head i.body) a
+        (state_of (K.kept service.new))
         × SendsReply result (Some (left outbox.old)) (Some (left outbox.new)) (reply_for i a)
         × Reported outbox.new.report (left outbox.old) (left outbox.new) (λ r. TellsAnswer r i a) }
 {

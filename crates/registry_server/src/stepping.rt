@@ -4,6 +4,7 @@ ghost use Rattle.std.specs.Prelude.{◌≡◌, ◌≤◌, [], length, None, IfSo
 ghost use Rattle.std.specs.Bool.{MatchBool};
 ghost use Rattle.oci_types.specs.Text.{Text};
 ghost use Rattle.registry_model.specs.declared.settings.Settings.{Settings};
+ghost use Rattle.registry_model.specs.Keeping.{state_of};
 ghost use Rattle.registry_http.specs.Expecting.{continue_if};
 
 use crate::heading::{FoundHead, Heading, find_head};
@@ -87,8 +88,8 @@ impl Conversation {
         ensures leads { LeadsOn result (shown self.old) (shown self.new) }
         ensures acts { K.is_honest service.new → (b said : Text)
             → HoldsWhole settings (shown self.old).taken (shown self.old).unread b said
-            → Tells settings result b said (shown self.old) (K.state service.old) (K.state service.new)
-            (shown self.new) self.old.outbox.report self.new.outbox.report }
+            → Tells settings result b said (shown self.old) (state_of (K.kept service.old))
+            (state_of (K.kept service.new)) (shown self.new) self.old.outbox.report self.new.outbox.report }
     {
         let Some(spans) = self.taken_head(room) else {
             return self.refuse(FramingRefusal::UnreadableHead);
@@ -128,8 +129,8 @@ impl Conversation {
         ensures leads { LeadsOn result (shown self.old) (shown self.new) }
         ensures acts { K.is_honest service.new → (b said : Text)
             → HoldsAs settings (Phase.Body part) (shown self.old).taken (shown self.old).unread b said
-            → Tells settings result b said (shown self.old) (K.state service.old) (K.state service.new)
-            (shown self.new) self.old.outbox.report self.new.outbox.report }
+            → Tells settings result b said (shown self.old) (state_of (K.kept service.old))
+            (state_of (K.kept service.new)) (shown self.new) self.old.outbox.report self.new.outbox.report }
     {
         match take_body(&mut self.buffer, &mut room.spans, part, settings) {
             Taken::Whole => self.reply(alloc, service, settings, room),
@@ -160,8 +161,8 @@ impl Conversation {
         ensures acts { K.is_honest service.new → (b : Text)
             → HoldsAs settings (Phase.Body part) (shown self.old).taken (shown self.old).unread b
             (continue_if awaits)
-            → Tells settings result b [] (shown self.old) (K.state service.old) (K.state service.new)
-            (shown self.new) self.old.outbox.report self.new.outbox.report }
+            → Tells settings result b [] (shown self.old) (state_of (K.kept service.old))
+            (state_of (K.kept service.new)) (shown self.new) self.old.outbox.report self.new.outbox.report }
     {
         if !awaits {
             return self.go_on(alloc, service, settings, room, part);
@@ -194,8 +195,8 @@ impl Conversation {
         ensures leads { LeadsOn result (shown self.old) (shown self.new) }
         ensures acts { K.is_honest service.new → (b : Text)
             → BeginsAt settings heading b → (shown self.old).taken ≡ [] → (shown self.old).unread ≡ b
-            → Tells settings result b [] (shown self.old) (K.state service.old) (K.state service.new)
-            (shown self.new) self.old.outbox.report self.new.outbox.report }
+            → Tells settings result b [] (shown self.old) (state_of (K.kept service.old))
+            (state_of (K.kept service.new)) (shown self.new) self.old.outbox.report self.new.outbox.report }
     {
         self.exchange.note_head(self.buffer.behind());
         self.buffer.pass(heading.len);
@@ -238,8 +239,8 @@ impl Conversation {
         ensures fewer { coming_len (shown self.new) ≤ coming_len (shown self.old) }
         ensures leads { LeadsOn result (shown self.old) (shown self.new) }
         ensures acts { K.is_honest service.new → (b said : Text) → Holds settings (shown self.old) b said
-            → Tells settings result b said (shown self.old) (K.state service.old) (K.state service.new)
-            (shown self.new) self.old.outbox.report self.new.outbox.report }
+            → Tells settings result b said (shown self.old) (state_of (K.kept service.old))
+            (state_of (K.kept service.new)) (shown self.new) self.old.outbox.report self.new.outbox.report }
     {
         match find_head(self.buffer.behind(), &mut room.spans, settings) {
             FoundHead::Whole(heading) => self.take_head(alloc, service, settings, room, heading),
@@ -277,11 +278,11 @@ impl Conversation {
         ensures over { (e : End) → (shown self.old).phase ≡ Phase.Ended e
             → (result ≡ Step.Ended e) × (shown self.new ≡ shown self.old) × (service.new ≡ service.old) }
         ensures acts { K.is_honest service.new → (b said : Text) → Holds settings (shown self.old) b said
-            → Acts settings result b said (shown self.old) (K.state service.old) (K.state service.new)
-            (shown self.new) }
+            → Acts settings result b said (shown self.old) (state_of (K.kept service.old))
+            (state_of (K.kept service.new)) (shown self.new) }
         ensures tells { K.is_honest service.new → (b said : Text) → Holds settings (shown self.old) b said
-            → Tells settings result b said (shown self.old) (K.state service.old) (K.state service.new)
-            (shown self.new) None self.new.outbox.report }
+            → Tells settings result b said (shown self.old) (state_of (K.kept service.old))
+            (state_of (K.kept service.new)) (shown self.new) None self.new.outbox.report }
     {
         match self.phase {
             Phase::Head => {

@@ -1,4 +1,5 @@
 ghost use Rattle.std.specs.Prelude.{◌≡◌, [], OnOk};
+ghost use Rattle.registry_model.specs.Keeping.{state_of};
 ghost use Rattle.registry_http.specs.Serving.{Serves};
 ghost use Rattle.registry_http.specs.Sending.{Sends};
 ghost use Rattle.registry_http.specs.Ending.{SendsRefusal};
@@ -82,8 +83,8 @@ fn serve_requests<R: Read, W: Write, K: Keeper>(
       left' = R.remaining reader.new;
       held = W.contents writer.old;
       held' = W.contents writer.new;
-      state = K.state service.old;
-      state' = K.state service.new;
+      state = state_of (K.kept service.old);
+      state' = state_of (K.kept service.new);
     }) }
 {
     let mut reads = MOST_READS;
@@ -136,8 +137,8 @@ pub fn serve_connection<R: Read, W: Write, K: Keeper>(
       left' = R.remaining reader.new;
       held = W.contents writer.old;
       held' = W.contents writer.new;
-      state = K.state service.old;
-      state' = K.state service.new;
+      state = state_of (K.kept service.old);
+      state' = state_of (K.kept service.new);
     }) }
 {
     match FieldRoom::new(alloc) {

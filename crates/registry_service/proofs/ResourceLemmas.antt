@@ -16,16 +16,16 @@ use Rattle.registry_model.specs.Decision.{Decision, tells}
 use Rattle.registry_model.specs.Doing.{course_of_answer, answered}
 use Rattle.registry_model.specs.Operation.{addressed}
 use Rattle.registry_model.specs.Judging.{judged, read_alone, decided_at, changed, reply_to, after_request}
-use Rattle.registry_model.specs.Keeping.{State, WritesBy}
+use Rattle.registry_model.specs.Keeping.{Kept, WritesBy}
 use Rattle.operation_parts.specs.Operating.{ComesOn}
 use Rattle.registry_service.proofs.JudgingLemmas.{Replies, told}
 
-pub at_resource : (r : Result Reply Fault) (q : Ask) (x : Resource) (s s' : State) → q.resource ≡ x
+pub at_resource : (r : Result Reply Fault) (q : Ask) (x : Resource) (s s' : Kept) → q.resource ≡ x
     → ComesOn r (addressed q.form) (decided_at x q (judged s.world q.token q)) s s' → WritesBy answer_of r (reply_to s.world q) (after_request s.world q) s s'
 at_resource r q x s s' is h = subst (λ y. ComesOn r (addressed q.form) (decided_at y q (judged s.world q.token q)) s s') (sym is) h
 
 -- an answer that changes nothing, or memory is wanting for it
-pub told_if : (r : Result Reply Fault) (b : Answer) (n : Option Text) (d : Decision) (whole : Type 0) (s s' : State) (before after : Type 0)
+pub told_if : (r : Result Reply Fault) (b : Answer) (n : Option Text) (d : Decision) (whole : Type 0) (s s' : Kept) (before after : Type 0)
     → MatchResult r (λ reply. answer_of reply ≡ b) (λ fault. fault ≡ Memory) → course_of_answer b ≡ answered → is_sent b.body ≡ true
     → s.spent ≡ false → s'.spent ≡ false → (after → s' ≡ s) → (after → before) → (after → d ≡ tells b)
     → Replies r d.reply (changed s.world n d.change) whole s s' before after
@@ -67,7 +67,7 @@ module _ (a : Answer) where
   alone_sent verb.Other h = refl
 
   -- the same of a reply to it
-  pub told_alone : (r : Result Reply Fault) (v : Verb) (n : Option Text) (whole : Type 0) (s : State) (honest : Type 0)
+  pub told_alone : (r : Result Reply Fault) (v : Verb) (n : Option Text) (whole : Type 0) (s : Kept) (honest : Type 0)
       → MatchResult r (λ reply. answer_of reply ≡ (read_alone v a).reply) (λ fault. fault ≡ Memory)
       → course_of_answer a ≡ answered → is_sent a.body ≡ true → s.spent ≡ false
       → Replies r (read_alone v a).reply (changed s.world n (read_alone v a).change) whole s s honest honest
@@ -83,13 +83,13 @@ login_by_sent : (o : Option Text) → is_sent (login_by o).body ≡ true
 login_by_sent None = refl
 login_by_sent (Some token) = refl
 
-pub told_login : (r : Result Reply Fault) (v : Verb) (basic n : Option Text) (whole : Type 0) (s : State) (honest : Type 0)
+pub told_login : (r : Result Reply Fault) (v : Verb) (basic n : Option Text) (whole : Type 0) (s : Kept) (honest : Type 0)
     → MatchResult r (λ reply. answer_of reply ≡ (read_alone v (login_answer basic)).reply) (λ fault. fault ≡ Memory) → s.spent ≡ false
     → Replies r (read_alone v (login_answer basic)).reply (changed s.world n (read_alone v (login_answer basic)).change) whole s s honest honest
 told_login r v basic n whole s honest e unspent =
     told_alone (login_answer basic) r v n whole s honest e (login_by_answers (password_of basic)) (login_by_sent (password_of basic)) unspent
 
-pub told_health : (reply : Reply) (v : Verb) (n : Option Text) (whole : Type 0) (s : State) (honest : Type 0)
+pub told_health : (reply : Reply) (v : Verb) (n : Option Text) (whole : Type 0) (s : Kept) (honest : Type 0)
     → answer_of reply ≡ (read_alone v health_answer).reply → s.spent ≡ false
     → Replies (Ok reply) (read_alone v health_answer).reply (changed s.world n (read_alone v health_answer).change) whole s s honest honest
 told_health reply v n whole s honest e unspent = told_alone health_answer (Ok reply) v n whole s honest e refl refl unspent

@@ -11,7 +11,7 @@ use Rattle.registry_model.specs.Form.{Form, no_form, base, blob, uploads, sessio
 use Rattle.registry_model.specs.Ask.{Ask}
 use Rattle.registry_model.specs.Operation.{valid_name, addressed}
 use Rattle.registry_model.specs.Judging.{at_base, decide, served_on, served}
-use Rattle.registry_model.specs.Keeping.{State}
+use Rattle.registry_model.specs.Keeping.{Kept}
 use Rattle.operation_parts.specs.Operating.{ComesOn}
 use Rattle.registry_service.specs.Serving.{beside, name_at}
 
@@ -47,7 +47,7 @@ module _ (g : Grants) (f : Text → Option Repo) (q : Ask) where
   on_none (tags x) e = absurd (none-some x (sym e))
   on_none (referrers x y) e = absurd (none-some x (sym e))
 
-module _ (r : Result Reply Fault) (q : Ask) (s s' : State) where
+module _ (r : Result Reply Fault) (q : Ask) (s s' : Kept) where
   pub served_by : (token name : Text) → name_at q.form ≡ Some name
       → ComesOn r (valid_name name) (decide (s.world.grants token) (repo_at s.world) name q) s s'
       → ComesOn r (addressed q.form) (served (s.world.grants token) (repo_at s.world) q) s s'

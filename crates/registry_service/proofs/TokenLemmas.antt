@@ -11,7 +11,7 @@ use Rattle.registry_model.specs.Ask.{Ask}
 use Rattle.registry_model.specs.Decision.{Decision}
 use Rattle.registry_model.specs.Judging.{served, decision, judged, unnamed}
 use Rattle.registry_model.specs.Operation.{addressed}
-use Rattle.registry_model.specs.Keeping.{State}
+use Rattle.registry_model.specs.Keeping.{Kept}
 use Rattle.operation_parts.specs.Operating.{ComesOn}
 use Rattle.registry_model.specs.Login.{token_in}
 
@@ -39,11 +39,11 @@ module _ (g : Grants) (f : Text → Option Repo) (q : Ask) where
   known e = ap (λ b. cond b (served g f q) (unnamed q)) e
 
 -- a known token is served, after it was looked up
-pub known_served : (r : Result Reply Fault) (token : Text) (q : Ask) (s t s' : State) → t ≡ s → is_known (s.world.grants token) ≡ true
+pub known_served : (r : Result Reply Fault) (token : Text) (q : Ask) (s t s' : Kept) → t ≡ s → is_known (s.world.grants token) ≡ true
     → ComesOn r (addressed q.form) (served (t.world.grants token) (repo_at t.world) q) t s' → ComesOn r (addressed q.form) (decision (s.world.grants token) (repo_at s.world) q) s s'
 known_served r token q s t s' same is h =
     subst (λ d. ComesOn r (addressed q.form) d s s') (sym (known (s.world.grants token) (repo_at s.world) q is))
-    (subst (λ (x : State). ComesOn r (addressed q.form) (served (x.world.grants token) (repo_at x.world) q) x s') same h)
+    (subst (λ (x : Kept). ComesOn r (addressed q.form) (served (x.world.grants token) (repo_at x.world) q) x s') same h)
 
 -- where no token is named none is found
 pub no_fault : (e : Fault) (o : Option Text) → Err e ≡ Ok o → ⊥

@@ -2,7 +2,7 @@ ghost use Rattle.std.specs.Prelude.{◌≡◌, true, false};
 ghost use Rattle.registry_service.specs.AdminCommands.{fault_of, is_carried_out, refusal_as};
 ghost use Rattle.registry_model.specs.Command.{carried_out};
 ghost use Rattle.registry_model.specs.Doing.{CarriesOut, SpendsAs, course_of_result};
-ghost use Rattle.registry_model.specs.Keeping.{Reads, Writes, Spends};
+ghost use Rattle.registry_model.specs.Keeping.{HeldStays, Reads, Writes, Spends, state_of};
 
 use manifest_operations::prune;
 use oci_types::Fault;
@@ -23,9 +23,9 @@ fn given_up(fault: Fault) -> AdminFault
 /// it.
 fn is_carried_out<K: Keeper>(keeper: &mut K, command: &AdminCommand) -> Result<bool, Fault>
     ensures found { K.is_honest keeper.new →
-        Reads result (is_carried_out (K.state keeper.old).world command.now)
-        (K.state keeper.old) (K.state keeper.new) }
-    ensures spends { Spends result (K.state keeper.old) (K.state keeper.new) }
+        Reads result (is_carried_out (K.kept keeper.old).world command.now)
+        (K.kept keeper.old) (K.kept keeper.new) }
+    ensures spends { Spends result (K.kept keeper.old) (K.kept keeper.new) }
     ensures honest { K.is_honest keeper.new → K.is_honest keeper.old }
 {
     match command {
@@ -55,12 +55,12 @@ fn refusal_as(command: &AdminCommand) -> AdminFault
 
 /// Carries out a command that is not refused.
 fn carry_out<K: Keeper>(alloc: Global, keeper: &mut K, command: &AdminCommand) -> Result<(), Fault>
-    requires { K.is_honest keeper.old → (K.state keeper.old).spent ≡ false
-        → is_carried_out (K.state keeper.old).world command.now ≡ true }
+    requires { K.is_honest keeper.old → (K.kept keeper.old).spent ≡ false
+        → is_carried_out (K.kept keeper.old).world command.now ≡ true }
     ensures made { K.is_honest keeper.new →
-        Writes result (carried_out (K.state keeper.old).world command.now)
-        (K.state keeper.old) (K.state keeper.new) }
-    ensures spends { Spends result (K.state keeper.old) (K.state keeper.new) }
+        Writes result (carried_out (K.kept keeper.old).world command.now)
+        (K.kept keeper.old) (K.kept keeper.new) }
+    ensures spends { Spends result (K.kept keeper.old) (K.kept keeper.new) }
     ensures honest { K.is_honest keeper.new → K.is_honest keeper.old }
 {
     match command {
@@ -83,8 +83,10 @@ pub fn apply_command<K: Keeper>(
     command: &AdminCommand,
 ) -> Result<(), AdminFault>
     ensures does { K.is_honest keeper.new →
-        CarriesOut (K.state keeper.old) command.now result (K.state keeper.new) }
-    ensures spends { SpendsAs (course_of_result result) (K.state keeper.old) (K.state keeper.new) }
+        CarriesOut (state_of (K.kept keeper.old)) command.now result (state_of (K.kept keeper.new)) }
+    ensures holds { K.is_honest keeper.new → HeldStays (K.kept keeper.old) (K.kept keeper.new) }
+    ensures spends { SpendsAs (course_of_result result)
+        (state_of (K.kept keeper.old)) (state_of (K.kept keeper.new)) }
     ensures honest { K.is_honest keeper.new → K.is_honest keeper.old }
 {
     if !is_carried_out(keeper, command).map_err(given_up)? {

@@ -35,14 +35,14 @@ fn operate_there<K: Keeper>(
     operation: Operation,
     body: &[u8],
 ) -> Result<Reply, Fault>
-    requires unspent { IsUnspent (K.state keeper.old) }
-    requires there { K.is_honest keeper.old → HasRepo (K.state keeper.old) name.now }
+    requires unspent { IsUnspent (K.kept keeper.old) }
+    requires there { K.is_honest keeper.old → HasRepo (K.kept keeper.old) name.now }
     ensures comes { K.is_honest keeper.new → OperatesWith result name.now
         (λ w r. operate (w.grants token.now) (repo_at w) r name.now (shown_operation operation.entry)
-        body.now) (K.state keeper.old) (K.state keeper.new) }
+        body.now) (K.kept keeper.old) (K.kept keeper.new) }
     ensures answers { Answers result }
     ensures carries { is_sizing (shown_operation operation.entry) ≡ false → Carries result }
-    ensures spends { Spends result (K.state keeper.old) (K.state keeper.new) }
+    ensures spends { Spends result (K.kept keeper.old) (K.kept keeper.new) }
     ensures honest { K.is_honest keeper.new → K.is_honest keeper.old }
 {
     match operation {
@@ -93,10 +93,10 @@ fn operate<K: Keeper>(
 ) -> Result<Reply, Fault>
     ensures comes { K.is_honest keeper.new → OperatesWith result name.now
         (λ w r. operate (w.grants token.now) (repo_at w) r name.now (shown_operation operation.entry)
-        body.now) (K.state keeper.old) (K.state keeper.new) }
+        body.now) (K.kept keeper.old) (K.kept keeper.new) }
     ensures answers { Answers result }
     ensures carries { is_sizing (shown_operation operation.entry) ≡ false → Carries result }
-    ensures spends { Spends result (K.state keeper.old) (K.state keeper.new) }
+    ensures spends { Spends result (K.kept keeper.old) (K.kept keeper.new) }
     ensures honest { K.is_honest keeper.new → K.is_honest keeper.old }
 {
     if !keeper.has_repo(name)? {
@@ -123,14 +123,14 @@ fn decide_in<K: Keeper>(
     name: &RepoName,
     request: &Request,
 ) -> Result<Reply, Fault>
-    requires { IsUnspent (K.state keeper.old) }
+    requires { IsUnspent (K.kept keeper.old) }
     ensures comes { K.is_honest keeper.new → Comes result name.now
-        (granted ((K.state keeper.old).world.grants token.now) (repo_at (K.state keeper.old).world) name.now
+        (granted ((K.kept keeper.old).world.grants token.now) (repo_at (K.kept keeper.old).world) name.now
         (form_of request.now.route) (operation_of (ask_of request.now)) request.now.body.now)
-        (K.state keeper.old) (K.state keeper.new) }
+        (K.kept keeper.old) (K.kept keeper.new) }
     ensures answers { Answers result }
     ensures carries { is_head request.now.method ≡ false → Carries result }
-    ensures spends { Spends result (K.state keeper.old) (K.state keeper.new) }
+    ensures spends { Spends result (K.kept keeper.old) (K.kept keeper.new) }
     ensures honest { K.is_honest keeper.new → K.is_honest keeper.old }
 {
     let Some(operation) = find_operation(request) else {
@@ -151,13 +151,13 @@ fn decide<K: Keeper>(
     name: &str,
     request: &Request,
 ) -> Result<Reply, Fault>
-    requires { IsUnspent (K.state keeper.old) }
+    requires { IsUnspent (K.kept keeper.old) }
     ensures comes { K.is_honest keeper.new → ComesOn result (valid_name name.now)
-        (decide ((K.state keeper.old).world.grants token.now) (repo_at (K.state keeper.old).world) name.now
-        (ask_of request.now)) (K.state keeper.old) (K.state keeper.new) }
+        (decide ((K.kept keeper.old).world.grants token.now) (repo_at (K.kept keeper.old).world) name.now
+        (ask_of request.now)) (K.kept keeper.old) (K.kept keeper.new) }
     ensures answers { Answers result }
     ensures carries { is_head request.now.method ≡ false → Carries result }
-    ensures spends { Spends result (K.state keeper.old) (K.state keeper.new) }
+    ensures spends { Spends result (K.kept keeper.old) (K.kept keeper.new) }
     ensures honest { K.is_honest keeper.new → K.is_honest keeper.old }
 {
     match RepoName::parse(alloc, name) {
@@ -216,13 +216,13 @@ fn serve_token<K: Keeper>(
     token: &Token,
     request: &Request,
 ) -> Result<Reply, Fault>
-    requires { IsUnspent (K.state keeper.old) }
+    requires { IsUnspent (K.kept keeper.old) }
     ensures comes { K.is_honest keeper.new → ComesOn result (addressed (form_of request.now.route))
-        (decision ((K.state keeper.old).world.grants token.now) (repo_at (K.state keeper.old).world)
-        (ask_of request.now)) (K.state keeper.old) (K.state keeper.new) }
+        (decision ((K.kept keeper.old).world.grants token.now) (repo_at (K.kept keeper.old).world)
+        (ask_of request.now)) (K.kept keeper.old) (K.kept keeper.new) }
     ensures answers { Answers result }
     ensures carries { is_head request.now.method ≡ false → Carries result }
-    ensures spends { Spends result (K.state keeper.old) (K.state keeper.new) }
+    ensures spends { Spends result (K.kept keeper.old) (K.kept keeper.new) }
     ensures honest { K.is_honest keeper.new → K.is_honest keeper.old }
 {
     if !keeper.known(token)? {
@@ -240,13 +240,13 @@ fn judge_by_token<K: Keeper>(
     alloc: Global,
     request: &Request,
 ) -> Result<Reply, Fault>
-    requires { IsUnspent (K.state keeper.old) }
+    requires { IsUnspent (K.kept keeper.old) }
     ensures comes { K.is_honest keeper.new → ComesOn result (addressed (form_of request.now.route))
-        (judged (K.state keeper.old).world (text_in request.now.token) (ask_of request.now))
-        (K.state keeper.old) (K.state keeper.new) }
+        (judged (K.kept keeper.old).world (text_in request.now.token) (ask_of request.now))
+        (K.kept keeper.old) (K.kept keeper.new) }
     ensures answers { Answers result }
     ensures carries { is_head request.now.method ≡ false → Carries result }
-    ensures spends { Spends result (K.state keeper.old) (K.state keeper.new) }
+    ensures spends { Spends result (K.kept keeper.old) (K.kept keeper.new) }
     ensures no_token { request.now.token ≡ None → request.now.settings.login ≡ None →
         IsOkAnd result (λ r. answer_of r ≡ refused TokenRequired) }
     ensures honest { K.is_honest keeper.new → K.is_honest keeper.old }
@@ -260,14 +260,14 @@ fn judge_by_token<K: Keeper>(
 /// The reply to a request, or why there is none.
 pub fn judge<K: Keeper>(keeper: &mut K, alloc: Global, request: &Request) -> Result<Reply, Fault>
     ensures comes { K.is_honest keeper.new → WritesBy answer_of result
-        (reply_to (K.state keeper.old).world (ask_of request.now))
-        (after_request (K.state keeper.old).world (ask_of request.now))
-        (K.state keeper.old) (K.state keeper.new) }
+        (reply_to (K.kept keeper.old).world (ask_of request.now))
+        (after_request (K.kept keeper.old).world (ask_of request.now))
+        (K.kept keeper.old) (K.kept keeper.new) }
     ensures answers { Answers result }
     ensures carries { is_head request.now.method ≡ false → Carries result }
-    ensures spends { Spends result (K.state keeper.old) (K.state keeper.new) }
+    ensures spends { Spends result (K.kept keeper.old) (K.kept keeper.new) }
     ensures no_token { request.now.token ≡ None → request.now.resource ≡ Resource.Registry
-        → request.now.settings.login ≡ None → IsUnspent (K.state keeper.old) →
+        → request.now.settings.login ≡ None → IsUnspent (K.kept keeper.old) →
         IsOkAnd result (λ r. answer_of r ≡ refused TokenRequired) }
     ensures honest { K.is_honest keeper.new → K.is_honest keeper.old }
 {

@@ -1,5 +1,6 @@
 ghost use Rattle.std.specs.Prelude.{◌≡◌, IfOk, IfErr, map};
 ghost use Rattle.registry_model.specs.Runs.{Takes, Shows, TakesAll, ShowsAll, RunSays};
+ghost use Rattle.registry_model.specs.Keeping.{HeldStays, state_of};
 ghost use Rattle.registry_service.specs.Steps.{shown_step, shown_outcome};
 
 use crate::service::Service;
@@ -25,9 +26,11 @@ impl<K: Keeper> Service<K> {
     /// One step.
     fn take(&mut self, alloc: Global, step: &Step) -> Outcome
         ensures takes { K.is_honest self.new →
-            Takes (K.state self.old) (shown_step step.now) (shown_outcome result) (K.state self.new) }
-        ensures shows { Shows (K.state self.old) (shown_step step.now) (shown_outcome result)
-            (K.state self.new) }
+            Takes (state_of (K.kept self.old)) (shown_step step.now) (shown_outcome result)
+            (state_of (K.kept self.new)) }
+        ensures holds { K.is_honest self.new → HeldStays (K.kept self.old) (K.kept self.new) }
+        ensures shows { Shows (state_of (K.kept self.old)) (shown_step step.now) (shown_outcome result)
+            (state_of (K.kept self.new)) }
         ensures honest { K.is_honest self.new → K.is_honest self.old }
     {
         match step {
@@ -47,14 +50,15 @@ impl<K: Keeper> Service<K> {
     /// it sees. `Fault::Memory` comes before any step, and nothing has changed; no other fault comes.
     pub fn run(&mut self, alloc: Global, steps: &[Step]) -> Result<Vec<Outcome>, Fault>
         ensures takes { K.is_honest self.new → IfOk result (λ outcomes.
-            TakesAll (K.state self.old) (map shown_step steps.now) (map shown_outcome outcomes.items)
-            (K.state self.new)) }
+            TakesAll (state_of (K.kept self.old)) (map shown_step steps.now)
+            (map shown_outcome outcomes.items) (state_of (K.kept self.new))) }
         ensures shows { IfOk result (λ outcomes.
-            ShowsAll (K.state self.old) (map shown_step steps.now) (map shown_outcome outcomes.items)
-            (K.state self.new)) }
+            ShowsAll (state_of (K.kept self.old)) (map shown_step steps.now)
+            (map shown_outcome outcomes.items) (state_of (K.kept self.new))) }
         ensures says { K.is_honest self.new → IfOk result (λ outcomes.
-            RunSays (K.state self.old) (map shown_step steps.now) (map shown_outcome outcomes.items)
-            (K.state self.new)) }
+            RunSays (state_of (K.kept self.old)) (map shown_step steps.now)
+            (map shown_outcome outcomes.items) (state_of (K.kept self.new))) }
+        ensures holds { K.is_honest self.new → HeldStays (K.kept self.old) (K.kept self.new) }
         ensures err { IfErr result (λ fault. (fault ≡ Fault.Memory) × (self.new ≡ self.old)) }
         ensures honest { K.is_honest self.new → K.is_honest self.old }
     {

@@ -4,7 +4,7 @@ ghost use Rattle.registry_model.specs.declared.refusal.Refusal.TheVariants.{Toke
 ghost use Rattle.registry_model.specs.Answer.{answer_of, refused};
 ghost use Rattle.registry_model.specs.Ask.{ask_of};
 ghost use Rattle.registry_model.specs.Doing.{Does, SpendsAs, CarriesOut, course_of_answer, course_of_result};
-ghost use Rattle.registry_model.specs.Keeping.{Reads, ReadsBy, ReadsSo, Spends, names_shown, tags_shown, usages_shown, digests_shown};
+ghost use Rattle.registry_model.specs.Keeping.{HeldStays, Reads, ReadsBy, ReadsSo, Spends, names_shown, state_of, tags_shown, usages_shown, digests_shown};
 ghost use Rattle.registry_model.specs.Lookups.{AreLevelsOn, AreLevelsOver, repo_names_of, usages_of, tags_at, blob_digests_at, blob_size_at, manifest_digests_at};
 ghost use Rattle.registry_model.specs.World.{has_repo};
 ghost use Rattle.manifest_operations.specs.Pruning.{names_at, unnamed_at};
@@ -49,7 +49,7 @@ impl<K: Keeper> Service<K> {
 
     /// Whether the storage has failed; then every request is answered 500.
     pub fn spent(&self) -> bool
-        ensures { result ≡ (K.state self.now).spent }
+        ensures { result ≡ (K.kept self.now).spent }
     {
         self.keeper.spent()
     }
@@ -63,12 +63,14 @@ impl<K: Keeper> Service<K> {
     /// HEAD.
     pub fn handle(&mut self, alloc: Global, request: &Request) -> Reply
         ensures does { K.is_honest self.new →
-            Does (K.state self.old) (ask_of request.now) (answer_of result) (K.state self.new) }
+            Does (state_of (K.kept self.old)) (ask_of request.now) (answer_of result)
+            (state_of (K.kept self.new)) }
+        ensures holds { K.is_honest self.new → HeldStays (K.kept self.old) (K.kept self.new) }
         ensures carries { is_head request.now.method ≡ false → is_sent (answer_of result).body ≡ true }
         ensures spends { SpendsAs (course_of_answer (answer_of result))
-            (K.state self.old) (K.state self.new) }
+            (state_of (K.kept self.old)) (state_of (K.kept self.new)) }
         ensures no_token { request.now.token ≡ None → request.now.resource ≡ Resource.Registry
-            → request.now.settings.login ≡ None → (K.state self.old).spent ≡ false →
+            → request.now.settings.login ≡ None → (K.kept self.old).spent ≡ false →
             answer_of result ≡ refused TokenRequired }
         ensures honest { K.is_honest self.new → K.is_honest self.old }
     {
@@ -82,9 +84,9 @@ impl<K: Keeper> Service<K> {
     /// What each repository holds and may hold, in byte order of names, as `Keeper::usages` tells it.
     pub fn usages(&mut self, alloc: Global) -> Result<Vec<(RepoName, Usage)>, Fault>
         ensures found { K.is_honest self.new
-            → ReadsBy usages_shown result (usages_of (K.state self.old).world)
-            (K.state self.old) (K.state self.new) }
-        ensures spends { Spends result (K.state self.old) (K.state self.new) }
+            → ReadsBy usages_shown result (usages_of (K.kept self.old).world)
+            (K.kept self.old) (K.kept self.new) }
+        ensures spends { Spends result (K.kept self.old) (K.kept self.new) }
         ensures honest { K.is_honest self.new → K.is_honest self.old }
     {
         self.keeper.usages(alloc)
@@ -94,9 +96,9 @@ impl<K: Keeper> Service<K> {
     /// there.
     pub fn levels(&mut self, alloc: Global, name: &RepoName) -> Result<Vec<(Token, Level)>, Fault>
         ensures found { K.is_honest self.new
-            → ReadsSo (λ v. AreLevelsOn (K.state self.old).world name.now v.items) result
-            (K.state self.old) (K.state self.new) }
-        ensures spends { Spends result (K.state self.old) (K.state self.new) }
+            → ReadsSo (λ v. AreLevelsOn (K.kept self.old).world name.now v.items) result
+            (K.kept self.old) (K.kept self.new) }
+        ensures spends { Spends result (K.kept self.old) (K.kept self.new) }
         ensures honest { K.is_honest self.new → K.is_honest self.old }
     {
         self.keeper.levels(alloc, name)
@@ -105,9 +107,9 @@ impl<K: Keeper> Service<K> {
     /// Each level of a token on a repository, in byte order of the repositories, and on each of the tokens.
     pub fn grants(&mut self, alloc: Global) -> Result<Vec<Grant>, Fault>
         ensures found { K.is_honest self.new → ReadsSo
-            (λ v. let w = (K.state self.old).world in AreLevelsOver w (repo_names_of w) v.items) result
-            (K.state self.old) (K.state self.new) }
-        ensures spends { Spends result (K.state self.old) (K.state self.new) }
+            (λ v. let w = (K.kept self.old).world in AreLevelsOver w (repo_names_of w) v.items) result
+            (K.kept self.old) (K.kept self.new) }
+        ensures spends { Spends result (K.kept self.old) (K.kept self.new) }
         ensures honest { K.is_honest self.new → K.is_honest self.old }
     {
         self.keeper.grants(alloc)
@@ -116,9 +118,9 @@ impl<K: Keeper> Service<K> {
     /// The names of the repositories, in byte order.
     pub fn repo_names(&mut self, alloc: Global) -> Result<Vec<RepoName>, Fault>
         ensures found { K.is_honest self.new
-            → ReadsBy names_shown result (repo_names_of (K.state self.old).world)
-            (K.state self.old) (K.state self.new) }
-        ensures spends { Spends result (K.state self.old) (K.state self.new) }
+            → ReadsBy names_shown result (repo_names_of (K.kept self.old).world)
+            (K.kept self.old) (K.kept self.new) }
+        ensures spends { Spends result (K.kept self.old) (K.kept self.new) }
         ensures honest { K.is_honest self.new → K.is_honest self.old }
     {
         self.keeper.repo_names(alloc)
@@ -127,9 +129,9 @@ impl<K: Keeper> Service<K> {
     /// Whether a repository is there.
     pub fn has_repo(&mut self, name: &RepoName) -> Result<bool, Fault>
         ensures found { K.is_honest self.new
-            → Reads result (has_repo (K.state self.old).world name.now)
-            (K.state self.old) (K.state self.new) }
-        ensures spends { Spends result (K.state self.old) (K.state self.new) }
+            → Reads result (has_repo (K.kept self.old).world name.now)
+            (K.kept self.old) (K.kept self.new) }
+        ensures spends { Spends result (K.kept self.old) (K.kept self.new) }
         ensures honest { K.is_honest self.new → K.is_honest self.old }
     {
         self.keeper.has_repo(name)
@@ -139,9 +141,9 @@ impl<K: Keeper> Service<K> {
     /// there.
     pub fn tags(&mut self, alloc: Global, name: &RepoName) -> Result<Vec<(Tag, Digest)>, Fault>
         ensures found { K.is_honest self.new
-            → ReadsBy tags_shown result (tags_at (K.state self.old).world name.now)
-            (K.state self.old) (K.state self.new) }
-        ensures spends { Spends result (K.state self.old) (K.state self.new) }
+            → ReadsBy tags_shown result (tags_at (K.kept self.old).world name.now)
+            (K.kept self.old) (K.kept self.new) }
+        ensures spends { Spends result (K.kept self.old) (K.kept self.new) }
         ensures honest { K.is_honest self.new → K.is_honest self.old }
     {
         self.keeper.tags(alloc, name)
@@ -150,9 +152,9 @@ impl<K: Keeper> Service<K> {
     /// The digests of a repository's blobs, in byte order; none where it is not there.
     pub fn blob_digests(&mut self, alloc: Global, name: &RepoName) -> Result<Vec<Digest>, Fault>
         ensures found { K.is_honest self.new
-            → ReadsBy digests_shown result (blob_digests_at (K.state self.old).world name.now)
-            (K.state self.old) (K.state self.new) }
-        ensures spends { Spends result (K.state self.old) (K.state self.new) }
+            → ReadsBy digests_shown result (blob_digests_at (K.kept self.old).world name.now)
+            (K.kept self.old) (K.kept self.new) }
+        ensures spends { Spends result (K.kept self.old) (K.kept self.new) }
         ensures honest { K.is_honest self.new → K.is_honest self.old }
     {
         self.keeper.blob_digests(alloc, name)
@@ -161,9 +163,9 @@ impl<K: Keeper> Service<K> {
     /// The length of a blob of a repository in bytes.
     pub fn blob_size(&mut self, name: &RepoName, digest: &Digest) -> Result<Option<u64>, Fault>
         ensures found { K.is_honest self.new
-            → Reads result (blob_size_at (K.state self.old).world name.now digest.now)
-            (K.state self.old) (K.state self.new) }
-        ensures spends { Spends result (K.state self.old) (K.state self.new) }
+            → Reads result (blob_size_at (K.kept self.old).world name.now digest.now)
+            (K.kept self.old) (K.kept self.new) }
+        ensures spends { Spends result (K.kept self.old) (K.kept self.new) }
         ensures honest { K.is_honest self.new → K.is_honest self.old }
     {
         self.keeper.blob_size(name, digest)
@@ -172,9 +174,9 @@ impl<K: Keeper> Service<K> {
     /// The digests of a repository's manifests, in byte order; none where it is not there.
     pub fn manifest_digests(&mut self, alloc: Global, name: &RepoName) -> Result<Vec<Digest>, Fault>
         ensures found { K.is_honest self.new
-            → ReadsBy digests_shown result (manifest_digests_at (K.state self.old).world name.now)
-            (K.state self.old) (K.state self.new) }
-        ensures spends { Spends result (K.state self.old) (K.state self.new) }
+            → ReadsBy digests_shown result (manifest_digests_at (K.kept self.old).world name.now)
+            (K.kept self.old) (K.kept self.new) }
+        ensures spends { Spends result (K.kept self.old) (K.kept self.new) }
         ensures honest { K.is_honest self.new → K.is_honest self.old }
     {
         self.keeper.manifest_digests(alloc, name)
@@ -188,9 +190,9 @@ impl<K: Keeper> Service<K> {
         manifest: &Digest,
     ) -> Result<Vec<Digest>, Fault>
         ensures found { K.is_honest self.new
-            → ReadsBy digests_shown result (names_at (K.state self.old).world name.now manifest.now)
-            (K.state self.old) (K.state self.new) }
-        ensures spends { Spends result (K.state self.old) (K.state self.new) }
+            → ReadsBy digests_shown result (names_at (K.kept self.old).world name.now manifest.now)
+            (K.kept self.old) (K.kept self.new) }
+        ensures spends { Spends result (K.kept self.old) (K.kept self.new) }
         ensures honest { K.is_honest self.new → K.is_honest self.old }
     {
         names_at(&mut self.keeper, alloc, name, manifest)
@@ -200,9 +202,9 @@ impl<K: Keeper> Service<K> {
     /// command takes away that prunes it. None where it is not there.
     pub fn unnamed(&mut self, alloc: Global, name: &RepoName) -> Result<Vec<Digest>, Fault>
         ensures found { K.is_honest self.new
-            → ReadsBy digests_shown result (unnamed_at (K.state self.old).world name.now)
-            (K.state self.old) (K.state self.new) }
-        ensures spends { Spends result (K.state self.old) (K.state self.new) }
+            → ReadsBy digests_shown result (unnamed_at (K.kept self.old).world name.now)
+            (K.kept self.old) (K.kept self.new) }
+        ensures spends { Spends result (K.kept self.old) (K.kept self.new) }
         ensures honest { K.is_honest self.new → K.is_honest self.old }
     {
         unnamed(alloc, &mut self.keeper, name)
@@ -213,8 +215,10 @@ impl<K: Keeper> Service<K> {
     /// A command that is refused, or for which memory was wanting, changes nothing.
     pub fn admin(&mut self, alloc: Global, command: &AdminCommand) -> Result<(), AdminFault>
         ensures does { K.is_honest self.new →
-            CarriesOut (K.state self.old) command.now result (K.state self.new) }
-        ensures spends { SpendsAs (course_of_result result) (K.state self.old) (K.state self.new) }
+            CarriesOut (state_of (K.kept self.old)) command.now result (state_of (K.kept self.new)) }
+        ensures holds { K.is_honest self.new → HeldStays (K.kept self.old) (K.kept self.new) }
+        ensures spends { SpendsAs (course_of_result result)
+            (state_of (K.kept self.old)) (state_of (K.kept self.new)) }
         ensures honest { K.is_honest self.new → K.is_honest self.old }
     {
         apply_command(alloc, &mut self.keeper, command)

@@ -8,7 +8,8 @@ use Rattle.sqlite.specs.Held.{Held, state}
 use Rattle.oci_types.specs.declared.fault.Fault.{Fault}
 use Rattle.oci_types.specs.declared.fault.Fault.TheVariants.{Memory, Storage}
 use Rattle.registry_model.specs.World.{World}
-use Rattle.registry_model.specs.Keeping.{State, ReadsBy, ReadsSo, Writes, WritesBy, Spends}
+use Rattle.registry_model.specs.Keeping as keeping
+use Rattle.registry_model.specs.Keeping.{nothing_held, ReadsBy, ReadsSo, Writes, WritesBy, Spends}
 use Rattle.registry_store.specs.Kept.{Kept, IsHonest}
 use Rattle.registry_store.specs.KeptWrites.{Leaves, IsOneWrite, WritesOnce, WritesOnceBy}
 use Rattle.store_statements.specs.Tables.{Tables}
@@ -36,18 +37,18 @@ written (Err Memory) old new w sound made stays = (stays refl).0
 written (Err Storage) old new w sound made stays = absurd (true≢false sound)
 
 module _ {S : Type 0} (g : Ghosts S) (conn : Held S) (old : Kept S) (spent : Bool) (is : ◌≡◌ {A = Kept S} (record { conn = conn; spent = spent }) old) (new : Held S) where
-  abbrev before : State
-  before = record { world = world_in (state g old.conn); spent = old.spent }
+  abbrev before : keeping.Kept
+  before = record { world = world_in (state g old.conn); spent = old.spent; held = nothing_held }
 
-  abbrev after : Bool → State
-  after later = record { world = world_in (state g new); spent = later }
+  abbrev after : Bool → keeping.Kept
+  after later = record { world = world_in (state g new); spent = later; held = nothing_held }
 
   read : {A B : Type 0} (show : A → B) (look : World → B) (answer : Result A Fault) (later : Bool) → later ≡ (is_storage answer || spent)
       → IfOk answer (λ v. show v ≡ look (world_in (state g conn))) → (is_storage answer ≡ false → StaysSettled (state g conn) (state g new))
       → ReadsBy show answer (look (world_in (state g old.conn))) before (after later)
   read show look (Ok v) later notes finds stays =
-      (found g conn old spent is look (show v) finds, subst (λ b. ◌≡◌ {A = State} (after b) before) (sym notes) (stood g conn old spent is new (stays refl).1))
-  read show look (Err Memory) later notes finds stays = subst (λ b. ◌≡◌ {A = State} (after b) before) (sym notes) (stood g conn old spent is new (stays refl).1)
+      (found g conn old spent is look (show v) finds, subst (λ b. ◌≡◌ {A = keeping.Kept} (after b) before) (sym notes) (stood g conn old spent is new (stays refl).1))
+  read show look (Err Memory) later notes finds stays = subst (λ b. ◌≡◌ {A = keeping.Kept} (after b) before) (sym notes) (stood g conn old spent is new (stays refl).1)
   read show look (Err Storage) later notes finds stays = tt
 
   -- a read tells what it found
@@ -61,8 +62,8 @@ module _ {S : Type 0} (g : Ghosts S) (conn : Held S) (old : Kept S) (spent : Boo
       → IfOk answer (λ v. P (world_in (state g conn)) v) → (is_storage answer ≡ false → StaysSettled (state g conn) (state g new))
       → ReadsSo (P (world_in (state g old.conn))) answer before (after later)
   read_so P (Ok v) later notes finds stays =
-      (found_so g conn old spent is P v finds, subst (λ b. ◌≡◌ {A = State} (after b) before) (sym notes) (stood g conn old spent is new (stays refl).1))
-  read_so P (Err Memory) later notes finds stays = subst (λ b. ◌≡◌ {A = State} (after b) before) (sym notes) (stood g conn old spent is new (stays refl).1)
+      (found_so g conn old spent is P v finds, subst (λ b. ◌≡◌ {A = keeping.Kept} (after b) before) (sym notes) (stood g conn old spent is new (stays refl).1))
+  read_so P (Err Memory) later notes finds stays = subst (λ b. ◌≡◌ {A = keeping.Kept} (after b) before) (sym notes) (stood g conn old spent is new (stays refl).1)
   read_so P (Err Storage) later notes finds stays = tt
 
   -- a read tells a value of which something is so
@@ -76,8 +77,8 @@ module _ {S : Type 0} (g : Ghosts S) (conn : Held S) (old : Kept S) (spent : Boo
       → OnOk answer (SettlesOn (state g new) (change (world_in (state g conn)))) → (answer ≡ Err Memory → StaysSettled (state g conn) (state g new))
       → Writes answer (change (world_in (state g old.conn))) before (after later)
   write change (Ok v) later unspent notes made stays =
-      subst (λ b. ◌≡◌ {A = State} (after b) (record { world = change (world_in (state g old.conn)); spent = false })) (sym notes) (wrote g conn old spent is new change unspent made.1)
-  write change (Err Memory) later unspent notes made stays = subst (λ b. ◌≡◌ {A = State} (after b) before) (sym notes) (stood g conn old spent is new (stays refl).1)
+      subst (λ b. ◌≡◌ {A = keeping.Kept} (after b) (record { world = change (world_in (state g old.conn)); spent = false; held = nothing_held })) (sym notes) (wrote g conn old spent is new change unspent made.1)
+  write change (Err Memory) later unspent notes made stays = subst (λ b. ◌≡◌ {A = keeping.Kept} (after b) before) (sym notes) (stood g conn old spent is new (stays refl).1)
   write change (Err Storage) later unspent notes made stays = tt
 
   -- what a write did to the tables
@@ -98,9 +99,9 @@ module _ {S : Type 0} (g : Ghosts S) (conn : Held S) (old : Kept S) (spent : Boo
       → WritesBy (λ v. v) answer (look (world_in (state g old.conn))) (change (world_in (state g old.conn))) before (after later)
   numbered look change (Ok v) later unspent notes made stays = (
     found g conn old spent is look v made.0,
-    subst (λ b. ◌≡◌ {A = State} (after b) (record { world = change (world_in (state g old.conn)); spent = false })) (sym notes) (wrote g conn old spent is new change unspent made.1.1),
+    subst (λ b. ◌≡◌ {A = keeping.Kept} (after b) (record { world = change (world_in (state g old.conn)); spent = false; held = nothing_held })) (sym notes) (wrote g conn old spent is new change unspent made.1.1),
   )
-  numbered look change (Err Memory) later unspent notes made stays = subst (λ b. ◌≡◌ {A = State} (after b) before) (sym notes) (stood g conn old spent is new (stays refl).1)
+  numbered look change (Err Memory) later unspent notes made stays = subst (λ b. ◌≡◌ {A = keeping.Kept} (after b) before) (sym notes) (stood g conn old spent is new (stays refl).1)
   numbered look change (Err Storage) later unspent notes made stays = tt
 
   -- a write made its change and tells a value, or made none

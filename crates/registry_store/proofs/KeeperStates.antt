@@ -4,7 +4,8 @@ use Rattle.sqlite_trees.specs.declared.store.Store.{Ghosts}
 use Rattle.sqlite.specs.State.{HasCleanDisk}
 use Rattle.sqlite.specs.Held.{Held, state}
 use Rattle.registry_model.specs.World.{World}
-use Rattle.registry_model.specs.Keeping.{State}
+use Rattle.registry_model.specs.Keeping as keeping
+use Rattle.registry_model.specs.Keeping.{nothing_held}
 use Rattle.store_statements.specs.World.{world_of}
 use Rattle.registry_store.specs.Kept.{Kept}
 use Rattle.store_statements.specs.Held.{tables_in, world_in}
@@ -12,12 +13,12 @@ use Rattle.store_statements.specs.Held.{tables_in, world_in}
 module _ {S : Type 0} (g : Ghosts S) (conn : Held S) (old : Kept S) (spent : Bool) (is : ◌≡◌ {A = Kept S} (record { conn = conn; spent = spent }) old) (new : Held S) where
   -- a write made its change
   pub wrote : (change : World → World) → spent ≡ false → world_in (state g new) ≡ change (world_in (state g conn))
-      → ◌≡◌ {A = State} (record { world = world_in (state g new); spent = spent }) (record { world = change (world_in (state g old.conn)); spent = false })
-  wrote change unspent e = subst (λ (k : Kept S). ◌≡◌ {A = State} (record { world = world_in (state g new); spent = spent }) (record { world = change (world_in (state g k.conn)); spent = false })) is (λ i. record { world = e i; spent = unspent i })
+      → ◌≡◌ {A = keeping.Kept} (record { world = world_in (state g new); spent = spent; held = nothing_held }) (record { world = change (world_in (state g old.conn)); spent = false; held = nothing_held })
+  wrote change unspent e = subst (λ (k : Kept S). ◌≡◌ {A = keeping.Kept} (record { world = world_in (state g new); spent = spent; held = nothing_held }) (record { world = change (world_in (state g k.conn)); spent = false; held = nothing_held })) is (λ i. record { world = e i; spent = unspent i; held = nothing_held })
 
   -- nothing changed
-  pub stood : (state g new).now ≡ (state g conn).now → ◌≡◌ {A = State} (record { world = world_in (state g new); spent = spent }) (record { world = world_in (state g old.conn); spent = old.spent })
-  stood e = subst (λ (k : Kept S). ◌≡◌ {A = State} (record { world = world_in (state g new); spent = spent }) (record { world = world_in (state g k.conn); spent = k.spent })) is (λ i. record { world = world_of (tables_in (e i)); spent = spent })
+  pub stood : (state g new).now ≡ (state g conn).now → ◌≡◌ {A = keeping.Kept} (record { world = world_in (state g new); spent = spent; held = nothing_held }) (record { world = world_in (state g old.conn); spent = old.spent; held = nothing_held })
+  stood e = subst (λ (k : Kept S). ◌≡◌ {A = keeping.Kept} (record { world = world_in (state g new); spent = spent; held = nothing_held }) (record { world = world_in (state g k.conn); spent = k.spent; held = nothing_held })) is (λ i. record { world = world_of (tables_in (e i)); spent = spent; held = nothing_held })
 
 module _ {S : Type 0} (g : Ghosts S) (conn : Held S) (old : Kept S) (spent : Bool) (is : ◌≡◌ {A = Kept S} (record { conn = conn; spent = spent }) old) where
   -- a read found its value

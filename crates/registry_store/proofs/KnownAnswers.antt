@@ -11,7 +11,8 @@ use Rattle.oci_types.specs.Digest.{matches}
 use Rattle.oci_types.specs.declared.fault.Fault.{Fault}
 use Rattle.oci_types.specs.declared.fault.Fault.TheVariants.{Memory, Storage}
 use Rattle.registry_model.specs.World.{World}
-use Rattle.registry_model.specs.Keeping.{State}
+use Rattle.registry_model.specs.Keeping as keeping
+use Rattle.registry_model.specs.Keeping.{nothing_held}
 use Rattle.registry_model.specs.Closing.{WritesWhereSo, session_matches}
 use Rattle.registry_model.specs.Lookups.{session_at}
 use Rattle.store_statements.specs.Held.{IsSettled, StaysSettled, is_storage, world_in}
@@ -41,21 +42,21 @@ was_open w name number digest = by (session_at w name number)
     by (Some bytes) so = refl
 
 module _ {S : Type 0} (g : Ghosts S) (conn : Held S) (old : Kept S) (spent : Bool) (is : ◌≡◌ {A = Kept S} (record { conn = conn; spent = spent }) old) (new : Held S) where
-  abbrev before : State
-  before = record { world = world_in (state g old.conn); spent = old.spent }
+  abbrev before : keeping.Kept
+  before = record { world = world_in (state g old.conn); spent = old.spent; held = nothing_held }
 
-  abbrev after : Bool → State
-  after later = record { world = world_in (state g new); spent = later }
+  abbrev after : Bool → keeping.Kept
+  after later = record { world = world_in (state g new); spent = later; held = nothing_held }
 
   whether : (so : World → Bool) (change : World → World) (answer : Result Bool Fault) (later : Bool) → spent ≡ false → later ≡ (is_storage answer || spent)
       → IfOk answer (λ done. DoneWhereSo done (state g conn) (state g new) so change) → (answer ≡ Err Memory → StaysSettled (state g conn) (state g new))
       → WritesWhereSo answer (so (world_in (state g old.conn))) (change (world_in (state g old.conn))) before (after later)
   whether so change (Ok true) later unspent notes made stays = (
     sym (found g conn old spent is so true (sym made.0)),
-    subst (λ b. ◌≡◌ {A = State} (after b) (record { world = change (world_in (state g old.conn)); spent = false })) (sym notes) (wrote g conn old spent is new change unspent made.1.1),
+    subst (λ b. ◌≡◌ {A = keeping.Kept} (after b) (record { world = change (world_in (state g old.conn)); spent = false; held = nothing_held })) (sym notes) (wrote g conn old spent is new change unspent made.1.1),
   )
-  whether so change (Ok false) later unspent notes made stays = subst (λ b. ◌≡◌ {A = State} (after b) before) (sym notes) (stood g conn old spent is new made.1)
-  whether so change (Err Memory) later unspent notes made stays = subst (λ b. ◌≡◌ {A = State} (after b) before) (sym notes) (stood g conn old spent is new (stays refl).1)
+  whether so change (Ok false) later unspent notes made stays = subst (λ b. ◌≡◌ {A = keeping.Kept} (after b) before) (sym notes) (stood g conn old spent is new made.1)
+  whether so change (Err Memory) later unspent notes made stays = subst (λ b. ◌≡◌ {A = keeping.Kept} (after b) before) (sym notes) (stood g conn old spent is new (stays refl).1)
   whether so change (Err Storage) later unspent notes made stays = tt
 
   -- it was made where this was so, or nothing changed

@@ -7,6 +7,7 @@ ghost use Rattle.oci_types.specs.Manifest.{shown, manifest_in};
 ghost use Rattle.registry_model.specs.Ask.{text_in};
 ghost use Rattle.registry_model.specs.Closing.{session_matches, finish_as_is};
 ghost use Rattle.registry_model.specs.Command.{set_repo, drop_repo, grant, revoke, revoke_all, drop_sessions};
+ghost use Rattle.registry_model.specs.Keeping.{nothing_held};
 ghost use Rattle.registry_model.specs.Limits.{largest, largest_blob, largest_manifest, most_sessions};
 ghost use Rattle.registry_model.specs.Lookups.{append, blob_at, bytes_or_none, delete_blob, delete_manifest, delete_tag, finish, last_number_at, manifest_at, mount, open_session, put_blob, put_manifest, session_at, sessions_open_at, tag_at};
 ghost use Rattle.registry_model.specs.Pruning.{delete_blobs};
@@ -26,12 +27,10 @@ use crate::store::Store;
 use crate::usage_reads::recalled_usage;
 use crate::write::Write;
 use oci_types::{Digest, Fault, Kind, Manifest, RepoName, Tag, Token};
+use registry_model::keeper::Found;
 use registry_model::{Grant, Keeper, Level, Quota, Usage};
 use sqlite::Alter;
 use std::alloc::Global;
-
-/// What a read finds, or that it is not there.
-type Found<T> = Result<Option<T>, Fault>;
 
 /// Asks the tables, unless the storage has failed, and notes where it fails now.
 macro_rules! unless_spent {
@@ -69,7 +68,11 @@ macro_rules! counted {
 }
 
 impl<S: Alter, O: Origin> Keeper for Store<S, O> {
-    ghost state = { λ s. record { world = world_in (state S.Store s.conn); spent = s.spent } };
+    ghost kept = { λ s. record {
+      world = world_in (state S.Store s.conn);
+      spent = s.spent;
+      held = nothing_held;
+    } };
 
     ghost is_honest = { λ s. IsHonest S.Store O.is_ours s };
 

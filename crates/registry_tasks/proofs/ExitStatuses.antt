@@ -7,10 +7,10 @@ use Rattle.registry_http.specs.declared.ending.End.{End}
 use Rattle.registry_http.specs.declared.ending.End.TheVariants as ending
 use Rattle.registry_model.specs.World.{World, no_world, has_repo}
 use Rattle.registry_model.specs.Command.{set_repo, grant}
-use Rattle.registry_model.specs.Keeping.{State}
+use Rattle.registry_model.specs.Keeping.{State, Kept, bare}
 use Rattle.registry_model.specs.Doing.{keeps}
 use Rattle.registry_maps.specs.declared.map_keeper.MapKeeper.{MapKeeper}
-use Rattle.registry_maps.specs.Maps.{world_of, state_of}
+use Rattle.registry_maps.specs.Maps.{world_of, kept_of}
 use Rattle.registry_orders.specs.declared.failure.Failure.{Failure}
 use Rattle.registry_orders.specs.declared.failure.Failure.TheVariants as failure
 use Rattle.registry_orders.specs.declared.options.Setup.{Setup}
@@ -151,18 +151,18 @@ module _ (settings : Settings) where
   stopped setup failure.ConnectionFailure s ended e m spent g = refused setup failure.ConnectionFailure ended e m g
 
   -- maps that began with nothing were set up
-  pub set_up_served : (setup : Setup) (ended : Result (Unit {0}) Failure) (e : Streams) (first : State) → first ≡ keeps no_world
-      → ServesSetUp {K = MapKeeper} (λ k. ⊤) (λ k. state_of k.repos k.grants) first settings setup ended e → ServesMemory settings setup ended e
+  pub set_up_served : (setup : Setup) (ended : Result (Unit {0}) Failure) (e : Streams) (first : Kept) → first ≡ bare no_world
+      → ServesSetUp {K = MapKeeper} (λ k. ⊤) (λ k. kept_of k.repos k.grants) first settings setup ended e → ServesMemory settings setup ended e
   set_up_served setup ended e first empty s =
       go (world_of s.middle.repos s.middle.grants) (world_of s.last.repos s.last.grants) s.begun (s.says tt).0 (s.says tt).1
     where
       go : (w w' : World) (begun : Result (Unit {0}) Failure) → SetsUp (world_from first.world setup) begun (keeps w)
-          → MatchResult begun (λ v. ServesOne settings ended e (keeps w) (keeps w')) (λ f. StopsFor f ended e) → ServesMemory settings setup ended e
+          → MatchResult begun (λ v. ServesOne settings ended e (bare w) (bare w')) (λ f. StopsFor f ended e) → ServesMemory settings setup ended e
       go w w' (Ok v) made serves =
-          served setup w ended e (subst (λ (x : State). world_from x.world setup ≡ Ok w) empty made)
+          served setup w ended e (subst (λ (x : Kept). world_from x.world setup ≡ Ok w) empty made)
           (record { end = serves.0; last = keeps w'; ends = serves.1; serves = serves.2 })
       go w w' (Err f) made g =
-          stopped setup f (keeps w) ended e (subst (λ (x : State). SetsUp (world_from x.world setup) (Err f) (keeps w)) empty made) refl g
+          stopped setup f (keeps w) ended e (subst (λ (x : Kept). SetsUp (world_from x.world setup) (Err f) (keeps w)) empty made) refl g
 
   -- a connection over memory ends with 0 or 4
   after_serving : (end : End) (ended : Result (Unit {0}) Failure) (status : ℕ) → ended ≡ ended_as end false → status ≡ status_if ended

@@ -3,7 +3,7 @@ use Rattle.std.specs.Prelude.{◌≡◌, ℕ, false, ◌⊎◌, Option, Result, 
 use Rattle.std.specs.Io.KnownBytes.{Appends}
 use Rattle.oci_types.specs.Text.{Text}
 use Rattle.registry_model.specs.World.{World}
-use Rattle.registry_model.specs.Keeping.{State}
+use Rattle.registry_model.specs.Keeping.{State, Kept, state_of}
 use Rattle.registry_model.specs.declared.settings.Settings.{Settings}
 use Rattle.registry_model.specs.Doing.{keeps}
 use Rattle.registry_http.specs.Serving.{Serves}
@@ -56,19 +56,20 @@ RunsMemory settings setup status e errors = (ended : Result (Unit {0}) Failure)
     × ServesMemory settings setup ended e × SaysPlainly ended status errors
 
 -- one connection was served over a registry that was opened, and how that ended; its storage may fail
-abbrev pub ServesOne : Settings → Result (Unit {0}) Failure → Streams → State → State → Type 0
+abbrev pub ServesOne : Settings → Result (Unit {0}) Failure → Streams → Kept → Kept → Type 0
 ServesOne settings ended e s s' =
-    (end : End) × (ended ≡ ended_as end s'.spent) × Serves end (traffic_of settings e s s')
+    (end : End) × (ended ≡ ended_as end s'.spent)
+    × Serves end (traffic_of settings e (state_of s) (state_of s'))
 
--- A registry over a keeper of the type K was set up from this state on, or why not; and then one connection
--- was served: as far as the storage has returned what was written.
-pub record ServesSetUp {K : Type 0} (is_honest : K → Type 0) (state : K → State) (first : State)
+-- A registry over a keeper of the type K was set up from what it kept first, or why not; and then one
+-- connection was served: as far as the storage has returned what was written.
+pub record ServesSetUp {K : Type 0} (is_honest : K → Type 0) (kept : K → Kept) (first : Kept)
     (settings : Settings) (setup : Setup) (ended : Result (Unit {0}) Failure) (e : Streams) : Type 0 where
   pub begun : Result (Unit {0}) Failure
   pub middle : K
   pub last : K
-  pub says : is_honest last → SetsUp (world_from first.world setup) begun (state middle)
-      × MatchResult begun (λ v. ServesOne settings ended e (state middle) (state last))
+  pub says : is_honest last → SetsUp (world_from first.world setup) begun (state_of (kept middle))
+      × MatchResult begun (λ v. ServesOne settings ended e (kept middle) (kept last))
       (λ f. StopsFor f ended e)
 
 -- help, the version or what is wrong with the words was told, on standard output only with status 0, and

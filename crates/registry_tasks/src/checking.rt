@@ -24,8 +24,8 @@ fn tell_wrongs<K: Keeper, V: Watch, W: Write>(
     out: &mut W,
 ) -> Result<(), Failure>
     requires none { found.old.items ≡ [] }
-    ensures checks { K.is_honest keeper.new → Checks (K.state keeper.old) result
-        (output (W.contents out.old) (W.contents out.new)) (K.state keeper.new) }
+    ensures checks { K.is_honest keeper.new → Checks (K.kept keeper.old) result
+        (output (W.contents out.old) (W.contents out.new)) (K.kept keeper.new) }
     ensures honest { K.is_honest keeper.new → K.is_honest keeper.old }
     ensures fails { IfErr result IsOfCheck }
 {
@@ -54,8 +54,8 @@ fn check_kept<K: Keeper, V: Watch, W: Write>(
     keeper: &mut K,
     out: &mut W,
 ) -> Result<(), Failure>
-    ensures checks { K.is_honest keeper.new → Checks (K.state keeper.old) result
-        (output (W.contents out.old) (W.contents out.new)) (K.state keeper.new) }
+    ensures checks { K.is_honest keeper.new → Checks (K.kept keeper.old) result
+        (output (W.contents out.old) (W.contents out.new)) (K.kept keeper.new) }
     ensures honest { K.is_honest keeper.new → K.is_honest keeper.old }
     ensures fails { IfErr result IsOfCheck }
 {
@@ -102,7 +102,7 @@ pub fn run_check<K: Keeper, O: Opener<K>, V: Watch, W: Write, E: Write>(
     out: &mut W,
     err: &mut E,
 ) -> u8
-    ensures runs { RunsCheck (between K.is_honest K.state O.opens (O.had opener.old) (O.had opener.new))
+    ensures runs { RunsCheck (between K.is_honest K.kept O.opens (O.had opener.old) (O.had opener.new))
         path.now result (output (W.contents out.old) (W.contents out.new))
         (output (E.contents err.old) (E.contents err.new)) }
     ensures failed { 0 < result → 3 ≤ result }

@@ -124,8 +124,8 @@ pub fn introduction<K: Keeper>(
     path: &str,
 ) -> Result<Option<String>, Failure>
     ensures honest { K.is_honest keeper.new → K.is_honest keeper.old }
-    ensures stays { OnOk result (K.is_honest keeper.new → K.state keeper.new ≡ K.state keeper.old) }
-    ensures spent { OnErr result ((K.state keeper.new).spent ≡ true) }
+    ensures stays { OnOk result (K.is_honest keeper.new → K.kept keeper.new ≡ K.kept keeper.old) }
+    ensures spent { OnErr result ((K.kept keeper.new).spent ≡ true) }
     ensures fails { IfErr result (λ failure. failure ≡ Failure.StorageFailure) }
 {
     let count = match keeper.count_repos() {

@@ -105,7 +105,7 @@ fn run_order<K: Keeper, O: Opener<K>, W: Write, E: Write>(
     out: &mut W,
     err: &mut E,
 ) -> u8
-    ensures runs { RunsHere (between K.is_honest K.state O.opens (O.had opener.old) (O.had opener.new))
+    ensures runs { RunsHere (between K.is_honest K.kept O.opens (O.had opener.old) (O.had opener.new))
         path.now order.now result (output (W.contents out.old) (W.contents out.new))
         (output (E.contents err.old) (E.contents err.new)) }
     ensures silent { 0 < result → result < 4
@@ -130,7 +130,7 @@ pub fn run_order_at<K: Keeper, O: Opener<K>, M: Messenger, W: Write, E: Write>(
     out: &mut W,
     err: &mut E,
 ) -> u8
-    ensures runs { RunsAt (acts (between K.is_honest K.state O.opens (O.had opener.old) (O.had opener.new))
+    ensures runs { RunsAt (acts (between K.is_honest K.kept O.opens (O.had opener.old) (O.had opener.new))
         (M.had messenger.old) (M.had messenger.new))
         place.entry order.now result (output (W.contents out.old) (W.contents out.new))
         (output (E.contents err.old) (E.contents err.new)) }
@@ -190,7 +190,7 @@ pub fn run_stored<K: Keeper, O: Opener<K>, R: Read, W: Write, E: Write>(
     out: &mut W,
     err: &mut E,
 ) -> u8
-    ensures runs { RunsStored (between K.is_honest K.state O.opens (O.had opener.old) (O.had opener.new))
+    ensures runs { RunsStored (between K.is_honest K.kept O.opens (O.had opener.old) (O.had opener.new))
         settings path.now result
         (streams (R.remaining reader.old) (R.remaining reader.new)
         (W.contents out.old) (W.contents out.new))
@@ -217,7 +217,7 @@ pub fn run_migration<K: Keeper, O: Opener<K>, E: Write>(
     err: &mut E,
 ) -> u8
     ensures runs { EndsMigration
-        (between K.is_honest K.state O.opens (O.had opener.old) (O.had opener.new)) path.now result
+        (between K.is_honest K.kept O.opens (O.had opener.old) (O.had opener.new)) path.now result
         (output (E.contents err.old) (E.contents err.new)) }
     ensures status { result ≤ 4 }
     ensures read { result ≢ 2 }

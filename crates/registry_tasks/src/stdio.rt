@@ -1,4 +1,5 @@
 ghost use Rattle.std.specs.Prelude.{◌≡◌, IfErr};
+ghost use Rattle.registry_model.specs.Keeping.{state_of};
 ghost use Rattle.registry_orders.specs.Failures.{IsOfConnection};
 ghost use Rattle.registry_orders.specs.Outputs.{output};
 ghost use Rattle.registry_orders.specs.Setting.{with_repos, with_levels, world_from, SetsUp};
@@ -24,7 +25,8 @@ fn make_repos<K: Keeper>(
 ) -> Result<(), Failure>
     ensures honest { K.is_honest service.new → K.is_honest service.old }
     ensures made { K.is_honest service.new
-        → SetsUp (with_repos (K.state service.old).world repos.now) result (K.state service.new) }
+        → SetsUp (with_repos (K.kept service.old).world repos.now) result
+        (state_of (K.kept service.new)) }
 {
     for repo in repos {
         let command = AdminCommand::AddRepo {
@@ -47,7 +49,8 @@ fn give_levels<K: Keeper>(
 ) -> Result<(), Failure>
     ensures honest { K.is_honest service.new → K.is_honest service.old }
     ensures given { K.is_honest service.new
-        → SetsUp (with_levels (K.state service.old).world grants.now) result (K.state service.new) }
+        → SetsUp (with_levels (K.kept service.old).world grants.now) result
+        (state_of (K.kept service.new)) }
 {
     for grant in grants {
         let command = AdminCommand::Grant {
@@ -67,7 +70,8 @@ fn give_levels<K: Keeper>(
 fn set_up<K: Keeper>(alloc: Global, service: &mut Service<K>, setup: &Setup) -> Result<(), Failure>
     ensures honest { K.is_honest service.new → K.is_honest service.old }
     ensures begins { K.is_honest service.new
-        → SetsUp (world_from (K.state service.old).world setup.now) result (K.state service.new) }
+        → SetsUp (world_from (K.kept service.old).world setup.now) result
+        (state_of (K.kept service.new)) }
 {
     match make_repos(alloc, service, &setup.repos) {
         Ok(()) => give_levels(alloc, service, &setup.grants),
@@ -106,7 +110,7 @@ pub fn serve_stdio<R: Read, W: Write, K: Keeper>(
     ensures honest { K.is_honest service.new → K.is_honest service.old }
     ensures serves { K.is_honest service.new → ServesOne settings result
         (streams (R.remaining reader.old) (R.remaining reader.new) (W.contents out.old) (W.contents out.new))
-        (K.state service.old) (K.state service.new) }
+        (K.kept service.old) (K.kept service.new) }
     ensures fails { IfErr result IsOfConnection }
 {
     let end = serve_connection(alloc, service, settings, reader, out);
@@ -122,7 +126,7 @@ fn serve_set_up<R: Read, W: Write, K: Keeper + Drop>(
     reader: &mut R,
     out: &mut W,
 ) -> Result<(), Failure>
-    ensures { ServesSetUp K.is_honest K.state (K.state keeper) settings setup.now result
+    ensures { ServesSetUp K.is_honest K.kept (K.kept keeper) settings setup.now result
         (streams (R.remaining reader.old) (R.remaining reader.new)
         (W.contents out.old) (W.contents out.new)) }
 {

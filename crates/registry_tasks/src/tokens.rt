@@ -108,11 +108,11 @@ pub fn run_token_order<K: Keeper, O: Opener<K>, M: Messenger, R: Read, W: Write,
     err: &mut E,
 ) -> u8
     ensures runs { ((result ≢ 2)
-        × RunsTokenOrder (acts (between K.is_honest K.state O.opens (O.had opener.old) (O.had opener.new))
+        × RunsTokenOrder (acts (between K.is_honest K.kept O.opens (O.had opener.old) (O.had opener.new))
         (M.had messenger.old) (M.had messenger.new))
         place.entry source.entry order result (streams (R.remaining reader.old) (R.remaining reader.new)
         (W.contents out.old) (W.contents out.new)) (output (E.contents err.old) (E.contents err.new)))
-        ⊎ LacksTokenOf (acts (between K.is_honest K.state O.opens (O.had opener.old) (O.had opener.new))
+        ⊎ LacksTokenOf (acts (between K.is_honest K.kept O.opens (O.had opener.old) (O.had opener.new))
         (M.had messenger.old) (M.had messenger.new))
         source.entry result (streams (R.remaining reader.old) (R.remaining reader.new)
         (W.contents out.old) (W.contents out.new)) (output (E.contents err.old) (E.contents err.new)) }

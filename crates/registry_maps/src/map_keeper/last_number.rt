@@ -1,7 +1,7 @@
 //! The last number that an upload session got.
 ghost use Rattle.std.specs.Prelude.{◌≡◌, ◌≤◌};
 ghost use Rattle.registry_model.specs.World.{repo_at, update_repo};
-ghost use Rattle.registry_model.specs.Doing.{keeps};
+ghost use Rattle.registry_model.specs.Keeping.{bare};
 ghost use Rattle.registry_model.specs.Limits.{largest};
 ghost use Rattle.registry_maps.specs.Maps.{world_of};
 
@@ -16,8 +16,8 @@ impl MapKeeper {
     pub fn set_last_number(&mut self, name: &RepoName, last: u64)
         requires { last ≤ largest }
         ensures { let w = world_of self.old.repos self.old.grants in
-            ⟦<MapKeeper as Keeper>⟧.state self.new
-            ≡ keeps (update_repo w name.now (λ r. record r { last = last }) (repo_at w name.now)) }
+            ⟦<MapKeeper as Keeper>⟧.kept self.new
+            ≡ bare (update_repo w name.now (λ r. record r { last = last }) (repo_at w name.now)) }
     {
         if let Some(repository) = self.repos.get_mut(name) {
             repository.last = last;

@@ -1,7 +1,7 @@
 use Rattle.std.proofs.Common.{◌≡◌, ◌∙◌, Bool, true, false, length, refl, sym, ap}
 use Rattle.registry_model.specs.declared.refusal.Refusal.TheVariants.{QuotaExceeded}
 use Rattle.registry_model.specs.Doing.{course_of_answer}
-use Rattle.registry_model.specs.Keeping.{State}
+use Rattle.registry_model.specs.Keeping.{Kept, goes_on}
 use Rattle.registry_model.specs.Lookups as lookups
 use Rattle.operation_parts.specs.Quota.{blob_grows_over}
 use Rattle.blob_operations.proofs.BlobLemmas.{adds, adds_over}
@@ -16,8 +16,8 @@ returns-in-Err g c =
 
 pub returns-in_default : goal.returns-in_default
 returns-in_default g c =
-    let s = g.K.Keeper.state c.args.keeper.now in
-    let mid = g.K.Keeper.state c.blob_goes_over-over.new.keeper in
+    let s = g.K.Keeper.kept c.args.keeper.now in
+    let mid = g.K.Keeper.kept c.blob_goes_over-over.new.keeper in
     record {
       comes = λ honest. (told_this (λ (b : Bool). b) c.blob_goes_over-over.result false (blob_grows_over s.world c.args.name.now c.args.digest (length c.args.body.now) 0) s mid c.in-Ok.ensures (c.blob_goes_over-over.ensures.found honest)).1;
       answers = tt;
@@ -28,8 +28,8 @@ returns-in_default g c =
 
 pub put_blob-added-requires : goal.put_blob-added-requires
 put_blob-added-requires g c =
-    let s = g.K.Keeper.state c.args.keeper.now in
-    let mid = g.K.Keeper.state c.blob_goes_over-over.new.keeper in
+    let s = g.K.Keeper.kept c.args.keeper.now in
+    let mid = g.K.Keeper.kept c.blob_goes_over-over.new.keeper in
     record {
       there = λ honest unspent. still_there s mid c.args.name.now
           (told_this (λ (b : Bool). b) c.blob_goes_over-over.result false (blob_grows_over s.world c.args.name.now c.args.digest (length c.args.body.now) 0) s mid c.in-Ok.ensures (c.blob_goes_over-over.ensures.found honest)).1
@@ -40,8 +40,8 @@ put_blob-added-requires g c =
 
 pub returns : goal.returns
 returns g c =
-    let s = g.K.Keeper.state c.args.keeper.now in
-    let mid = g.K.Keeper.state c.blob_goes_over-over.new.keeper in
+    let s = g.K.Keeper.kept c.args.keeper.now in
+    let mid = g.K.Keeper.kept c.blob_goes_over-over.new.keeper in
     let name = c.args.name.now in
     let shown = c.created_blob.ensures.shown name c.in-Ok-blob_location.ensures in
     after_it c.put_blob-added.result c.created_blob.result c.after.result name _ s _ _ _ c.after.ensures
@@ -51,4 +51,4 @@ returns g c =
     (λ between made.
     let found = told_this (λ (b : Bool). b) c.blob_goes_over-over.result false (blob_grows_over s.world name c.args.digest (length c.args.body.now) 0) s mid c.in-Ok.ensures (c.blob_goes_over-over.ensures.found between) in
     adds s _ name c.requires.unspent (c.requires.there (c.blob_goes_over-over.ensures.honest between)) c.args.digest c.args.body.now _ found.0
-    (made ∙ ap {A = State} {B = State} (λ x. record { world = lookups.put_blob x.world name c.args.digest c.args.body.now; spent = false }) found.1) shown))
+    (made ∙ ap {A = Kept} {B = Kept} (λ x. goes_on x (lookups.put_blob x.world name c.args.digest c.args.body.now)) found.1) shown))

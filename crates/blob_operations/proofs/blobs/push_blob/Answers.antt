@@ -18,7 +18,7 @@ use Rattle.blob_operations.proofs.blobs.push_blob.Goals as goal
 pub returns-in-Err : goal.returns-in-Err
 returns-in-Err g c =
     refused_early (λ (o : Option Text). o) (λ o. o ≡ None) InvalidDigest c.read_digest.result (digest_in c.args.text.now) c.in-Err.reply c.args.name.now _ _ _ _ _
-    c.in-Err.ensures refl refl (text_told c.read_digest.result (digest_in c.args.text.now) (g.K.Keeper.state c.args.keeper.now) (g.K.Keeper.is_honest c.args.keeper.now) c.read_digest.ensures c.requires.unspent)
+    c.in-Err.ensures refl refl (text_told c.read_digest.result (digest_in c.args.text.now) (g.K.Keeper.kept c.args.keeper.now) (g.K.Keeper.is_honest c.args.keeper.now) c.read_digest.ensures c.requires.unspent)
     (λ honest o none e stays a is. pushes_invalid _ _ c.args.name.now c.requires.unspent (c.requires.there honest) c.args.text.now c.args.body.now a stays (no_digest c.args.text.now o none e) is)
 
 pub returns-in-Some : goal.returns-in-Some

@@ -17,12 +17,12 @@ use Rattle.blob_operations.proofs.blobs.size_blob.Goals as goal
 pub returns-in-Err : goal.returns-in-Err
 returns-in-Err g c =
     uncarried _ _ _ _ _ _ _ (refused_early (λ (o : Option Text). o) (λ o. o ≡ None) BlobUnknown c.read_digest.result (digest_in c.args.text.now) c.in-Err.reply c.args.name.now _ _ _ _ _
-    c.in-Err.ensures refl refl (text_told c.read_digest.result (digest_in c.args.text.now) (g.K.Keeper.state c.args.keeper.now) (g.K.Keeper.is_honest c.args.keeper.now) c.read_digest.ensures c.requires.unspent)
+    c.in-Err.ensures refl refl (text_told c.read_digest.result (digest_in c.args.text.now) (g.K.Keeper.kept c.args.keeper.now) (g.K.Keeper.is_honest c.args.keeper.now) c.read_digest.ensures c.requires.unspent)
     (λ honest o none e stays a is. sizes_nothing _ _ c.args.name.now c.requires.unspent (c.requires.there honest) c.args.text.now a stays (no_digest c.args.text.now o none e) is))
 
 pub returns-in-Err-found_or : goal.returns-in-Err-found_or
 returns-in-Err-found_or g c =
-    let s = g.K.Keeper.state c.args.keeper.now in
+    let s = g.K.Keeper.kept c.args.keeper.now in
     let read = digest_read c.read_digest.result c.in-Ok.digest c.args.text.now c.in-Ok.ensures c.read_digest.ensures in
     uncarried _ _ _ _ _ _ _ (refused_early (λ (o : Option ℕ). o) (λ o. o ≡ None) BlobUnknown c.blob_size.result _ c.in-Err-found_or.reply c.args.name.now _ _ _ _ _ c.in-Err-found_or.ensures refl refl c.blob_size.ensures
     (λ honest o none e stays a is. sizes s _ c.args.name.now c.requires.unspent (c.requires.there (c.blob_size.ensures.honest honest)) c.args.text.now a stays read.1 None
@@ -31,9 +31,9 @@ returns-in-Err-found_or g c =
 pub returns-in-Ok-found_or : goal.returns-in-Ok-found_or
 returns-in-Ok-found_or g c = record {
   comes = λ honest.
-      let s = g.K.Keeper.state c.args.keeper.now in
+      let s = g.K.Keeper.kept c.args.keeper.now in
       let read = digest_read c.read_digest.result c.in-Ok.digest c.args.text.now c.in-Ok.ensures c.read_digest.ensures in
-      let found = told_this (λ (o : Option ℕ). o) c.blob_size.result (Some c.in-Ok-found_or.size) (blob_size_at s.world c.args.name.now c.in-Ok.digest) s (g.K.Keeper.state c.blob_size.new.self) c.in-Ok-found_or.ensures (c.blob_size.ensures.found honest) in
+      let found = told_this (λ (o : Option ℕ). o) c.blob_size.result (Some c.in-Ok-found_or.size) (blob_size_at s.world c.args.name.now c.in-Ok.digest) s (g.K.Keeper.kept c.blob_size.new.self) c.in-Ok-found_or.ensures (c.blob_size.ensures.found honest) in
       sizes s _ c.args.name.now c.requires.unspent (c.requires.there (c.blob_size.ensures.honest honest)) c.args.text.now _ found.1 read.1 (Some c.in-Ok-found_or.size)
       (found.0 ∙ ap (blob_size_at s.world c.args.name.now) read.0)
       (c.found.ensures ∙ ap {B = Answer} (λ d. record (bare_answer OK) { digest = Some d; content_type = Some (codes "application/octet-stream"); body = unsent c.in-Ok-found_or.size }) read.0);

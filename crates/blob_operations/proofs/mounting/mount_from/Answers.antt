@@ -1,7 +1,7 @@
 use Rattle.std.proofs.Common.{◌≡◌, ◌∙◌, Bool, true, false, refl, sym, ap}
 use Rattle.registry_model.specs.declared.refusal.Refusal.TheVariants.{QuotaExceeded}
 use Rattle.registry_model.specs.Doing.{course_of_answer}
-use Rattle.registry_model.specs.Keeping.{State}
+use Rattle.registry_model.specs.Keeping.{Kept, goes_on}
 use Rattle.registry_model.specs.World.{repo_at}
 use Rattle.registry_model.specs.Lookups.{blob_at, with_mounted}
 use Rattle.registry_model.specs.Lookups as lookups
@@ -16,7 +16,7 @@ use Rattle.blob_operations.proofs.mounting.mount_from.Goals as goal
 
 pub returns-in-Err : goal.returns-in-Err
 returns-in-Err g c =
-    let s = g.K.Keeper.state c.args.keeper.now in
+    let s = g.K.Keeper.kept c.args.keeper.now in
     let name = c.args.name.now in
     let from = c.args.source.now.name in
     refused_early (λ (b : Bool). b) (λ b. b ≡ true) QuotaExceeded c.blob_goes_over.result _ c.in-Err.reply name _ _ _ _ _ c.in-Err.ensures refl refl c.blob_goes_over.ensures
@@ -28,8 +28,8 @@ returns-in-Err g c =
 
 pub returns-in_default : goal.returns-in_default
 returns-in_default g c =
-    let s = g.K.Keeper.state c.args.keeper.now in
-    let mid = g.K.Keeper.state c.blob_goes_over.new.keeper in
+    let s = g.K.Keeper.kept c.args.keeper.now in
+    let mid = g.K.Keeper.kept c.blob_goes_over.new.keeper in
     record {
       comes = λ honest. (told_this (λ (b : Bool). b) c.blob_goes_over.result false (blob_grows_over s.world c.args.name.now c.args.digest c.args.source.now.size 0) s mid c.in-Ok.ensures (c.blob_goes_over.ensures.found honest)).1;
       answers = tt;
@@ -40,8 +40,8 @@ returns-in_default g c =
 
 pub mount-mounted-requires : goal.mount-mounted-requires
 mount-mounted-requires g c =
-    let s = g.K.Keeper.state c.args.keeper.now in
-    let mid = g.K.Keeper.state c.blob_goes_over.new.keeper in
+    let s = g.K.Keeper.kept c.args.keeper.now in
+    let mid = g.K.Keeper.kept c.blob_goes_over.new.keeper in
     let same = λ (honest : g.K.Keeper.is_honest c.blob_goes_over.new.keeper). (told_this (λ (b : Bool). b) c.blob_goes_over.result false (blob_grows_over s.world c.args.name.now c.args.digest c.args.source.now.size 0) s mid c.in-Ok.ensures (c.blob_goes_over.ensures.found honest)).1 in
     record {
       there = λ honest unspent. still_there s mid c.args.name.now (same honest) (c.requires.there (c.blob_goes_over.ensures.honest honest));
@@ -50,8 +50,8 @@ mount-mounted-requires g c =
 
 pub returns : goal.returns
 returns g c =
-    let s = g.K.Keeper.state c.args.keeper.now in
-    let mid = g.K.Keeper.state c.blob_goes_over.new.keeper in
+    let s = g.K.Keeper.kept c.args.keeper.now in
+    let mid = g.K.Keeper.kept c.blob_goes_over.new.keeper in
     let name = c.args.name.now in
     let from = c.args.source.now.name in
     let digest = c.args.digest in
@@ -65,5 +65,5 @@ returns g c =
     let before = c.blob_goes_over.ensures.honest between in
     let here = there_is (repo_at s.world name) (c.requires.there before) in
     made s _ name (λ r. mounts.mounted r name digest (blob_at s.world from digest)) here.0 here.1 _ _ shown (with_mounted digest (blob_at s.world from digest))
-    (written ∙ ap {A = State} {B = State} (λ x. record { world = lookups.mount x.world from name digest; spent = false }) found.1)
+    (written ∙ ap {A = Kept} {B = Kept} (λ x. goes_on x (lookups.mount x.world from name digest)) found.1)
     (mount_taken s.world name from digest c.args.source.now.size here.0 here.1 (c.requires.source before) false found.0 refl)))

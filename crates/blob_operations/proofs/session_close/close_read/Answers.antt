@@ -1,6 +1,6 @@
 use Rattle.std.proofs.Common.{◌≡◌, ◌∙◌, ◌++◌, None, Some, refl, sym, ap, subst, rules}
 use Rattle.registry_model.specs.declared.refusal.Refusal.TheVariants.{UploadUnknown}
-use Rattle.registry_model.specs.Keeping.{State, bytes_in}
+use Rattle.registry_model.specs.Keeping.{Kept, bytes_in}
 use Rattle.registry_model.specs.Lookups.{session_at, session_size_at}
 use Rattle.operation_parts.proofs.RepoOutcomes.{same_act, spends_after}
 use Rattle.blob_operations.specs.Uploads.{bytes_so_far, finish_with}
@@ -13,12 +13,12 @@ use Rattle.blob_operations.proofs.session_close.close_read.Goals as goal
 pub returns-in-Err : goal.returns-in-Err
 returns-in-Err g c =
     refused_early bytes_in (λ o. o ≡ None) UploadUnknown c.session-held.result _ c.in-Err.reply c.args.name.now _ _ _ _ _ c.in-Err.ensures refl refl c.session-held.ensures
-    (λ honest o none e stays a is. absurd (open_held (g.K.Keeper.state c.args.keeper.now) c.args.name.now c.args.upload (c.requires.open (c.session-held.ensures.honest honest)) (sym (ap bytes_in none) ∙ e)))
+    (λ honest o none e stays a is. absurd (open_held (g.K.Keeper.kept c.args.keeper.now) c.args.name.now c.args.upload (c.requires.open (c.session-held.ensures.honest honest)) (sym (ap bytes_in none) ∙ e)))
 
 pub returns-in_default : goal.returns-in_default
 returns-in_default g c =
-    let s = g.K.Keeper.state c.args.keeper.now in
-    let mid = g.K.Keeper.state c.session-held.new.self in
+    let s = g.K.Keeper.kept c.args.keeper.now in
+    let mid = g.K.Keeper.kept c.session-held.new.self in
     record {
       comes = λ honest. (told_this bytes_in c.session-held.result (Some c.in-Ok.bytes) (session_at s.world c.args.name.now c.args.upload.number) s mid c.in-Ok.ensures (c.session-held.ensures.found honest)).1;
       answers = tt;
@@ -29,8 +29,8 @@ returns-in_default g c =
 
 pub returns : goal.returns
 returns g c =
-    let s = g.K.Keeper.state c.args.keeper.now in
-    let mid = g.K.Keeper.state c.session-held.new.self in
+    let s = g.K.Keeper.kept c.args.keeper.now in
+    let mid = g.K.Keeper.kept c.session-held.new.self in
     let name = c.args.name.now in
     let number = c.args.upload.number in
     let all : c.as_slice.result.now ≡ c.in-Ok.bytes.items ++ c.args.body.now = search rules in
@@ -51,14 +51,14 @@ returns g c =
 
 pub finish-requires : goal.finish-requires
 finish-requires g c =
-    let s = g.K.Keeper.state c.args.keeper.now in
-    let mid = g.K.Keeper.state c.session-held.new.self in
+    let s = g.K.Keeper.kept c.args.keeper.now in
+    let mid = g.K.Keeper.kept c.session-held.new.self in
     let name = c.args.name.now in
     let u = c.args.upload in
     let all : c.as_slice.result.now ≡ c.in-Ok.bytes.items ++ c.args.body.now = search rules in
     record {
       unspent = (kept_on c.session-held.result (Some c.in-Ok.bytes) s mid c.in-Ok.ensures c.session-held.ensures.spends).1;
-      «open» = λ honest. subst (λ (x : State). session_size_at x.world name u.number ≡ Some u.size)
+      «open» = λ honest. subst (λ (x : Kept). session_size_at x.world name u.number ≡ Some u.size)
           (sym (told_this bytes_in c.session-held.result (Some c.in-Ok.bytes) (session_at s.world name u.number) s mid c.in-Ok.ensures (c.session-held.ensures.found honest)).1) (c.requires.open (c.session-held.ensures.honest honest));
       verified = c.requires.verified;
       fits = λ honest. held_fits s name u c.in-Ok.bytes.items c.args.body.now c.as_slice.result.now (c.requires.open (c.session-held.ensures.honest honest))

@@ -17,13 +17,13 @@ use Rattle.blob_operations.proofs.session_close.close_session.Goals as goal
 pub returns-in-Err : goal.returns-in-Err
 returns-in-Err g c =
     refused_early (λ (o : Option Upload). o) (λ o. o ≡ None) UploadUnknown c.find_upload.result _ c.in-Err.reply c.args.name.now _ _ _ _ _ c.in-Err.ensures refl refl c.find_upload.ensures
-    (λ honest o none e stays a is. ends_unknown (g.K.Keeper.state c.args.keeper.now) _ c.args.name.now c.args.reference.now (text_in c.args.digest) (text_in c.args.range) c.args.body.now
+    (λ honest o none e stays a is. ends_unknown (g.K.Keeper.kept c.args.keeper.now) _ c.args.name.now c.args.reference.now (text_in c.args.digest) (text_in c.args.range) c.args.body.now
     (c.requires.there (c.find_upload.ensures.honest honest)) (sym none ∙ e) a is c.requires.unspent stays)
 
 pub returns-in-Err-found_or : goal.returns-in-Err-found_or
 returns-in-Err-found_or g c =
-    let s = g.K.Keeper.state c.args.keeper.now in
-    let mid = g.K.Keeper.state c.find_upload.new.keeper in
+    let s = g.K.Keeper.kept c.args.keeper.now in
+    let mid = g.K.Keeper.kept c.find_upload.new.keeper in
     let u = c.in-Ok.upload in
     let given = given_digest (text_in c.args.digest) in
     refused_early (λ (o : Option Text). o) (λ o. o ≡ None) InvalidDigest c.given_digest.result given c.in-Err-found_or.reply c.args.name.now _ s mid _ _ c.in-Err-found_or.ensures refl refl
@@ -37,8 +37,8 @@ returns-in-Err-found_or g c =
 
 pub returns-in-Err-chunk_refusal : goal.returns-in-Err-chunk_refusal
 returns-in-Err-chunk_refusal g c =
-    let s = g.K.Keeper.state c.args.keeper.now in
-    let mid = g.K.Keeper.state c.find_upload.new.keeper in
+    let s = g.K.Keeper.kept c.args.keeper.now in
+    let mid = g.K.Keeper.kept c.find_upload.new.keeper in
     record {
       comes = λ honest. (told_this (λ (o : Option Upload). o) c.find_upload.result (Some c.in-Ok.upload) (upload_at s.world c.args.name.now c.args.reference.now) s mid c.in-Ok.ensures (c.find_upload.ensures.found honest)).1;
       answers = tt;
@@ -49,8 +49,8 @@ returns-in-Err-chunk_refusal g c =
 
 pub returns-in-Ok-Some : goal.returns-in-Ok-Some
 returns-in-Ok-Some g c =
-    let s = g.K.Keeper.state c.args.keeper.now in
-    let mid = g.K.Keeper.state c.find_upload.new.keeper in
+    let s = g.K.Keeper.kept c.args.keeper.now in
+    let mid = g.K.Keeper.kept c.find_upload.new.keeper in
     let u = c.in-Ok.upload in
     let refusal = rw c.in-Ok-Some.field-0-is at c.in-Ok-Some.ensures.refusal in
     record {
@@ -67,8 +67,8 @@ returns-in-Ok-Some g c =
 
 pub returns-in-Ok-None : goal.returns-in-Ok-None
 returns-in-Ok-None g c =
-    let s = g.K.Keeper.state c.args.keeper.now in
-    let mid = g.K.Keeper.state c.find_upload.new.keeper in
+    let s = g.K.Keeper.kept c.args.keeper.now in
+    let mid = g.K.Keeper.kept c.find_upload.new.keeper in
     let u = c.in-Ok.upload in
     record {
       comes = λ honest.
@@ -84,8 +84,8 @@ returns-in-Ok-None g c =
 
 pub close_with-requires : goal.close_with-requires
 close_with-requires g c =
-    let s = g.K.Keeper.state c.args.keeper.now in
-    let mid = g.K.Keeper.state c.find_upload.new.keeper in
+    let s = g.K.Keeper.kept c.args.keeper.now in
+    let mid = g.K.Keeper.kept c.find_upload.new.keeper in
     let u = c.in-Ok.upload in
     let text = given_is (text_in c.args.digest) c.in-Ok-found_or.digest (text_read c.given_digest.result (Some c.in-Ok-found_or.digest) (given_digest (text_in c.args.digest)) c.in-Ok-found_or.ensures c.given_digest.ensures) in
     record {

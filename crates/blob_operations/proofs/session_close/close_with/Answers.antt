@@ -1,7 +1,7 @@
 use Rattle.std.proofs.Common.{◌≡◌, ◌++◌, length, Some, rules, refl, sym, ap, subst}
 use Rattle.registry_model.specs.Doing.{course_of_answer}
 use Rattle.registry_model.specs.Closing.{finish_as_is}
-use Rattle.registry_model.specs.Keeping.{State}
+use Rattle.registry_model.specs.Keeping.{Kept}
 use Rattle.registry_model.specs.Sessions.{finished}
 use Rattle.registry_model.specs.Lookups.{bytes_or_none, session_at, session_size_at}
 use Rattle.operation_parts.specs.Operating.{Operates}
@@ -15,7 +15,7 @@ use Rattle.blob_operations.proofs.session_close.close_with.Goals as goal
 pub returns-then-upload-eq0 : goal.returns-then-upload-eq0
 returns-then-upload-eq0 g c = record {
   comes = λ honest. (
-      let s = g.K.Keeper.state c.args.keeper.now in
+      let s = g.K.Keeper.kept c.args.keeper.now in
       let name = c.args.name.now in
       let number = c.args.upload.number in
       let f = found_session s.world name number c.args.upload.size (c.requires.open (c.finish.ensures.honest honest)) in
@@ -30,7 +30,7 @@ returns-then-upload-eq0 g c = record {
 pub returns-then-branch : goal.returns-then-branch
 returns-then-branch g c = record {
   comes = λ honest. (
-      let s = g.K.Keeper.state c.args.keeper.now in
+      let s = g.K.Keeper.kept c.args.keeper.now in
       let name = c.args.name.now in
       let number = c.args.upload.number in
       let none : length c.args.body.now ≡ 0 = search rules in
@@ -50,8 +50,8 @@ returns-in_default g c = record { comes = λ honest. refl; answers = tt; carries
 
 pub returns-in_err-finish_known : goal.returns-in_err-finish_known
 returns-in_err-finish_known g c =
-    let s = g.K.Keeper.state c.args.keeper.now in
-    let late = g.K.Keeper.state c.finish_known.new.self in
+    let s = g.K.Keeper.kept c.args.keeper.now in
+    let late = g.K.Keeper.kept c.finish_known.new.self in
     write_failed (finish_as_is s.world c.args.name.now c.args.upload.number c.args.digest) c.from_residual.result c.in_err-finish_known.field-0.0 _ _ s s late
     (g.K.Keeper.is_honest c.args.keeper.now) (g.K.Keeper.is_honest c.args.keeper.now) (g.K.Keeper.is_honest c.finish_known.new.self)
     c.from_residual.ensures (λ _. refl) (λ honest. honest) c.requires.unspent
@@ -66,8 +66,8 @@ close_read-requires-2-clause-unspent g c = c.in_ok-finish_known.ensures.spends.1
 
 pub close_read-requires-2-clause-open : goal.close_read-requires-2-clause-open
 close_read-requires-2-clause-open g c honest =
-    let s = g.K.Keeper.state c.args.keeper.now in
-    subst (λ (x : State). session_size_at x.world c.args.name.now c.args.upload.number ≡ Some c.args.upload.size)
+    let s = g.K.Keeper.kept c.args.keeper.now in
+    subst (λ (x : Kept). session_size_at x.world c.args.name.now c.args.upload.number ≡ Some c.args.upload.size)
     (sym (unknown c.in_ok-finish_known.field-0 _ _ s _ c.if-branch.false (c.in_ok-finish_known.ensures.made honest))) (c.requires.open (c.in_ok-finish_known.ensures.honest honest))
 
 pub returns-then-not-is_empty : goal.returns-then-not-is_empty
@@ -82,12 +82,12 @@ returns-then-not-is_empty g c = record {
 pub returns : goal.returns
 returns g c = record {
   comes = λ honest. (
-      let s = g.K.Keeper.state c.args.keeper.now in
+      let s = g.K.Keeper.kept c.args.keeper.now in
       let number = c.args.upload.number in
-      subst (λ (x : State). Operates c.close_read-2.result c.args.name.now (λ r. finish_with r c.args.name.now number c.args.digest (bytes_so_far r number ++ c.args.body.now)) x (g.K.Keeper.state c.close_read-2.new.keeper))
+      subst (λ (x : Kept). Operates c.close_read-2.result c.args.name.now (λ r. finish_with r c.args.name.now number c.args.digest (bytes_so_far r number ++ c.args.body.now)) x (g.K.Keeper.kept c.close_read-2.new.keeper))
       (unknown c.in_ok-finish_known.field-0 _ _ s _ c.if-branch.false (c.in_ok-finish_known.ensures.made (c.close_read-2.ensures.honest honest))) (c.close_read-2.ensures.comes honest));
   answers = c.close_read-2.ensures.answers;
   carries = c.close_read-2.ensures.carries;
-  spends = spends_after c.close_read-2.result (g.K.Keeper.state c.args.keeper.now) _ _ c.requires.unspent c.close_read-2.ensures.spends;
+  spends = spends_after c.close_read-2.result (g.K.Keeper.kept c.args.keeper.now) _ _ c.requires.unspent c.close_read-2.ensures.spends;
   honest = λ honest. c.in_ok-finish_known.ensures.honest (c.close_read-2.ensures.honest honest);
 }

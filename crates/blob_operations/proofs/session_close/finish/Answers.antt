@@ -3,7 +3,7 @@ use Rattle.registry_model.specs.declared.refusal.Refusal.TheVariants.{QuotaExcee
 use Rattle.registry_model.specs.Answer.{Answer}
 use Rattle.registry_model.specs.Doing.{course_of_answer}
 use Rattle.registry_model.specs.Heads.{is_sent}
-use Rattle.registry_model.specs.Keeping.{State}
+use Rattle.registry_model.specs.Keeping.{Kept, goes_on}
 use Rattle.registry_model.specs.Lookups as lookups
 use Rattle.registry_model.specs.Sessions.{finished}
 use Rattle.operation_parts.specs.Quota.{blob_grows_over}
@@ -29,7 +29,7 @@ returns-then-not-has_digest g c = record {
 
 pub returns-in-Err : goal.returns-in-Err
 returns-in-Err g c =
-    let s = g.K.Keeper.state c.args.keeper.now in
+    let s = g.K.Keeper.kept c.args.keeper.now in
     let name = c.args.name.now in
     let number = c.args.upload.number in
     refused_early (λ (b : Bool). b) (λ b. b ≡ true) QuotaExceeded c.blob_goes_over-over.result _ c.in-Err.reply name _ _ _ _ _ c.in-Err.ensures refl refl c.blob_goes_over-over.ensures
@@ -40,8 +40,8 @@ returns-in-Err g c =
 
 pub returns-in_default : goal.returns-in_default
 returns-in_default g c =
-    let s = g.K.Keeper.state c.args.keeper.now in
-    let mid = g.K.Keeper.state c.blob_goes_over-over.new.keeper in
+    let s = g.K.Keeper.kept c.args.keeper.now in
+    let mid = g.K.Keeper.kept c.blob_goes_over-over.new.keeper in
     record {
       comes = λ honest. (told_this (λ (b : Bool). b) c.blob_goes_over-over.result false (blob_grows_over s.world c.args.name.now c.args.digest (length c.args.bytes.now) c.args.upload.size) s mid c.in-Ok.ensures (c.blob_goes_over-over.ensures.found honest)).1;
       answers = tt;
@@ -52,8 +52,8 @@ returns-in_default g c =
 
 pub finish-finished-requires : goal.finish-finished-requires
 finish-finished-requires g c =
-    let s = g.K.Keeper.state c.args.keeper.now in
-    let mid = g.K.Keeper.state c.blob_goes_over-over.new.keeper in
+    let s = g.K.Keeper.kept c.args.keeper.now in
+    let mid = g.K.Keeper.kept c.blob_goes_over-over.new.keeper in
     record {
       «open» = λ honest unspent. open_there s mid c.args.name.now c.args.upload
           (told_this (λ (b : Bool). b) c.blob_goes_over-over.result false (blob_grows_over s.world c.args.name.now c.args.digest (length c.args.bytes.now) c.args.upload.size) s mid c.in-Ok.ensures (c.blob_goes_over-over.ensures.found honest)).1
@@ -64,8 +64,8 @@ finish-finished-requires g c =
 
 pub returns : goal.returns
 returns g c =
-    let s = g.K.Keeper.state c.args.keeper.now in
-    let mid = g.K.Keeper.state c.blob_goes_over-over.new.keeper in
+    let s = g.K.Keeper.kept c.args.keeper.now in
+    let mid = g.K.Keeper.kept c.blob_goes_over-over.new.keeper in
     let name = c.args.name.now in
     let number = c.args.upload.number in
     let digest = c.args.digest in
@@ -79,5 +79,5 @@ returns g c =
     let found = told_this (λ (b : Bool). b) c.blob_goes_over-over.result false (blob_grows_over s.world name digest (length bytes) c.args.upload.size) s mid c.in-Ok.ensures (c.blob_goes_over-over.ensures.found between) in
     let f = found_session s.world name number c.args.upload.size (c.requires.open (c.blob_goes_over-over.ensures.honest between)) in
     made s _ name (λ r. finish_with r name number digest bytes) f.repo f.at _ _ shown (λ r. finished r number digest bytes)
-    (written ∙ ap {A = State} {B = State} (λ x. record { world = lookups.finish x.world name number digest bytes; spent = false }) found.1)
+    (written ∙ ap {A = Kept} {B = Kept} (λ x. goes_on x (lookups.finish x.world name number digest bytes)) found.1)
     (finish_taken s.world name number c.args.upload.size f digest bytes (sym c.has_digest.ensures ∙ c.if-not-has_digest.false) false found.0 refl)))

@@ -3,7 +3,7 @@ use Rattle.registry_model.specs.declared.refusal.Refusal.TheVariants.{QuotaExcee
 use Rattle.registry_model.specs.Answer.{Answer}
 use Rattle.registry_model.specs.Doing.{course_of_answer}
 use Rattle.registry_model.specs.Heads.{is_sent}
-use Rattle.registry_model.specs.Keeping.{State}
+use Rattle.registry_model.specs.Keeping.{Kept, goes_on}
 use Rattle.registry_model.specs.Lookups as lookups
 use Rattle.registry_model.specs.Sessions.{appended}
 use Rattle.operation_parts.specs.Quota.{grows_over_at}
@@ -16,7 +16,7 @@ use Rattle.blob_operations.proofs.uploads.append.Goals as goal
 
 pub returns-in-Err : goal.returns-in-Err
 returns-in-Err g c =
-    let s = g.K.Keeper.state c.args.keeper.now in
+    let s = g.K.Keeper.kept c.args.keeper.now in
     let name = c.args.name.now in
     let number = c.args.upload.number in
     refused_early (λ (b : Bool). b) (λ b. b ≡ true) QuotaExceeded c.goes_over.result _ c.in-Err.reply name _ _ _ _ _ c.in-Err.ensures refl refl c.goes_over.ensures
@@ -27,8 +27,8 @@ returns-in-Err g c =
 
 pub returns-in_default : goal.returns-in_default
 returns-in_default g c =
-    let s = g.K.Keeper.state c.args.keeper.now in
-    let mid = g.K.Keeper.state c.goes_over.new.keeper in
+    let s = g.K.Keeper.kept c.args.keeper.now in
+    let mid = g.K.Keeper.kept c.goes_over.new.keeper in
     record {
       comes = λ honest. (told_this (λ (b : Bool). b) c.goes_over.result false (grows_over_at s.world c.args.name.now (length c.args.body.now) 0) s mid c.in-Ok.ensures (c.goes_over.ensures.found honest)).1;
       answers = tt;
@@ -39,8 +39,8 @@ returns-in_default g c =
 
 pub append-requires : goal.append-requires
 append-requires g c =
-    let s = g.K.Keeper.state c.args.keeper.now in
-    let mid = g.K.Keeper.state c.goes_over.new.keeper in
+    let s = g.K.Keeper.kept c.args.keeper.now in
+    let mid = g.K.Keeper.kept c.goes_over.new.keeper in
     let name = c.args.name.now in
     let same = λ (honest : g.K.Keeper.is_honest c.goes_over.new.keeper). (told_this (λ (b : Bool). b) c.goes_over.result false (grows_over_at s.world name (length c.args.body.now) 0) s mid c.in-Ok.ensures (c.goes_over.ensures.found honest)).1 in
     record {
@@ -50,8 +50,8 @@ append-requires g c =
 
 pub returns : goal.returns
 returns g c =
-    let s = g.K.Keeper.state c.args.keeper.now in
-    let mid = g.K.Keeper.state c.goes_over.new.keeper in
+    let s = g.K.Keeper.kept c.args.keeper.now in
+    let mid = g.K.Keeper.kept c.goes_over.new.keeper in
     let name = c.args.name.now in
     let number = c.args.upload.number in
     let body = c.args.body.now in
@@ -63,5 +63,5 @@ returns g c =
     let found = told_this (λ (b : Bool). b) c.goes_over.result false (grows_over_at s.world name (length body) 0) s mid c.in-Ok.ensures (c.goes_over.ensures.found between) in
     let f = found_session s.world name number c.args.upload.size (c.requires.open (c.goes_over.ensures.honest between)) in
     made s _ name (λ r. append_more r name number body) f.repo f.at _ _ c.in-Ok-session_reply.ensures (λ r. appended r number (bytes_so_far r number ++ body))
-    (written ∙ ap {A = State} {B = State} (λ x. record { world = lookups.append x.world name number body; spent = false }) found.1)
+    (written ∙ ap {A = Kept} {B = Kept} (λ x. goes_on x (lookups.append x.world name number body)) found.1)
     (append_taken s.world name number c.args.upload.size f body false found.0 refl)))

@@ -15,13 +15,13 @@ use Rattle.blob_operations.proofs.uploads.append_chunk.Goals as goal
 pub returns-in-Err : goal.returns-in-Err
 returns-in-Err g c =
     refused_early (λ (o : Option Upload). o) (λ o. o ≡ None) UploadUnknown c.find_upload.result _ c.in-Err.reply c.args.name.now _ _ _ _ _ c.in-Err.ensures refl refl c.find_upload.ensures
-    (λ honest o none e stays a is. patch_unknown (g.K.Keeper.state c.args.keeper.now) _ c.args.name.now c.args.reference.now (text_in c.args.range) c.args.body.now
+    (λ honest o none e stays a is. patch_unknown (g.K.Keeper.kept c.args.keeper.now) _ c.args.name.now c.args.reference.now (text_in c.args.range) c.args.body.now
     (c.requires.there (c.find_upload.ensures.honest honest)) (sym none ∙ e) a is c.requires.unspent stays)
 
 pub returns-in-Err-chunk_refusal : goal.returns-in-Err-chunk_refusal
 returns-in-Err-chunk_refusal g c =
-    let s = g.K.Keeper.state c.args.keeper.now in
-    let mid = g.K.Keeper.state c.find_upload.new.keeper in
+    let s = g.K.Keeper.kept c.args.keeper.now in
+    let mid = g.K.Keeper.kept c.find_upload.new.keeper in
     record {
       comes = λ honest. (told_this (λ (o : Option Upload). o) c.find_upload.result (Some c.in-Ok.upload) (upload_at s.world c.args.name.now c.args.reference.now) s mid c.in-Ok.ensures (c.find_upload.ensures.found honest)).1;
       answers = tt;
@@ -32,8 +32,8 @@ returns-in-Err-chunk_refusal g c =
 
 pub returns-in-Ok-Some : goal.returns-in-Ok-Some
 returns-in-Ok-Some g c =
-    let s = g.K.Keeper.state c.args.keeper.now in
-    let mid = g.K.Keeper.state c.find_upload.new.keeper in
+    let s = g.K.Keeper.kept c.args.keeper.now in
+    let mid = g.K.Keeper.kept c.find_upload.new.keeper in
     let u = c.in-Ok.upload in
     let refusal = rw c.in-Ok-Some.field-0-is at c.in-Ok-Some.ensures.refusal in
     record {
@@ -50,8 +50,8 @@ returns-in-Ok-Some g c =
 
 pub returns-in-Ok-None : goal.returns-in-Ok-None
 returns-in-Ok-None g c =
-    let s = g.K.Keeper.state c.args.keeper.now in
-    let mid = g.K.Keeper.state c.find_upload.new.keeper in
+    let s = g.K.Keeper.kept c.args.keeper.now in
+    let mid = g.K.Keeper.kept c.find_upload.new.keeper in
     let u = c.in-Ok.upload in
     record {
       comes = λ honest.
@@ -69,8 +69,8 @@ returns-in-Ok-None g c =
 
 pub append-requires : goal.append-requires
 append-requires g c =
-    let s = g.K.Keeper.state c.args.keeper.now in
-    let mid = g.K.Keeper.state c.find_upload.new.keeper in
+    let s = g.K.Keeper.kept c.args.keeper.now in
+    let mid = g.K.Keeper.kept c.find_upload.new.keeper in
     let u = c.in-Ok.upload in
     record {
       unspent = (kept_on c.find_upload.result (Some u) s mid c.in-Ok.ensures c.find_upload.ensures.spends).1;

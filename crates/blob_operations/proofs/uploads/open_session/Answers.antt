@@ -18,8 +18,8 @@ returns-in-Err g c =
 
 pub returns-in_default : goal.returns-in_default
 returns-in_default g c =
-    let s = g.K.Keeper.state c.args.keeper.now in
-    let mid = g.K.Keeper.state c.next_number.new.keeper in
+    let s = g.K.Keeper.kept c.args.keeper.now in
+    let mid = g.K.Keeper.kept c.next_number.new.keeper in
     record {
       comes = λ honest. (told_this (λ (o : Option ℕ). o) c.next_number.result (Some c.in-Ok.number) (next_number_at s.world c.args.name.now) s mid c.in-Ok.ensures (c.next_number.ensures.found honest)).1;
       answers = tt;
@@ -30,8 +30,8 @@ returns-in_default g c =
 
 pub open_session-requires : goal.open_session-requires
 open_session-requires g c =
-    let s = g.K.Keeper.state c.args.keeper.now in
-    let mid = g.K.Keeper.state c.next_number.new.keeper in
+    let s = g.K.Keeper.kept c.args.keeper.now in
+    let mid = g.K.Keeper.kept c.next_number.new.keeper in
     let found = λ (honest : g.K.Keeper.is_honest c.next_number.new.keeper). told_this (λ (o : Option ℕ). o) c.next_number.result (Some c.in-Ok.number) (next_number_at s.world c.args.name.now) s mid c.in-Ok.ensures (c.next_number.ensures.found honest) in
     record {
       there = λ honest unspent. still_there s mid c.args.name.now (found honest).1 (c.requires.there (c.next_number.ensures.honest honest));
@@ -41,8 +41,8 @@ open_session-requires g c =
 
 pub returns : goal.returns
 returns g c =
-    let s = g.K.Keeper.state c.args.keeper.now in
-    let mid = g.K.Keeper.state c.next_number.new.keeper in
+    let s = g.K.Keeper.kept c.args.keeper.now in
+    let mid = g.K.Keeper.kept c.next_number.new.keeper in
     let name = c.args.name.now in
     after_it c.open_session.result c.in-Ok-session_reply.reply c.after.result name _ s _ _ _ c.after.ensures
     (wrote (lookups.open_session mid.world name) c.open_session.result c.in-Ok-session_reply.reply name _ s mid _ _ _ _

@@ -18,8 +18,8 @@ returns-in-Err g c =
 
 pub returns-in-Err-session_reply : goal.returns-in-Err-session_reply
 returns-in-Err-session_reply g c =
-    let s = g.K.Keeper.state c.args.keeper.now in
-    let mid = g.K.Keeper.state c.find_upload.new.keeper in
+    let s = g.K.Keeper.kept c.args.keeper.now in
+    let mid = g.K.Keeper.kept c.find_upload.new.keeper in
     record {
       comes = λ honest. (told_this (λ (o : Option Upload). o) c.find_upload.result (Some c.in-Ok.upload) (upload_at s.world c.args.name.now c.args.reference.now) s mid c.in-Ok.ensures (c.find_upload.ensures.found honest)).1;
       answers = tt;
@@ -30,8 +30,8 @@ returns-in-Err-session_reply g c =
 
 pub returns-in-Ok-session_reply : goal.returns-in-Ok-session_reply
 returns-in-Ok-session_reply g c =
-    let s = g.K.Keeper.state c.args.keeper.now in
-    let mid = g.K.Keeper.state c.find_upload.new.keeper in
+    let s = g.K.Keeper.kept c.args.keeper.now in
+    let mid = g.K.Keeper.kept c.find_upload.new.keeper in
     record {
       comes = λ honest.
           let found = told_this (λ (o : Option Upload). o) c.find_upload.result (Some c.in-Ok.upload) (upload_at s.world c.args.name.now c.args.reference.now) s mid c.in-Ok.ensures (c.find_upload.ensures.found honest) in

@@ -26,7 +26,7 @@ returns-in_err-tags g c = read_failed _ c.from_residual.result c.in_err-tags.fie
 pub returns : goal.returns
 returns g c =
     let told = c.in_ok-tags.ensures in
-    replied c.tags_reply.result (tags_reply c.args.name.now c.in-Some.n (record { tags = c.deref.result.now; more = c.in_ok-tags.more })) c.args.name.now _ (g.K.Keeper.state c.args.keeper.now) _ _ _
+    replied c.tags_reply.result (tags_reply c.args.name.now c.in-Some.n (record { tags = c.deref.result.now; more = c.in_ok-tags.more })) c.args.name.now _ (g.K.Keeper.kept c.args.keeper.now) _ _ _
     c.tags_reply.ensures refl refl (λ honest. (told.found honest).1) c.requires.unspent told.spends.1 told.honest
     (λ honest a is.
     let found = told.found honest in

@@ -5,8 +5,8 @@ use Rattle.manifest_operations.proofs.manifest_push.has_needs.Given as goal
 -- so far every needed blob was found, and nothing changed
 abbrev pub invariant-loop-digest : goal.invariant-loop-digest
 invariant-loop-digest g l = record {
-  unspent : (g.K.Keeper.state l.keeper).spent ≡ false;
+  unspent : (g.K.Keeper.kept l.keeper).spent ≡ false;
   honest : g.K.Keeper.is_honest l.keeper → g.K.Keeper.is_honest l.fn.keeper;
-  same : g.K.Keeper.is_honest l.keeper → g.K.Keeper.state l.keeper ≡ g.K.Keeper.state l.fn.keeper;
-  found : g.K.Keeper.is_honest l.keeper → has_needs_at (g.K.Keeper.state l.fn.keeper).world l.name (take l.digest-index l.needs) ≡ true;
+  same : g.K.Keeper.is_honest l.keeper → g.K.Keeper.kept l.keeper ≡ g.K.Keeper.kept l.fn.keeper;
+  found : g.K.Keeper.is_honest l.keeper → has_needs_at (g.K.Keeper.kept l.fn.keeper).world l.name (take l.digest-index l.needs) ≡ true;
 }

@@ -11,7 +11,7 @@ use Rattle.manifest_operations.proofs.manifest_push.keep.Goals as goal
 
 pub returns-then-not-content_type_fits : goal.returns-then-not-content_type_fits
 returns-then-not-content_type_fits g c = record {
-  comes = λ honest. other_type (g.K.Keeper.state c.args.keeper.now) c.args.name.now c.args.digest.now (text_in c.args.content_type) c.args.body.now
+  comes = λ honest. other_type (g.K.Keeper.kept c.args.keeper.now) c.args.name.now c.args.digest.now (text_in c.args.content_type) c.args.body.now
       (c.requires.there honest) c.requires.unspent (text_in c.args.tag) (shown c.args.manifest.now) _ c.content_type_fits.ensures c.if-not-content_type_fits.true _ refl;
   spends = (c.requires.unspent, c.requires.unspent);
   honest = λ honest. honest;
@@ -20,7 +20,7 @@ returns-then-not-content_type_fits g c = record {
 pub returns-then-not-branch : goal.returns-then-not-branch
 returns-then-not-branch g c = record {
   comes = λ honest. (
-      let s = g.K.Keeper.state c.args.keeper.now in
+      let s = g.K.Keeper.kept c.args.keeper.now in
       let found = c.in_ok-has_needs.ensures.found honest in
       let there = c.requires.there (c.in_ok-has_needs.ensures.honest honest) in
       of_its_kind s _ c.args.name.now c.args.digest.now (text_in c.args.tag) (text_in c.args.content_type) c.args.body.now (shown c.args.manifest.now) _ c.content_type_fits.ensures c.if-not-content_type_fits.false _
@@ -33,7 +33,7 @@ returns-then-not-branch g c = record {
 pub returns-then-branch : goal.returns-then-branch
 returns-then-branch g c = record {
   comes = λ honest. (
-      let s = g.K.Keeper.state c.args.keeper.now in
+      let s = g.K.Keeper.kept c.args.keeper.now in
       let first = c.in_ok-manifest_goes_over.ensures.honest honest in
       let found = c.in_ok-has_needs.ensures.found first in
       let asked = c.in_ok-manifest_goes_over.ensures.found honest in
@@ -48,7 +48,7 @@ returns-then-branch g c = record {
 pub returns : goal.returns
 returns g c = record {
   comes = λ honest. (
-      let s = g.K.Keeper.state c.args.keeper.now in
+      let s = g.K.Keeper.kept c.args.keeper.now in
       let second = c.in_ok-put_manifest.ensures.honest honest in
       let first = c.in_ok-manifest_goes_over.ensures.honest second in
       let found = c.in_ok-has_needs.ensures.found first in

@@ -29,7 +29,7 @@ returns-in-Differs g c = record {
 pub returns-in-Matches : goal.returns-in-Matches
 returns-in-Matches g c = record {
   comes = λ honest. (
-      subst (λ v. Operates c.push_under.result c.args.name.now (λ r. push_checked r c.args.name.now c.args.digest (text_in c.args.content_type) c.args.body.now v) (g.K.Keeper.state c.args.keeper.now) (g.K.Keeper.state c.push_under.new.keeper))
+      subst (λ v. Operates c.push_under.result c.args.name.now (λ r. push_checked r c.args.name.now c.args.digest (text_in c.args.content_type) c.args.body.now v) (g.K.Keeper.kept c.args.keeper.now) (g.K.Keeper.kept c.push_under.new.keeper))
       (sym c.in-Matches.is ∙ c.verifies.ensures) (c.push_under.ensures.comes honest));
   answers = c.push_under.ensures.answers;
   carries = c.push_under.ensures.carries;

@@ -15,7 +15,7 @@ pub returns-in-Ok : goal.returns-in-Ok
 returns-in-Ok g c = record {
   comes = λ honest.
       subst (λ (read : Result ManifestShown ManifestFault). Operates c.keep_manifest.result c.args.name.now (λ r. push_under r c.args.name.now c.args.digest (text_in c.args.tag) (text_in c.args.content_type) c.args.body.now read)
-      (g.K.Keeper.state c.args.keeper.now) (g.K.Keeper.state c.keep_manifest.new.keeper)) (sym c.in-Ok.ensures.exact) (c.keep_manifest.ensures.comes honest);
+      (g.K.Keeper.kept c.args.keeper.now) (g.K.Keeper.kept c.keep_manifest.new.keeper)) (sym c.in-Ok.ensures.exact) (c.keep_manifest.ensures.comes honest);
   answers = c.keep_manifest.ensures.answers;
   carries = c.keep_manifest.ensures.carries;
   spends = c.keep_manifest.ensures.spends;

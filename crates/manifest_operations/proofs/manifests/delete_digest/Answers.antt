@@ -5,7 +5,7 @@ use Rattle.registry_model.specs.declared.refusal.Refusal.TheVariants.{ManifestUn
 use Rattle.registry_model.specs.Answer.{Answer}
 use Rattle.registry_model.specs.Doing.{course_of_answer}
 use Rattle.registry_model.specs.Heads.{is_sent}
-use Rattle.registry_model.specs.Keeping.{State}
+use Rattle.registry_model.specs.Keeping.{Kept, goes_on}
 use Rattle.registry_model.specs.Lookups.{manifest_size_at}
 use Rattle.registry_model.specs.Lookups as lookups
 use Rattle.operation_parts.proofs.ReadLemmas.{told_this}
@@ -21,15 +21,15 @@ returns-in-Err g c =
 pub delete_manifest-requires : goal.delete_manifest-requires
 delete_manifest-requires g c = record {
   there = λ honest unspent.
-      let s = g.K.Keeper.state c.args.keeper.now in
-      let found = told_this (λ (o : Option (Kind × ℕ)). o) c.manifest_size.result (Some c.in-Ok.field-0) (manifest_size_at s.world c.args.name.now c.args.digest.now) s (g.K.Keeper.state c.manifest_size.new.self) c.in-Ok.ensures (c.manifest_size.ensures.found honest) in
+      let s = g.K.Keeper.kept c.args.keeper.now in
+      let found = told_this (λ (o : Option (Kind × ℕ)). o) c.manifest_size.result (Some c.in-Ok.field-0) (manifest_size_at s.world c.args.name.now c.args.digest.now) s (g.K.Keeper.kept c.manifest_size.new.self) c.in-Ok.ensures (c.manifest_size.ensures.found honest) in
       digest_there s _ c.args.name.now c.args.digest.now c.in-Ok.field-0 found.1 found.0;
 }
 
 pub returns-in-Ok : goal.returns-in-Ok
 returns-in-Ok g c =
-    let s = g.K.Keeper.state c.args.keeper.now in
-    let mid = g.K.Keeper.state c.manifest_size.new.self in
+    let s = g.K.Keeper.kept c.args.keeper.now in
+    let mid = g.K.Keeper.kept c.manifest_size.new.self in
     let name = c.args.name.now in
     let it = c.args.digest.now in
     after_it c.delete_manifest.result c.bare.result c.after.result name _ s _ _ _ c.after.ensures
@@ -39,4 +39,4 @@ returns-in-Ok g c =
     (λ between made.
     let found = told_this (λ (o : Option (Kind × ℕ)). o) c.manifest_size.result (Some c.in-Ok.field-0) (manifest_size_at s.world name it) s mid c.in-Ok.ensures (c.manifest_size.ensures.found between) in
     digest_taken s _ name (c.requires.there (c.manifest_size.ensures.honest between)) c.requires.unspent _ it c.in-Ok.field-0 found.0
-    (made ∙ ap {A = State} {B = State} (λ x. record { world = lookups.delete_manifest x.world name it; spent = false }) found.1) c.bare.ensures))
+    (made ∙ ap {A = Kept} {B = Kept} (λ x. goes_on x (lookups.delete_manifest x.world name it)) found.1) c.bare.ensures))

@@ -5,7 +5,7 @@ use Rattle.registry_model.specs.declared.refusal.Refusal.TheVariants.{ManifestUn
 use Rattle.registry_model.specs.Answer.{Answer}
 use Rattle.registry_model.specs.Doing.{course_of_answer}
 use Rattle.registry_model.specs.Heads.{is_sent}
-use Rattle.registry_model.specs.Keeping.{State}
+use Rattle.registry_model.specs.Keeping.{Kept, goes_on}
 use Rattle.registry_model.specs.Lookups.{tag_at}
 use Rattle.registry_model.specs.Lookups as lookups
 use Rattle.operation_parts.proofs.ReadLemmas.{told_this}
@@ -21,15 +21,15 @@ returns g c =
 pub delete_tag-requires : goal.delete_tag-requires
 delete_tag-requires g c = record {
   there = λ honest unspent.
-      let s = g.K.Keeper.state c.args.keeper.now in
-      let found = told_this (λ (o : Option Text). o) c.tag.result (Some c.in-Ok.field-0) (tag_at s.world c.args.name.now c.args.tag.now) s (g.K.Keeper.state c.tag.new.self) c.in-Ok.ensures (c.tag.ensures.found honest) in
+      let s = g.K.Keeper.kept c.args.keeper.now in
+      let found = told_this (λ (o : Option Text). o) c.tag.result (Some c.in-Ok.field-0) (tag_at s.world c.args.name.now c.args.tag.now) s (g.K.Keeper.kept c.tag.new.self) c.in-Ok.ensures (c.tag.ensures.found honest) in
       tag_there s _ c.args.name.now c.args.tag.now c.in-Ok.field-0 found.1 found.0;
 }
 
 pub returns-in-Ok : goal.returns-in-Ok
 returns-in-Ok g c =
-    let s = g.K.Keeper.state c.args.keeper.now in
-    let mid = g.K.Keeper.state c.tag.new.self in
+    let s = g.K.Keeper.kept c.args.keeper.now in
+    let mid = g.K.Keeper.kept c.tag.new.self in
     let name = c.args.name.now in
     let it = c.args.tag.now in
     after_it c.delete_tag.result c.bare.result c.after.result name _ s _ _ _ c.after.ensures
@@ -39,4 +39,4 @@ returns-in-Ok g c =
     (λ between made.
     let found = told_this (λ (o : Option Text). o) c.tag.result (Some c.in-Ok.field-0) (tag_at s.world name it) s mid c.in-Ok.ensures (c.tag.ensures.found between) in
     tag_taken s _ name (c.requires.there (c.tag.ensures.honest between)) c.requires.unspent _ it c.in-Ok.field-0 found.0
-    (made ∙ ap {A = State} {B = State} (λ x. record { world = lookups.delete_tag x.world name it; spent = false }) found.1) c.bare.ensures))
+    (made ∙ ap {A = Kept} {B = Kept} (λ x. goes_on x (lookups.delete_tag x.world name it)) found.1) c.bare.ensures))

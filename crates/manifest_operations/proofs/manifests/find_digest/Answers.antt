@@ -11,7 +11,7 @@ use Rattle.manifest_operations.proofs.manifests.find_digest.Goals as goal
 pub returns-in-Ok-Tag : goal.returns-in-Ok-Tag
 returns-in-Ok-Tag g c =
     let said = rw c.in-Ok-Tag.field-0-is at c.in-Ok-Tag.ensures.read in
-    let w = (g.K.Keeper.state c.args.keeper.now).world in
+    let w = (g.K.Keeper.kept c.args.keeper.now).world in
     read_as (λ (o : Option Text). o) c.tag.result _ (option_and_then (λ r. reference_digest r c.args.reference.now) (repo_at w c.args.name.now)) _ _ _ _
     (names_tagged (repo_at w c.args.name.now) c.args.reference.now _ said.0 said.1) c.tag.ensures
 

@@ -22,8 +22,8 @@ returns-in-Err g c =
 
 pub returns-in-Err-found_or : goal.returns-in-Err-found_or
 returns-in-Err-found_or g c =
-    let s = g.K.Keeper.state c.args.keeper.now in
-    let mid = g.K.Keeper.state c.find_digest-named.new.keeper in
+    let s = g.K.Keeper.kept c.args.keeper.now in
+    let mid = g.K.Keeper.kept c.find_digest-named.new.keeper in
     let name = c.args.name.now in
     let named = option_and_then (λ r. reference_digest r c.args.reference.now) (repo_at s.world name) in
     let found = λ (between : g.K.Keeper.is_honest c.find_digest-named.new.keeper). told_this (λ (o : Option Text). o) c.find_digest-named.result (Some c.in-Ok.digest) named s mid c.in-Ok.ensures (c.find_digest-named.ensures.found between) in
@@ -37,14 +37,14 @@ returns-in-Err-found_or g c =
 
 pub returns-in-Ok-found_or : goal.returns-in-Ok-found_or
 returns-in-Ok-found_or g c =
-    let s = g.K.Keeper.state c.args.keeper.now in
-    let mid = g.K.Keeper.state c.find_digest-named.new.keeper in
+    let s = g.K.Keeper.kept c.args.keeper.now in
+    let mid = g.K.Keeper.kept c.find_digest-named.new.keeper in
     let name = c.args.name.now in
     record {
       comes = λ honest.
           let between = c.manifest.ensures.honest honest in
           let named = told_this (λ (o : Option Text). o) c.find_digest-named.result (Some c.in-Ok.digest) (option_and_then (λ r. reference_digest r c.args.reference.now) (repo_at s.world name)) s mid c.in-Ok.ensures (c.find_digest-named.ensures.found between) in
-          let found = told_this manifest_shown c.manifest.result (Some (c.in-Ok-found_or.kind, c.in-Ok-found_or.bytes)) (manifest_at mid.world name c.in-Ok.digest) mid (g.K.Keeper.state c.manifest.new.self) c.in-Ok-found_or.ensures (c.manifest.ensures.found honest) in
+          let found = told_this manifest_shown c.manifest.result (Some (c.in-Ok-found_or.kind, c.in-Ok-found_or.bytes)) (manifest_at mid.world name c.in-Ok.digest) mid (g.K.Keeper.kept c.manifest.new.self) c.in-Ok-found_or.ensures (c.manifest.ensures.found honest) in
           reads s name c.args.reference.now (c.requires.there (c.find_digest-named.ensures.honest between)) c.requires.unspent mid _ c.in-Ok.digest named.0 named.1 found.1
           (Some (c.in-Ok-found_or.kind, c.in-Ok-found_or.bytes.items)) found.0 _
           (shows_manifest _ c.in-Ok.digest _ c.in-Ok-found_or.kind (sent c.in-Ok-found_or.bytes.items) c.found.ensures c.media_type.ensures);

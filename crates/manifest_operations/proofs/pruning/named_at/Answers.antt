@@ -1,5 +1,5 @@
 use Rattle.std.proofs.Common.{◌∙◌, ap}
-use Rattle.registry_model.specs.Keeping.{State, digests_shown}
+use Rattle.registry_model.specs.Keeping.{Kept, digests_shown}
 use Rattle.manifest_operations.specs.Pruning.{names_at, is_named_at, has}
 use Rattle.operation_parts.proofs.ReadLemmas.{read_failed, read_failed_later, read_ran_out}
 use Rattle.manifest_operations.proofs.PruningLemmas.{named_more, named_by_all}
@@ -15,21 +15,21 @@ loop-manifest-preserved g c =
       same = λ honest. (read.found honest).1 ∙ l.invariant.same (read.honest honest);
       found = λ honest digest.
           let early = read.honest honest in
-          let w = (g.K.Keeper.state c.manifest_digests.new.self).world in
+          let w = (g.K.Keeper.kept c.manifest_digests.new.self).world in
           named_more w c.args.name.now c.deref-manifest-items.result.now l.manifest-index c.manifest-item.result (has l.named digest) (has c.add.new.named digest) (digests_shown c.in_ok-names.names) digest
           c.loop-manifest-test.true c.manifest-item.is (l.invariant.found early digest)
-          ((read.found honest).0 ∙ ap (λ (s : State). names_at s.world c.args.name.now c.manifest-item.result) (l.invariant.same early))
+          ((read.found honest).0 ∙ ap (λ (s : Kept). names_at s.world c.args.name.now c.manifest-item.result) (l.invariant.same early))
           (c.in_ok-add.ensures.added digest);
     }
 
 pub returns-in_err-manifests : goal.returns-in_err-manifests
 returns-in_err-manifests g c =
-    let s = g.K.Keeper.state c.args.keeper.now in
+    let s = g.K.Keeper.kept c.args.keeper.now in
     read_failed has (is_named_at s.world c.args.name.now) digests_shown _ c.from_residual.result c.in_err-manifests.field-0.0 _ _ _ _ c.from_residual.ensures c.in_err-manifests.ensures
 
 pub returns-in_err-names : goal.returns-in_err-names
 returns-in_err-names g c =
-    let s = g.K.Keeper.state c.args.keeper.now in
+    let s = g.K.Keeper.kept c.args.keeper.now in
     let l = c.loop-manifest in
     let read = c.in_ok-manifests.ensures in
     read_failed_later has (is_named_at s.world c.args.name.now) digests_shown _ c.from_residual-in_err-names.result c.in_err-names.field-0.0 _ _ _ _ _ _ c.from_residual-in_err-names.ensures
@@ -37,7 +37,7 @@ returns-in_err-names g c =
 
 pub returns-in_err-add : goal.returns-in_err-add
 returns-in_err-add g c =
-    let s = g.K.Keeper.state c.args.keeper.now in
+    let s = g.K.Keeper.kept c.args.keeper.now in
     let l = c.loop-manifest in
     let read = c.in_ok-manifests.ensures in
     let names = c.in_ok-names.ensures in

@@ -19,7 +19,7 @@ use Rattle.manifest_operations.proofs.referrers.size_referrers.Goals as goal
 pub returns-in-Err : goal.returns-in-Err
 returns-in-Err g c =
     uncarried _ _ _ _ _ _ _ (refused_early (λ (o : Option Text). o) (λ o. o ≡ None) InvalidDigest c.read_digest.result (digest_in c.args.digest.now) c.in-Err.reply c.args.name.now _ _ _ _ _
-    c.in-Err.ensures refl refl (text_told c.read_digest.result (digest_in c.args.digest.now) (g.K.Keeper.state c.args.keeper.now) (g.K.Keeper.is_honest c.args.keeper.now) c.read_digest.ensures c.requires.unspent)
+    c.in-Err.ensures refl refl (text_told c.read_digest.result (digest_in c.args.digest.now) (g.K.Keeper.kept c.args.keeper.now) (g.K.Keeper.is_honest c.args.keeper.now) c.read_digest.ensures c.requires.unspent)
     (λ honest o none e stays a is. refers_nothing (λ (t : Text). unsent (length t)) _ c.args.name.now c.args.digest.now (text_in c.args.artifact_type) (c.requires.there honest) c.requires.unspent
     (digest_absent o c.args.digest.now (no_text o none) e) a is))
 
@@ -33,7 +33,7 @@ returns g c =
     let wanted = text_in c.filter_in.result in
     let entries = entries_shown c.in_ok-counted.counted in
     let read = digest_found (Some c.in-Ok.digest) c.in-Ok.digest c.args.digest.now refl (text_read c.read_digest.result (Some c.in-Ok.digest) (digest_in c.args.digest.now) c.in-Ok.ensures c.read_digest.ensures) in
-    replied_size c.size_reply.result (referrers_reply wanted (unsent (length (wanted_line wanted entries)))) c.args.name.now _ (g.K.Keeper.state c.args.keeper.now) _ _ _
+    replied_size c.size_reply.result (referrers_reply wanted (unsent (length (wanted_line wanted entries)))) c.args.name.now _ (g.K.Keeper.kept c.args.keeper.now) _ _ _
     c.size_reply.ensures refl (λ honest. (told.found honest).1) c.requires.unspent told.spends.1 told.honest
     (λ honest a is.
     let found = told.found honest in

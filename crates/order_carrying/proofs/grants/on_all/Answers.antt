@@ -9,7 +9,7 @@ pub returns-in-Ok : goal.returns-in-Ok
 returns-in-Ok g c = record {
   found = λ honest.
       let told = c.in_ok-grants.ensures.found honest in
-      (grants_told (g.K.Keeper.state c.args.service.now).world c.args.asked.now c.args.shown _ _ _ c.deref.ensures.value c.in-Ok.ensures told.0, told.1);
+      (grants_told (g.K.Keeper.kept c.args.service.now).world c.args.asked.now c.args.shown _ _ _ c.deref.ensures.value c.in-Ok.ensures told.0, told.1);
   spends = c.in_ok-grants.ensures.spends;
   honest = c.in_ok-grants.ensures.honest;
 }

@@ -11,7 +11,7 @@ use Rattle.order_carrying.proofs.lists.items.Goals as goal
 pub returns-in-Repos : goal.returns-in-Repos
 returns-in-Repos g c =
     let read = c.repos.ensures in
-    let w = (g.K.Keeper.state c.args.service.now).world in
+    let w = (g.K.Keeper.kept c.args.service.now).world in
     record {
       found = λ honest. so_by items_if (λ (items : Option (Vec Item Global)). AreListed w c.args.listing.now (items_if items)) c.repos.result _ _ _ _ (read.found honest) refl (λ items is. rw c.in-Repos.is is);
       spends = read.spends;
@@ -34,7 +34,7 @@ pub returns-then-branch : goal.returns-then-branch
 returns-then-branch g c =
     let looked = c.in_ok-has_repo-in-InRepo.ensures in
     let read = c.held.ensures in
-    let w = (g.K.Keeper.state c.args.service.now).world in
+    let w = (g.K.Keeper.kept c.args.service.now).world in
     record {
       found = λ honest.
           let there = looked.found (read.honest honest) in

@@ -34,12 +34,12 @@ loop-digest-preserved g c =
           let road = YieldsList-from_vec c.in_ok-digests.digests.items given.0 (search (rules, given)) in
           let before = YieldsList-so_far road l.yielded l.digest-iterator l.yielded_by in
           let turn = YieldsList-turn road l.yielded l.digest-iterator l.yielded_by c.next.result c.next.new.self digest c.in-Some.is c.next.ensures.steps in
-          let s = g.K.Keeper.state c.args.service.now in
-          let w = (g.K.Keeper.state c.blob_digests.new.self).world in
+          let s = g.K.Keeper.kept c.args.service.now in
+          let w = (g.K.Keeper.kept c.blob_digests.new.self).world in
           let name = c.args.name.now in
-          let is_new = blob_is_new (g.K.Keeper.state c.read.new.service).world name c.in_ok-digests.digests.items l.yielded digest told.0 before turn in
-          let namers = taken_of s (g.K.Keeper.state c.blob_digests.new.self) name digest (namers_in c.in_ok-namers.namers) (namers_in l.namers digest) manifests.items c.take-manifests.ensures.given (so_far.left digest is_new) named.0 (told.1 ∙ named.1) in
-          found_more (λ world d. blob_item_at world name (namings_at w name) d) (g.K.Keeper.state c.blob_digests.new.self) (g.K.Keeper.state l.service) _ _ l.yielded digest (shown one.item)
+          let is_new = blob_is_new (g.K.Keeper.kept c.read.new.service).world name c.in_ok-digests.digests.items l.yielded digest told.0 before turn in
+          let namers = taken_of s (g.K.Keeper.kept c.blob_digests.new.self) name digest (namers_in c.in_ok-namers.namers) (namers_in l.namers digest) manifests.items c.take-manifests.ensures.given (so_far.left digest is_new) named.0 (told.1 ∙ named.1) in
+          found_more (λ world d. blob_item_at world name (namings_at w name) d) (g.K.Keeper.kept c.blob_digests.new.self) (g.K.Keeper.kept l.service) _ _ l.yielded digest (shown one.item)
           (so_far.found early) one.added
           (ap (λ ms. option_map (λ size. blob_item digest size ms) one.item) namers ∙ ap (λ (size : Option ℕ). option_map (λ size. blob_item digest size (namers_among (namings_at w name) digest)) size) (one.told honest).0) (so_far.same early);
     }
@@ -73,7 +73,7 @@ returns g c = record {
       let given = c.into_iter-digest-iterator.ensures.into_iter_gives in
       let road = YieldsList-from_vec c.in_ok-digests.digests.items given.0 (search (rules, given)) in
       let all = YieldsList-end road c.loop-digest.yielded c.loop-digest.digest-iterator c.loop-digest.yielded_by c.next.result c.next.new.self c.in-None.is c.next.ensures.steps in (
-        ap Some (blobs_found (g.K.Keeper.state c.args.service.now) _ _ c.args.name.now _ c.loop-digest.yielded _
+        ap Some (blobs_found (g.K.Keeper.kept c.args.service.now) _ _ c.args.name.now _ c.loop-digest.yielded _
             (c.loop-digest.invariant.found honest) all.0 named.1 told.0 told.1),
         c.loop-digest.invariant.same honest ∙ told.1 ∙ named.1,
       );

@@ -11,10 +11,10 @@ use Rattle.order_carrying.proofs.reading.blobs.Given as goal
 -- changed
 abbrev pub invariant-loop-digest : goal.invariant-loop-digest
 invariant-loop-digest g l = record {
-  unspent : (g.K.Keeper.state l.service).spent ≡ false;
+  unspent : (g.K.Keeper.kept l.service).spent ≡ false;
   honest : g.K.Keeper.is_honest l.service → g.K.Keeper.is_honest l.initial.service;
-  same : g.K.Keeper.is_honest l.service → g.K.Keeper.state l.service ≡ g.K.Keeper.state l.initial.service;
+  same : g.K.Keeper.is_honest l.service → g.K.Keeper.kept l.service ≡ g.K.Keeper.kept l.initial.service;
   left : (digest : Text) → is_among l.yielded digest ≡ false → namers_in l.namers digest ≡ namers_in l.initial.namers digest;
   found : g.K.Keeper.is_honest l.service
-      → items_shown l.items ≡ filter_map (blob_item_at (g.K.Keeper.state l.initial.service).world l.name (namings_at (g.K.Keeper.state l.initial.service).world l.name)) l.yielded;
+      → items_shown l.items ≡ filter_map (blob_item_at (g.K.Keeper.kept l.initial.service).world l.name (namings_at (g.K.Keeper.kept l.initial.service).world l.name)) l.yielded;
 }

@@ -29,7 +29,7 @@ returns g c = record {
       let given = c.into_iter-name-iterator.ensures.into_iter_gives in
       let road = YieldsList-from_vec c.in_ok-names.names.items given.0 (search (rules, given)) in
       let all = YieldsList-end road c.loop-name.yielded c.loop-name.name-iterator c.loop-name.yielded_by c.next.result c.next.new.self c.in-None.is c.next.ensures.steps in
-      let s = g.K.Keeper.state c.args.service.now in (
+      let s = g.K.Keeper.kept c.args.service.now in (
         ap Some (all_found (λ w (ns : List Text). map repo_item ns) s s _ c.loop-name.yielded _ _ c.loop-name.invariant all.0 told.0 refl ∙ repos_are s.world),
         told.1,
       );

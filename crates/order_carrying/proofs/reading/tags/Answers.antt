@@ -26,7 +26,7 @@ returns g c = record {
       let given = c.into_iter-tag-iterator.ensures.into_iter_gives in
       let road = YieldsList-from_vec c.in_ok-tags.tags.items given.0 (search (rules, given)) in
       let all = YieldsList-end road c.loop-tag.yielded c.loop-tag.tag-iterator c.loop-tag.yielded_by c.next.result c.next.new.self c.in-None.is c.next.ensures.steps in
-      let s = g.K.Keeper.state c.args.service.now in (
+      let s = g.K.Keeper.kept c.args.service.now in (
         ap Some (all_found (λ w (es : List (Text × Text)). map (λ (e : Text × Text). tag_item e.0 e.1) es) s s _ c.loop-tag.yielded _ _ c.loop-tag.invariant all.0 told.0 refl ∙ tags_are s.world c.args.name.now),
         told.1,
       );

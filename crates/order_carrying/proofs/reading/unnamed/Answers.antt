@@ -29,7 +29,7 @@ returns g c = record {
       let given = c.into_iter-digest-iterator.ensures.into_iter_gives in
       let road = YieldsList-from_vec c.in_ok-digests.digests.items given.0 (search (rules, given)) in
       let all = YieldsList-end road c.loop-digest.yielded c.loop-digest.digest-iterator c.loop-digest.yielded_by c.next.result c.next.new.self c.in-None.is c.next.ensures.steps in
-      let s = g.K.Keeper.state c.args.service.now in (
+      let s = g.K.Keeper.kept c.args.service.now in (
         ap Some (all_found (λ w (ds : List Text). map unnamed_item ds) s s _ c.loop-digest.yielded _ _ c.loop-digest.invariant all.0 told.0 refl ∙ unnamed_are s.world c.args.name.now),
         told.1,
       );

@@ -19,5 +19,5 @@ returns-then-is_stop g c = record {
   stops = λ is. c.write_stopping.ensures;
   steps = λ honest. inl refl;
   answers = λ honest other. absurd (other (c.is_stop.ensures.0 c.if-is_stop.true));
-  unsaid = λ honest. anyway_on_err (g.K.Keeper.state c.args.service.now ≡ g.K.Keeper.state c.args.service.now) c.write_stopping.result refl;
+  unsaid = λ honest. anyway_on_err (g.K.Keeper.kept c.args.service.now ≡ g.K.Keeper.kept c.args.service.now) c.write_stopping.result refl;
 }

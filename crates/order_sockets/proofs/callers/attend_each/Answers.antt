@@ -10,6 +10,6 @@ loop-caller-preserved g c =
     record {
       rest = rest_more l.caller-index l.callers c.args.callers.now c.caller-item.result c.attend.new.self lt lt' l.invariant.rest;
       honest = λ h. l.invariant.honest (c.attend.ensures.honest h);
-      attends = λ h. attended_step l.caller-index l.callers c.args.callers.now c.caller-item.result c.attend.new.self (g.K.Keeper.state c.args.service.now) (g.K.Keeper.state l.service) (g.K.Keeper.state c.attend.new.service) lt lt' l.invariant.rest
+      attends = λ h. attended_step l.caller-index l.callers c.args.callers.now c.caller-item.result c.attend.new.self (g.K.Keeper.kept c.args.service.now) (g.K.Keeper.kept l.service) (g.K.Keeper.kept c.attend.new.service) lt lt' l.invariant.rest
           (c.attend.ensures.attends h) (l.invariant.attends (c.attend.ensures.honest h));
     }

@@ -8,5 +8,5 @@ invariant-loop-caller g l = record {
   rest : drop l.caller-index l.callers ≡ drop l.caller-index l.fn.callers;
   honest : g.K.Keeper.is_honest l.service → g.K.Keeper.is_honest l.fn.service;
   attends : g.K.Keeper.is_honest l.service
-      → AttendsAll (all_called (take l.caller-index l.fn.callers)) (all_called (take l.caller-index l.callers)) (g.K.Keeper.state l.fn.service) (g.K.Keeper.state l.service);
+      → AttendsAll (all_called (take l.caller-index l.fn.callers)) (all_called (take l.caller-index l.callers)) (g.K.Keeper.kept l.fn.service) (g.K.Keeper.kept l.service);
 }

@@ -7,5 +7,5 @@ use Rattle.registry_checking.proofs.looking.look_at_all.Given as goal
 -- so far what is wrong with each stands behind what stood there before, and nothing changed
 abbrev pub invariant-loop-digest : goal.invariant-loop-digest
 invariant-loop-digest g l =
-    SoFar (filter_map (wrong_at l.kept (g.K.Keeper.state l.fn.keeper).world l.repo) (take l.digest-index l.digests)) l.fn.wrongs.items l.wrongs.items
-    (g.K.Keeper.state l.fn.keeper) (g.K.Keeper.state l.keeper) (g.K.Keeper.is_honest l.fn.keeper) (g.K.Keeper.is_honest l.keeper)
+    SoFar (filter_map (wrong_at l.kept (g.K.Keeper.kept l.fn.keeper).world l.repo) (take l.digest-index l.digests)) l.fn.wrongs.items l.wrongs.items
+    (g.K.Keeper.kept l.fn.keeper) (g.K.Keeper.kept l.keeper) (g.K.Keeper.is_honest l.fn.keeper) (g.K.Keeper.is_honest l.keeper)

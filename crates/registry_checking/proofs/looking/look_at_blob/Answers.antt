@@ -1,6 +1,6 @@
 use Rattle.std.proofs.Common.{◌∙◌, ℕ, Option, ap, ap₂}
 use Rattle.oci_types.specs.Text.{Text}
-use Rattle.registry_model.specs.Keeping.{State}
+use Rattle.registry_model.specs.Keeping as keeping
 use Rattle.registry_model.specs.Lookups.{blob_size_at}
 use Rattle.registry_checking.specs.Wrongs.{wrong_blob}
 use Rattle.registry_checking.proofs.WrongLemmas.{read_failed, later_failed, judged}
@@ -25,5 +25,5 @@ returns g c =
     (λ honest.
     let one = first.found (second.honest honest) in
     let two = second.found honest in
-    (ap₂ (λ (bytes : Option Text) (size : Option ℕ). wrong_blob repo digest bytes size) one.0 (two.0 ∙ ap (λ (x : State). blob_size_at x.world repo digest) one.1), two.1 ∙ one.1))
+    (ap₂ (λ (bytes : Option Text) (size : Option ℕ). wrong_blob repo digest bytes size) one.0 (two.0 ∙ ap (λ (x : keeping.Kept). blob_size_at x.world repo digest) one.1), two.1 ∙ one.1))
     first.spends.0 second.spends.1 (λ honest. first.honest (second.honest honest))

@@ -1,7 +1,7 @@
 use Rattle.std.proofs.Common.{◌∙◌, ℕ, Option, ap, ap₂}
 use Rattle.oci_types.specs.Text.{Text}
 use Rattle.oci_types.specs.declared.kind.Kind.{Kind}
-use Rattle.registry_model.specs.Keeping.{State}
+use Rattle.registry_model.specs.Keeping as keeping
 use Rattle.registry_model.specs.Lookups.{manifest_size_at}
 use Rattle.registry_checking.specs.Wrongs.{wrong_manifest}
 use Rattle.registry_checking.proofs.WrongLemmas.{read_failed, later_failed, judged}
@@ -26,5 +26,5 @@ returns g c =
     (λ honest.
     let one = first.found (second.honest honest) in
     let two = second.found honest in
-    (ap₂ (λ (kept : Option (Kind × Text)) (sized : Option (Kind × ℕ)). wrong_manifest repo digest kept sized) one.0 (two.0 ∙ ap (λ (x : State). manifest_size_at x.world repo digest) one.1), two.1 ∙ one.1))
+    (ap₂ (λ (kept : Option (Kind × Text)) (sized : Option (Kind × ℕ)). wrong_manifest repo digest kept sized) one.0 (two.0 ∙ ap (λ (x : keeping.Kept). manifest_size_at x.world repo digest) one.1), two.1 ∙ one.1))
     first.spends.0 second.spends.1 (λ honest. first.honest (second.honest honest))

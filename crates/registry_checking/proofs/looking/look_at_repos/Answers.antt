@@ -10,7 +10,7 @@ loop-repo-init g c = record { unspent = c.requires; honest = λ honest. honest; 
 
 pub loop-repo-preserved : goal.loop-repo-preserved
 loop-repo-preserved g c =
-    let w = (g.K.Keeper.state c.args.keeper.now).world in
+    let w = (g.K.Keeper.kept c.args.keeper.now).world in
     let e = c.loop-repo-item.result in
     one_more c.in_ok-look_at_repo.field-0 (flat_map (λ u. wrongs_at w u.0) (take c.loop-repo.repo-index c.args.usages.now)) _ _ _
     (λ w. wrongs_at w e.0) _ _ _ _ _ _ c.loop-repo.invariant _ c.in_ok-look_at_repo.ensures
@@ -23,4 +23,4 @@ returns-in_err-look_at_repo g c =
 pub returns : goal.returns
 returns g c =
     done _ _ _ _ _ _ _ _ c.loop-repo.invariant c.requires
-    (ap (flat_map (λ u. wrongs_at (g.K.Keeper.state c.args.keeper.now).world u.0)) (take_all c.loop-repo.repo-index c.args.usages.now (omega arith)))
+    (ap (flat_map (λ u. wrongs_at (g.K.Keeper.kept c.args.keeper.now).world u.0)) (take_all c.loop-repo.repo-index c.args.usages.now (omega arith)))

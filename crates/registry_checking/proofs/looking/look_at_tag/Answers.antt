@@ -2,7 +2,7 @@ use Rattle.std.proofs.Common.{◌∙◌, ℕ, Option, ap, sym}
 use Rattle.std.specs.Option.{option_and_then}
 use Rattle.oci_types.specs.Text.{Text}
 use Rattle.oci_types.specs.declared.kind.Kind.{Kind}
-use Rattle.registry_model.specs.Keeping.{State}
+use Rattle.registry_model.specs.Keeping as keeping
 use Rattle.registry_model.specs.Lookups.{manifest_size_at}
 use Rattle.registry_checking.specs.Wrongs.{untied}
 use Rattle.registry_checking.proofs.WrongLemmas.{read_failed, later_failed, judged}
@@ -23,12 +23,12 @@ returns g c =
     let second = c.in_ok-sized.ensures in
     let repo = c.args.repo.now in
     let tag = c.args.tag in
-    let w = (g.K.Keeper.state c.args.keeper.now).world in
+    let w = (g.K.Keeper.kept c.args.keeper.now).world in
     judged c.wrong_tag.result _ _ _ _ _ _ c.wrong_tag.ensures
     (λ honest.
     let one = first.found (second.honest honest) in
     let two = second.found honest in (
-      ap (λ (sized : Option (Kind × ℕ)). untied repo tag sized) (two.0 ∙ ap (λ (x : State). manifest_size_at x.world repo c.in-Some.digest) one.1)
+      ap (λ (sized : Option (Kind × ℕ)). untied repo tag sized) (two.0 ∙ ap (λ (x : keeping.Kept). manifest_size_at x.world repo c.in-Some.digest) one.1)
           ∙ sym (ap (λ (o : Option Text). option_and_then (λ (digest : Text). untied repo tag (manifest_size_at w repo digest)) o) (sym one.0 ∙ c.in-Some.is)),
       two.1 ∙ one.1,
     ))

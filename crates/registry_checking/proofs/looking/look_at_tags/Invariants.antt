@@ -6,5 +6,5 @@ use Rattle.registry_checking.proofs.looking.look_at_tags.Given as goal
 -- so far what is wrong with each tag stands behind what stood there before, and nothing changed
 abbrev pub invariant-loop-tag : goal.invariant-loop-tag
 invariant-loop-tag g l =
-    SoFar (filter_map (wrong_tag_at (g.K.Keeper.state l.initial.keeper).world l.repo) l.yielded) l.initial.wrongs.items l.wrongs.items
-    (g.K.Keeper.state l.initial.keeper) (g.K.Keeper.state l.keeper) (g.K.Keeper.is_honest l.initial.keeper) (g.K.Keeper.is_honest l.keeper)
+    SoFar (filter_map (wrong_tag_at (g.K.Keeper.kept l.initial.keeper).world l.repo) l.yielded) l.initial.wrongs.items l.wrongs.items
+    (g.K.Keeper.kept l.initial.keeper) (g.K.Keeper.kept l.keeper) (g.K.Keeper.is_honest l.initial.keeper) (g.K.Keeper.is_honest l.keeper)

@@ -8,7 +8,7 @@ use Rattle.registry_program.proofs.running.run_words.Goals as goal
 
 pub returns-in-Ok : goal.returns-in-Ok
 returns-in-Ok g c = record {
-  runs = task_runs (acts (between g.K.Keeper.is_honest g.K.Keeper.state g.O.Opener.opens (g.O.Opener.had c.args.opener.now)
+  runs = task_runs (acts (between g.K.Keeper.is_honest g.K.Keeper.kept g.O.Opener.opens (g.O.Opener.had c.args.opener.now)
       (g.O.Opener.had c.run_task.new.opener)) (g.M.Messenger.had c.args.messenger.now) (g.M.Messenger.had c.run_task.new.messenger)) (map g.S.AsStr.text c.args.words.now)
       c.in-Ok.task _ _ _ c.in-Ok.ensures.read c.run_task.ensures.runs;
   refused = λ more less. task_spares (map g.S.AsStr.text c.args.words.now) c.in-Ok.task _ c.in-Ok.ensures.read (c.run_task.ensures.refused more less);

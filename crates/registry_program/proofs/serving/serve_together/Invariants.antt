@@ -8,7 +8,7 @@ use Rattle.registry_program.proofs.serving.serve_together.Given as goal
 -- so far each opening ended with a storage that failed
 abbrev pub invariant-loop : goal.invariant-loop
 invariant-loop g l = record {
-  spans : SoFar (between g.K.Keeper.is_honest g.K.Keeper.state g.O.Opener.opens (g.O.Opener.had l.fn.opener) (g.O.Opener.had l.opener))
+  spans : SoFar (between g.K.Keeper.is_honest g.K.Keeper.kept g.O.Opener.opens (g.O.Opener.had l.fn.opener) (g.O.Opener.had l.opener))
       l.task.path.now (ServesAll l.task.serving.settings l.task.serving.limits.at_once l.task.serving.limits.buffer);
   same : l.server.out.ghost_name ≡ l.initial.server.out.ghost_name;
   gathering : l.server.gathering.ghost_name ≡ l.initial.server.gathering.ghost_name;

@@ -7,6 +7,7 @@ use Rattle.registry_model.specs.Ask.{Ask}
 use Rattle.registry_model.specs.Doing.{Does}
 use Rattle.registry_model.specs.Form.{Form}
 use Rattle.registry_model.specs.Heads.{is_head}
+use Rattle.registry_model.specs.Keeping.{state_of}
 use Rattle.registry_http.specs.Asking.{ask_in, verb_of, path_text, form_if, keys_in, query_in}
 use Rattle.registry_outbox.specs.Reports.{endpoint_of, name_of}
 use Rattle.registry_server.proofs.WantingLemmas.{wanting, whole}
@@ -30,7 +31,7 @@ returns-in-Ok g c = record {
       let target = c.of.ensures ∙ at.target in
       let path = c.in-Ok.ensures.path ∙ ap path_text target in
       let keys = c.in-Ok.ensures.keys ∙ ap (λ (t : Text). keys_in (query_in t)) target in
-      subst (λ (q : Ask). Does (g.K.Keeper.state c.args.service.now) q (answer_of c.handle.result) (g.K.Keeper.state c.handle.new.self))
+      subst (λ (q : Ask). Does (state_of (g.K.Keeper.kept c.args.service.now)) q (answer_of c.handle.result) (state_of (g.K.Keeper.kept c.handle.new.self)))
       (c.request_of-request.ensures.asks h at path keys) (c.handle.ensures.does honest);
   carries = λ other. c.handle.ensures.carries (ap is_head c.request_of-request.ensures.verb ∙ other);
   honest = c.handle.ensures.honest;
@@ -43,7 +44,7 @@ returns-in-Err g c = record {
     endpoint = inr (c.unread-asked.ensures.endpoint, (c.spent.result, c.unread.ensures));
     repository = subst (λ (o : Option (String Global)). IfSome o (λ (n : String Global). name_of (form_if (path_text h.target)) ≡ Some (string_bytes n))) (sym c.unread-asked.ensures.repository) tt;
   };
-  does = λ honest h at. wanting (g.K.Keeper.state c.args.service.now) (ask_in c.args.settings h c.args.body.now) (answer_of c.unread.result) c.spent.result c.unread.ensures c.spent.ensures;
+  does = λ honest h at. wanting (state_of (g.K.Keeper.kept c.args.service.now)) (ask_in c.args.settings h c.args.body.now) (answer_of c.unread.result) c.spent.result c.unread.ensures c.spent.ensures;
   carries = λ other. whole (answer_of c.unread.result) c.spent.result c.unread.ensures;
   honest = λ honest. honest;
 }

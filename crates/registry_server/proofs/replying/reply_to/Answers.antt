@@ -5,6 +5,7 @@ use Rattle.oci_types.specs.Text.{Text}
 use Rattle.registry_model.specs.Answer.{answer_of}
 use Rattle.registry_model.specs.Doing.{Does}
 use Rattle.registry_model.specs.Heads.{is_head}
+use Rattle.registry_model.specs.Keeping.{state_of}
 use Rattle.registry_http.specs.Asking.{ask_in, verb_of, path_text, form_if}
 use Rattle.registry_http.specs.ReplyText.{reply_text}
 use Rattle.registry_http.specs.Sending.{SendsReply}
@@ -32,7 +33,7 @@ returns-in-Err-clause-replies g c = λ honest i there.
     let mid = subst (λ (x : Text). SendsReply c.put_failure-written.result (Some x) new (reply_text flag c.closes-closing.result answer)) c.make_room.ensures (c.put_failure-written.ensures flag) in
     let sent = subst (λ (f : Bool). SendsReply c.put_failure-written.result old new (reply_text flag f answer)) closing mid in (
       answer,
-      wanting (g.K.Keeper.state c.args.service.now) (ask_in c.args.settings i.head i.body) answer c.spent-spent.result refl c.spent-spent.ensures,
+      wanting (state_of (g.K.Keeper.kept c.args.service.now)) (ask_in c.args.settings i.head i.body) answer c.spent-spent.result refl c.spent-spent.ensures,
       c.told.ensures.sends old (Some (left c.tell.new.self)) (reply_for i answer) (subst (λ (x : Text). SendsReply c.put_failure-written.result old (Some x) (reply_for i answer)) (sym c.tell.ensures.same) sent),
       reported c.tell.new.self.report (left c.args.outbox.now) (left c.put_failure-written.new.self) (left c.tell.new.self) (reply_for i answer) c.put_failure-written.result c.len-before.result
           (record {
@@ -75,7 +76,7 @@ returns-clause-replies g c = λ honest i there.
     let sent = subst (λ (x : Text). SendsReply c.put_reply-written.result (Some x) new (reply_text c.is_head.result c.closes-closing.result answer)) c.make_room.ensures
     c.put_reply-written.ensures in (
       answer,
-      subst (λ (b : Text). Does (g.K.Keeper.state c.args.service.now) (ask_in c.args.settings i.head b) answer (g.K.Keeper.state c.answer-reply.new.service)) body
+      subst (λ (b : Text). Does (state_of (g.K.Keeper.kept c.args.service.now)) (ask_in c.args.settings i.head b) answer (state_of (g.K.Keeper.kept c.answer-reply.new.service))) body
           (c.answer-reply.ensures.does honest i.head there.at),
       c.told-2.ensures.sends old (Some (left c.tell-2.new.self)) (reply_for i answer)
           (subst (λ (x : Text). SendsReply c.put_reply-written.result old (Some x) (reply_for i answer)) (sym c.tell-2.ensures.same) (subst (λ (t : Text). SendsReply c.put_reply-written.result old new t) text sent)),

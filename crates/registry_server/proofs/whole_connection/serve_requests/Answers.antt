@@ -1,5 +1,6 @@
 use Rattle.std.proofs.Common.{ap}
 use Rattle.std.proofs.KnownBytes.{Consumes-nil}
+use Rattle.registry_model.specs.Keeping.{state_of}
 use Rattle.registry_server.specs.declared.phase.Step.TheVariants as step
 use Rattle.registry_server.specs.ConversationShowing.{shown}
 use Rattle.registry_server.proofs.ServingLemmas.{at_first, went_on, broke_off, heard, not_heard}
@@ -9,7 +10,7 @@ pub turns-init : goal.turns-init
 turns-init g c =
     record {
       honest = λ h. h;
-      stands = λ h. at_first c.args.settings (shown c.args.conversation.now) (g.R.Read.remaining c.args.reader.now) (g.W.Write.contents c.args.writer.now) (g.K.Keeper.state c.args.service.now) c.requires;
+      stands = λ h. at_first c.args.settings (shown c.args.conversation.now) (g.R.Read.remaining c.args.reader.now) (g.W.Write.contents c.args.writer.now) (state_of (g.K.Keeper.kept c.args.service.now)) c.requires;
     }
 
 pub returns-in-Err-clause-serves : goal.returns-in-Err-clause-serves
@@ -22,11 +23,11 @@ returns-in-Err-clause-serves g c =
       left' = g.R.Read.remaining c.turns.reader;
       held = g.W.Write.contents c.args.writer.now;
       held' = g.W.Write.contents c.turns.writer;
-      state = g.K.Keeper.state c.args.service.now;
-      state' = g.K.Keeper.state c.turns.service;
+      state = state_of (g.K.Keeper.kept c.args.service.now);
+      state' = state_of (g.K.Keeper.kept c.turns.service);
     })
-    (g.K.Keeper.state c.answer_next-step.new.service) c.in-Err.written (g.W.Write.contents c.send_out.new.writer) (
-      λ e ended. let all = c.answer_next-step.ensures.over e ended in (all.0, all.1, ap (λ s. g.K.Keeper.state s) all.2),
+    (state_of (g.K.Keeper.kept c.answer_next-step.new.service)) c.in-Err.written (g.W.Write.contents c.send_out.new.writer) (
+      λ e ended. let all = c.answer_next-step.ensures.over e ended in (all.0, all.1, ap (λ s. state_of (g.K.Keeper.kept s)) all.2),
       c.answer_next-step.ensures.finished,
       c.answer_next-step.ensures.acts honest,
     )
@@ -43,11 +44,11 @@ turns-preserved-in-Answered g c =
             left' = g.R.Read.remaining c.turns.reader;
             held = g.W.Write.contents c.args.writer.now;
             held' = g.W.Write.contents c.turns.writer;
-            state = g.K.Keeper.state c.args.service.now;
-            state' = g.K.Keeper.state c.turns.service;
+            state = state_of (g.K.Keeper.kept c.args.service.now);
+            state' = state_of (g.K.Keeper.kept c.turns.service);
           })
-          (g.K.Keeper.state c.answer_next-step.new.service) (g.W.Write.contents c.send_out.new.writer) (
-            λ e ended. let all = c.answer_next-step.ensures.over e ended in (all.0, all.1, ap (λ s. g.K.Keeper.state s) all.2),
+          (state_of (g.K.Keeper.kept c.answer_next-step.new.service)) (g.W.Write.contents c.send_out.new.writer) (
+            λ e ended. let all = c.answer_next-step.ensures.over e ended in (all.0, all.1, ap (λ s. state_of (g.K.Keeper.kept s)) all.2),
             c.answer_next-step.ensures.finished,
             c.answer_next-step.ensures.acts honest,
           )
@@ -65,11 +66,11 @@ turns-preserved-in-Interim g c =
             left' = g.R.Read.remaining c.turns.reader;
             held = g.W.Write.contents c.args.writer.now;
             held' = g.W.Write.contents c.turns.writer;
-            state = g.K.Keeper.state c.args.service.now;
-            state' = g.K.Keeper.state c.turns.service;
+            state = state_of (g.K.Keeper.kept c.args.service.now);
+            state' = state_of (g.K.Keeper.kept c.turns.service);
           })
-          (g.K.Keeper.state c.answer_next-step.new.service) (g.W.Write.contents c.send_out.new.writer) (
-            λ e ended. let all = c.answer_next-step.ensures.over e ended in (all.0, all.1, ap (λ s. g.K.Keeper.state s) all.2),
+          (state_of (g.K.Keeper.kept c.answer_next-step.new.service)) (g.W.Write.contents c.send_out.new.writer) (
+            λ e ended. let all = c.answer_next-step.ensures.over e ended in (all.0, all.1, ap (λ s. state_of (g.K.Keeper.kept s)) all.2),
             c.answer_next-step.ensures.finished,
             c.answer_next-step.ensures.acts honest,
           )
@@ -85,11 +86,11 @@ returns-in-Ended-clause-serves g c =
       left' = g.R.Read.remaining c.turns.reader;
       held = g.W.Write.contents c.args.writer.now;
       held' = g.W.Write.contents c.turns.writer;
-      state = g.K.Keeper.state c.args.service.now;
-      state' = g.K.Keeper.state c.turns.service;
+      state = state_of (g.K.Keeper.kept c.args.service.now);
+      state' = state_of (g.K.Keeper.kept c.turns.service);
     })
-    (g.K.Keeper.state c.answer_next-step.new.service) (g.W.Write.contents c.send_out.new.writer) (
-      λ e ended. let all = c.answer_next-step.ensures.over e ended in (all.0, all.1, ap (λ s. g.K.Keeper.state s) all.2),
+    (state_of (g.K.Keeper.kept c.answer_next-step.new.service)) (g.W.Write.contents c.send_out.new.writer) (
+      λ e ended. let all = c.answer_next-step.ensures.over e ended in (all.0, all.1, ap (λ s. state_of (g.K.Keeper.kept s)) all.2),
       c.answer_next-step.ensures.finished,
       c.answer_next-step.ensures.acts honest,
     )
@@ -103,8 +104,8 @@ returns-then-reads-eq0-clause-serves g c =
       left' = g.R.Read.remaining c.turns.reader;
       held = g.W.Write.contents c.args.writer.now;
       held' = g.W.Write.contents c.send_out.new.writer;
-      state = g.K.Keeper.state c.args.service.now;
-      state' = g.K.Keeper.state c.answer_next-step.new.service;
+      state = state_of (g.K.Keeper.kept c.args.service.now);
+      state' = state_of (g.K.Keeper.kept c.answer_next-step.new.service);
     }) (g.R.Read.remaining c.turns.reader)
     (went_on c.answer_next-step.result (step.Waits) (shown c.turns.conversation) (shown c.answer_next-step.new.self) (shown c.send_out.new.conversation)
     (record {
@@ -113,11 +114,11 @@ returns-then-reads-eq0-clause-serves g c =
       left' = g.R.Read.remaining c.turns.reader;
       held = g.W.Write.contents c.args.writer.now;
       held' = g.W.Write.contents c.turns.writer;
-      state = g.K.Keeper.state c.args.service.now;
-      state' = g.K.Keeper.state c.turns.service;
+      state = state_of (g.K.Keeper.kept c.args.service.now);
+      state' = state_of (g.K.Keeper.kept c.turns.service);
     })
-    (g.K.Keeper.state c.answer_next-step.new.service) (g.W.Write.contents c.send_out.new.writer) (
-      λ e ended. let all = c.answer_next-step.ensures.over e ended in (all.0, all.1, ap (λ s. g.K.Keeper.state s) all.2),
+    (state_of (g.K.Keeper.kept c.answer_next-step.new.service)) (g.W.Write.contents c.send_out.new.writer) (
+      λ e ended. let all = c.answer_next-step.ensures.over e ended in (all.0, all.1, ap (λ s. state_of (g.K.Keeper.kept s)) all.2),
       c.answer_next-step.ensures.finished,
       c.answer_next-step.ensures.acts honest,
     )
@@ -134,8 +135,8 @@ turns-preserved g c =
         left' = g.R.Read.remaining c.turns.reader;
         held = g.W.Write.contents c.args.writer.now;
         held' = g.W.Write.contents c.send_out.new.writer;
-        state = g.K.Keeper.state c.args.service.now;
-        state' = g.K.Keeper.state c.answer_next-step.new.service;
+        state = state_of (g.K.Keeper.kept c.args.service.now);
+        state' = state_of (g.K.Keeper.kept c.answer_next-step.new.service);
       }) (g.R.Read.remaining c.read_from.new.reader)
           (went_on c.answer_next-step.result (step.Waits) (shown c.turns.conversation) (shown c.answer_next-step.new.self) (shown c.send_out.new.conversation)
           (record {
@@ -144,11 +145,11 @@ turns-preserved g c =
             left' = g.R.Read.remaining c.turns.reader;
             held = g.W.Write.contents c.args.writer.now;
             held' = g.W.Write.contents c.turns.writer;
-            state = g.K.Keeper.state c.args.service.now;
-            state' = g.K.Keeper.state c.turns.service;
+            state = state_of (g.K.Keeper.kept c.args.service.now);
+            state' = state_of (g.K.Keeper.kept c.turns.service);
           })
-          (g.K.Keeper.state c.answer_next-step.new.service) (g.W.Write.contents c.send_out.new.writer) (
-            λ e ended. let all = c.answer_next-step.ensures.over e ended in (all.0, all.1, ap (λ s. g.K.Keeper.state s) all.2),
+          (state_of (g.K.Keeper.kept c.answer_next-step.new.service)) (g.W.Write.contents c.send_out.new.writer) (
+            λ e ended. let all = c.answer_next-step.ensures.over e ended in (all.0, all.1, ap (λ s. state_of (g.K.Keeper.kept s)) all.2),
             c.answer_next-step.ensures.finished,
             c.answer_next-step.ensures.acts honest,
           )
@@ -164,8 +165,8 @@ returns-in-Err-read_from-clause-serves g c =
       left' = g.R.Read.remaining c.turns.reader;
       held = g.W.Write.contents c.args.writer.now;
       held' = g.W.Write.contents c.send_out.new.writer;
-      state = g.K.Keeper.state c.args.service.now;
-      state' = g.K.Keeper.state c.answer_next-step.new.service;
+      state = state_of (g.K.Keeper.kept c.args.service.now);
+      state' = state_of (g.K.Keeper.kept c.answer_next-step.new.service);
     }) (g.R.Read.remaining c.read_from.new.reader)
     (went_on c.answer_next-step.result (step.Waits) (shown c.turns.conversation) (shown c.answer_next-step.new.self) (shown c.send_out.new.conversation)
     (record {
@@ -174,11 +175,11 @@ returns-in-Err-read_from-clause-serves g c =
       left' = g.R.Read.remaining c.turns.reader;
       held = g.W.Write.contents c.args.writer.now;
       held' = g.W.Write.contents c.turns.writer;
-      state = g.K.Keeper.state c.args.service.now;
-      state' = g.K.Keeper.state c.turns.service;
+      state = state_of (g.K.Keeper.kept c.args.service.now);
+      state' = state_of (g.K.Keeper.kept c.turns.service);
     })
-    (g.K.Keeper.state c.answer_next-step.new.service) (g.W.Write.contents c.send_out.new.writer) (
-      λ e ended. let all = c.answer_next-step.ensures.over e ended in (all.0, all.1, ap (λ s. g.K.Keeper.state s) all.2),
+    (state_of (g.K.Keeper.kept c.answer_next-step.new.service)) (g.W.Write.contents c.send_out.new.writer) (
+      λ e ended. let all = c.answer_next-step.ensures.over e ended in (all.0, all.1, ap (λ s. state_of (g.K.Keeper.kept s)) all.2),
       c.answer_next-step.ensures.finished,
       c.answer_next-step.ensures.acts honest,
     )

@@ -1,4 +1,5 @@
 use Rattle.std.proofs.Common.{◌+◌, ◌*◌}
+use Rattle.registry_model.specs.Keeping.{state_of}
 use Rattle.registry_server.specs.Shown.{turns_left}
 use Rattle.registry_server.specs.ConversationShowing.{shown}
 use Rattle.registry_server.proofs.ServingLemmas.{Stands}
@@ -14,8 +15,8 @@ invariant-turns g l = record {
     left' = g.R.Read.remaining l.reader;
     held = g.W.Write.contents l.fn.writer;
     held' = g.W.Write.contents l.writer;
-    state = g.K.Keeper.state l.fn.service;
-    state' = g.K.Keeper.state l.service;
+    state = state_of (g.K.Keeper.kept l.fn.service);
+    state' = state_of (g.K.Keeper.kept l.service);
   });
 }
 

@@ -7,7 +7,7 @@ use Rattle.registry_service.proofs.judging.decide.Goals as goal
 pub returns-in-Ok : goal.returns-in-Ok
 returns-in-Ok g c = record {
   comes = λ honest.
-      let s = g.K.Keeper.state c.args.keeper.now in
+      let s = g.K.Keeper.kept c.args.keeper.now in
       named c.decide_in.result (s.world.grants c.args.token.now) (repo_at s.world) c.in-Ok.name c.args.name.now (ask_of c.args.request.now) s _ c.in-Ok.ensures.read.0 c.in-Ok.ensures.read.1
       (c.decide_in.ensures.comes honest);
   answers = c.decide_in.ensures.answers;
@@ -21,5 +21,5 @@ returns-in-Memory g c = record { comes = λ _. refl; answers = tt; carries = λ 
 
 pub returns-in_default : goal.returns-in_default
 returns-in_default g c =
-    misnamed c.refusal.result c.args.token.now c.args.name.now (ask_of c.args.request.now) _ (g.K.Keeper.state c.args.keeper.now) _ c.refusal.ensures c.requires
+    misnamed c.refusal.result c.args.token.now c.args.name.now (ask_of c.args.request.now) _ (g.K.Keeper.kept c.args.keeper.now) _ c.refusal.ensures c.requires
     (not_named c.in-Err.fault c.args.name.now c.in_default.not-Memory c.in-Err.ensures.read)

@@ -13,7 +13,7 @@ use Rattle.registry_service.proofs.judging.decide_in.Goals as goal
 
 pub returns-in_default : goal.returns-in_default
 returns-in_default g c =
-    let s = g.K.Keeper.state c.args.keeper.now in
+    let s = g.K.Keeper.kept c.args.keeper.now in
     let q = ask_of c.args.request.now in
     told c.not_allowed.result (not_allowed q.form).reply (Some c.args.name.now) (at_level (s.world.grants c.args.token.now) (repo_at s.world) c.args.name.now q)
     _ s s _ _ c.not_allowed.ensures.refusal refl refl c.requires c.requires (λ _. refl) (λ honest. honest)
@@ -24,7 +24,7 @@ returns-in_err-level g c = gave_up _ c.from_residual.result c.in_err-level.field
 
 pub returns-then-not-allows : goal.returns-then-not-allows
 returns-then-not-allows g c =
-    let s = g.K.Keeper.state c.args.keeper.now in
+    let s = g.K.Keeper.kept c.args.keeper.now in
     let q = ask_of c.args.request.now in
     let read = c.in_ok-level.ensures in
     told c.refusal.result (refused AccessDenied) (Some c.args.name.now) (at_level (s.world.grants c.args.token.now) (repo_at s.world) c.args.name.now q)
@@ -36,10 +36,10 @@ pub returns : goal.returns
 returns g c = record {
   comes = λ honest.
       let read = c.in_ok-level.ensures.found (c.operate.ensures.honest honest) in
-      operated c.operate.result c.args.token.now c.args.name.now (ask_of c.args.request.now) (shown_operation c.in-Some.operation) c.in_ok-level.level (g.K.Keeper.state c.args.keeper.now) _ _
+      operated c.operate.result c.args.token.now c.args.name.now (ask_of c.args.request.now) (shown_operation c.in-Some.operation) c.in_ok-level.level (g.K.Keeper.kept c.args.keeper.now) _ _
       (sym c.find_operation.ensures ∙ ap (option_map shown_operation) c.in-Some.is) read.0 (sym c.allows.ensures ∙ c.if-not-allows.false) read.1 (c.operate.ensures.comes honest);
   answers = c.operate.ensures.answers;
   carries = λ whole. c.operate.ensures.carries (not_sizing (ask_of c.args.request.now) (shown_operation c.in-Some.operation) (sym c.find_operation.ensures ∙ ap (option_map shown_operation) c.in-Some.is) whole);
-  spends = spends_after c.operate.result (g.K.Keeper.state c.args.keeper.now) _ _ c.requires c.operate.ensures.spends;
+  spends = spends_after c.operate.result (g.K.Keeper.kept c.args.keeper.now) _ _ c.requires c.operate.ensures.spends;
   honest = λ honest. c.in_ok-level.ensures.honest (c.operate.ensures.honest honest);
 }

@@ -23,10 +23,10 @@ judge_by_token-requires g c = sym c.spent.ensures ∙ c.if-spent.false
 pub returns-in-Registry : goal.returns-in-Registry
 returns-in-Registry g c =
     let q = ask_of c.args.request.now in
-    let s = g.K.Keeper.state c.args.keeper.now in
+    let s = g.K.Keeper.kept c.args.keeper.now in
     let h = c.judge_by_token.ensures in
     record {
-      comes = λ honest. at_resource c.judge_by_token.result q Registry s (g.K.Keeper.state c.judge_by_token.new.keeper) c.in-Registry.is (h.comes honest);
+      comes = λ honest. at_resource c.judge_by_token.result q Registry s (g.K.Keeper.kept c.judge_by_token.new.keeper) c.in-Registry.is (h.comes honest);
       answers = h.answers;
       carries = h.carries;
       spends = h.spends;
@@ -37,7 +37,7 @@ returns-in-Registry g c =
 pub returns-in-Tokens : goal.returns-in-Tokens
 returns-in-Tokens g c =
     let q = ask_of c.args.request.now in
-    let s = g.K.Keeper.state c.args.keeper.now in
+    let s = g.K.Keeper.kept c.args.keeper.now in
     let h = told_login c.log_in.result q.verb q.basic (addressed q.form) _ s _ c.log_in.ensures (sym c.spent.ensures ∙ c.if-spent.false) in
     record {
       comes = λ honest. at_resource c.log_in.result q Tokens s s c.in-Tokens.is (h.comes honest);
@@ -51,7 +51,7 @@ returns-in-Tokens g c =
 pub returns-in-Health : goal.returns-in-Health
 returns-in-Health g c =
     let q = ask_of c.args.request.now in
-    let s = g.K.Keeper.state c.args.keeper.now in
+    let s = g.K.Keeper.kept c.args.keeper.now in
     let h = told_health c.tell_health.result q.verb (addressed q.form) _ s _ c.tell_health.ensures (sym c.spent.ensures ∙ c.if-spent.false) in
     record {
       comes = λ honest. at_resource (Ok c.tell_health.result) q Health s s c.in-Health.is (h.comes honest);

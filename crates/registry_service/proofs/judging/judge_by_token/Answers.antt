@@ -11,7 +11,7 @@ use Rattle.registry_service.proofs.judging.judge_by_token.Goals as goal
 pub returns-in_err-token : goal.returns-in_err-token
 returns-in_err-token g c =
     with_token c.from_residual.result _ _ _ _ _ _ _ _
-    (ran_out c.from_residual.result c.in_err-token.field-0.0 _ _ _ (g.K.Keeper.state c.args.keeper.now) _ c.from_residual.ensures c.in_err-token.ensures.found c.requires)
+    (ran_out c.from_residual.result c.in_err-token.field-0.0 _ _ _ (g.K.Keeper.kept c.args.keeper.now) _ c.from_residual.ensures c.in_err-token.ensures.found c.requires)
     (λ none plain. absurd (no_fault _ _ (c.in_err-token.ensures.none none)))
 
 pub serve_token-requires : goal.serve_token-requires
@@ -20,9 +20,9 @@ serve_token-requires g c = c.requires
 pub returns-in-Some : goal.returns-in-Some
 returns-in-Some g c = record {
   comes = λ honest.
-      let s = g.K.Keeper.state c.args.keeper.now in
+      let s = g.K.Keeper.kept c.args.keeper.now in
       let q = ask_of c.args.request.now in
-      subst (λ d. ComesOn c.serve_token.result (addressed q.form) d s (g.K.Keeper.state c.serve_token.new.keeper))
+      subst (λ d. ComesOn c.serve_token.result (addressed q.form) d s (g.K.Keeper.kept c.serve_token.new.keeper))
       (sym (by_token s.world q.token c.in-Some.token q (sym c.in-Some.is ∙ c.in_ok-token.ensures.found))) (c.serve_token.ensures.comes honest);
   answers = c.serve_token.ensures.answers;
   carries = c.serve_token.ensures.carries;
@@ -33,7 +33,7 @@ returns-in-Some g c = record {
 
 pub returns-in-None : goal.returns-in-None
 returns-in-None g c =
-    let s = g.K.Keeper.state c.args.keeper.now in
+    let s = g.K.Keeper.kept c.args.keeper.now in
     let q = ask_of c.args.request.now in
     with_token c.ask_for_token.result _ _ _ s s _ _ _
     (told_if c.ask_for_token.result (unnamed q).reply (addressed q.form) (judged s.world q.token q)

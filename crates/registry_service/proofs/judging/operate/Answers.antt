@@ -4,7 +4,7 @@ use Rattle.registry_model.specs.World.{Repo, repo_at, has_repo}
 use Rattle.registry_model.specs.Answer.{refused}
 use Rattle.registry_model.specs.Decision.{in_repo}
 use Rattle.registry_model.specs.Judging.{operate}
-use Rattle.registry_model.specs.Keeping.{State}
+use Rattle.registry_model.specs.Keeping.{Kept}
 use Rattle.operation_parts.proofs.RepoOutcomes.{spends_after}
 use Rattle.registry_service.specs.Operations.{shown_operation}
 use Rattle.registry_service.proofs.JudgingLemmas.{gave_up, told, same_start, absent}
@@ -15,7 +15,7 @@ returns-in_err-has_repo g c = gave_up _ c.from_residual.result c.in_err-has_repo
 
 pub returns-then-not-branch : goal.returns-then-not-branch
 returns-then-not-branch g c =
-    let s = g.K.Keeper.state c.args.keeper.now in
+    let s = g.K.Keeper.kept c.args.keeper.now in
     let name = c.args.name.now in
     let asked = c.in_ok-has_repo.ensures in
     told c.refusal.result (refused AccessDenied) (Some name)
@@ -29,16 +29,16 @@ operate_there-requires-clause-unspent g c = c.in_ok-has_repo.ensures.spends.1
 pub operate_there-requires-clause-there : goal.operate_there-requires-clause-there
 operate_there-requires-clause-there g c honest =
     let found = c.in_ok-has_repo.ensures.found honest in
-    ap (λ (x : State). has_repo x.world c.args.name.now) found.1 ∙ sym found.0 ∙ c.if-not-branch.false
+    ap (λ (x : Kept). has_repo x.world c.args.name.now) found.1 ∙ sym found.0 ∙ c.if-not-branch.false
 
 pub returns : goal.returns
 returns g c = record {
   comes = λ honest.
       same_start c.operate_there.result c.args.name.now
-      (λ (x : State) (r : Repo). operate (x.world.grants c.args.token.now) (repo_at x.world) r c.args.name.now (shown_operation c.args.operation) c.args.body.now)
-      (g.K.Keeper.state c.args.keeper.now) _ _ (c.in_ok-has_repo.ensures.found (c.operate_there.ensures.honest honest)).1 (c.operate_there.ensures.comes honest);
+      (λ (x : Kept) (r : Repo). operate (x.world.grants c.args.token.now) (repo_at x.world) r c.args.name.now (shown_operation c.args.operation) c.args.body.now)
+      (g.K.Keeper.kept c.args.keeper.now) _ _ (c.in_ok-has_repo.ensures.found (c.operate_there.ensures.honest honest)).1 (c.operate_there.ensures.comes honest);
   answers = c.operate_there.ensures.answers;
   carries = c.operate_there.ensures.carries;
-  spends = spends_after c.operate_there.result (g.K.Keeper.state c.args.keeper.now) _ _ c.in_ok-has_repo.ensures.spends.0 c.operate_there.ensures.spends;
+  spends = spends_after c.operate_there.result (g.K.Keeper.kept c.args.keeper.now) _ _ c.in_ok-has_repo.ensures.spends.0 c.operate_there.ensures.spends;
   honest = λ honest. c.in_ok-has_repo.ensures.honest (c.operate_there.ensures.honest honest);
 }

@@ -18,7 +18,7 @@ returns-in-Ok g c =
     record {
       runs = (
         ended,
-        inr (subst (λ x. Once (between g.K.Keeper.is_honest g.K.Keeper.state g.O.Opener.opens
+        inr (subst (λ x. Once (between g.K.Keeper.is_honest g.K.Keeper.kept g.O.Opener.opens
             (g.O.Opener.had c.args.opener.now) (g.O.Opener.had c.with_open.new.self)) c.args.path.now
             (λ s s'. CarriesOrder s c.args.order.now ended (output (g.W.Write.contents c.args.out.now) (g.W.Write.contents x)) s'))
             same c.in-Ok.ensures.worked),

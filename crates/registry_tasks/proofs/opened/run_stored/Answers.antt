@@ -14,11 +14,11 @@ returns-in-Ok g c =
     record {
       runs = (
         ended,
-        inr (subst (λ y. Once (between g.K.Keeper.is_honest g.K.Keeper.state g.O.Opener.opens
+        inr (subst (λ y. Once (between g.K.Keeper.is_honest g.K.Keeper.kept g.O.Opener.opens
             (g.O.Opener.had c.args.opener.now) (g.O.Opener.had c.with_open.new.self)) c.args.path.now
             (ServesOne c.args.settings ended (streams (g.R.Read.remaining c.args.reader.now) (g.R.Read.remaining y)
             (g.W.Write.contents c.args.out.now) (g.W.Write.contents c.out-1.given.0))))
-            read (subst (λ x. Once (between g.K.Keeper.is_honest g.K.Keeper.state g.O.Opener.opens
+            read (subst (λ x. Once (between g.K.Keeper.is_honest g.K.Keeper.kept g.O.Opener.opens
             (g.O.Opener.had c.args.opener.now) (g.O.Opener.had c.with_open.new.self)) c.args.path.now
             (ServesOne c.args.settings ended (streams (g.R.Read.remaining c.args.reader.now) (g.R.Read.remaining c.with_open.new.work.reader.now)
             (g.W.Write.contents c.args.out.now) (g.W.Write.contents x))))

@@ -6,5 +6,5 @@ use Rattle.registry_tasks.proofs.stdio.give_levels.Given as goal
 abbrev pub invariant-loop-grant : goal.invariant-loop-grant
 invariant-loop-grant g l = record {
   honest : g.K.Keeper.is_honest l.service → g.K.Keeper.is_honest l.fn.service;
-  so_far : g.K.Keeper.is_honest l.service → with_levels (g.K.Keeper.state l.fn.service).world l.grants ≡ with_levels (g.K.Keeper.state l.service).world (drop l.grant-index l.grants);
+  so_far : g.K.Keeper.is_honest l.service → with_levels (g.K.Keeper.kept l.fn.service).world l.grants ≡ with_levels (g.K.Keeper.kept l.service).world (drop l.grant-index l.grants);
 }

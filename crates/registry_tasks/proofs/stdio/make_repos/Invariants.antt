@@ -6,5 +6,5 @@ use Rattle.registry_tasks.proofs.stdio.make_repos.Given as goal
 abbrev pub invariant-loop-repo : goal.invariant-loop-repo
 invariant-loop-repo g l = record {
   honest : g.K.Keeper.is_honest l.service → g.K.Keeper.is_honest l.fn.service;
-  so_far : g.K.Keeper.is_honest l.service → with_repos (g.K.Keeper.state l.fn.service).world l.repos ≡ with_repos (g.K.Keeper.state l.service).world (drop l.repo-index l.repos);
+  so_far : g.K.Keeper.is_honest l.service → with_repos (g.K.Keeper.kept l.fn.service).world l.repos ≡ with_repos (g.K.Keeper.kept l.service).world (drop l.repo-index l.repos);
 }

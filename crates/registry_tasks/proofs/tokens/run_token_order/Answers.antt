@@ -16,7 +16,7 @@ returns-in-Ok g c =
     record {
       runs = inl (
         c.run_order_at.ensures.read,
-        runs_with (acts (between g.K.Keeper.is_honest g.K.Keeper.state g.O.Opener.opens (g.O.Opener.had c.args.opener.now) (g.O.Opener.had c.run_order_at.new.opener))
+        runs_with (acts (between g.K.Keeper.is_honest g.K.Keeper.kept g.O.Opener.opens (g.O.Opener.had c.args.opener.now) (g.O.Opener.had c.run_order_at.new.opener))
             (g.M.Messenger.had c.args.messenger.now) (g.M.Messenger.had c.run_order_at.new.messenger)) c.args.place c.args.source c.args.order c.run_order_at.result e errors
             c.in-Ok.token c.in-Ok.ensures.given (rw c.with.ensures at c.run_order_at.ensures.runs),
       );

@@ -16,7 +16,7 @@ loop-manifest-preserved g c =
       found = λ honest q.
           let early = read.honest honest in
           let told = c.in_ok-manifests.ensures.found (l.invariant.honest early) in
-          manifest_more (g.K.Keeper.state c.args.service.now) (g.K.Keeper.state c.manifest_digests.new.self) (g.K.Keeper.state l.service) name c.deref-manifest-items.result.now
+          manifest_more (g.K.Keeper.kept c.args.service.now) (g.K.Keeper.kept c.manifest_digests.new.self) (g.K.Keeper.kept l.service) name c.deref-manifest-items.result.now
           l.manifest-index c.manifest-item.result c.in_ok-names.names.items q (namers_in l.namers q) (namers_in c.add.new.self q)
           c.loop-manifest-test.true c.manifest-item.is (c.deref-manifest-items.ensures.value ∙ told.0) (l.invariant.found early q) (read.found honest).0 (l.invariant.same early) (c.in-Ok.ensures q);
     }
@@ -50,7 +50,7 @@ returns g c =
     record {
       found = λ honest.
           let told = read.found (l.invariant.honest honest) in (
-            all_manifests (g.K.Keeper.state c.args.service.now) (g.K.Keeper.state c.manifest_digests.new.self) c.args.name.now (namers_in l.namers) c.deref-manifest-items.result.now _ l.manifest-index
+            all_manifests (g.K.Keeper.kept c.args.service.now) (g.K.Keeper.kept c.manifest_digests.new.self) c.args.name.now (namers_in l.namers) c.deref-manifest-items.result.now _ l.manifest-index
                 (l.invariant.found honest) c.loop-manifest-test.false c.deref-manifest-items.ensures.value told.0 told.1,
             l.invariant.same honest ∙ told.1,
           );

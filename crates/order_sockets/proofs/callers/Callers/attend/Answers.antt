@@ -19,7 +19,7 @@ returns-clause-stops g c honest =
         there = all_called c.accept_all.new.self.callers.items;
         attended = all_called attended;
         come = c.accept_all.ensures.come;
-        attends = subst (λ (there : List Caller). AttendsAll (all_called there) (all_called attended) (g.K.Keeper.state c.args.service.now) (g.K.Keeper.state c.attend_each.new.service))
+        attends = subst (λ (there : List Caller). AttendsAll (all_called there) (all_called attended) (g.K.Keeper.kept c.args.service.now) (g.K.Keeper.kept c.attend_each.new.service))
             c.deref_mut.ensures.value (c.attend_each.ensures.attends honest);
         stay = subst (Stay (all_called c.dismiss_all.new.self.callers.items)) shown c.dismiss_all.ensures.stay;
       },

@@ -7,7 +7,7 @@ pub returns : goal.returns
 returns g c = record {
   honest = c.take_orders.ensures.honest;
   attends = λ honest.
-      subst (λ l. AttendsRound (all_called c.args.self.now.callers.callers.items) l (g.K.Keeper.state c.args.service.now) (g.K.Keeper.state c.take_orders.new.service))
+      subst (λ l. AttendsRound (all_called c.args.self.now.callers.callers.items) l (g.K.Keeper.kept c.args.service.now) (g.K.Keeper.kept c.take_orders.new.service))
       (sym c.note_work.ensures.callers) (c.take_orders.ensures.attends honest);
   same = c.note_work.ensures.same;
   limits = c.note_work.ensures.limits ∙ c.take_orders.ensures.limits;

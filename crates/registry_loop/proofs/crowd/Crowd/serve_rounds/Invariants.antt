@@ -8,7 +8,7 @@ abbrev pub invariant-loop : goal.invariant-loop
 invariant-loop g l = record {
   rounds : g.K.Keeper.is_honest l.service
       → g.K.Keeper.is_honest l.fn.service
-      × Some (connected l.fn.connections) (all_called l.fn.self.callers.callers.items) (g.K.Keeper.state l.fn.service)
-      (connected l.connections) (all_called l.self.callers.callers.items) (g.K.Keeper.state l.service);
+      × Some (connected l.fn.connections) (all_called l.fn.self.callers.callers.items) (g.K.Keeper.kept l.fn.service)
+      (connected l.connections) (all_called l.self.callers.callers.items) (g.K.Keeper.kept l.service);
   limits : l.self.limits ≡ l.fn.self.limits;
 }

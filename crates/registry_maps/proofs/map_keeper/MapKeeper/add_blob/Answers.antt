@@ -1,7 +1,7 @@
 use Rattle.std.proofs.Common.{◌∙◌, ap, rules}
-use Rattle.registry_model.specs.Keeping.{State}
+use Rattle.registry_model.specs.Keeping.{Kept}
 use Rattle.registry_model.specs.Blobs.{with_blob}
-use Rattle.registry_maps.specs.Maps.{state_of}
+use Rattle.registry_maps.specs.Maps.{kept_of}
 use Rattle.registry_maps.proofs.SeenWorlds.{lent_some, lent_none, world_made, nothing_made}
 use Rattle.registry_maps.proofs.map_keeper.MapKeeper.add_blob.Goals as goal
 
@@ -18,5 +18,5 @@ pub returns-in-None : goal.returns-in-None
 returns-in-None c =
     let k = c.args.self.now in
     let none = lent_none k.repos c.args.repo.now c.get_mut.result c.in-None.is c.get_mut.ensures.value in
-    ap (λ (s : State). s.world)
-    (ap (λ m. state_of m k.grants) c.get_mut.follows.holds-at-none ∙ nothing_made k.repos k.grants c.args.repo.now (λ r. with_blob r c.args.digest.now c.args.bytes.now) none)
+    ap (λ (s : Kept). s.world)
+    (ap (λ m. kept_of m k.grants) c.get_mut.follows.holds-at-none ∙ nothing_made k.repos k.grants c.args.repo.now (λ r. with_blob r c.args.digest.now c.args.bytes.now) none)

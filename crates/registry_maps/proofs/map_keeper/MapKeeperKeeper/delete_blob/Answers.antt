@@ -1,5 +1,5 @@
 use Rattle.std.proofs.Common.{◌∙◌, ap, rules, refl}
-use Rattle.registry_maps.specs.Maps.{state_of}
+use Rattle.registry_maps.specs.Maps.{kept_of}
 use Rattle.registry_model.specs.Blobs.{without_blob}
 use Rattle.registry_maps.proofs.SeenWorlds.{lent_some, lent_none, changed_by, nothing_made}
 use Rattle.registry_maps.proofs.map_keeper.MapKeeperKeeper.delete_blob.Goals as goal
@@ -21,7 +21,7 @@ returns-in_default c = record {
   made = λ honest.
       let k = c.args.self.now in
       let none = lent_none k.repos c.args.repo.now c.get_mut.result c.in_default.is c.get_mut.ensures.value in
-      ap (λ m. state_of m k.grants) c.get_mut.follows.holds-at-none ∙ nothing_made k.repos k.grants c.args.repo.now (λ r. without_blob r c.args.digest.now) none;
+      ap (λ m. kept_of m k.grants) c.get_mut.follows.holds-at-none ∙ nothing_made k.repos k.grants c.args.repo.now (λ r. without_blob r c.args.digest.now) none;
   spends = (refl, refl);
   honest = λ honest. honest;
 }

@@ -1,5 +1,5 @@
 use Rattle.std.proofs.Common.{◌∙◌, ap, refl, rules}
-use Rattle.registry_maps.specs.Maps.{state_of}
+use Rattle.registry_maps.specs.Maps.{kept_of}
 use Rattle.registry_model.specs.Ask.{text_in}
 use Rattle.registry_model.specs.Manifests.{with_manifest}
 use Rattle.registry_maps.proofs.SeenWorlds.{lent_some, lent_none, write_made, nothing_made, spends_memory}
@@ -23,7 +23,7 @@ returns-in-None c = record {
   made = λ honest.
       let k = c.args.self.now in
       let none = lent_none k.repos c.args.repo.now c.get_mut.result c.in-None.is c.get_mut.ensures.value in
-      ap (λ m. state_of m k.grants) c.get_mut.follows.holds-at-none ∙ nothing_made k.repos k.grants c.args.repo.now (λ r. with_manifest r c.args.digest.now c.args.bytes.now (text_in c.args.tag)) none;
+      ap (λ m. kept_of m k.grants) c.get_mut.follows.holds-at-none ∙ nothing_made k.repos k.grants c.args.repo.now (λ r. with_manifest r c.args.digest.now c.args.bytes.now (text_in c.args.tag)) none;
   spends = (refl, refl);
   honest = λ honest. honest;
 }

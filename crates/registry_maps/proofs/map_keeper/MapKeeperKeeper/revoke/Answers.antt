@@ -1,6 +1,6 @@
 use Rattle.std.proofs.Common.{◌∙◌, sym, ap, rules, refl}
 use Rattle.std.specs.FinMap.{remove}
-use Rattle.registry_maps.specs.Maps.{grants_in, state_of}
+use Rattle.registry_maps.specs.Maps.{grants_in, kept_of}
 use Rattle.registry_maps.proofs.SeenWorlds.{lent_some, lent_none, granted, granted_so, nothing_revoked}
 use Rattle.registry_maps.proofs.map_keeper.MapKeeperKeeper.revoke.Goals as goal
 
@@ -22,7 +22,7 @@ returns-in_default c = record {
   made = λ honest.
       let k = c.args.self.now in
       let none = lent_none k.grants c.args.token.now c.get_mut.result c.in_default.is c.get_mut.ensures.value in
-      ap (λ g. state_of k.repos g) c.get_mut.follows.holds-at-none ∙ nothing_revoked k.repos k.grants c.args.token.now c.args.name.now none;
+      ap (λ g. kept_of k.repos g) c.get_mut.follows.holds-at-none ∙ nothing_revoked k.repos k.grants c.args.token.now c.args.name.now none;
   spends = (refl, refl);
   honest = λ honest. honest;
 }

@@ -1,5 +1,6 @@
 use Rattle.std.proofs.Common.{◌≡◌, ◌≤◌, ℕ, Bool, Option, None, sym, ap, subst, ◌∙◌}
 use Rattle.oci_types.specs.Text.{Text}
+use Rattle.registry_model.specs.Keeping.{state_of}
 use Rattle.registry_server.specs.declared.phase.Step.{Step}
 use Rattle.registry_outbox.specs.declared.report.Report.{Report}
 use Rattle.registry_server.specs.ConversationEvents.{Happens, acted}
@@ -23,8 +24,8 @@ returns g c =
     let old = shown c.args.self.now.conversation.value in
     let begun = shown c.deref_mut.result.now in
     let mid = shown c.answer_next-step.new.self in
-    let s = g.K.Keeper.state c.args.service.now in
-    let s' = g.K.Keeper.state c.answer_next-step.new.service in
+    let s = state_of (g.K.Keeper.kept c.args.service.now) in
+    let s' = state_of (g.K.Keeper.kept c.answer_next-step.new.service) in
     let settles = c.settle.ensures.settles in
     let begins : begun ≡ old = ap shown c.deref_mut.ensures.value in
     let taken : shown c.deref_mut-2.result.now ≡ mid = ap shown c.deref_mut-2.ensures.value in
@@ -38,7 +39,7 @@ returns g c =
         λ honest.
             subst (λ (k : Shown). Happens c.args.settings (acted step) old s k s') (sym same) (
             subst (λ (o : Shown). Happens c.args.settings (acted step) o s mid s') begins (
-              λ e ended. let all = c.answer_next-step.ensures.over e ended in (all.0, all.1, ap (λ x. g.K.Keeper.state x) all.2),
+              λ e ended. let all = c.answer_next-step.ensures.over e ended in (all.0, all.1, ap (λ x. state_of (g.K.Keeper.kept x)) all.2),
               c.answer_next-step.ensures.finished,
               c.answer_next-step.ensures.acts honest,
             )

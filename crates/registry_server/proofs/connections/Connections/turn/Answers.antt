@@ -1,5 +1,6 @@
 use Rattle.std.proofs.Common.{◌≤◌, None, inl, refl, ap, arith}
 use Rattle.oci_types.specs.Text.{Text}
+use Rattle.registry_model.specs.Keeping.{state_of}
 use Rattle.registry_server.specs.Shown.{coming_len}
 use Rattle.registry_server.specs.Open.{Slot}
 use Rattle.registry_server.specs.Slots.{slots_of}
@@ -61,7 +62,7 @@ returns g c =
     ((c.answer_next-turn.ensures.acts.0, c.answer_next-turn.ensures.fewer), c.answer_next-turn.ensures.acts.1) m in
     let said = turned c.args.self.now.next c.answer_next-turn.result.number c.in-Some.at c.answer_next-turn.result.step
     (λ k k'. g.K.Keeper.is_honest c.answer_next-turn.new.service → (b said : Text) → Holds c.args.self.now.settings k b said
-    → Tells c.args.self.now.settings c.answer_next-turn.result.step b said k (g.K.Keeper.state c.args.service.now) (g.K.Keeper.state c.answer_next-turn.new.service) k' None c.answer_next-turn.result.report)
+    → Tells c.args.self.now.settings c.answer_next-turn.result.step b said k (state_of (g.K.Keeper.kept c.args.service.now)) (state_of (g.K.Keeper.kept c.answer_next-turn.new.service)) k' None c.answer_next-turn.result.report)
     items _ c.index_mut.result.now y c.index_mut.ensures.value f
     c.args.self.now.numbered c.answer_next-turn.ensures.number (c.answer_next-turn.ensures.tells, c.answer_next-turn.ensures.acts.1) m in
     record {
@@ -92,5 +93,5 @@ returns-in_default g c =
       idle = (refl, refl, inl (idle_on c.deref.result.now c.args.self.now.connections.items c.deref.ensures.value c.in_default.ensures.none));
       tells = λ honest. tt;
       lives = record { time = refl; all = λ n. refl };
-      leads = λ honest. leads_none (connected c.args.self.now) (g.K.Keeper.state c.args.service.now);
+      leads = λ honest. leads_none (connected c.args.self.now) (state_of (g.K.Keeper.kept c.args.service.now));
     }

@@ -1,5 +1,6 @@
 use Rattle.std.proofs.Common.{◌≡◌, ◌⊎◌, false, [], ◌++◌, refl, subst, sym, ap, ◌∙◌, le_of_eq}
 use Rattle.oci_types.specs.Text.{Text}
+use Rattle.registry_model.specs.Keeping.{state_of}
 use Rattle.registry_http.specs.Spelling.{HeadIsCut, HeadIsUnreadable}
 use Rattle.registry_server.specs.declared.phase.Phase.{Phase}
 use Rattle.registry_server.specs.Shown.{listens_as}
@@ -60,7 +61,7 @@ returns-in-Whole g c = record {
       let old = shown c.args.self.now in
       let held = held_at_head c.args.settings old b said c.requires x in
       let begins = subst (BeginsAt c.args.settings c.in-Whole.heading) (c.behind.ensures ∙ held.1) c.in-Whole.ensures in
-      subst (λ (y : Text). Tells c.args.settings c.take_head.result b y old (g.K.Keeper.state c.args.service.now) (g.K.Keeper.state c.take_head.new.service) (shown c.take_head.new.self)
+      subst (λ (y : Text). Tells c.args.settings c.take_head.result b y old (state_of (g.K.Keeper.kept c.args.service.now)) (state_of (g.K.Keeper.kept c.take_head.new.service)) (shown c.take_head.new.self)
       c.args.self.now.outbox.report c.take_head.new.self.outbox.report)
       (sym held.2) (c.take_head.ensures.acts honest b begins held.0 held.1);
 }

@@ -1,5 +1,6 @@
 use Rattle.std.proofs.Common.{◌≡◌, ◌<◌, [], ◌++◌, length, take, refl, sym, ap, ◌∙◌, subst, le_of_eq, arith}
 use Rattle.oci_types.specs.Text.{Text}
+use Rattle.registry_model.specs.Keeping.{state_of}
 use Rattle.registry_http.specs.Expecting.{IsBefore, continue_if}
 use Rattle.registry_server.specs.Shown.{Shown, with_going, coming_len, heads}
 use Rattle.registry_server.specs.ConversationShowing.{shown}
@@ -18,7 +19,7 @@ returns-then-not-awaits g c = record {
   leads = c.go_on.ensures.leads;
   acts = λ honest b x.
       let none : continue_if c.args.awaits ≡ [] = ap continue_if c.if-not-awaits.true in
-      subst (λ (said : Text). Tells c.args.settings c.go_on.result b said (shown c.args.self.now) (g.K.Keeper.state c.args.service.now) (g.K.Keeper.state c.go_on.new.service)
+      subst (λ (said : Text). Tells c.args.settings c.go_on.result b said (shown c.args.self.now) (state_of (g.K.Keeper.kept c.args.service.now)) (state_of (g.K.Keeper.kept c.go_on.new.service))
       (shown c.go_on.new.self) c.args.self.now.outbox.report c.go_on.new.self.outbox.report) none
       (c.go_on.ensures.acts honest b (continue_if c.args.awaits) x);
 }
