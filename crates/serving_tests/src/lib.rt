@@ -1,6 +1,6 @@
 //! Tests of libraries over ordered maps, without a socket or a database: what connections are answered, one
 //! and many at once, however their bytes are cut and wherever reads and writes fail, and who of them was
-//! silent; runs; orders as lines; numbers and texts of the model.
+//! silent; runs; orders as lines; what is held beside a keeper; numbers and texts of the model.
 #![tactic(auto)]
 
 #[cfg(test)]
@@ -11,6 +11,8 @@ mod conversation;
 mod cuts;
 #[cfg(test)]
 mod ends;
+#[cfg(test)]
+mod holding;
 #[cfg(test)]
 mod interleaved;
 #[cfg(test)]

@@ -5,7 +5,7 @@ use crate::texts::filled;
 use oci_types::{RepoName, Token};
 use registry_http::End;
 use registry_maps::MapKeeper;
-use registry_model::{AdminCommand, Level, Quota, Settings};
+use registry_model::{AdminCommand, Keeper, Level, Quota, Settings};
 use registry_server::serve_connection;
 use registry_service::Service;
 use std::alloc::Global;
@@ -80,9 +80,9 @@ pub fn setting(rt: &impl Abort, alloc: Global) -> Registry {
 }
 
 /// Serves a connection. Nothing of its contract is told to the tests, which need none of it.
-pub fn connect<R: Read, W: Write>(
+pub fn connect<R: Read, W: Write, K: Keeper>(
     alloc: Global,
-    registry: &mut Registry,
+    registry: &mut Service<K>,
     reader: &mut R,
     writer: &mut W,
 ) -> End {
@@ -90,10 +90,10 @@ pub fn connect<R: Read, W: Write>(
 }
 
 /// A connection of these reads ends so, and this is answered.
-pub fn is_answered<R: Read>(
+pub fn is_answered<R: Read, K: Keeper>(
     rt: &impl Abort,
     alloc: Global,
-    registry: &mut Registry,
+    registry: &mut Service<K>,
     place: usize,
     reader: &mut R,
     end: End,
@@ -106,10 +106,10 @@ pub fn is_answered<R: Read>(
 }
 
 /// A request on `team/app` with this digest is answered by this.
-pub fn is_told(
+pub fn is_told<K: Keeper>(
     rt: &impl Abort,
     alloc: Global,
-    registry: &mut Registry,
+    registry: &mut Service<K>,
     digest: &str,
     request: &str,
     reply: &str,

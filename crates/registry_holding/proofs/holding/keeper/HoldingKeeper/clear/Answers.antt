@@ -1,0 +1,14 @@
+use Rattle.registry_holding.specs.Shown.{held_in}
+use Rattle.registry_holding.proofs.HoldingLemmas.{written_held, spends_held}
+use Rattle.registry_holding.proofs.holding.keeper.HoldingKeeper.clear.Goals as goal
+
+pub returns : goal.returns
+returns g c =
+    let h = held_in c.args.self.now.stages.map c.args.self.now.pins.map in
+    let k = g.K.Keeper.kept c.args.self.now.keeper in
+    let l = g.K.Keeper.kept c.clear.new.self in
+    record {
+      made = λ honest. written_held h c.clear.result _ k l (c.clear.ensures.made honest);
+      spends = spends_held h c.clear.result k l c.clear.ensures.spends;
+      honest = c.clear.ensures.honest;
+    }

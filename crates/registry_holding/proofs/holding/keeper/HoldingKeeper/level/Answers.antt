@@ -1,0 +1,14 @@
+use Rattle.registry_holding.specs.Shown.{held_in}
+use Rattle.registry_holding.proofs.HoldingLemmas.{read_held, spends_held}
+use Rattle.registry_holding.proofs.holding.keeper.HoldingKeeper.level.Goals as goal
+
+pub returns : goal.returns
+returns g c =
+    let h = held_in c.args.self.now.stages.map c.args.self.now.pins.map in
+    let k = g.K.Keeper.kept c.args.self.now.keeper in
+    let l = g.K.Keeper.kept c.level.new.self in
+    record {
+      found = λ honest. read_held h _ c.level.result _ k l (c.level.ensures.found honest);
+      spends = spends_held h c.level.result k l c.level.ensures.spends;
+      honest = c.level.ensures.honest;
+    }

@@ -1,0 +1,17 @@
+use Rattle.registry_holding.specs.Shown.{held_in}
+use Rattle.registry_holding.proofs.HoldingLemmas.{written_by_held, spends_held}
+use Rattle.registry_holding.proofs.holding.keeper.HoldingKeeper.open_session.Goals as goal
+
+pub open_session-requires : goal.open_session-requires
+open_session-requires g c = c.requires
+
+pub returns : goal.returns
+returns g c =
+    let h = held_in c.args.self.now.stages.map c.args.self.now.pins.map in
+    let k = g.K.Keeper.kept c.args.self.now.keeper in
+    let l = g.K.Keeper.kept c.open_session.new.self in
+    record {
+      made = λ honest. written_by_held h _ c.open_session.result _ _ k l (c.open_session.ensures.made honest);
+      spends = spends_held h c.open_session.result k l c.open_session.ensures.spends;
+      honest = c.open_session.ensures.honest;
+    }

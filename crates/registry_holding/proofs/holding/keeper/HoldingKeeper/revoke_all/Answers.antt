@@ -1,0 +1,17 @@
+use Rattle.registry_holding.specs.Shown.{held_in}
+use Rattle.registry_holding.proofs.HoldingLemmas.{written_held, spends_held}
+use Rattle.registry_holding.proofs.holding.keeper.HoldingKeeper.revoke_all.Goals as goal
+
+pub revoke_all-requires : goal.revoke_all-requires
+revoke_all-requires g c = c.requires
+
+pub returns : goal.returns
+returns g c =
+    let h = held_in c.args.self.now.stages.map c.args.self.now.pins.map in
+    let k = g.K.Keeper.kept c.args.self.now.keeper in
+    let l = g.K.Keeper.kept c.revoke_all.new.self in
+    record {
+      made = λ honest. written_held h c.revoke_all.result _ k l (c.revoke_all.ensures.made honest);
+      spends = spends_held h c.revoke_all.result k l c.revoke_all.ensures.spends;
+      honest = c.revoke_all.ensures.honest;
+    }

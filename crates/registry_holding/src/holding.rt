@@ -1,0 +1,170 @@
+ghost use Rattle.std.specs.Prelude.{◌≡◌, ◌≤◌, true, length};
+ghost use Rattle.oci_types.specs.Digest.{matches};
+ghost use Rattle.registry_model.specs.Limits.{largest_blob};
+ghost use Rattle.registry_model.specs.Keeping.{nothing_held};
+ghost use Rattle.registry_holding.specs.Shown.{held_in, or_memory};
+
+mod keeper;
+
+use crate::Holder;
+use crate::pins::Pins;
+use crate::staged::{StageSum, Staged};
+use crate::stages::Stages;
+use oci_types::{Digest, Fault, RepoName, Verdict};
+use registry_model::keeper::Found;
+use registry_model::{Keeper, LARGEST_BLOB};
+use std::alloc::{AllocError, Global};
+
+/// A keeper that holds bodies and contents in memory beside what another keeps.
+#[derive(Drop)]
+pub struct Holding<K: Keeper> {
+    alloc: Global,
+    keeper: K,
+    stages: Stages,
+    pins: Pins,
+}
+
+/// What came of taking memory.
+fn or_memory(taken: Result<(), AllocError>) -> Result<(), Fault>
+    ensures { result ≡ or_memory taken }
+{
+    match taken {
+        Ok(()) => Ok(()),
+        Err(_) => Err(Fault::Memory),
+    }
+}
+
+/// Whether the digest is that of the bytes.
+fn has_digest(digest: &Digest, bytes: &[u8]) -> bool
+    ensures { result ≡ true → matches digest.now bytes.now ≡ true }
+{
+    matches!(digest.verifies(bytes), Verdict::Matches)
+}
+
+/// Whether a stage may be a blob of this digest.
+fn fits(staged: &Staged, digest: &Digest) -> bool
+    ensures { result ≡ true → (matches digest.now staged.now ≡ true) × (length staged.now ≤ largest_blob) }
+{
+    matches!(staged.verdict(digest), Verdict::Matches)
+        && staged.bytes().len() as u64 <= LARGEST_BLOB
+}
+
+impl<K: Keeper> Holding<K> {
+    /// Nothing is held beside what the keeper keeps; takes no memory.
+    pub fn new(alloc: Global, keeper: K) -> Holding<K>
+        ensures keeps { result.keeper ≡ keeper }
+        ensures holds { held_in result.stages.map result.pins.map ≡ nothing_held }
+    {
+        Holding {
+            alloc,
+            keeper,
+            stages: Stages::new(alloc),
+            pins: Pins::new(alloc),
+        }
+    }
+
+    /// The keeper; what was held goes.
+    pub fn into_keeper(self) -> K
+        ensures { result ≡ self.keeper }
+    {
+        let Holding { keeper, .. } = self;
+        keeper
+    }
+}
+
+impl<K: Keeper> Holder for Holding<K> {
+    fn stage(&mut self, key: u64, expected: u64) -> Result<(), Fault> {
+        if self.keeper.spent() {
+            return Err(Fault::Storage);
+        }
+        or_memory(self.stages.begin(key, expected))
+    }
+
+    fn stage_more(&mut self, key: u64, bytes: &[u8]) -> Result<(), Fault> {
+        if self.keeper.spent() {
+            return Err(Fault::Storage);
+        }
+        or_memory(self.stages.extend(key, bytes))
+    }
+
+    fn staged(&mut self, key: u64) -> Found<StageSum> {
+        if self.keeper.spent() {
+            return Err(Fault::Storage);
+        }
+        Ok(self.stages.sum(key))
+    }
+
+    fn unstage(&mut self, key: u64) {
+        self.stages.take(key);
+    }
+
+    fn put_staged(&mut self, repo: &RepoName, digest: &Digest, key: u64) -> Result<(), Fault> {
+        if self.keeper.spent() {
+            return Err(Fault::Storage);
+        }
+        match self.stages.take(key) {
+            Some(staged) if fits(&staged, digest) => {
+                self.keeper.put_blob(repo, digest, staged.bytes())
+            }
+            _ => Err(Fault::Memory),
+        }
+    }
+
+    fn append_staged(&mut self, repo: &RepoName, number: u64, key: u64) -> Result<(), Fault> {
+        if self.keeper.spent() {
+            return Err(Fault::Storage);
+        }
+        match self.stages.take(key) {
+            Some(staged) => self.keeper.append(repo, number, staged.bytes()),
+            None => Err(Fault::Memory),
+        }
+    }
+
+    fn finish_staged(
+        &mut self,
+        repo: &RepoName,
+        number: u64,
+        digest: &Digest,
+        key: u64,
+    ) -> Result<(), Fault> {
+        let Some(mut bytes) = self.keeper.session(self.alloc, repo, number)? else {
+            return Err(Fault::Memory);
+        };
+        let Some(staged) = self.stages.take(key) else {
+            return Err(Fault::Memory);
+        };
+        let Ok(()) = bytes.extend_from_slice(staged.bytes()) else {
+            return Err(Fault::Memory);
+        };
+        let whole = bytes.as_slice();
+        if whole.len() as u64 > LARGEST_BLOB || !has_digest(digest, whole) {
+            return Err(Fault::Memory);
+        }
+        self.keeper.finish(repo, number, digest, whole)
+    }
+
+    fn pin(&mut self, key: u64, repo: &RepoName, digest: &Digest) -> Found<u64> {
+        match self.keeper.blob(self.alloc, repo, digest)? {
+            Some(bytes) => {
+                let size = bytes.len() as u64;
+                or_memory(self.pins.put(key, bytes))?;
+                Ok(Some(size))
+            }
+            None => {
+                self.pins.remove(key);
+                Ok(None)
+            }
+        }
+    }
+
+    fn read_pin(&mut self, key: u64, from: u64, room: &mut [u8]) -> Result<usize, Fault> {
+        if self.keeper.spent() {
+            return Err(Fault::Storage);
+        }
+        Ok(self.pins.read(key, from, room))
+    }
+
+    fn unpin(&mut self, key: u64) {
+        self.pins.remove(key);
+    }
+}
