@@ -232,7 +232,7 @@ def compare_quotes(page="docs/THEOREM.md"):
 def compare_counts(page="docs/TESTING.md"):
     edits = len(glob.glob(f"{TOP}/crates/*/must-fail/*.edit"))
     tests = 0
-    for path in glob.glob(f"{TOP}/crates/serving_tests/src/*.rt"):
+    for path in glob.glob(f"{TOP}/crates/*_tests/src/*.rt"):
         with open(path, encoding="utf-8") as it:
             tests += it.read().count("#[test]")
     with open(f"{TOP}/{page}", encoding="utf-8") as it:

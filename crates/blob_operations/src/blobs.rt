@@ -130,7 +130,7 @@ fn add_blob<K: Keeper>(
 }
 
 /// Why so many bytes are not pushed, if they are not, by the verdict on their digest.
-fn push_refusal(verdict: Verdict, length: u64) -> Option<Refusal>
+pub fn push_refusal(verdict: Verdict, length: u64) -> Option<Refusal>
     ensures { result ≡ push_refusal verdict (nat_lt largest_blob length) }
 {
     match verdict {

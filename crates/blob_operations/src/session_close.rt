@@ -1,12 +1,12 @@
 //! The end of an upload session: its bytes become a blob.
 
-ghost use Rattle.std.specs.Prelude.{◌≡◌, ◌≤◌, ◌+◌, ◌++◌, true, length, MatchResult};
+ghost use Rattle.std.specs.Prelude.{◌≡◌, ◌==◌, ◌≤◌, ◌+◌, ◌++◌, true, length, if◌then◌else◌, MatchResult};
 ghost use Rattle.oci_types.specs.Digest.{is_verified};
 ghost use Rattle.registry_model.specs.Limits.{largest_blob};
 ghost use Rattle.registry_model.specs.Ask.{text_in};
 ghost use Rattle.registry_model.specs.Keeping.{Spends};
 ghost use Rattle.registry_model.specs.Sessions as sessions;
-ghost use Rattle.registry_model.specs.Sessions.{last_range_verdict};
+ghost use Rattle.registry_model.specs.Range.{range_verdict};
 ghost use Rattle.operation_parts.specs.Operating.{Operates, IsUnspent, HasRepo, Answers, Carries};
 ghost use Rattle.blob_operations.specs.Uploads.{bytes_so_far, finish_with, given_digest, IsOpen};
 
@@ -19,14 +19,16 @@ use operation_parts::replies::{blob_location, created_blob};
 use registry_model::{Keeper, LARGEST_BLOB, RangeVerdict, Refusal, Reply, range_fits};
 use std::alloc::Global;
 
-/// The verdict on the range of a last chunk; an empty one has no range to look at (profile).
-fn last_verdict(range: Option<&[u8]>, size: u64, body: &[u8]) -> RangeVerdict
-    ensures { result ≡ last_range_verdict (text_in range.entry) size body.now }
+/// The verdict on the range of a last chunk of `more` bytes, behind `size`; an empty one has no range to look
+/// at (profile).
+pub fn last_verdict(range: Option<&[u8]>, size: u64, more: u64) -> RangeVerdict
+    ensures { result ≡ (if more == 0 then RangeVerdict.Fits
+        else range_verdict (text_in range.entry) size more) }
 {
-    if body.is_empty() {
+    if more == 0 {
         RangeVerdict::Fits
     } else {
-        range_fits(range, size, body.len() as u64)
+        range_fits(range, size, more)
     }
 }
 
@@ -144,7 +146,7 @@ fn close_with<K: Keeper>(
 }
 
 /// The digest that is given, where bytes can be verified against it.
-fn given_digest(alloc: Global, digest: Option<&str>) -> Result<Option<Digest>, Fault>
+pub fn given_digest(alloc: Global, digest: Option<&str>) -> Result<Option<Digest>, Fault>
     ensures { MatchResult result (λ found. found ≡ given_digest (text_in digest.entry))
         (λ fault. fault ≡ Fault.Memory) }
 {
@@ -183,8 +185,9 @@ pub fn close_session<K: Keeper>(
         Ok(digest) => digest,
         Err(reply) => return reply,
     };
-    let verdict = last_verdict(range, upload.size, body);
-    match chunk_refusal(alloc, name, upload, verdict, body.len() as u64) {
+    let more = body.len() as u64;
+    let verdict = last_verdict(range, upload.size, more);
+    match chunk_refusal(alloc, name, upload, verdict, more) {
         Err(_) => Err(Fault::Memory),
         Ok(Some(refusal)) => Ok(refusal),
         Ok(None) => close_with(keeper, alloc, name, upload, verifiable, body),

@@ -1,6 +1,6 @@
 ghost use Rattle.std.specs.Prelude.{◌≡◌, ◌≤◌, ◌+◌, ◌++◌, [], ℕ, true, false, length, take, drop, Option, Some, None, is_some, option_map, OnOk};
 ghost use Rattle.oci_types.specs.Text.{Text};
-ghost use Rattle.oci_types.specs.Digest.{matches};
+ghost use Rattle.oci_types.specs.Digest.{matches, verdict_of};
 ghost use Rattle.registry_model.specs.Limits.{largest_blob};
 ghost use Rattle.registry_model.specs.World.{has_repo};
 ghost use Rattle.registry_model.specs.Lookups.{append, blob_at, blob_size_at, bytes_or_none, finish, put_blob, session_at};
@@ -8,7 +8,7 @@ ghost use Rattle.registry_model.specs.Keeping.{Asks, Reads, Spends};
 ghost use Rattle.registry_holding.specs.Holding.{Stages, WritesStage, Pins, count_from, with_stage, with_pin, sum_of, StageIs};
 
 use crate::staged::StageSum;
-use oci_types::{Digest, Fault, RepoName};
+use oci_types::{Digest, Fault, RepoName, Verdict};
 use registry_model::Keeper;
 use registry_model::keeper::Found;
 
@@ -18,8 +18,9 @@ use registry_model::keeper::Found;
 /// asked for nothing is known; after `Fault::Storage` the keeper is spent.
 pub trait Holder: Keeper {
     /// Begins an empty stage, in the place of one that is there. `expected` bytes are to come, or any number:
-    /// it says how much room to take at once.
-    fn stage(&mut self, key: u64, expected: u64) -> Result<(), Fault>
+    /// it says how much room to take at once. `with_sha512` says that a digest of that hash will be compared:
+    /// the bytes are hashed for it too, as they come.
+    fn stage(&mut self, key: u64, expected: u64, with_sha512: bool) -> Result<(), Fault>
         ensures stages { Self.is_honest self.new
             → Stages result key (Some []) (Self.kept self.old) (Self.kept self.new) }
         ensures spends { Spends result (Self.kept self.old) (Self.kept self.new) }
@@ -37,6 +38,32 @@ pub trait Holder: Keeper {
     fn staged(&mut self, key: u64) -> Found<StageSum>
         ensures found { Self.is_honest self.new → Reads result
             (option_map sum_of ((Self.kept self.old).held.stages key))
+            (Self.kept self.old) (Self.kept self.new) }
+        ensures spends { Spends result (Self.kept self.old) (Self.kept self.new) }
+        ensures honest { Self.is_honest self.new → Self.is_honest self.old };
+
+    /// Whether a digest is that of the bytes of a stage. Hashes nothing again, but for a digest of SHA-512
+    /// of a stage that was not begun for one.
+    fn verdict(&mut self, key: u64, digest: &Digest) -> Found<Verdict>
+        ensures found { Self.is_honest self.new → Reads result
+            (option_map (verdict_of digest.now) ((Self.kept self.old).held.stages key))
+            (Self.kept self.old) (Self.kept self.new) }
+        ensures spends { Spends result (Self.kept self.old) (Self.kept self.new) }
+        ensures honest { Self.is_honest self.new → Self.is_honest self.old };
+
+    /// The same of the bytes of an upload session, and those of a stage behind them. Where there is no such
+    /// session, of those of the stage. Hashes them all.
+    fn verdict_behind(
+        &mut self,
+        repo: &RepoName,
+        number: u64,
+        digest: &Digest,
+        key: u64,
+    ) -> Found<Verdict>
+        ensures found { Self.is_honest self.new → Reads result
+            (option_map (λ t. verdict_of digest.now
+            (bytes_or_none (session_at (Self.kept self.old).world repo.now number) ++ t))
+            ((Self.kept self.old).held.stages key))
             (Self.kept self.old) (Self.kept self.new) }
         ensures spends { Spends result (Self.kept self.old) (Self.kept self.new) }
         ensures honest { Self.is_honest self.new → Self.is_honest self.old };

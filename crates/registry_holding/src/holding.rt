@@ -73,11 +73,11 @@ impl<K: Keeper> Holding<K> {
 }
 
 impl<K: Keeper> Holder for Holding<K> {
-    fn stage(&mut self, key: u64, expected: u64) -> Result<(), Fault> {
+    fn stage(&mut self, key: u64, expected: u64, with_sha512: bool) -> Result<(), Fault> {
         if self.keeper.spent() {
             return Err(Fault::Storage);
         }
-        or_memory(self.stages.begin(key, expected))
+        or_memory(self.stages.begin(key, expected, with_sha512))
     }
 
     fn stage_more(&mut self, key: u64, bytes: &[u8]) -> Result<(), Fault> {
@@ -92,6 +92,30 @@ impl<K: Keeper> Holder for Holding<K> {
             return Err(Fault::Storage);
         }
         Ok(self.stages.sum(key))
+    }
+
+    fn verdict(&mut self, key: u64, digest: &Digest) -> Found<Verdict> {
+        if self.keeper.spent() {
+            return Err(Fault::Storage);
+        }
+        Ok(self.stages.verdict(key, digest))
+    }
+
+    fn verdict_behind(
+        &mut self,
+        repo: &RepoName,
+        number: u64,
+        digest: &Digest,
+        key: u64,
+    ) -> Found<Verdict> {
+        let first = match self.keeper.session(self.alloc, repo, number)? {
+            Some(bytes) => bytes,
+            None => Vec::new(self.alloc),
+        };
+        match self.stages.verdict_behind(key, first, digest) {
+            Ok(found) => Ok(found),
+            Err(_) => Err(Fault::Memory),
+        }
     }
 
     fn unstage(&mut self, key: u64) {

@@ -1,11 +1,12 @@
-ghost use Rattle.std.specs.Prelude.{◌≡◌, ◌++◌, [], length, bytes_eq, IfOk, OnOk, OnErr};
+ghost use Rattle.std.specs.Prelude.{◌≡◌, ◌++◌, [], length, bytes_eq, if◌then◌else◌, IfOk, IfSome, OnOk, OnErr};
 ghost use Rattle.sha2.specs.Sha256.{sha256};
+ghost use Rattle.sha2.specs.Sha512.{sha512};
 ghost use Rattle.hex.specs.Hex.{encode_lower};
 ghost use Rattle.oci_types.specs.Digest.{verdict_of};
 ghost use Rattle.registry_holding.specs.Holding.{sum_of};
 
 use oci_types::{Digest, Verdict};
-use sha2::{Digest as Hash, Sha256};
+use sha2::{Digest as Hash, Sha256, Sha512};
 use std::alloc::{AllocError, Global};
 use std::marker::Model;
 
@@ -16,41 +17,68 @@ pub struct StageSum {
     pub sha256: [u8; 32],
 }
 
-/// The bytes of a body that came so far, and the state of their SHA-256: each is hashed once, as it comes.
+/// The bytes of a body that came so far, and the state of their SHA-256, and of their SHA-512 where it was
+/// asked for: each byte is hashed as it comes.
 #[derive(Drop)]
 pub struct Staged {
     bytes: Vec<u8>,
-    hasher: Sha256,
+    sha256: Sha256,
+    sha512: Option<Sha512>,
 }
 
 impl Model for Staged {
-    ghost use Rattle.std.specs.Prelude.{List, ℕ};
-    ghost use Rattle.sha2.specs.Hashers.{Holds256};
+    ghost use Rattle.std.specs.Prelude.{List, ℕ, IfSome};
+    ghost use Rattle.sha2.specs.Hashers.{Holds256, Holds512};
 
     ghost Value = { List ℕ };
 
     ghost view = { λ s. s.bytes.items };
 
-    ghost invariant = { λ s. Holds256 s.hasher s.bytes.items };
+    ghost invariant = { λ s. Holds256 s.sha256 s.bytes.items
+        × IfSome s.sha512 (λ h. Holds512 h s.bytes.items) };
+}
+
+/// What comparing found.
+fn of_match(is_match: bool) -> Verdict
+    ensures { result ≡ (if is_match then Verdict.Matches else Verdict.Differs) }
+{
+    if is_match {
+        Verdict::Matches
+    } else {
+        Verdict::Differs
+    }
 }
 
 /// Whether the text is the lowercase hexadecimal one of the hash.
-fn encodes(encoded: &[u8], hash: &[u8; 32]) -> bool
+fn encodes_sha256(encoded: &[u8], hash: &[u8; 32]) -> bool
     ensures { result ≡ bytes_eq encoded.now (encode_lower hash.now) }
 {
     let mut expected = [0; 64];
     hex::encode_to_slice(hash, &mut expected).is_ok() && encoded == expected.as_slice()
 }
 
+fn encodes_sha512(encoded: &[u8], hash: &[u8; 64]) -> bool
+    ensures { result ≡ bytes_eq encoded.now (encode_lower hash.now) }
+{
+    let mut expected = [0; 128];
+    hex::encode_to_slice(hash, &mut expected).is_ok() && encoded == expected.as_slice()
+}
+
 impl Staged {
-    /// No bytes, with room for this many.
-    pub fn new(alloc: Global, expected: u64) -> Result<Staged, AllocError>
+    /// No bytes, with room for this many. `with_sha512` asks for their SHA-512 besides.
+    pub fn new(alloc: Global, expected: u64, with_sha512: bool) -> Result<Staged, AllocError>
         ensures { IfOk result (λ s. s ≡ []) }
     {
         let bytes = Vec::with_capacity(alloc, expected as usize)?;
+        let sha512 = if with_sha512 {
+            Some(Sha512::new())
+        } else {
+            None
+        };
         Ok(Staged {
             bytes,
-            hasher: Sha256::new(),
+            sha256: Sha256::new(),
+            sha512,
         })
     }
 
@@ -60,7 +88,10 @@ impl Staged {
         ensures err { OnErr result (self.new ≡ self.old) }
     {
         self.bytes.extend_from_slice(piece)?;
-        self.hasher.update(piece);
+        self.sha256.update(piece);
+        if let Some(hasher) = &mut self.sha512 {
+            hasher.update(piece);
+        }
         Ok(())
     }
 
@@ -74,7 +105,7 @@ impl Staged {
     pub fn sum(&self) -> StageSum
         ensures { result ≡ sum_of self.now }
     {
-        let sha256 = match self.hasher.clone() {
+        let sha256 = match self.sha256.clone() {
             Ok(hasher) => hasher.finalize(),
             // (a copy takes no memory, so it never fails)
             Err(_) => Sha256::digest(self.bytes()),
@@ -85,19 +116,31 @@ impl Staged {
         }
     }
 
-    /// Whether the digest is that of the bytes. Hashes nothing again but for another algorithm than sha256.
+    /// Their SHA-512. Hashes nothing again where it was asked for as they came.
+    fn sum512(&self) -> [u8; 64]
+        ensures { result ≡ sha512 self.now }
+    {
+        if let Some(state) = &self.sha512 {
+            if let Ok(hasher) = state.clone() {
+                return hasher.finalize();
+            }
+        }
+        Sha512::digest(self.bytes())
+    }
+
+    /// Whether the digest is that of the bytes, by these sums.
     pub fn verdict(&self, digest: &Digest) -> Verdict
         ensures { result ≡ verdict_of digest.now self.now }
     {
         let text = digest.as_str().as_bytes();
-        if !text.starts_with(b"sha256:") {
-            return digest.verifies(self.bytes());
+        if text.starts_with(b"sha256:") {
+            let sum = self.sum();
+            return of_match(encodes_sha256(&text[7..], &sum.sha256));
         }
-        let sum = self.sum();
-        if encodes(&text[7..], &sum.sha256) {
-            Verdict::Matches
-        } else {
-            Verdict::Differs
+        if text.starts_with(b"sha512:") {
+            let sum = self.sum512();
+            return of_match(encodes_sha512(&text[7..], &sum));
         }
+        Verdict::Unsupported
     }
 }

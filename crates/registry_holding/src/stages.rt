@@ -1,8 +1,10 @@
-ghost use Rattle.std.specs.Prelude.{◌≡◌, ◌++◌, [], Some, None, option_map, OnOk, OnErr};
+ghost use Rattle.std.specs.Prelude.{◌≡◌, ◌++◌, [], Some, None, option_map, IfOk, OnOk, OnErr};
+ghost use Rattle.oci_types.specs.Digest.{verdict_of};
 ghost use Rattle.registry_holding.specs.Holding.{put_under, sum_of};
 ghost use Rattle.registry_holding.specs.Shown.{stages_in};
 
 use crate::staged::{StageSum, Staged};
+use oci_types::{Digest, Verdict};
 use std::alloc::{AllocError, Global};
 use std::collections::BTreeMap;
 
@@ -34,13 +36,14 @@ impl Stages {
         Ok(())
     }
 
-    /// Begins an empty one under a number, with room for this many bytes.
-    pub fn begin(&mut self, key: u64, expected: u64) -> Result<(), AllocError>
+    /// Begins an empty one under a number, with room for this many bytes. `with_sha512` asks for its SHA-512
+    /// besides.
+    pub fn begin(&mut self, key: u64, expected: u64, with_sha512: bool) -> Result<(), AllocError>
         ensures ok { OnOk result
             (stages_in self.new.map ≡ put_under key (Some []) (stages_in self.old.map)) }
         ensures err { OnErr result (stages_in self.new.map ≡ stages_in self.old.map) }
     {
-        let staged = Staged::new(self.alloc, expected)?;
+        let staged = Staged::new(self.alloc, expected, with_sha512)?;
         self.put(key, staged)
     }
 
@@ -75,5 +78,34 @@ impl Stages {
             Some(staged) => Some(staged.sum()),
             None => None,
         }
+    }
+    /// Whether a digest is that of the bytes of the one under a number.
+    pub fn verdict(&self, key: u64, digest: &Digest) -> Option<Verdict>
+        ensures { result ≡ option_map (verdict_of digest.now) (stages_in self.now.map key) }
+    {
+        match self.map.get(&key) {
+            Some(staged) => Some(staged.verdict(digest)),
+            None => None,
+        }
+    }
+    /// Whether a digest is that of these bytes and those of the one under a number behind them.
+    pub fn verdict_behind(
+        &self,
+        key: u64,
+        first: Vec<u8>,
+        digest: &Digest,
+    ) -> Result<Option<Verdict>, AllocError>
+        ensures { IfOk result (λ found. found
+            ≡ option_map (λ t. verdict_of digest.now (first.items ++ t)) (stages_in self.now.map key)) }
+    {
+        let Some(staged) = self.map.get(&key) else {
+            return Ok(None);
+        };
+        if first.is_empty() {
+            return Ok(Some(staged.verdict(digest)));
+        }
+        let mut whole = first;
+        whole.extend_from_slice(staged.bytes())?;
+        Ok(Some(digest.verifies(whole.as_slice())))
     }
 }

@@ -29,8 +29,8 @@ fn is_staged<H: Holder>(rt: &impl Abort, holder: &mut H, key: u64, size: u64, sh
 fn stages_are_apart(rt: HostRuntime) {
     let alloc = rt.alloc();
     let mut holder = Holding::new(alloc, setting(&rt, alloc).into_keeper());
-    holder.stage(7, 3).expect(&rt, "a stage");
-    holder.stage(8, 0).expect(&rt, "another");
+    holder.stage(7, 3, false).expect(&rt, "a stage");
+    holder.stage(8, 0, true).expect(&rt, "another");
     holder.stage_more(7, b"a").expect(&rt, "a piece");
     holder.stage_more(7, b"bc").expect(&rt, "the next");
     is_staged(&rt, &mut holder, 7, 3, SUM_OF_ABC);

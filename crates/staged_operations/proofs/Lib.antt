@@ -1,0 +1,2 @@
+pub mod StagingLemmas
+pub mod WholeLemmas
