@@ -1,5 +1,7 @@
-//! Tests of operations whose bodies are staged, over ordered maps.
+//! Tests of operations and requests whose bodies are staged, or were let fall, over ordered maps.
 #![tactic(auto)]
 
+#[cfg(test)]
+mod requests;
 #[cfg(test)]
 mod staged;

@@ -11,9 +11,9 @@ use staged_operations::uploads::append_staged_chunk;
 use std::process::Abort;
 
 /// The digests of `abc` (FIPS 180-4; `printf abc | sha256sum`, `printf abc | sha512sum`).
-const ABC: &str = "sha256:ba7816bf8f01cfea414140de5dae2223b00361a396177a9cb410ff61f20015ad";
+pub const ABC: &str = "sha256:ba7816bf8f01cfea414140de5dae2223b00361a396177a9cb410ff61f20015ad";
 
-const WIDE: &str = "sha512:ddaf35a193617abacc417349ae20413112e6fa4e89a97ea20a9eeee64b55d39a\
+pub const WIDE: &str = "sha512:ddaf35a193617abacc417349ae20413112e6fa4e89a97ea20a9eeee64b55d39a\
       2192992a274fc1a836ba3c23a3feebbd454d4423643ce80e2a9ac94fa54ca49f";
 
 /// Stages these bytes under a number, where the repository is there.

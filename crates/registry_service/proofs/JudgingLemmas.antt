@@ -119,8 +119,3 @@ pub misnamed : (reply : Reply) (token name : Text) (q : Ask) (whole : Type 0) (s
 misnamed reply token name q whole s honest e unspent invalid =
     told reply (refused InvalidName) (valid_name name) (decide (s.world.grants token) (repo_at s.world) name q) whole s s honest honest e refl refl unspent unspent (λ _. refl) (λ h. h)
     (λ _. unnamed (s.world.grants token) (repo_at s.world) name q invalid)
-
--- with what is answered where no token is named
-pub with_token : (r : Result Reply Fault) (a : Answer) (w : World) (whole : Type 0) (s s' : Kept) (before after none : Type 0) → Replies r a w whole s s' before after → none
-    → record { comes : after → WritesBy answer_of r a w s s'; answers : Answers r; carries : whole → Carries r; spends : Spends r s s'; no_token : none; honest : after → before }
-with_token r a w whole s s' before after none h n = record { comes = h.comes; answers = h.answers; carries = h.carries; spends = h.spends; no_token = n; honest = h.honest }

@@ -1,4 +1,5 @@
 pub mod JudgingLemmas
+pub mod BodyLemmas
 pub mod SizingLemmas
 pub mod TokenLemmas
 pub mod DoingLemmas

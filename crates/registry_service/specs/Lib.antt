@@ -2,3 +2,4 @@ pub mod Operations
 pub mod AdminCommands
 pub mod Steps
 pub mod Serving
+pub mod Bodies

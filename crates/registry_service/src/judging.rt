@@ -1,4 +1,5 @@
 ghost use Rattle.std.specs.Prelude.{◌≡◌, true, false, None, IsOkAnd};
+ghost use Rattle.oci_types.specs.Text.{Text};
 ghost use Rattle.registry_model.specs.Heads.{is_head, is_sent, is_sizing};
 ghost use Rattle.registry_model.specs.declared.refusal.Refusal.TheVariants.{TokenRequired};
 ghost use Rattle.registry_model.specs.World.{repo_at};
@@ -11,15 +12,15 @@ ghost use Rattle.registry_model.specs.Keeping.{Spends, WritesBy};
 ghost use Rattle.operation_parts.specs.Operating.{Comes, ComesOn, HasRepo, IsUnspent, Answers, Carries, OperatesWith};
 ghost use Rattle.registry_service.specs.Operations.{shown_operation};
 ghost use Rattle.registry_service.specs.Serving.{beside, name_at};
+ghost use Rattle.registry_service.specs.Bodies.{from_body, ask_with};
 
+use crate::body::RequestBody;
 use crate::login::{ask_for_token, find_token, log_in, tell_health};
 use crate::operation::{Operation, allowed_methods, allows, find_operation};
-use blob_operations::blobs::{delete_blob, push_blob, read_blob, size_blob};
+use blob_operations::blobs::{delete_blob, read_blob, size_blob};
 use blob_operations::mounting::mount_blob;
-use blob_operations::session_close::close_session;
-use blob_operations::uploads::{append_chunk, open_session, read_session};
+use blob_operations::uploads::{open_session, read_session};
 use manifest_operations::listing::list_tags;
-use manifest_operations::manifest_push::push_manifest;
 use manifest_operations::manifests::{delete_manifest, read_manifest, size_manifest};
 use manifest_operations::referrers::{list_referrers, size_referrers};
 use oci_types::{Fault, NameFault, RepoName, Token};
@@ -27,19 +28,20 @@ use registry_model::{Body, Keeper, Refusal, Reply, Request, Resource, Route, Sta
 use std::alloc::Global;
 
 /// The reply to an operation in a repository that is there.
-fn operate_there<K: Keeper>(
+fn operate_there<K: Keeper, B: RequestBody<K>>(
     keeper: &mut K,
     alloc: Global,
     token: &Token,
     name: &RepoName,
     operation: Operation,
-    body: &[u8],
+    body: B,
 ) -> Result<Reply, Fault>
     requires unspent { IsUnspent (K.kept keeper.old) }
     requires there { K.is_honest keeper.old → HasRepo (K.kept keeper.old) name.now }
-    ensures comes { K.is_honest keeper.new → OperatesWith result name.now
-        (λ w r. operate (w.grants token.now) (repo_at w) r name.now (shown_operation operation.entry)
-        body.now) (K.kept keeper.old) (K.kept keeper.new) }
+    ensures comes { K.is_honest keeper.new → (t : Text) → B.is_body body (K.kept keeper.old) t
+        → OperatesWith result name.now
+        (λ w r. operate (w.grants token.now) (repo_at w) r name.now (shown_operation operation.entry) t)
+        (from_body (B.stage body) (K.kept keeper.old) (K.kept keeper.new)) (K.kept keeper.new) }
     ensures answers { Answers result }
     ensures carries { is_sizing (shown_operation operation.entry) ≡ false → Carries result }
     ensures spends { Spends result (K.kept keeper.old) (K.kept keeper.new) }
@@ -49,27 +51,27 @@ fn operate_there<K: Keeper>(
         Operation::ReadBlob(digest) => read_blob(keeper, alloc, name, digest),
         Operation::SizeBlob(digest) => size_blob(keeper, alloc, name, digest),
         Operation::DeleteBlob(digest) => delete_blob(keeper, alloc, name, digest),
-        Operation::PushBlob(digest) => push_blob(keeper, alloc, name, digest, body),
+        Operation::PushBlob(digest) => body.push_blob(keeper, alloc, name, digest),
         Operation::OpenSession => open_session(keeper, alloc, name),
         Operation::MountBlob { digest, source } => {
             mount_blob(keeper, alloc, token, name, digest, source)
         }
         Operation::ReadSession(reference) => read_session(keeper, alloc, name, reference),
         Operation::AppendChunk { reference, range } => {
-            append_chunk(keeper, alloc, name, reference, range, body)
+            body.append_chunk(keeper, alloc, name, reference, range)
         }
         Operation::CloseSession {
             reference,
             digest,
             range,
-        } => close_session(keeper, alloc, name, reference, digest, range, body),
+        } => body.close_session(keeper, alloc, name, reference, digest, range),
         Operation::ReadManifest(reference) => read_manifest(keeper, alloc, name, reference),
         Operation::SizeManifest(reference) => size_manifest(keeper, alloc, name, reference),
         Operation::DeleteManifest(reference) => delete_manifest(keeper, alloc, name, reference),
         Operation::PushManifest {
             reference,
             content_type,
-        } => push_manifest(keeper, alloc, name, reference, content_type, body),
+        } => body.push_manifest(keeper, alloc, name, reference, content_type),
         Operation::ListTags { n, last } => list_tags(keeper, alloc, name, n, last),
         Operation::ListReferrers {
             digest,
@@ -83,17 +85,18 @@ fn operate_there<K: Keeper>(
 }
 
 /// The reply to an operation that the token may do.
-fn operate<K: Keeper>(
+fn operate<K: Keeper, B: RequestBody<K>>(
     keeper: &mut K,
     alloc: Global,
     token: &Token,
     name: &RepoName,
     operation: Operation,
-    body: &[u8],
+    body: B,
 ) -> Result<Reply, Fault>
-    ensures comes { K.is_honest keeper.new → OperatesWith result name.now
-        (λ w r. operate (w.grants token.now) (repo_at w) r name.now (shown_operation operation.entry)
-        body.now) (K.kept keeper.old) (K.kept keeper.new) }
+    ensures comes { K.is_honest keeper.new → (t : Text) → B.is_body body (K.kept keeper.old) t
+        → OperatesWith result name.now
+        (λ w r. operate (w.grants token.now) (repo_at w) r name.now (shown_operation operation.entry) t)
+        (from_body (B.stage body) (K.kept keeper.old) (K.kept keeper.new)) (K.kept keeper.new) }
     ensures answers { Answers result }
     ensures carries { is_sizing (shown_operation operation.entry) ≡ false → Carries result }
     ensures spends { Spends result (K.kept keeper.old) (K.kept keeper.new) }
@@ -116,18 +119,20 @@ pub fn not_allowed(route: &Route) -> Reply
 }
 
 /// The reply to a request in the repository of a name, by the method and the level.
-fn decide_in<K: Keeper>(
+fn decide_in<K: Keeper, B: RequestBody<K>>(
     keeper: &mut K,
     alloc: Global,
     token: &Token,
     name: &RepoName,
     request: &Request,
+    body: B,
 ) -> Result<Reply, Fault>
     requires { IsUnspent (K.kept keeper.old) }
-    ensures comes { K.is_honest keeper.new → Comes result name.now
+    ensures comes { K.is_honest keeper.new → (t : Text) → B.is_body body (K.kept keeper.old) t
+        → Comes result name.now
         (granted ((K.kept keeper.old).world.grants token.now) (repo_at (K.kept keeper.old).world) name.now
-        (form_of request.now.route) (operation_of (ask_of request.now)) request.now.body.now)
-        (K.kept keeper.old) (K.kept keeper.new) }
+        (form_of request.now.route) (operation_of (ask_of request.now)) t)
+        (from_body (B.stage body) (K.kept keeper.old) (K.kept keeper.new)) (K.kept keeper.new) }
     ensures answers { Answers result }
     ensures carries { is_head request.now.method ≡ false → Carries result }
     ensures spends { Spends result (K.kept keeper.old) (K.kept keeper.new) }
@@ -140,28 +145,31 @@ fn decide_in<K: Keeper>(
     if !allows(level, &operation) {
         return Ok(Reply::refusal(Refusal::AccessDenied));
     }
-    operate(keeper, alloc, token, name, operation, request.body)
+    operate(keeper, alloc, token, name, operation, body)
 }
 
 /// The reply to a request of a known token, by the name and what is asked in its repository.
-fn decide<K: Keeper>(
+fn decide<K: Keeper, B: RequestBody<K>>(
     keeper: &mut K,
     alloc: Global,
     token: &Token,
     name: &str,
     request: &Request,
+    body: B,
 ) -> Result<Reply, Fault>
     requires { IsUnspent (K.kept keeper.old) }
-    ensures comes { K.is_honest keeper.new → ComesOn result (valid_name name.now)
+    ensures comes { K.is_honest keeper.new → (t : Text) → B.is_body body (K.kept keeper.old) t
+        → ComesOn result (valid_name name.now)
         (decide ((K.kept keeper.old).world.grants token.now) (repo_at (K.kept keeper.old).world) name.now
-        (ask_of request.now)) (K.kept keeper.old) (K.kept keeper.new) }
+        (ask_with (ask_of request.now) t))
+        (from_body (B.stage body) (K.kept keeper.old) (K.kept keeper.new)) (K.kept keeper.new) }
     ensures answers { Answers result }
     ensures carries { is_head request.now.method ≡ false → Carries result }
     ensures spends { Spends result (K.kept keeper.old) (K.kept keeper.new) }
     ensures honest { K.is_honest keeper.new → K.is_honest keeper.old }
 {
     match RepoName::parse(alloc, name) {
-        Ok(name) => decide_in(keeper, alloc, token, &name, request),
+        Ok(name) => decide_in(keeper, alloc, token, &name, request, body),
         Err(fault) => match fault {
             NameFault::Memory => Err(Fault::Memory),
             _ => Ok(Reply::refusal(Refusal::InvalidName)),
@@ -210,16 +218,19 @@ fn reply_beside(route: &Route, method: Verb) -> Reply
 }
 
 /// The reply to a request of a token, known or not.
-fn serve_token<K: Keeper>(
+fn serve_token<K: Keeper, B: RequestBody<K>>(
     keeper: &mut K,
     alloc: Global,
     token: &Token,
     request: &Request,
+    body: B,
 ) -> Result<Reply, Fault>
     requires { IsUnspent (K.kept keeper.old) }
-    ensures comes { K.is_honest keeper.new → ComesOn result (addressed (form_of request.now.route))
+    ensures comes { K.is_honest keeper.new → (t : Text) → B.is_body body (K.kept keeper.old) t
+        → ComesOn result (addressed (form_of request.now.route))
         (decision ((K.kept keeper.old).world.grants token.now) (repo_at (K.kept keeper.old).world)
-        (ask_of request.now)) (K.kept keeper.old) (K.kept keeper.new) }
+        (ask_with (ask_of request.now) t))
+        (from_body (B.stage body) (K.kept keeper.old) (K.kept keeper.new)) (K.kept keeper.new) }
     ensures answers { Answers result }
     ensures carries { is_head request.now.method ≡ false → Carries result }
     ensures spends { Spends result (K.kept keeper.old) (K.kept keeper.new) }
@@ -229,21 +240,23 @@ fn serve_token<K: Keeper>(
         return ask_for_token(alloc, request);
     }
     match name_at(&request.route) {
-        Some(name) => decide(keeper, alloc, token, name, request),
+        Some(name) => decide(keeper, alloc, token, name, request, body),
         None => Ok(reply_beside(&request.route, request.method)),
     }
 }
 
 /// The reply to a request of an endpoint of the registry.
-fn judge_by_token<K: Keeper>(
+fn judge_by_token<K: Keeper, B: RequestBody<K>>(
     keeper: &mut K,
     alloc: Global,
     request: &Request,
+    body: B,
 ) -> Result<Reply, Fault>
     requires { IsUnspent (K.kept keeper.old) }
-    ensures comes { K.is_honest keeper.new → ComesOn result (addressed (form_of request.now.route))
-        (judged (K.kept keeper.old).world (text_in request.now.token) (ask_of request.now))
-        (K.kept keeper.old) (K.kept keeper.new) }
+    ensures comes { K.is_honest keeper.new → (t : Text) → B.is_body body (K.kept keeper.old) t
+        → ComesOn result (addressed (form_of request.now.route))
+        (judged (K.kept keeper.old).world (text_in request.now.token) (ask_with (ask_of request.now) t))
+        (from_body (B.stage body) (K.kept keeper.old) (K.kept keeper.new)) (K.kept keeper.new) }
     ensures answers { Answers result }
     ensures carries { is_head request.now.method ≡ false → Carries result }
     ensures spends { Spends result (K.kept keeper.old) (K.kept keeper.new) }
@@ -252,17 +265,23 @@ fn judge_by_token<K: Keeper>(
     ensures honest { K.is_honest keeper.new → K.is_honest keeper.old }
 {
     match find_token(alloc, request.token)? {
-        Some(token) => serve_token(keeper, alloc, &token, request),
+        Some(token) => serve_token(keeper, alloc, &token, request, body),
         None => ask_for_token(alloc, request),
     }
 }
 
-/// The reply to a request, or why there is none.
-pub fn judge<K: Keeper>(keeper: &mut K, alloc: Global, request: &Request) -> Result<Reply, Fault>
-    ensures comes { K.is_honest keeper.new → WritesBy answer_of result
-        (reply_to (K.kept keeper.old).world (ask_of request.now))
-        (after_request (K.kept keeper.old).world (ask_of request.now))
-        (K.kept keeper.old) (K.kept keeper.new) }
+/// The reply to a request with this body, whatever the request has, or why there is none.
+pub fn judge<K: Keeper, B: RequestBody<K>>(
+    keeper: &mut K,
+    alloc: Global,
+    request: &Request,
+    body: B,
+) -> Result<Reply, Fault>
+    ensures comes { K.is_honest keeper.new → (t : Text) → B.is_body body (K.kept keeper.old) t
+        → WritesBy answer_of result
+        (reply_to (K.kept keeper.old).world (ask_with (ask_of request.now) t))
+        (after_request (K.kept keeper.old).world (ask_with (ask_of request.now) t))
+        (from_body (B.stage body) (K.kept keeper.old) (K.kept keeper.new)) (K.kept keeper.new) }
     ensures answers { Answers result }
     ensures carries { is_head request.now.method ≡ false → Carries result }
     ensures spends { Spends result (K.kept keeper.old) (K.kept keeper.new) }
@@ -275,7 +294,7 @@ pub fn judge<K: Keeper>(keeper: &mut K, alloc: Global, request: &Request) -> Res
         return Err(Fault::Storage);
     }
     match request.resource {
-        Resource::Registry => judge_by_token(keeper, alloc, request),
+        Resource::Registry => judge_by_token(keeper, alloc, request, body),
         Resource::Tokens => log_in(alloc, request.method, request.basic),
         Resource::Health => Ok(tell_health(request.method)),
     }

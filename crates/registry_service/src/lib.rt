@@ -4,6 +4,8 @@
 #![tactic(auto)]
 
 mod admin_commands;
+mod answering;
+mod body;
 mod judging;
 mod login;
 mod operation;

@@ -1,4 +1,5 @@
-ghost use Rattle.std.specs.Prelude.{◌≡◌, true, false, None};
+ghost use Rattle.std.specs.Prelude.{◌≡◌, true, false, None, Some, length};
+ghost use Rattle.oci_types.specs.Text.{Text};
 ghost use Rattle.registry_model.specs.Heads.{is_head, is_sent};
 ghost use Rattle.registry_model.specs.declared.refusal.Refusal.TheVariants.{TokenRequired};
 ghost use Rattle.registry_model.specs.Answer.{answer_of, refused};
@@ -8,11 +9,14 @@ ghost use Rattle.registry_model.specs.Keeping.{HeldStays, Reads, ReadsBy, ReadsS
 ghost use Rattle.registry_model.specs.Lookups.{AreLevelsOn, AreLevelsOver, repo_names_of, usages_of, tags_at, blob_digests_at, blob_size_at, manifest_digests_at};
 ghost use Rattle.registry_model.specs.World.{has_repo};
 ghost use Rattle.manifest_operations.specs.Pruning.{names_at, unnamed_at};
+ghost use Rattle.registry_service.specs.Bodies.{ask_with, from_body};
 
 use crate::admin_commands::apply_command;
-use crate::judging::judge;
+use crate::answering::answer;
+use crate::body::{CountedBody, StagedBody, WholeBody};
 use manifest_operations::{names_at, unnamed};
 use oci_types::{Digest, Fault, RepoName, Tag, Token};
+use registry_holding::Holder;
 use registry_model::{
     AdminCommand, AdminFault, Grant, Keeper, Level, Reply, Request, Resource, Usage,
 };
@@ -74,11 +78,26 @@ impl<K: Keeper> Service<K> {
             answer_of result ≡ refused TokenRequired }
         ensures honest { K.is_honest self.new → K.is_honest self.old }
     {
-        match judge(&mut self.keeper, alloc, request) {
-            Ok(reply) => reply,
-            Err(Fault::Memory) => Reply::busy(),
-            Err(Fault::Storage) => Reply::failed(),
-        }
+        answer(&mut self.keeper, alloc, request, WholeBody(request.body))
+    }
+
+    /// Answers a request of whose body it is known alone how many bytes came: they were not kept. The
+    /// request's own body is not looked at. Where the answer takes the bytes, the reply is 503, and nothing
+    /// has changed.
+    pub fn handle_counted(&mut self, alloc: Global, request: &Request, size: u64) -> Reply
+        ensures does { K.is_honest self.new → (t : Text) → length t ≡ size →
+            Does (state_of (K.kept self.old)) (ask_with (ask_of request.now) t) (answer_of result)
+            (state_of (K.kept self.new)) }
+        ensures holds { K.is_honest self.new → HeldStays (K.kept self.old) (K.kept self.new) }
+        ensures carries { is_head request.now.method ≡ false → is_sent (answer_of result).body ≡ true }
+        ensures spends { SpendsAs (course_of_answer (answer_of result))
+            (state_of (K.kept self.old)) (state_of (K.kept self.new)) }
+        ensures no_token { request.now.token ≡ None → request.now.resource ≡ Resource.Registry
+            → request.now.settings.login ≡ None → (K.kept self.old).spent ≡ false →
+            answer_of result ≡ refused TokenRequired }
+        ensures honest { K.is_honest self.new → K.is_honest self.old }
+    {
+        answer(&mut self.keeper, alloc, request, CountedBody(size))
     }
 
     /// What each repository holds and may hold, in byte order of names, as `Keeper::usages` tells it.
@@ -222,5 +241,29 @@ impl<K: Keeper> Service<K> {
         ensures honest { K.is_honest self.new → K.is_honest self.old }
     {
         apply_command(alloc, &mut self.keeper, command)
+    }
+}
+
+impl<H: Holder> Service<H> {
+    /// Answers a request whose body is staged under the number of a connection, as `handle` does on those
+    /// bytes. The request's own body is not looked at.
+    ///
+    /// Of that stage nothing is known afterwards; all else that is held stays. A manifest is not pushed from
+    /// a stage: that is answered 503, and nothing has changed.
+    pub fn handle_staged(&mut self, alloc: Global, request: &Request, key: u64) -> Reply
+        ensures does { H.is_honest self.new → (t : Text) → (H.kept self.old).held.stages key ≡ Some t →
+            Does (state_of (H.kept self.old)) (ask_with (ask_of request.now) t) (answer_of result)
+            (state_of (H.kept self.new)) }
+        ensures holds { H.is_honest self.new → (t : Text) → (H.kept self.old).held.stages key ≡ Some t →
+            HeldStays (from_body (Some key) (H.kept self.old) (H.kept self.new)) (H.kept self.new) }
+        ensures carries { is_head request.now.method ≡ false → is_sent (answer_of result).body ≡ true }
+        ensures spends { SpendsAs (course_of_answer (answer_of result))
+            (state_of (H.kept self.old)) (state_of (H.kept self.new)) }
+        ensures no_token { request.now.token ≡ None → request.now.resource ≡ Resource.Registry
+            → request.now.settings.login ≡ None → (H.kept self.old).spent ≡ false →
+            answer_of result ≡ refused TokenRequired }
+        ensures honest { H.is_honest self.new → H.is_honest self.old }
+    {
+        answer(&mut self.keeper, alloc, request, StagedBody(key))
     }
 }

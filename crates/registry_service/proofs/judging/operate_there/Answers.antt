@@ -1,7 +1,9 @@
 use Rattle.std.proofs.Common.{◌∙◌, sym, ap}
 use Rattle.std.proofs.lemmas.Bool.{true≢false}
 use Rattle.registry_model.specs.Heads.{is_sizing}
+use Rattle.registry_model.specs.Answer.{answer_of}
 use Rattle.registry_service.specs.Operations.{shown_operation}
+use Rattle.registry_service.proofs.BodyLemmas.{any_from}
 use Rattle.registry_service.proofs.judging.operate_there.Goals as goal
 
 pub read_blob-requires : goal.read_blob-requires
@@ -9,7 +11,7 @@ read_blob-requires g c = record { unspent = c.requires.unspent; there = c.requir
 
 pub returns-in-ReadBlob : goal.returns-in-ReadBlob
 returns-in-ReadBlob g c = record {
-  comes = λ honest. rw c.in-ReadBlob.is (c.read_blob.ensures.comes honest);
+  comes = λ honest t is. rw c.in-ReadBlob.is (any_from (g.B.RequestBody.stage c.args.body) answer_of c.read_blob.result _ _ _ _ (c.read_blob.ensures.comes honest));
   answers = c.read_blob.ensures.answers;
   carries = λ whole. c.read_blob.ensures.carries;
   spends = c.read_blob.ensures.spends;
@@ -21,7 +23,7 @@ size_blob-requires g c = record { unspent = c.requires.unspent; there = c.requir
 
 pub returns-in-SizeBlob : goal.returns-in-SizeBlob
 returns-in-SizeBlob g c = record {
-  comes = λ honest. rw c.in-SizeBlob.is (c.size_blob.ensures.comes honest);
+  comes = λ honest t is. rw c.in-SizeBlob.is (any_from (g.B.RequestBody.stage c.args.body) answer_of c.size_blob.result _ _ _ _ (c.size_blob.ensures.comes honest));
   answers = c.size_blob.ensures.answers;
   carries = λ whole. absurd (true≢false (sym (ap (λ o. is_sizing (shown_operation o)) c.in-SizeBlob.is) ∙ whole));
   spends = c.size_blob.ensures.spends;
@@ -33,7 +35,7 @@ delete_blob-requires g c = record { unspent = c.requires.unspent; there = c.requ
 
 pub returns-in-DeleteBlob : goal.returns-in-DeleteBlob
 returns-in-DeleteBlob g c = record {
-  comes = λ honest. rw c.in-DeleteBlob.is (c.delete_blob.ensures.comes honest);
+  comes = λ honest t is. rw c.in-DeleteBlob.is (any_from (g.B.RequestBody.stage c.args.body) answer_of c.delete_blob.result _ _ _ _ (c.delete_blob.ensures.comes honest));
   answers = c.delete_blob.ensures.answers;
   carries = λ whole. c.delete_blob.ensures.carries;
   spends = c.delete_blob.ensures.spends;
@@ -45,7 +47,7 @@ push_blob-requires g c = record { unspent = c.requires.unspent; there = c.requir
 
 pub returns-in-PushBlob : goal.returns-in-PushBlob
 returns-in-PushBlob g c = record {
-  comes = λ honest. rw c.in-PushBlob.is (c.push_blob.ensures.comes honest);
+  comes = λ honest t is. rw c.in-PushBlob.is (c.push_blob.ensures.comes honest t is);
   answers = c.push_blob.ensures.answers;
   carries = λ whole. c.push_blob.ensures.carries;
   spends = c.push_blob.ensures.spends;
@@ -57,7 +59,7 @@ open_session-requires g c = record { unspent = c.requires.unspent; there = c.req
 
 pub returns-in-OpenSession : goal.returns-in-OpenSession
 returns-in-OpenSession g c = record {
-  comes = λ honest. rw c.in-OpenSession.is (c.open_session.ensures.comes honest);
+  comes = λ honest t is. rw c.in-OpenSession.is (any_from (g.B.RequestBody.stage c.args.body) answer_of c.open_session.result _ _ _ _ (c.open_session.ensures.comes honest));
   answers = c.open_session.ensures.answers;
   carries = λ whole. c.open_session.ensures.carries;
   spends = c.open_session.ensures.spends;
@@ -69,7 +71,7 @@ mount_blob-requires g c = record { unspent = c.requires.unspent; there = c.requi
 
 pub returns-in-MountBlob : goal.returns-in-MountBlob
 returns-in-MountBlob g c = record {
-  comes = λ honest. rw c.in-MountBlob.is (c.mount_blob.ensures.comes honest);
+  comes = λ honest t is. rw c.in-MountBlob.is (any_from (g.B.RequestBody.stage c.args.body) answer_of c.mount_blob.result _ _ _ _ (c.mount_blob.ensures.comes honest));
   answers = c.mount_blob.ensures.answers;
   carries = λ whole. c.mount_blob.ensures.carries;
   spends = c.mount_blob.ensures.spends;
@@ -81,7 +83,7 @@ read_session-requires g c = record { unspent = c.requires.unspent; there = c.req
 
 pub returns-in-ReadSession : goal.returns-in-ReadSession
 returns-in-ReadSession g c = record {
-  comes = λ honest. rw c.in-ReadSession.is (c.read_session.ensures.comes honest);
+  comes = λ honest t is. rw c.in-ReadSession.is (any_from (g.B.RequestBody.stage c.args.body) answer_of c.read_session.result _ _ _ _ (c.read_session.ensures.comes honest));
   answers = c.read_session.ensures.answers;
   carries = λ whole. c.read_session.ensures.carries;
   spends = c.read_session.ensures.spends;
@@ -93,7 +95,7 @@ append_chunk-requires g c = record { unspent = c.requires.unspent; there = c.req
 
 pub returns-in-AppendChunk : goal.returns-in-AppendChunk
 returns-in-AppendChunk g c = record {
-  comes = λ honest. rw c.in-AppendChunk.is (c.append_chunk.ensures.comes honest);
+  comes = λ honest t is. rw c.in-AppendChunk.is (c.append_chunk.ensures.comes honest t is);
   answers = c.append_chunk.ensures.answers;
   carries = λ whole. c.append_chunk.ensures.carries;
   spends = c.append_chunk.ensures.spends;
@@ -105,7 +107,7 @@ close_session-requires g c = record { unspent = c.requires.unspent; there = c.re
 
 pub returns-in-CloseSession : goal.returns-in-CloseSession
 returns-in-CloseSession g c = record {
-  comes = λ honest. rw c.in-CloseSession.is (c.close_session.ensures.comes honest);
+  comes = λ honest t is. rw c.in-CloseSession.is (c.close_session.ensures.comes honest t is);
   answers = c.close_session.ensures.answers;
   carries = λ whole. c.close_session.ensures.carries;
   spends = c.close_session.ensures.spends;
@@ -117,7 +119,7 @@ read_manifest-requires g c = record { unspent = c.requires.unspent; there = c.re
 
 pub returns-in-ReadManifest : goal.returns-in-ReadManifest
 returns-in-ReadManifest g c = record {
-  comes = λ honest. rw c.in-ReadManifest.is (c.read_manifest.ensures.comes honest);
+  comes = λ honest t is. rw c.in-ReadManifest.is (any_from (g.B.RequestBody.stage c.args.body) answer_of c.read_manifest.result _ _ _ _ (c.read_manifest.ensures.comes honest));
   answers = c.read_manifest.ensures.answers;
   carries = λ whole. c.read_manifest.ensures.carries;
   spends = c.read_manifest.ensures.spends;
@@ -129,7 +131,7 @@ size_manifest-requires g c = record { unspent = c.requires.unspent; there = c.re
 
 pub returns-in-SizeManifest : goal.returns-in-SizeManifest
 returns-in-SizeManifest g c = record {
-  comes = λ honest. rw c.in-SizeManifest.is (c.size_manifest.ensures.comes honest);
+  comes = λ honest t is. rw c.in-SizeManifest.is (any_from (g.B.RequestBody.stage c.args.body) answer_of c.size_manifest.result _ _ _ _ (c.size_manifest.ensures.comes honest));
   answers = c.size_manifest.ensures.answers;
   carries = λ whole. absurd (true≢false (sym (ap (λ o. is_sizing (shown_operation o)) c.in-SizeManifest.is) ∙ whole));
   spends = c.size_manifest.ensures.spends;
@@ -141,7 +143,7 @@ delete_manifest-requires g c = record { unspent = c.requires.unspent; there = c.
 
 pub returns-in-DeleteManifest : goal.returns-in-DeleteManifest
 returns-in-DeleteManifest g c = record {
-  comes = λ honest. rw c.in-DeleteManifest.is (c.delete_manifest.ensures.comes honest);
+  comes = λ honest t is. rw c.in-DeleteManifest.is (any_from (g.B.RequestBody.stage c.args.body) answer_of c.delete_manifest.result _ _ _ _ (c.delete_manifest.ensures.comes honest));
   answers = c.delete_manifest.ensures.answers;
   carries = λ whole. c.delete_manifest.ensures.carries;
   spends = c.delete_manifest.ensures.spends;
@@ -153,7 +155,7 @@ push_manifest-requires g c = record { unspent = c.requires.unspent; there = c.re
 
 pub returns-in-PushManifest : goal.returns-in-PushManifest
 returns-in-PushManifest g c = record {
-  comes = λ honest. rw c.in-PushManifest.is (c.push_manifest.ensures.comes honest);
+  comes = λ honest t is. rw c.in-PushManifest.is (c.push_manifest.ensures.comes honest t is);
   answers = c.push_manifest.ensures.answers;
   carries = λ whole. c.push_manifest.ensures.carries;
   spends = c.push_manifest.ensures.spends;
@@ -165,7 +167,7 @@ list_tags-requires g c = record { unspent = c.requires.unspent; there = c.requir
 
 pub returns-in-ListTags : goal.returns-in-ListTags
 returns-in-ListTags g c = record {
-  comes = λ honest. rw c.in-ListTags.is (c.list_tags.ensures.comes honest);
+  comes = λ honest t is. rw c.in-ListTags.is (any_from (g.B.RequestBody.stage c.args.body) answer_of c.list_tags.result _ _ _ _ (c.list_tags.ensures.comes honest));
   answers = c.list_tags.ensures.answers;
   carries = λ whole. c.list_tags.ensures.carries;
   spends = c.list_tags.ensures.spends;
@@ -177,7 +179,7 @@ list_referrers-requires g c = record { unspent = c.requires.unspent; there = c.r
 
 pub returns-in-ListReferrers : goal.returns-in-ListReferrers
 returns-in-ListReferrers g c = record {
-  comes = λ honest. rw c.in-ListReferrers.is (c.list_referrers.ensures.comes honest);
+  comes = λ honest t is. rw c.in-ListReferrers.is (any_from (g.B.RequestBody.stage c.args.body) answer_of c.list_referrers.result _ _ _ _ (c.list_referrers.ensures.comes honest));
   answers = c.list_referrers.ensures.answers;
   carries = λ whole. c.list_referrers.ensures.carries;
   spends = c.list_referrers.ensures.spends;
@@ -189,7 +191,7 @@ size_referrers-requires g c = record { unspent = c.requires.unspent; there = c.r
 
 pub returns-in-SizeReferrers : goal.returns-in-SizeReferrers
 returns-in-SizeReferrers g c = record {
-  comes = λ honest. rw c.in-SizeReferrers.is (c.size_referrers.ensures.comes honest);
+  comes = λ honest t is. rw c.in-SizeReferrers.is (any_from (g.B.RequestBody.stage c.args.body) answer_of c.size_referrers.result _ _ _ _ (c.size_referrers.ensures.comes honest));
   answers = c.size_referrers.ensures.answers;
   carries = λ whole. absurd (true≢false (sym (ap (λ o. is_sizing (shown_operation o)) c.in-SizeReferrers.is) ∙ whole));
   spends = c.size_referrers.ensures.spends;
