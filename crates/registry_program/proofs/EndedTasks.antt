@@ -9,7 +9,7 @@ use Rattle.registry_orders.specs.declared.tokens.TokenSource.{TokenSource}
 use Rattle.registry_orders.specs.declared.tokens.TokenSource.TheVariants.{Input, File}
 use Rattle.registry_orders.specs.Outputs.{Output, IsSilent}
 use Rattle.registry_orders.specs.Tasks.{IsTask}
-use Rattle.registry_server.specs.Accepting.{Streams}
+use Rattle.registry_conversation.specs.Accepting.{Streams}
 use Rattle.registry_tasks.specs.Acts.{Acts}
 use Rattle.registry_tasks.specs.Opened.{output_of, RunsTokenOrder, LacksTokenOf}
 use Rattle.registry_program.specs.Running.{RunsWords, IsSparedFor, EndsTask, IsSparedBy}

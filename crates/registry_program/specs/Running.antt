@@ -13,7 +13,7 @@ use Rattle.registry_orders.specs.Tasks.{IsTask}
 use Rattle.registry_orders.specs.Reading.{fit}
 use Rattle.registry_orders.specs.Outputs.{Output, IsSilent}
 use Rattle.registry_opening.specs.Openings.{Between, Never}
-use Rattle.registry_server.specs.Accepting.{Streams}
+use Rattle.registry_conversation.specs.Accepting.{Streams}
 use Rattle.registry_loop.specs.Together.{ServesAll}
 use Rattle.registry_tasks.specs.Program.{IsUntouched, GivesUp, RunsMemory, Tells}
 use Rattle.registry_tasks.specs.Sockets.{ServesAddress}

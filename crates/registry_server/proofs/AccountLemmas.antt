@@ -15,15 +15,15 @@ use Rattle.registry_http.specs.declared.ending.FramingRefusal.TheVariants.{NoBuf
 use Rattle.registry_http.specs.declared.ending.End.{End}
 use Rattle.registry_http.specs.declared.ending.End.TheVariants.{Closed, Cut, Refused, ReadFailed, WriteFailed}
 use Rattle.registry_http.proofs.RequestLemmas.{before_empty}
-use Rattle.registry_server.specs.declared.phase.Phase.{Phase}
-use Rattle.registry_server.specs.declared.phase.Phase.TheVariants.{Head, Body, Ended}
-use Rattle.registry_server.specs.declared.phase.Step.{Step}
-use Rattle.registry_server.specs.declared.phase.Step.TheVariants as step
-use Rattle.registry_server.specs.Shown.{Shown, listens, listens_as, with_more, with_finished, with_going}
-use Rattle.registry_server.specs.Holding.{HoldsAs, Holds}
-use Rattle.registry_server.specs.Stepping.{AnswersFirst, WaitsForMore, PutsInterim, PutsPart, replying, refusing, continuing, EndsAs, ActsAs, Receives}
-use Rattle.registry_server.specs.ConversationEvents.{Event, came, ended, acted, sent, Happens, heard_if}
-use Rattle.registry_server.proofs.HoldingLemmas.{said_there}
+use Rattle.registry_conversation.specs.declared.phase.Phase.{Phase}
+use Rattle.registry_conversation.specs.declared.phase.Phase.TheVariants.{Head, Body, Ended}
+use Rattle.registry_conversation.specs.declared.phase.Step.{Step}
+use Rattle.registry_conversation.specs.declared.phase.Step.TheVariants as step
+use Rattle.registry_conversation.specs.Shown.{Shown, listens, listens_as, with_more, with_finished, with_going}
+use Rattle.registry_conversation.specs.Holding.{HoldsAs, Holds}
+use Rattle.registry_conversation.specs.Stepping.{AnswersFirst, WaitsForMore, PutsInterim, PutsPart, replying, refusing, continuing, EndsAs, ActsAs, Receives}
+use Rattle.registry_conversation.specs.ConversationEvents.{Event, came, ended, acted, sent, Happens, heard_if}
+use Rattle.registry_conversation.proofs.HoldingLemmas.{said_there}
 use Rattle.registry_server.specs.Accounts.{Replied, items_of, SoFar, EndsSo, AccountsAs}
 use Rattle.registry_server.specs.Accounts.{replying as in_reply, refusing as in_refusal, continuing as in_continue}
 use Rattle.registry_server.proofs.ProgressLemmas.{Progress, starts, more_came, put_first, at_end, refused, no_memory, stops, answered, closed}

@@ -4,9 +4,9 @@ use Rattle.std.proofs.lemmas.List.{length-take-le, take-append-drop}
 use Rattle.std.proofs.lemmas.List.Elements.{All-nil, All-cons, All-append}
 use Rattle.oci_types.specs.Text.{Text}
 use Rattle.registry_model.specs.Keeping.{State}
-use Rattle.registry_server.specs.declared.phase.Step.{Step}
-use Rattle.registry_server.specs.Shown.{Shown, coming_len}
-use Rattle.registry_server.specs.ConversationEvents.{came, ended, acted, sent, Happens as Does}
+use Rattle.registry_conversation.specs.declared.phase.Step.{Step}
+use Rattle.registry_conversation.specs.Shown.{Shown, coming_len}
+use Rattle.registry_conversation.specs.ConversationEvents.{came, ended, acted, sent, Happens as Does}
 use Rattle.registry_server.specs.declared.receipt.Receipt.{Receipt}
 use Rattle.registry_server.specs.declared.receipt.Receipt.TheVariants.{Taken, NoRoom, NotOpen}
 use Rattle.registry_server.specs.Room.{IsReceived, going_sum}

@@ -6,7 +6,7 @@ use Rattle.std.proofs.lemmas.List.{length-drop, length-append, length-set, map-a
 use Rattle.std.proofs.lemmas.List.Elements.{All-nil, All-cons, All-head, All-tail, All-append, All-take, All-drop, All-set, All-push, All-get_or}
 use Rattle.registry_model.specs.Answer.{content_of}
 use Rattle.registry_http.specs.ReplyText.{sent_text}
-use Rattle.registry_server.specs.Shown.{Shown, begun, coming_len}
+use Rattle.registry_conversation.specs.Shown.{Shown, begun, coming_len}
 use Rattle.registry_server.specs.declared.bounds.Bounds.{Bounds}
 use Rattle.registry_server.specs.declared.connection.Connection.{Connection}
 use Rattle.registry_server.specs.declared.life.Life.{Life}

@@ -7,8 +7,8 @@ use Rattle.registry_model.specs.Keeping.{State}
 use Rattle.registry_model.specs.Runs.{Outcome, Takes, TakesAll}
 use Rattle.registry_model.specs.Team.{Step}
 use Rattle.registry_model.proofs.RunLaws.{run_says, one_more}
-use Rattle.registry_server.specs.Shown.{Shown, begun}
-use Rattle.registry_server.specs.ConversationEvents.{Event as Call, came, ended, acted, sent, Happens as Does, heard, heard_if, went}
+use Rattle.registry_conversation.specs.Shown.{Shown, begun}
+use Rattle.registry_conversation.specs.ConversationEvents.{Event as Call, came, ended, acted, sent, Happens as Does, heard, heard_if, went}
 use Rattle.registry_server.specs.declared.bounds.Bounds.{Bounds}
 use Rattle.registry_server.specs.Open.{Open, none, conversation_of, Only, Opens}
 use Rattle.registry_server.specs.Accounts.{Replied, AccountsAs}

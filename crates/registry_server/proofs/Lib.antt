@@ -1,9 +1,3 @@
-pub mod PartLemmas
-pub mod HoldingLemmas
-pub mod WantingLemmas
-pub mod SteppingLemmas
-pub mod EndLemmas
-pub mod LawLemmas
 pub mod SlotLemmas
 pub mod PlaceLemmas
 pub mod ProgressLemmas
@@ -14,4 +8,3 @@ pub mod CallLemmas
 pub mod RoomLemmas
 pub mod KeptLemmas
 pub mod LifeLemmas
-pub mod ServingLemmas

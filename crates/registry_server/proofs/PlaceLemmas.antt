@@ -3,8 +3,8 @@ use Rattle.std.proofs.Common.{◌≡◌, ◌≢◌, ℕ, suc, ◌+◌, ◌-◌, 
 use Rattle.std.proofs.lemmas.List.{set_split, set-get_or, map-append, map-set, set_at, get_or_at, length-map, length-append, length-take-le, take_all, get_or-map, get_or-set_same, length-set, length-drop, take_at, take-map, drop-map}
 use Rattle.std.specs.List.{remove}
 use Rattle.std.specs.Prelude.{IfSome, IfNone}
-use Rattle.registry_server.specs.declared.phase.Step.{Step}
-use Rattle.registry_server.specs.Shown.{Shown, begun}
+use Rattle.registry_conversation.specs.declared.phase.Step.{Step}
+use Rattle.registry_conversation.specs.Shown.{Shown, begun}
 use Rattle.registry_server.specs.declared.bounds.Bounds.{Bounds}
 use Rattle.registry_server.specs.declared.connection.Connection.{Connection}
 use Rattle.registry_server.specs.Open.{Slot, conversation_of, are_numbered, Opens, Only, Changes, Closes, TakesTurn, Becomes, FoundAt, LastAt, StirredAt, goes_on}

@@ -3,9 +3,9 @@ use Rattle.std.proofs.Common.{◌≡◌, ℕ, ◌+◌, ◌-◌, ◌*◌, ◌<◌
 use Rattle.std.proofs.lemmas.Bool.Decides.{nat_tests}
 use Rattle.oci_types.specs.Text.{Text}
 use Rattle.registry_model.specs.Keeping.{State}
-use Rattle.registry_server.specs.Shown.{Shown, begun, coming_len}
-use Rattle.registry_server.specs.declared.phase.Step.{Step}
-use Rattle.registry_server.specs.ConversationEvents.{Event as Call, came, ended, acted, sent, Happens as Does}
+use Rattle.registry_conversation.specs.Shown.{Shown, begun, coming_len}
+use Rattle.registry_conversation.specs.declared.phase.Step.{Step}
+use Rattle.registry_conversation.specs.ConversationEvents.{Event as Call, came, ended, acted, sent, Happens as Does}
 use Rattle.registry_server.specs.declared.bounds.Bounds.{Bounds}
 use Rattle.registry_server.specs.Open.{Slot, Open, none, conversation_of, Changes, Closes, TakesTurn, Opens, Finishes, Sends, hears, goes_on}
 use Rattle.registry_server.specs.Room.{share, largest, pool, most_coming, over, over_sum, over_most, most_beside, room_beside, room_in, room_of, coming_sum, IsWithin, HoldsWithin}

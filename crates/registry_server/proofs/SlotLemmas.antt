@@ -2,7 +2,7 @@
 use Rattle.std.proofs.Common.{◌≡◌, ◌≢◌, ℕ, ◌<◌, ◌≤◌, inl, inr, Bool, true, false, ◌&&◌, if◌then◌else◌, List, [], ◌∷◌, ◌++◌, ◌==◌, nat_lt, is_none, Option, Some, None, refl, sym, ap, ◌∙◌, subst, arith, eq-eqb}
 use Rattle.std.specs.Prelude.{⊤}
 use Rattle.std.proofs.lemmas.Bool.{ne_eqb, cases_eq, ltb-true, lt-ltb}
-use Rattle.registry_server.specs.Shown.{Shown}
+use Rattle.registry_conversation.specs.Shown.{Shown}
 use Rattle.registry_server.specs.Open.{Slot, conversation_of, are_numbered}
 
 pub of_same : (n : ℕ) (c : Slot) (slots : List Slot) → c.number ≡ n → conversation_of n (c ∷ slots) ≡ Some c.conversation

@@ -4,9 +4,9 @@ use Rattle.std.proofs.lemmas.Bool.{cases_eq}
 use Rattle.std.proofs.lemmas.List.Elements.{All-head, All-tail}
 use Rattle.oci_types.specs.Text.{Text}
 use Rattle.registry_model.specs.Keeping.{State}
-use Rattle.registry_server.specs.declared.phase.Step.{Step}
-use Rattle.registry_server.specs.Shown.{Shown, listens}
-use Rattle.registry_server.specs.ConversationEvents.{Event as Call, came, ended, acted, sent}
+use Rattle.registry_conversation.specs.declared.phase.Step.{Step}
+use Rattle.registry_conversation.specs.Shown.{Shown, listens}
+use Rattle.registry_conversation.specs.ConversationEvents.{Event as Call, came, ended, acted, sent}
 use Rattle.registry_server.specs.declared.bounds.Bounds.{Bounds}
 use Rattle.registry_server.specs.Open.{Slot, Open, none, conversation_of, Changes, TakesTurn, is_told, hears, sends}
 use Rattle.registry_server.specs.Events.{Event, comes, on, goes, elsewhere, HappensOn, Happens, Passes}

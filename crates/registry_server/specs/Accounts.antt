@@ -12,10 +12,10 @@ use Rattle.registry_http.specs.declared.ending.FramingRefusal.{FramingRefusal}
 use Rattle.registry_http.specs.declared.ending.FramingRefusal.TheVariants.{NoBufferMemory}
 use Rattle.registry_http.specs.declared.ending.End.{End}
 use Rattle.registry_http.specs.declared.ending.End.TheVariants.{Closed, Cut, Refused, ReadFailed, WriteFailed}
-use Rattle.registry_server.specs.declared.phase.Phase.{Phase}
-use Rattle.registry_server.specs.declared.phase.Phase.TheVariants.{Head, Body, Ended}
-use Rattle.registry_server.specs.Shown.{Shown}
-use Rattle.registry_server.specs.Holding.{Holds}
+use Rattle.registry_conversation.specs.declared.phase.Phase.{Phase}
+use Rattle.registry_conversation.specs.declared.phase.Phase.TheVariants.{Head, Body, Ended}
+use Rattle.registry_conversation.specs.Shown.{Shown}
+use Rattle.registry_conversation.specs.Holding.{Holds}
 
 -- a request that was answered, and its answer
 pub record Replied : Type 0 where

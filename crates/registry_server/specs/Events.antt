@@ -5,8 +5,8 @@ use Rattle.registry_model.specs.Keeping.{State}
 use Rattle.registry_model.specs.Runs.{Outcome, told, Takes, TakesAll, RunSays}
 use Rattle.registry_model.specs.Team.{Step, asks}
 use Rattle.registry_http.specs.Asking.{ask_in}
-use Rattle.registry_server.specs.Shown.{Shown, coming_len}
-use Rattle.registry_server.specs.ConversationEvents.{Event as Call, came, ended, acted, sent, Happens as Does, heard, went}
+use Rattle.registry_conversation.specs.Shown.{Shown, coming_len}
+use Rattle.registry_conversation.specs.ConversationEvents.{Event as Call, came, ended, acted, sent, Happens as Does, heard, went}
 use Rattle.registry_server.specs.Open.{Open, conversation_of, Opens, Changes, Closes, TakesTurn, with_slots, hears, sends}
 use Rattle.registry_server.specs.Room.{room_of, going_sum}
 use Rattle.registry_server.specs.Accounts.{Replied, Accounts}

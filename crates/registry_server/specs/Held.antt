@@ -1,6 +1,6 @@
 -- What is kept of connections, so that nobody walks over all of them.
 use Rattle.std.specs.Prelude.{◌≡◌, ℕ, ◌+◌, ◌-◌, ◌^◌, ◌≤◌, false, List, length, take, min, All}
-use Rattle.registry_server.specs.Shown.{Shown}
+use Rattle.registry_conversation.specs.Shown.{Shown}
 use Rattle.registry_server.specs.Room.{over, over_sum, going_sum}
 use Rattle.registry_server.specs.Slots.{slots_of}
 use Rattle.registry_server.specs.declared.connection.Connection.{Connection}

@@ -1,11 +1,3 @@
-pub mod Parts
-pub mod Headings
-pub mod Shown
-pub mod ConversationShowing
-pub mod Holding
-pub mod Stepping
-pub mod Telling
-pub mod ConversationEvents
 pub mod Open
 pub mod Room
 pub mod Slots
@@ -16,4 +8,3 @@ pub mod Events
 pub mod TurnTelling
 pub mod Turns
 pub mod Lives
-pub mod Accepting

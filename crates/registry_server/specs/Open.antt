@@ -1,10 +1,10 @@
 -- The connections that are open, as contracts see them, and what a call makes of them.
 use Rattle.std.specs.Prelude.{◌≡◌, ◌≢◌, ℕ, ◌+◌, ◌<◌, ◌≤◌, ◌⊎◌, ⊤, Bool, true, false, ◌||◌, ◌&&◌, nat_lt, is_none, if◌then◌else◌, List, [], ◌∷◌, ◌++◌, ◌==◌, length, drop, min, Option, Some, None, All}
 use Rattle.oci_types.specs.Text.{Text}
-use Rattle.registry_server.specs.declared.phase.Step.{Step}
-use Rattle.registry_server.specs.declared.phase.Step.TheVariants.{Answered, Interim, Waits, Ended}
-use Rattle.registry_server.specs.Shown.{Shown, begun, listens, with_finished, with_going, coming_len, held_len}
-use Rattle.registry_server.specs.Stepping.{Receives}
+use Rattle.registry_conversation.specs.declared.phase.Step.{Step}
+use Rattle.registry_conversation.specs.declared.phase.Step.TheVariants.{Answered, Interim, Waits, Ended}
+use Rattle.registry_conversation.specs.Shown.{Shown, begun, listens, with_finished, with_going, coming_len, held_len}
+use Rattle.registry_conversation.specs.Stepping.{Receives}
 use Rattle.registry_model.specs.declared.settings.Settings.{Settings}
 use Rattle.registry_server.specs.declared.bounds.Bounds.{Bounds}
 use Rattle.registry_server.specs.declared.refusal.Refusal.{Refusal}

@@ -1,7 +1,7 @@
 -- How many bytes of requests connections may hold together, and of replies (profile).
 use Rattle.std.specs.Prelude.{◌≡◌, ℕ, ◌+◌, ◌-◌, ◌*◌, ◌<◌, ◌≤◌, nat_le, if◌then◌else◌, List, [], ◌∷◌, length, max, Option, Some, None, IfSome}
 use Rattle.oci_types.specs.Text.{Text}
-use Rattle.registry_server.specs.Shown.{Shown, coming_len}
+use Rattle.registry_conversation.specs.Shown.{Shown, coming_len}
 use Rattle.registry_server.specs.declared.bounds.Bounds.{Bounds}
 use Rattle.registry_server.specs.declared.receipt.Receipt.{Receipt}
 use Rattle.registry_server.specs.declared.receipt.Receipt.TheVariants.{Taken, NoRoom, NotOpen}

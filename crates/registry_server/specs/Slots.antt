@@ -1,7 +1,7 @@
 -- What a connection shows.
 use Rattle.std.specs.Prelude.{◌≡◌, ℕ, List, [], ◌∷◌, ◌++◌, map, slice_index_or}
 use Rattle.std.specs.List.{remove}
-use Rattle.registry_server.specs.ConversationShowing.{shown}
+use Rattle.registry_conversation.specs.ConversationShowing.{shown}
 use Rattle.registry_server.specs.declared.connection.Connection.{Connection}
 use Rattle.registry_server.specs.Open.{Slot}
 

@@ -2,12 +2,12 @@
 use Rattle.std.specs.Prelude.{◌≡◌, ℕ, Option, Some, None}
 use Rattle.oci_types.specs.Text.{Text}
 use Rattle.registry_model.specs.Keeping.{State}
-use Rattle.registry_server.specs.declared.phase.Step.{Step}
+use Rattle.registry_conversation.specs.declared.phase.Step.{Step}
 use Rattle.registry_outbox.specs.declared.report.Report.{Report}
-use Rattle.registry_server.specs.Holding.{Holds}
+use Rattle.registry_conversation.specs.Holding.{Holds}
 use Rattle.registry_server.specs.Open.{Open, conversation_of}
-use Rattle.registry_server.specs.Shown.{Shown}
-use Rattle.registry_server.specs.Telling.{Tells}
+use Rattle.registry_conversation.specs.Shown.{Shown}
+use Rattle.registry_conversation.specs.Telling.{Tells}
 
 -- the conversation under n came to this: what is told is told of the request of it that was answered or
 -- refused

@@ -1,8 +1,8 @@
 -- Whose turn comes when.
 use Rattle.std.specs.Prelude.{◌≡◌, ℕ, ◌⊎◌, true, List, [], ◌∷◌, ◌++◌}
 use Rattle.registry_model.specs.Keeping.{State}
-use Rattle.registry_server.specs.declared.phase.Step.{Step}
-use Rattle.registry_server.specs.ConversationEvents.{came, ended, acted, sent}
+use Rattle.registry_conversation.specs.declared.phase.Step.{Step}
+use Rattle.registry_conversation.specs.ConversationEvents.{came, ended, acted, sent}
 use Rattle.registry_server.specs.Open.{Slot, Open}
 use Rattle.registry_server.specs.Events.{Event, comes, on, goes, elsewhere, Passes}
 

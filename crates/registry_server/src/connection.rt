@@ -36,14 +36,14 @@ impl Drop for Connection {
 }
 
 impl Connection {
-    ghost use Rattle.registry_server.specs.ConversationEvents.{Happens, acted};
-    ghost use Rattle.registry_server.specs.Shown.{coming_len};
+    ghost use Rattle.registry_conversation.specs.ConversationEvents.{Happens, acted};
+    ghost use Rattle.registry_conversation.specs.Shown.{coming_len};
     ghost use Rattle.registry_server.specs.Open.{Becomes, Hears, Finishes, Sends, hears, sends, goes_on};
     ghost use Rattle.registry_server.specs.Slots.{slot_of};
     ghost use Rattle.registry_server.specs.Held.{with_other};
     ghost use Rattle.registry_server.specs.Lives.{alive_at, moved_by, sent_by};
-    ghost use Rattle.registry_server.specs.Holding.{Holds};
-    ghost use Rattle.registry_server.specs.Telling.{Tells};
+    ghost use Rattle.registry_conversation.specs.Holding.{Holds};
+    ghost use Rattle.registry_conversation.specs.Telling.{Tells};
 
     /// These bytes came on it.
     pub fn receive(&mut self, bytes: &[u8], time: u64, sums: &mut Sums)

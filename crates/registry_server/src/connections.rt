@@ -66,8 +66,8 @@ impl Drop for Connections {
 }
 
 impl Connections {
-    ghost use Rattle.registry_server.specs.Shown.{coming_len, wants_of};
-    ghost use Rattle.registry_server.specs.ConversationEvents.{Happens, acted};
+    ghost use Rattle.registry_conversation.specs.Shown.{coming_len, wants_of};
+    ghost use Rattle.registry_conversation.specs.ConversationEvents.{Happens, acted};
     ghost use Rattle.registry_outbox.specs.Outboxes.{outgoing_text};
     ghost use Rattle.registry_server.specs.Open.{none, FoundAt, conversation_of, outgoing_of, held_of, Opens, Refuses, Changes, Closes, TakesTurn, IfOpen, IfResting, with_slots, hears, sends, Finishes, Sends};
     ghost use Rattle.registry_server.specs.Room.{going_sum, room_of, IsReceived};

@@ -8,7 +8,3 @@ pub enum Receipt {
     /// The connection is not open.
     NotOpen,
 }
-
-/// A read failed.
-#[derive(Clone, Copy, Debug, PartialEq, Eq)]
-pub struct ReadFault;

@@ -1,5 +1,5 @@
 ghost use Rattle.std.specs.Prelude.{◌≡◌};
-ghost use Rattle.registry_server.specs.ConversationShowing.{shown};
+ghost use Rattle.registry_conversation.specs.ConversationShowing.{shown};
 ghost use Rattle.registry_server.specs.Held.{with_one, without_one};
 
 use crate::Conversation;

@@ -22,7 +22,7 @@ use Rattle.registry_orders.specs.Setting.{with_repos, with_levels, levels_if, wo
 use Rattle.registry_tasks.specs.Checking.{IsOfCheck}
 use Rattle.registry_tasks.specs.Failures.{ended_as}
 use Rattle.registry_tasks.specs.Telling.{TellsLine}
-use Rattle.registry_server.specs.Accepting.{Streams}
+use Rattle.registry_conversation.specs.Accepting.{Streams}
 use Rattle.registry_tasks.specs.Program.{StopsFor, IsUntouched, ServesFrom, ServesMemory, RunsMemory, ServesSetUp, ServesOne, Tells}
 use Rattle.registry_model.specs.declared.settings.Settings.{Settings}
 

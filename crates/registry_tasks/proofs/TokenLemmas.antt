@@ -8,7 +8,7 @@ use Rattle.registry_orders.specs.declared.tokens.TokenSource.TheVariants.{Input,
 use Rattle.registry_orders.specs.declared.orders.TokenOrder.{TokenOrder}
 use Rattle.registry_orders.specs.Orders.{order_with}
 use Rattle.registry_orders.specs.Outputs.{Output}
-use Rattle.registry_server.specs.Accepting.{Streams}
+use Rattle.registry_conversation.specs.Accepting.{Streams}
 use Rattle.registry_tasks.specs.Acts.{Acts}
 use Rattle.registry_tasks.specs.Opened.{output_of, RunsAt, GivesToken, RunsTokenOrder}
 

@@ -16,7 +16,7 @@ use Rattle.registry_orders.specs.Failures.{status_of, IsOfWords, IsOfOrder, IsOf
 use Rattle.registry_orders.specs.Outputs.{Output, output, IsSilent}
 use Rattle.order_carrying.specs.Carrying.{CarriesOrder, IsSilentUnlessBroken}
 use Rattle.registry_opening.specs.Openings.{Between, Never, Once, TakesOver}
-use Rattle.registry_server.specs.Accepting.{Streams}
+use Rattle.registry_conversation.specs.Accepting.{Streams}
 use Rattle.registry_tasks.specs.Program.{ServesOne}
 use Rattle.registry_tasks.specs.Checking.{Checks}
 use Rattle.registry_tasks.specs.Acts.{Acts, SendsNone, DoesNothing}

@@ -14,7 +14,7 @@ use Rattle.registry_orders.specs.declared.options.Setup.{Setup}
 use Rattle.registry_orders.specs.Failures.{status_of}
 use Rattle.registry_orders.specs.Outputs.{Output, AppendsPart, IsSilent}
 use Rattle.registry_orders.specs.Setting.{world_by, world_from, SetsUp}
-use Rattle.registry_server.specs.Accepting.{Streams, traffic_of}
+use Rattle.registry_conversation.specs.Accepting.{Streams, traffic_of}
 use Rattle.registry_tasks.specs.Failures.{ended_as}
 use Rattle.registry_tasks.specs.Telling.{TellsLine, SaysPlainly}
 

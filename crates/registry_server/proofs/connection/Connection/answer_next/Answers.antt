@@ -1,15 +1,15 @@
 use Rattle.std.proofs.Common.{◌≡◌, ◌≤◌, ℕ, Bool, Option, None, sym, ap, subst, ◌∙◌}
 use Rattle.oci_types.specs.Text.{Text}
 use Rattle.registry_model.specs.Keeping.{state_of}
-use Rattle.registry_server.specs.declared.phase.Step.{Step}
+use Rattle.registry_conversation.specs.declared.phase.Step.{Step}
 use Rattle.registry_outbox.specs.declared.report.Report.{Report}
-use Rattle.registry_server.specs.ConversationEvents.{Happens, acted}
-use Rattle.registry_server.specs.ConversationShowing.{shown}
+use Rattle.registry_conversation.specs.ConversationEvents.{Happens, acted}
+use Rattle.registry_conversation.specs.ConversationShowing.{shown}
 use Rattle.registry_server.specs.Open.{Slot, goes_on}
-use Rattle.registry_server.specs.Shown.{Shown, coming_len}
-use Rattle.registry_server.specs.Holding.{Holds}
-use Rattle.registry_server.specs.Telling.{Tells}
-use Rattle.registry_server.specs.declared.conversation.Conversation.{Conversation}
+use Rattle.registry_conversation.specs.Shown.{Shown, coming_len}
+use Rattle.registry_conversation.specs.Holding.{Holds}
+use Rattle.registry_conversation.specs.Telling.{Tells}
+use Rattle.registry_conversation.specs.declared.conversation.Conversation.{Conversation}
 use Rattle.registry_server.specs.Held.{with_one, without_one}
 use Rattle.registry_server.proofs.connection.Connection.answer_next.Goals as goal
 

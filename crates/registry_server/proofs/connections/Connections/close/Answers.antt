@@ -1,7 +1,7 @@
 use Rattle.std.proofs.Common.{◌≤◌, List, All, true, refl, ap, ◌∙◌, subst}
 use Rattle.registry_server.specs.declared.connection.Connection.{Connection}
-use Rattle.registry_server.specs.declared.conversation.Conversation.{Conversation}
-use Rattle.registry_server.specs.ConversationShowing.{shown}
+use Rattle.registry_conversation.specs.declared.conversation.Conversation.{Conversation}
+use Rattle.registry_conversation.specs.ConversationShowing.{shown}
 use Rattle.registry_server.specs.Held.{without_one}
 use Rattle.registry_server.proofs.PlaceLemmas.{closes, closed_numbers}
 use Rattle.registry_server.specs.Slots.{slots_of}

@@ -1,5 +1,5 @@
 use Rattle.std.proofs.Common.{true, refl, ap, arith}
-use Rattle.registry_server.specs.Shown.{Shown, coming_len}
+use Rattle.registry_conversation.specs.Shown.{Shown, coming_len}
 use Rattle.registry_server.specs.Open.{Slot, Finishes, hears}
 use Rattle.registry_server.proofs.PlaceLemmas.{changed, changed_numbers}
 use Rattle.registry_server.specs.Slots.{slots_of}

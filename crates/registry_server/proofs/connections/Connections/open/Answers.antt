@@ -1,10 +1,10 @@
 use Rattle.std.proofs.Common.{false, Some, refl, sym, ap, ◌∙◌, subst, arith}
 use Rattle.std.proofs.lemmas.List.{length-map}
-use Rattle.registry_server.specs.Shown.{begun}
+use Rattle.registry_conversation.specs.Shown.{begun}
 use Rattle.registry_server.specs.Room.{IsWithin}
 use Rattle.registry_server.specs.Slots.{slot_of, slots_of}
 use Rattle.registry_server.specs.declared.life.Life.{Life}
-use Rattle.registry_server.specs.ConversationShowing.{shown}
+use Rattle.registry_conversation.specs.ConversationShowing.{shown}
 use Rattle.registry_server.proofs.KeptLemmas.{kept_came}
 use Rattle.registry_server.proofs.RoomLemmas.{one_comes}
 use Rattle.registry_server.proofs.PlaceLemmas.{came_slots, came_numbers, opens}

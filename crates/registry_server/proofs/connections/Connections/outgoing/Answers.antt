@@ -1,6 +1,6 @@
 use Rattle.std.proofs.Common.{Some, ap, ◌∙◌}
-use Rattle.registry_server.specs.declared.conversation.Conversation.{Conversation}
-use Rattle.registry_server.specs.ConversationShowing.{shown}
+use Rattle.registry_conversation.specs.declared.conversation.Conversation.{Conversation}
+use Rattle.registry_conversation.specs.ConversationShowing.{shown}
 use Rattle.registry_server.specs.Open.{going_in}
 use Rattle.registry_server.proofs.connections.Connections.outgoing.Goals as goal
 

@@ -1,7 +1,7 @@
 use Rattle.std.proofs.Common.{Option, ap, ◌∙◌}
-use Rattle.registry_server.specs.Shown.{Shown, coming_len}
-use Rattle.registry_server.specs.declared.conversation.Conversation.{Conversation}
-use Rattle.registry_server.specs.ConversationShowing.{shown}
+use Rattle.registry_conversation.specs.Shown.{Shown, coming_len}
+use Rattle.registry_conversation.specs.declared.conversation.Conversation.{Conversation}
+use Rattle.registry_conversation.specs.ConversationShowing.{shown}
 use Rattle.registry_server.specs.Room.{room_beside, room_in}
 use Rattle.registry_server.specs.Showing.{connected}
 use Rattle.registry_server.proofs.connections.Connections.room.Goals as goal

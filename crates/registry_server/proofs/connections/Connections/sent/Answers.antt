@@ -1,6 +1,6 @@
 use Rattle.std.proofs.Common.{true, refl, sym, ap, ◌∙◌, ◌==◌, ◌≤◌, Option, length, set, subst, arith}
 use Rattle.std.specs.Prelude.{option_map}
-use Rattle.registry_server.specs.Shown.{Shown}
+use Rattle.registry_conversation.specs.Shown.{Shown}
 use Rattle.registry_server.specs.Open.{Slot, conversation_of, going_in, outgoing_of, Sends, sends}
 use Rattle.registry_server.proofs.PlaceLemmas.{changed, changed_numbers, changed_is, found_is}
 use Rattle.registry_server.specs.Slots.{slot_of, slots_of}

@@ -1,12 +1,12 @@
 use Rattle.std.proofs.Common.{◌≤◌, None, inl, refl, ap, arith}
 use Rattle.oci_types.specs.Text.{Text}
 use Rattle.registry_model.specs.Keeping.{state_of}
-use Rattle.registry_server.specs.Shown.{coming_len}
+use Rattle.registry_conversation.specs.Shown.{coming_len}
 use Rattle.registry_server.specs.Open.{Slot}
 use Rattle.registry_server.specs.Slots.{slots_of}
 use Rattle.registry_server.specs.Showing.{connected}
-use Rattle.registry_server.specs.Holding.{Holds}
-use Rattle.registry_server.specs.Telling.{Tells}
+use Rattle.registry_conversation.specs.Holding.{Holds}
+use Rattle.registry_conversation.specs.Telling.{Tells}
 use Rattle.registry_server.proofs.PlaceLemmas.{stirred_on, idle_on, within_found, moved_in, turned, turned_numbers}
 use Rattle.registry_server.proofs.KeptLemmas.{kept_turned, kept_idle}
 use Rattle.registry_server.proofs.RoomLemmas.{within_turned}

@@ -1,8 +1,8 @@
 use Rattle.std.proofs.Common.{ap, Some, ◌∙◌}
 use Rattle.std.specs.Prelude.{option_map}
-use Rattle.registry_server.specs.declared.conversation.Conversation.{Conversation}
-use Rattle.registry_server.specs.ConversationShowing.{shown}
-use Rattle.registry_server.specs.Shown.{wants_of}
+use Rattle.registry_conversation.specs.declared.conversation.Conversation.{Conversation}
+use Rattle.registry_conversation.specs.ConversationShowing.{shown}
+use Rattle.registry_conversation.specs.Shown.{wants_of}
 use Rattle.registry_server.proofs.connections.Connections.wants.Goals as goal
 
 pub returns-in-Some : goal.returns-in-Some

@@ -1,0 +1,7 @@
+pub mod PartLemmas
+pub mod HoldingLemmas
+pub mod WantingLemmas
+pub mod SteppingLemmas
+pub mod EndLemmas
+pub mod LawLemmas
+pub mod ServingLemmas

@@ -1,0 +1,18 @@
+use Rattle.std.proofs.Common.{◌++◌, subst}
+use Rattle.httparse.specs.Grammar.{HasNoRequest}
+use Rattle.oci_types.specs.Text.{Text}
+use Rattle.registry_http.specs.Spelling.{HoldsNoHead}
+use Rattle.registry_conversation.proofs.HoldingLemmas.{not_without_head, not_hopeless}
+use Rattle.registry_conversation.proofs.conversation.Conversation.taken_head.Goals as goal
+
+pub returns-in-NotYet : goal.returns-in-NotYet
+returns-in-NotYet c = record {
+  found = tt;
+  none = λ settings b said w. not_without_head settings _ _ b said w (subst HasNoRequest c.before-taken.ensures c.in-NotYet.ensures.1);
+}
+
+pub returns-in-Never : goal.returns-in-Never
+returns-in-Never c = record {
+  found = tt;
+  none = λ settings b said w. not_hopeless settings _ _ b said w (λ tail. subst (λ (x : Text). HoldsNoHead (x ++ tail)) c.before-taken.ensures (c.in-Never.ensures tail));
+}

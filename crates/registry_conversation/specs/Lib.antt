@@ -1,0 +1,9 @@
+pub mod Parts
+pub mod Headings
+pub mod Shown
+pub mod ConversationShowing
+pub mod Holding
+pub mod Stepping
+pub mod Telling
+pub mod ConversationEvents
+pub mod Accepting
