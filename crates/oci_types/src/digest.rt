@@ -4,6 +4,7 @@ ghost use Rattle.std.specs.List.{list_all};
 ghost use Rattle.sha2.specs.Sha256.{sha256};
 ghost use Rattle.sha2.specs.Sha512.{sha512};
 ghost use Rattle.hex.specs.Hex.{encode_lower};
+ghost use Rattle.oci_types.specs.Text.{Text};
 ghost use Rattle.oci_types.specs.Byte.{is_lowercase_hex};
 ghost use Rattle.oci_types.specs.Digest.{is_digest, has_grammar, has_registered_form, is_hex, place_after, is_end, is_algorithm_separator, is_encoded, sha256_digest, sha512_digest, verdict_of, ReadsDigest, ReadsByGrammar, IsDigestFault};
 
@@ -127,22 +128,48 @@ fn check(text: &str) -> Result<(), NameFault>
     Ok(())
 }
 
-/// The encoded part is that of the bytes under sha256.
-fn encodes_sha256(encoded: &[u8], bytes: &[u8]) -> bool
-    ensures { result ≡ bytes_eq encoded.now (encode_lower (sha256 bytes.now)) }
+/// The encoded part is the hexadecimal text of the hash.
+fn encodes_sha256(encoded: &[u8], hash: &[u8; 32]) -> bool
+    ensures { result ≡ bytes_eq encoded.now (encode_lower hash.now) }
 {
     let mut expected = [0; 64];
-    hex::encode_to_slice(Sha256::digest(bytes), &mut expected).is_ok()
-        && encoded == expected.as_slice()
+    hex::encode_to_slice(hash, &mut expected).is_ok() && encoded == expected.as_slice()
 }
 
-/// The encoded part is that of the bytes under sha512.
-fn encodes_sha512(encoded: &[u8], bytes: &[u8]) -> bool
-    ensures { result ≡ bytes_eq encoded.now (encode_lower (sha512 bytes.now)) }
+/// The encoded part is the hexadecimal text of the hash.
+fn encodes_sha512(encoded: &[u8], hash: &[u8; 64]) -> bool
+    ensures { result ≡ bytes_eq encoded.now (encode_lower hash.now) }
 {
     let mut expected = [0; 128];
-    hex::encode_to_slice(Sha512::digest(bytes), &mut expected).is_ok()
-        && encoded == expected.as_slice()
+    hex::encode_to_slice(hash, &mut expected).is_ok() && encoded == expected.as_slice()
+}
+
+/// What tells the hashes of bytes (FIPS 180-4).
+pub trait Hashed {
+    /// The bytes.
+    ghost bytes: { Self → Text };
+
+    fn sha256(&self) -> [u8; 32]
+        ensures { result ≡ sha256 (bytes self.now) };
+
+    fn sha512(&self) -> [u8; 64]
+        ensures { result ≡ sha512 (bytes self.now) };
+}
+
+/// Bytes at hand.
+#[derive(Clone, Copy)]
+struct Bytes<'a>(&'a [u8]);
+
+impl Hashed for Bytes<'_> {
+    ghost bytes = { λ b. b.0.now };
+
+    fn sha256(&self) -> [u8; 32] {
+        Sha256::digest(self.0)
+    }
+
+    fn sha512(&self) -> [u8; 64] {
+        Sha512::digest(self.0)
+    }
 }
 
 /// A digest (OCI Image Specification 1.1, Descriptors, Digests). Those of sha256 and sha512 have the
@@ -205,12 +232,19 @@ impl Digest {
     pub fn verifies(&self, bytes: &[u8]) -> Verdict
         ensures { result ≡ verdict_of self.now bytes.now }
     {
+        self.compare(&Bytes(bytes))
+    }
+
+    /// Whether the digest is that of the bytes whose hashes these are; of the two it asks for one at most.
+    pub fn compare<H: Hashed>(&self, hashed: &H) -> Verdict
+        ensures { result ≡ verdict_of self.now (H.bytes hashed.now) }
+    {
         let text = self.as_str().as_bytes();
         if text.starts_with(b"sha256:") {
-            return Verdict::of_match(encodes_sha256(&text[7..], bytes));
+            return Verdict::of_match(encodes_sha256(&text[7..], &hashed.sha256()));
         }
         if text.starts_with(b"sha512:") {
-            return Verdict::of_match(encodes_sha512(&text[7..], bytes));
+            return Verdict::of_match(encodes_sha512(&text[7..], &hashed.sha512()));
         }
         Verdict::Unsupported
     }

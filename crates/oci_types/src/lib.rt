@@ -25,7 +25,7 @@ pub mod session;
 pub mod tag;
 pub mod token;
 
-pub use digest::{Digest, Verdict};
+pub use digest::{Digest, Hashed, Verdict};
 pub use fault::{Fault, NameFault};
 pub use kind::Kind;
 pub use manifest::Manifest;

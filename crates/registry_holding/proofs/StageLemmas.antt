@@ -17,13 +17,10 @@ abbrev with : (ℕ → Option Text) → (ℕ → Option Text) → Kept → Kept
 with stages pins k = record k { held = record { stages = stages; pins = pins } }
 
 -- a stage was changed, or memory was wanting
-pub staged : (r : Result (Unit {0}) AllocError) (q : Result (Unit {0}) Fault) (key : ℕ) (bytes : Option Text) (k : Kept) (f g p : ℕ → Option Text)
-    → q ≡ or_memory r → OnOk r (g ≡ put_under key bytes f) → OnErr r (g ≡ put_under key (g key) f) → Stages q key bytes (with f p k) (with g p k)
-staged r q key bytes k f g p told ok err = subst (λ x. Stages x key bytes (with f p k) (with g p k)) (sym told) (by r ok err)
-  where
-    by : (r : Result (Unit {0}) AllocError) → OnOk r (g ≡ put_under key bytes f) → OnErr r (g ≡ put_under key (g key) f) → Stages (or_memory r) key bytes (with f p k) (with g p k)
-    by (Ok v) x y = ap (λ h. with h p k) x
-    by (Err e) x y = ap (λ h. with h p k) y
+pub staged : (r : Result (Unit {0}) AllocError) (key : ℕ) (bytes : Option Text) (k : Kept) (f g p : ℕ → Option Text)
+    → OnOk r (g ≡ put_under key bytes f) → OnErr r (g ≡ put_under key (g key) f) → Stages r key bytes (with f p k) (with g p k)
+staged (Ok v) key bytes k f g p x y = ap (λ h. with h p k) x
+staged (Err e) key bytes k f g p x y = ap (λ h. with h p k) y
 
 pub as_it_was : (r : Result (Unit {0}) AllocError) (key : ℕ) (f g : ℕ → Option Text) → OnErr r (g ≡ f) → OnErr r (g ≡ put_under key (g key) f)
 as_it_was (Ok v) key f g x = tt

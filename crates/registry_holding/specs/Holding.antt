@@ -1,6 +1,7 @@
 -- What is held beside the world, each under the number of a connection, and what calls say of it.
 use Rattle.std.specs.Prelude.{◌≡◌, ◌==◌, ◌-◌, ℕ, false, if◌then◌else◌, min, length, Option, Some, Result, Ok, Err, ⊤}
 use Rattle.std.specs.Option.{option_map_or}
+use Rattle.std.specs.declared.alloc.AllocError.{AllocError}
 use Rattle.sha2.specs.Sha256.{sha256}
 use Rattle.oci_types.specs.Text.{Text}
 use Rattle.oci_types.specs.declared.fault.Fault.{Fault}
@@ -34,10 +35,9 @@ abbrev pub StageIs : Type 0 → Kept → ℕ → (Text → Type 0) → Type 0
 StageIs honest k key IsSo = honest → k.spent ≡ false → (t : Text) × (k.held.stages key ≡ Some t) × IsSo t
 
 -- the stage becomes that; where memory is wanting it is whatever it is, and nothing else has changed
-abbrev pub Stages : Result (Unit {0}) Fault → ℕ → Option Text → Kept → Kept → Type 0
+abbrev pub Stages : Result (Unit {0}) AllocError → ℕ → Option Text → Kept → Kept → Type 0
 Stages (Ok v) key bytes k k' = k' ≡ with_stage k key bytes
-Stages (Err Memory) key bytes k k' = k' ≡ with_stage k key (k'.held.stages key)
-Stages (Err Storage) key bytes k k' = ⊤
+Stages (Err e) key bytes k k' = k' ≡ with_stage k key (k'.held.stages key)
 
 -- the world becomes w, and of the stage nothing is known; or memory is wanting
 abbrev pub WritesStage : Result (Unit {0}) Fault → ℕ → World → Kept → Kept → Type 0

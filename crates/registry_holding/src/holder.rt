@@ -11,27 +11,29 @@ use crate::staged::StageSum;
 use oci_types::{Digest, Fault, RepoName, Verdict};
 use registry_model::Keeper;
 use registry_model::keeper::Found;
+use std::alloc::AllocError;
 
 /// What holds bodies that come, *stages*, and contents that go out, *pins*, beside the world, each under the
-/// number of a connection. What is held belongs to no repository: no request sees it. After `Fault::Memory`
-/// the world and what is held under other numbers have not changed, and of the stage or the pin that was
-/// asked for nothing is known; after `Fault::Storage` the keeper is spent.
+/// number of a connection. What is held belongs to no repository: no request sees it. After `AllocError` and
+/// `Fault::Memory` the world and what is held under other numbers have not changed, and of the stage or the
+/// pin that was asked for nothing is known; after `Fault::Storage` the keeper is spent. A stage that cannot
+/// be kept spends no keeper, since its bytes are in nobody's world.
 pub trait Holder: Keeper {
     /// Begins an empty stage, in the place of one that is there. `expected` bytes are to come, or any number:
     /// it says how much room to take at once. `with_sha512` says that a digest of that hash will be compared:
     /// the bytes are hashed for it too, as they come.
-    fn stage(&mut self, key: u64, expected: u64, with_sha512: bool) -> Result<(), Fault>
+    fn stage(&mut self, key: u64, expected: u64, with_sha512: bool) -> Result<(), AllocError>
         ensures stages { Self.is_honest self.new
             → Stages result key (Some []) (Self.kept self.old) (Self.kept self.new) }
-        ensures spends { Spends result (Self.kept self.old) (Self.kept self.new) }
+        ensures spent { (Self.kept self.new).spent ≡ (Self.kept self.old).spent }
         ensures honest { Self.is_honest self.new → Self.is_honest self.old };
 
     /// Puts bytes behind those of a stage. Nothing where there is none.
-    fn stage_more(&mut self, key: u64, bytes: &[u8]) -> Result<(), Fault>
+    fn stage_more(&mut self, key: u64, bytes: &[u8]) -> Result<(), AllocError>
         ensures stages { Self.is_honest self.new → Stages result key
             (option_map (λ t. t ++ bytes.now) ((Self.kept self.old).held.stages key))
             (Self.kept self.old) (Self.kept self.new) }
-        ensures spends { Spends result (Self.kept self.old) (Self.kept self.new) }
+        ensures spent { (Self.kept self.new).spent ≡ (Self.kept self.old).spent }
         ensures honest { Self.is_honest self.new → Self.is_honest self.old };
 
     /// What is known of the bytes of a stage; hashes nothing again.

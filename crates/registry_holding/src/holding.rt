@@ -73,18 +73,12 @@ impl<K: Keeper> Holding<K> {
 }
 
 impl<K: Keeper> Holder for Holding<K> {
-    fn stage(&mut self, key: u64, expected: u64, with_sha512: bool) -> Result<(), Fault> {
-        if self.keeper.spent() {
-            return Err(Fault::Storage);
-        }
-        or_memory(self.stages.begin(key, expected, with_sha512))
+    fn stage(&mut self, key: u64, expected: u64, with_sha512: bool) -> Result<(), AllocError> {
+        self.stages.begin(key, expected, with_sha512)
     }
 
-    fn stage_more(&mut self, key: u64, bytes: &[u8]) -> Result<(), Fault> {
-        if self.keeper.spent() {
-            return Err(Fault::Storage);
-        }
-        or_memory(self.stages.extend(key, bytes))
+    fn stage_more(&mut self, key: u64, bytes: &[u8]) -> Result<(), AllocError> {
+        self.stages.extend(key, bytes)
     }
 
     fn staged(&mut self, key: u64) -> Found<StageSum> {

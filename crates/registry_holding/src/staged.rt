@@ -1,11 +1,8 @@
-ghost use Rattle.std.specs.Prelude.{◌≡◌, ◌++◌, [], length, bytes_eq, if◌then◌else◌, IfOk, IfSome, OnOk, OnErr};
-ghost use Rattle.sha2.specs.Sha256.{sha256};
-ghost use Rattle.sha2.specs.Sha512.{sha512};
-ghost use Rattle.hex.specs.Hex.{encode_lower};
+ghost use Rattle.std.specs.Prelude.{◌≡◌, ◌++◌, [], length, IfOk, IfSome, OnOk, OnErr};
 ghost use Rattle.oci_types.specs.Digest.{verdict_of};
 ghost use Rattle.registry_holding.specs.Holding.{sum_of};
 
-use oci_types::{Digest, Verdict};
+use oci_types::{Digest, Hashed, Verdict};
 use sha2::{Digest as Hash, Sha256, Sha512};
 use std::alloc::{AllocError, Global};
 use std::marker::Model;
@@ -36,32 +33,6 @@ impl Model for Staged {
 
     ghost invariant = { λ s. Holds256 s.sha256 s.bytes.items
         × IfSome s.sha512 (λ h. Holds512 h s.bytes.items) };
-}
-
-/// What comparing found.
-fn of_match(is_match: bool) -> Verdict
-    ensures { result ≡ (if is_match then Verdict.Matches else Verdict.Differs) }
-{
-    if is_match {
-        Verdict::Matches
-    } else {
-        Verdict::Differs
-    }
-}
-
-/// Whether the text is the lowercase hexadecimal one of the hash.
-fn encodes_sha256(encoded: &[u8], hash: &[u8; 32]) -> bool
-    ensures { result ≡ bytes_eq encoded.now (encode_lower hash.now) }
-{
-    let mut expected = [0; 64];
-    hex::encode_to_slice(hash, &mut expected).is_ok() && encoded == expected.as_slice()
-}
-
-fn encodes_sha512(encoded: &[u8], hash: &[u8; 64]) -> bool
-    ensures { result ≡ bytes_eq encoded.now (encode_lower hash.now) }
-{
-    let mut expected = [0; 128];
-    hex::encode_to_slice(hash, &mut expected).is_ok() && encoded == expected.as_slice()
 }
 
 impl Staged {
@@ -116,31 +87,28 @@ impl Staged {
         }
     }
 
-    /// Their SHA-512. Hashes nothing again where it was asked for as they came.
-    fn sum512(&self) -> [u8; 64]
-        ensures { result ≡ sha512 self.now }
+    /// Whether the digest is that of the bytes, by these sums.
+    pub fn verdict(&self, digest: &Digest) -> Verdict
+        ensures { result ≡ verdict_of digest.now self.now }
     {
+        digest.compare(self)
+    }
+}
+
+impl Hashed for Staged {
+    ghost bytes = { λ s. s };
+
+    fn sha256(&self) -> [u8; 32] {
+        self.sum().sha256
+    }
+
+    /// Hashes nothing again where it was asked for as they came.
+    fn sha512(&self) -> [u8; 64] {
         if let Some(state) = &self.sha512 {
             if let Ok(hasher) = state.clone() {
                 return hasher.finalize();
             }
         }
         Sha512::digest(self.bytes())
-    }
-
-    /// Whether the digest is that of the bytes, by these sums.
-    pub fn verdict(&self, digest: &Digest) -> Verdict
-        ensures { result ≡ verdict_of digest.now self.now }
-    {
-        let text = digest.as_str().as_bytes();
-        if text.starts_with(b"sha256:") {
-            let sum = self.sum();
-            return of_match(encodes_sha256(&text[7..], &sum.sha256));
-        }
-        if text.starts_with(b"sha512:") {
-            let sum = self.sum512();
-            return of_match(encodes_sha512(&text[7..], &sum));
-        }
-        Verdict::Unsupported
     }
 }

@@ -9,7 +9,7 @@ use Rattle.registry_model.specs.Operation.{addressed}
 use Rattle.registry_model.specs.Judging.{reply_to, after_request}
 use Rattle.registry_model.specs.Command.{after_command}
 use Rattle.registry_model.specs.declared.admin.AdminCommand.{AdminCommand}
-use Rattle.registry_model.specs.Keeping.{State}
+use Rattle.registry_model.specs.State.{State}
 use Rattle.registry_model.specs.Doing.{Course, answered, missed, lost, course_of_answer, course_of_result, DoesAs, CarriesOutAs}
 use Rattle.registry_model.specs.Team.{Team, IsTeamOf, team_of_token, view, Step, asks, orders, is_own, is_reading, GivesNoPush, MayNotPush, IsElsewhere, OwnOrAside}
 use Rattle.registry_model.specs.Ask.{Ask}

@@ -10,7 +10,7 @@ use Rattle.registry_model.specs.Answer.{Answer, busy_answer, failed_answer}
 use Rattle.registry_model.specs.Ask.{Ask}
 use Rattle.registry_model.specs.Judging.{reply_to, after_request}
 use Rattle.registry_model.specs.Command.{refusal_of, after_command}
-use Rattle.registry_model.specs.Keeping.{State}
+use Rattle.registry_model.specs.State.{State}
 
 pub data Course : Type 0 where
   answered missed lost : Course

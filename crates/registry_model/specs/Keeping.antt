@@ -8,11 +8,7 @@ use Rattle.oci_types.specs.declared.kind.Kind.{Kind}
 use Rattle.registry_model.specs.declared.quota.Usage.{Usage}
 use Rattle.registry_model.specs.TagPage.{Page}
 use Rattle.registry_model.specs.World.{World}
-
--- the world, and whether the storage has failed, after which the world says nothing: what requests see
-pub record State : Type 0 where
-  pub world : World
-  pub spent : Bool
+pub use Rattle.registry_model.specs.State.{State}
 
 -- beside the world, under the numbers of connections: the bytes of bodies that came so far, and contents that
 -- go out

@@ -23,6 +23,7 @@ pub mod Judging
 pub mod Heads
 pub mod Pruning
 pub mod Command
+pub mod State
 pub mod Keeping
 pub mod Closing
 pub mod Doing

@@ -6,7 +6,7 @@ use Rattle.registry_model.specs.Answer.{Answer}
 use Rattle.registry_model.specs.Ask.{Ask}
 use Rattle.registry_model.specs.Judging.{reply_to, after_request}
 use Rattle.registry_model.specs.Command.{refusal_of, after_command}
-use Rattle.registry_model.specs.Keeping.{State}
+use Rattle.registry_model.specs.State.{State}
 use Rattle.registry_model.specs.Doing.{Course, answered, missed, lost, course_of_answer, course_of_result, outcome_of, Does, CarriesOut, SpendsAs}
 use Rattle.registry_model.specs.Team.{Team, IsTeamOf, view, Step, asks, orders, is_own, OwnOrAside}
 

@@ -19,7 +19,7 @@ ghost use Rattle.registry_model.specs.Command.{after_command};
 ghost use Rattle.registry_model.specs.Manifests.{has_needs};
 ghost use Rattle.registry_model.specs.Pruning.{is_named, pruned, prune};
 ghost use Rattle.registry_model.specs.declared.admin.AdminCommand.{AdminCommand};
-ghost use Rattle.registry_model.specs.Keeping.{State};
+ghost use Rattle.registry_model.specs.State.{State};
 ghost use Rattle.registry_model.specs.Team.{Team, IsTeamOf, team_of_token, view, Step, asks, orders, is_own, OwnOrAside};
 ghost use Rattle.registry_model.specs.Runs.{Outcome, TakesAll, RunSays, kept, requests_of, asked, answers_to, NoneMissed, IsToldAlone};
 ghost use Rattle.std.specs.Prelude.{Option};

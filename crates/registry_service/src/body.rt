@@ -1,7 +1,7 @@
 //! The body of a request, apart from the rest of it: its bytes, those of a stage, or their number alone. What
 //! an operation does with it.
 
-ghost use Rattle.std.specs.Prelude.{◌≡◌, ℕ, Option, Some, None, length};
+ghost use Rattle.std.specs.Prelude.{◌≡◌, ℕ, false, Option, Some, None, length};
 ghost use Rattle.oci_types.specs.Text.{Text};
 ghost use Rattle.registry_model.specs.Ask.{text_in};
 ghost use Rattle.registry_model.specs.Blobs.{push_blob};
@@ -172,7 +172,7 @@ impl<'a, K: Keeper> RequestBody<K> for WholeBody<'a> {
 pub struct StagedBody(pub u64);
 
 impl<H: Holder> RequestBody<H> for StagedBody {
-    ghost is_body = { λ b k t. k.held.stages b.0 ≡ Some t };
+    ghost is_body = { λ b k t. k.spent ≡ false → k.held.stages b.0 ≡ Some t };
 
     ghost stage = { λ b. Some b.0 };
 

@@ -1,4 +1,4 @@
-ghost use Rattle.std.specs.Prelude.{◌≡◌, true, false, None, Some, length};
+ghost use Rattle.std.specs.Prelude.{◌≡◌, ◌++◌, [], true, false, None, Some, length, option_map};
 ghost use Rattle.oci_types.specs.Text.{Text};
 ghost use Rattle.registry_model.specs.Heads.{is_head, is_sent};
 ghost use Rattle.registry_model.specs.declared.refusal.Refusal.TheVariants.{TokenRequired};
@@ -9,7 +9,8 @@ ghost use Rattle.registry_model.specs.Keeping.{HeldStays, Reads, ReadsBy, ReadsS
 ghost use Rattle.registry_model.specs.Lookups.{AreLevelsOn, AreLevelsOver, repo_names_of, usages_of, tags_at, blob_digests_at, blob_size_at, manifest_digests_at};
 ghost use Rattle.registry_model.specs.World.{has_repo};
 ghost use Rattle.manifest_operations.specs.Pruning.{names_at, unnamed_at};
-ghost use Rattle.registry_service.specs.Bodies.{ask_with, from_body};
+ghost use Rattle.registry_holding.specs.Holding.{Stages, with_stage};
+ghost use Rattle.registry_service.specs.Bodies.{StageIs, ask_with, from_body};
 
 use crate::admin_commands::apply_command;
 use crate::answering::answer;
@@ -20,7 +21,7 @@ use registry_holding::Holder;
 use registry_model::{
     AdminCommand, AdminFault, Grant, Keeper, Level, Reply, Request, Resource, Usage,
 };
-use std::alloc::Global;
+use std::alloc::{AllocError, Global};
 use std::marker::Model;
 
 /// A registry that answers.
@@ -245,16 +246,47 @@ impl<K: Keeper> Service<K> {
 }
 
 impl<H: Holder> Service<H> {
+    /// Begins an empty stage under the number of a connection, as `Holder::stage` does.
+    pub fn stage(&mut self, key: u64, expected: u64, with_sha512: bool) -> Result<(), AllocError>
+        ensures stages { H.is_honest self.new
+            → Stages result key (Some []) (H.kept self.old) (H.kept self.new) }
+        ensures spent { (H.kept self.new).spent ≡ (H.kept self.old).spent }
+        ensures honest { H.is_honest self.new → H.is_honest self.old }
+    {
+        self.keeper.stage(key, expected, with_sha512)
+    }
+
+    /// Puts bytes behind those of a stage, as `Holder::stage_more` does.
+    pub fn stage_more(&mut self, key: u64, bytes: &[u8]) -> Result<(), AllocError>
+        ensures stages { H.is_honest self.new → Stages result key
+            (option_map (λ t. t ++ bytes.now) ((H.kept self.old).held.stages key))
+            (H.kept self.old) (H.kept self.new) }
+        ensures spent { (H.kept self.new).spent ≡ (H.kept self.old).spent }
+        ensures honest { H.is_honest self.new → H.is_honest self.old }
+    {
+        self.keeper.stage_more(key, bytes)
+    }
+
+    /// Lets a stage go, as `Holder::unstage` does.
+    pub fn unstage(&mut self, key: u64)
+        ensures gone { H.is_honest self.new → (H.kept self.old).spent ≡ false
+            → H.kept self.new ≡ with_stage (H.kept self.old) key None }
+        ensures spent { (H.kept self.new).spent ≡ (H.kept self.old).spent }
+        ensures honest { H.is_honest self.new → H.is_honest self.old }
+    {
+        self.keeper.unstage(key);
+    }
+
     /// Answers a request whose body is staged under the number of a connection, as `handle` does on those
     /// bytes. The request's own body is not looked at.
     ///
     /// Of that stage nothing is known afterwards; all else that is held stays. A manifest is not pushed from
     /// a stage: that is answered 503, and nothing has changed.
     pub fn handle_staged(&mut self, alloc: Global, request: &Request, key: u64) -> Reply
-        ensures does { H.is_honest self.new → (t : Text) → (H.kept self.old).held.stages key ≡ Some t →
+        ensures does { H.is_honest self.new → (t : Text) → StageIs (H.kept self.old) key t →
             Does (state_of (H.kept self.old)) (ask_with (ask_of request.now) t) (answer_of result)
             (state_of (H.kept self.new)) }
-        ensures holds { H.is_honest self.new → (t : Text) → (H.kept self.old).held.stages key ≡ Some t →
+        ensures holds { H.is_honest self.new → (t : Text) → StageIs (H.kept self.old) key t →
             HeldStays (from_body (Some key) (H.kept self.old) (H.kept self.new)) (H.kept self.new) }
         ensures carries { is_head request.now.method ≡ false → is_sent (answer_of result).body ≡ true }
         ensures spends { SpendsAs (course_of_answer (answer_of result))
