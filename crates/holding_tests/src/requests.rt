@@ -5,7 +5,7 @@ use oci_types::{RepoName, Token};
 use registry_holding::{Holder, Holding};
 use registry_maps::MapKeeper;
 use registry_model::{AdminCommand, Level, Query, Quota, Request, Resource, Route, Settings, Verb};
-use registry_service::Service;
+use registry_service::{CountedBody, Service, StagedBody};
 use std::alloc::Global;
 use std::process::Abort;
 
@@ -103,7 +103,8 @@ fn staged_requests_are_answered(rt: HostRuntime) {
         holder.stage_more(7, bytes).expect(&rt, "its bytes");
         registry = Service::new(holder);
         let asked = request(token, *method, *route, *digest);
-        let reply = registry.handle_staged(alloc, &asked, 7);
+        let (key, size) = (7, bytes.len());
+        let reply = registry.handle_with(alloc, &asked, StagedBody { key, size });
         assert_eq!(&rt; reply.status.code(), *status);
     }
 }
@@ -124,7 +125,7 @@ fn counted_requests_are_answered(rt: HostRuntime) {
     let mut registry = setting(&rt, alloc);
     for (token, method, route, digest, _, status) in COUNTED.iter() {
         let asked = request(token, *method, *route, *digest);
-        let reply = registry.handle_counted(alloc, &asked, 3);
+        let reply = registry.handle_with(alloc, &asked, CountedBody(3));
         assert_eq!(&rt; reply.status.code(), *status);
     }
 }

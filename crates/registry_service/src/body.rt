@@ -1,7 +1,7 @@
 //! The body of a request, apart from the rest of it: its bytes, those of a stage, or their number alone. What
 //! an operation does with it.
 
-ghost use Rattle.std.specs.Prelude.{◌≡◌, ℕ, false, Option, Some, None, length};
+ghost use Rattle.std.specs.Prelude.{◌≡◌, ℕ, Option, Some, None, length};
 ghost use Rattle.oci_types.specs.Text.{Text};
 ghost use Rattle.registry_model.specs.Ask.{text_in};
 ghost use Rattle.registry_model.specs.Blobs.{push_blob};
@@ -9,7 +9,7 @@ ghost use Rattle.registry_model.specs.Sessions.{append_chunk, close_session};
 ghost use Rattle.registry_model.specs.Manifests.{push_manifest};
 ghost use Rattle.registry_model.specs.Keeping.{Kept, Spends};
 ghost use Rattle.operation_parts.specs.Operating.{IsUnspent, HasRepo, Operates, Answers, Carries};
-ghost use Rattle.registry_service.specs.Bodies.{from_body};
+ghost use Rattle.registry_service.specs.Bodies.{StageIs, from_body};
 
 use blob_operations::blobs::push_blob;
 use blob_operations::session_close::close_session;
@@ -31,6 +31,10 @@ pub trait RequestBody<K: Keeper>: Copy {
 
     /// Under which number its bytes are staged, where they are.
     ghost stage: { Self → Option ℕ };
+
+    /// How many bytes it has.
+    fn size(self) -> usize
+        ensures { (k : Kept) (t : Text) → is_body self k t → result ≡ length t };
 
     /// The push of a whole blob to a repository that is there.
     fn push_blob(
@@ -121,6 +125,10 @@ impl<'a, K: Keeper> RequestBody<K> for WholeBody<'a> {
 
     ghost stage = { λ b. None };
 
+    fn size(self) -> usize {
+        self.0.len()
+    }
+
     fn push_blob(
         self,
         keeper: &mut K,
@@ -166,15 +174,22 @@ impl<'a, K: Keeper> RequestBody<K> for WholeBody<'a> {
     }
 }
 
-/// Bytes that are staged under the number of a connection. A manifest is not pushed from there: that gives
-/// up.
+/// So many bytes that are staged under the number of a connection. A manifest is not pushed from there: that
+/// gives up.
 #[derive(Clone, Copy)]
-pub struct StagedBody(pub u64);
+pub struct StagedBody {
+    pub key: u64,
+    pub size: usize,
+}
 
 impl<H: Holder> RequestBody<H> for StagedBody {
-    ghost is_body = { λ b k t. k.spent ≡ false → k.held.stages b.0 ≡ Some t };
+    ghost is_body = { λ b k t. StageIs k b.key t × (b.size ≡ length t) };
 
-    ghost stage = { λ b. Some b.0 };
+    ghost stage = { λ b. Some b.key };
+
+    fn size(self) -> usize {
+        self.size
+    }
 
     fn push_blob(
         self,
@@ -183,7 +198,7 @@ impl<H: Holder> RequestBody<H> for StagedBody {
         name: &RepoName,
         digest: &str,
     ) -> Result<Reply, Fault> {
-        push_staged_blob(keeper, alloc, name, digest, self.0)
+        push_staged_blob(keeper, alloc, name, digest, self.key)
     }
 
     fn append_chunk(
@@ -194,7 +209,7 @@ impl<H: Holder> RequestBody<H> for StagedBody {
         reference: &str,
         range: Option<&[u8]>,
     ) -> Result<Reply, Fault> {
-        append_staged_chunk(keeper, alloc, name, reference, range, self.0)
+        append_staged_chunk(keeper, alloc, name, reference, range, self.key)
     }
 
     fn close_session(
@@ -206,7 +221,7 @@ impl<H: Holder> RequestBody<H> for StagedBody {
         digest: Option<&str>,
         range: Option<&[u8]>,
     ) -> Result<Reply, Fault> {
-        close_staged_session(keeper, alloc, name, reference, digest, range, self.0)
+        close_staged_session(keeper, alloc, name, reference, digest, range, self.key)
     }
 
     fn push_manifest(
@@ -223,12 +238,16 @@ impl<H: Holder> RequestBody<H> for StagedBody {
 
 /// How many bytes came, which were not kept. What would look at them gives up.
 #[derive(Clone, Copy)]
-pub struct CountedBody(pub u64);
+pub struct CountedBody(pub usize);
 
 impl<K: Keeper> RequestBody<K> for CountedBody {
-    ghost is_body = { λ b k t. length t ≡ b.0 };
+    ghost is_body = { λ b k t. b.0 ≡ length t };
 
     ghost stage = { λ b. None };
+
+    fn size(self) -> usize {
+        self.0
+    }
 
     fn push_blob(
         self,

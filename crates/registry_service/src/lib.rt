@@ -5,13 +5,14 @@
 
 mod admin_commands;
 mod answering;
-mod body;
+pub mod body;
 mod judging;
 mod login;
 mod operation;
 pub mod run;
 pub mod service;
 
+pub use body::{CountedBody, RequestBody, StagedBody, WholeBody};
 pub use registry_model::{AdminCommand, AdminFault};
 pub use run::{Outcome, Step};
 pub use service::Service;

@@ -14,7 +14,7 @@ ghost use Rattle.registry_service.specs.Bodies.{StageIs, ask_with, from_body};
 
 use crate::admin_commands::apply_command;
 use crate::answering::answer;
-use crate::body::{CountedBody, StagedBody, WholeBody};
+use crate::body::{RequestBody, WholeBody};
 use manifest_operations::{names_at, unnamed};
 use oci_types::{Digest, Fault, RepoName, Tag, Token};
 use registry_holding::Holder;
@@ -82,14 +82,22 @@ impl<K: Keeper> Service<K> {
         answer(&mut self.keeper, alloc, request, WholeBody(request.body))
     }
 
-    /// Answers a request of whose body it is known alone how many bytes came: they were not kept. The
-    /// request's own body is not looked at. Where the answer takes the bytes, the reply is 503, and nothing
-    /// has changed.
-    pub fn handle_counted(&mut self, alloc: Global, request: &Request, size: u64) -> Reply
-        ensures does { K.is_honest self.new → (t : Text) → length t ≡ size →
+    /// Answers a request whose body is told apart from it, as `handle` does on the bytes whose body it is. The
+    /// request's own body is not looked at.
+    ///
+    /// Where a body is staged, of that stage nothing is known afterwards; all else that is held stays. Where
+    /// it was not kept, and the answer takes its bytes, the reply is 503, and nothing has changed.
+    pub fn handle_with<B: RequestBody<K>>(
+        &mut self,
+        alloc: Global,
+        request: &Request,
+        body: B,
+    ) -> Reply
+        ensures does { K.is_honest self.new → (t : Text) → B.is_body body (K.kept self.old) t →
             Does (state_of (K.kept self.old)) (ask_with (ask_of request.now) t) (answer_of result)
             (state_of (K.kept self.new)) }
-        ensures holds { K.is_honest self.new → HeldStays (K.kept self.old) (K.kept self.new) }
+        ensures holds { K.is_honest self.new → (t : Text) → B.is_body body (K.kept self.old) t →
+            HeldStays (from_body (B.stage body) (K.kept self.old) (K.kept self.new)) (K.kept self.new) }
         ensures carries { is_head request.now.method ≡ false → is_sent (answer_of result).body ≡ true }
         ensures spends { SpendsAs (course_of_answer (answer_of result))
             (state_of (K.kept self.old)) (state_of (K.kept self.new)) }
@@ -98,7 +106,7 @@ impl<K: Keeper> Service<K> {
             answer_of result ≡ refused TokenRequired }
         ensures honest { K.is_honest self.new → K.is_honest self.old }
     {
-        answer(&mut self.keeper, alloc, request, CountedBody(size))
+        answer(&mut self.keeper, alloc, request, body)
     }
 
     /// What each repository holds and may hold, in byte order of names, as `Keeper::usages` tells it.
@@ -275,27 +283,5 @@ impl<H: Holder> Service<H> {
         ensures honest { H.is_honest self.new → H.is_honest self.old }
     {
         self.keeper.unstage(key);
-    }
-
-    /// Answers a request whose body is staged under the number of a connection, as `handle` does on those
-    /// bytes. The request's own body is not looked at.
-    ///
-    /// Of that stage nothing is known afterwards; all else that is held stays. A manifest is not pushed from
-    /// a stage: that is answered 503, and nothing has changed.
-    pub fn handle_staged(&mut self, alloc: Global, request: &Request, key: u64) -> Reply
-        ensures does { H.is_honest self.new → (t : Text) → StageIs (H.kept self.old) key t →
-            Does (state_of (H.kept self.old)) (ask_with (ask_of request.now) t) (answer_of result)
-            (state_of (H.kept self.new)) }
-        ensures holds { H.is_honest self.new → (t : Text) → StageIs (H.kept self.old) key t →
-            HeldStays (from_body (Some key) (H.kept self.old) (H.kept self.new)) (H.kept self.new) }
-        ensures carries { is_head request.now.method ≡ false → is_sent (answer_of result).body ≡ true }
-        ensures spends { SpendsAs (course_of_answer (answer_of result))
-            (state_of (H.kept self.old)) (state_of (H.kept self.new)) }
-        ensures no_token { request.now.token ≡ None → request.now.resource ≡ Resource.Registry
-            → request.now.settings.login ≡ None → (H.kept self.old).spent ≡ false →
-            answer_of result ≡ refused TokenRequired }
-        ensures honest { H.is_honest self.new → H.is_honest self.old }
-    {
-        answer(&mut self.keeper, alloc, request, StagedBody(key))
     }
 }
