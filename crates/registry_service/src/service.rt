@@ -82,8 +82,8 @@ impl<K: Keeper> Service<K> {
         answer(&mut self.keeper, alloc, request, WholeBody(request.body))
     }
 
-    /// Answers a request whose body is told apart from it, as `handle` does on the bytes whose body it is. The
-    /// request's own body is not looked at.
+    /// Answers a request whose body is told apart from it, as `handle` does on the bytes whose body it is.
+    /// The request's own body is not looked at.
     ///
     /// Where a body is staged, of that stage nothing is known afterwards; all else that is held stays. Where
     /// it was not kept, and the answer takes its bytes, the reply is 503, and nothing has changed.
