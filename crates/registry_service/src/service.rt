@@ -87,6 +87,8 @@ impl<K: Keeper> Service<K> {
     ///
     /// Where a body is staged, of that stage nothing is known afterwards; all else that is held stays. Where
     /// it was not kept, and the answer takes its bytes, the reply is 503, and nothing has changed.
+    ///
+    /// Nothing is said of a stage that is not there, or that has another length than it is told to have.
     pub fn handle_with<B: RequestBody<K>>(
         &mut self,
         alloc: Global,
