@@ -141,7 +141,6 @@ module _ (settings : Settings) (taken unread b said : Text) (w : HoldsWhole sett
       (record { reads = (w.there.begins.reads.0, whole); short = w.there.begins.short }) w.there.few
 
 -- what the spans say of the end of the connection
-pub closes_is : (taken : Text) (fields : List HeaderSpan) (spans : RequestSpans) (i : Item) → IsTaken taken fields spans i
-    → closes_by spans.version (map (header_bytes (take spans.len taken)) (take spans.headers fields)) ≡ closes i
-closes_is taken fields spans i x =
-    ap (λ v. closes_by v (map (header_bytes (take spans.len taken)) (take spans.headers fields))) x.at.minor ∙ ap (closes_by i.head.minor) x.at.fields
+pub closes_at : (head : Text) (fields : List HeaderSpan) (spans : RequestSpans) (i : Item) → IsHeadAt head fields spans i.head
+    → closes_by spans.version (map (header_bytes head) fields) ≡ closes i
+closes_at head fields spans i at = ap (λ v. closes_by v (map (header_bytes head) fields)) at.minor ∙ ap (closes_by i.head.minor) at.fields

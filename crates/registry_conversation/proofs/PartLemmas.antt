@@ -70,7 +70,7 @@ part_on settings (Data total size came) framing front v t u more x =
         kept = p.kept;
       },
     )
-part_on settings Trailer framing front v t u more x =
+part_on settings (Trailer total) framing front v t u more x =
     let p = x.1 in (
       x.0,
       record {
@@ -78,6 +78,7 @@ part_on settings Trailer framing front v t u more x =
         zero = p.zero;
         each = p.each;
         within = p.within;
+        carried = p.carried;
         is_last = p.is_last;
         whole = on_tail v (print_chunks p.chunks ++ print_chunk_line p.zero) u more p.whole;
         kept = p.kept;
@@ -136,17 +137,20 @@ length_cut settings size came framing front v t u x short =
     subst (λ (f : Framing). BodyIsCut settings f v) (sym x.0) (omega (arith, ap length p.whole, length-append p.come u, p.counted, short))
 
 pub length_whole : (settings : Settings) (size came n : ℕ) (framing : Framing) (front v t u u' : Text) → IsPart settings (Length size came) framing front v t u → n ≡ size - came → n ≤ length u
-    → u' ≡ drop n u → BodyIsWhole settings framing front v (t ++ take n u) u'
+    → u' ≡ drop n u → (w : BodyIsWhole settings framing front v (t ++ take n u) u') × (size ≡ length w.body)
 length_whole settings size came n framing front v t u u' x is enough rest =
     let p = x.1 in
     let body = p.come ++ take n u in
-    record {
-      coded = body;
-      body = body;
-      is_body = subst (λ (f : Framing). IsBody settings f body body) (sym x.0) (refl, omega (arith, length-append p.come (take n u), p.counted, p.fits, length-take n u, enough, is));
-      whole = and_next p.come u u' v n p.whole rest;
-      kept = ap (λ (y : Text). y ++ take n u) p.kept ∙ append_assoc front p.come (take n u);
-    }
+    let all : length body ≡ size = omega (arith, length-append p.come (take n u), p.counted, p.fits, length-take n u, enough, is) in (
+      record {
+        coded = body;
+        body = body;
+        is_body = subst (λ (f : Framing). IsBody settings f body body) (sym x.0) (refl, all);
+        whole = and_next p.come u u' v n p.whole rest;
+        kept = ap (λ (y : Text). y ++ take n u) p.kept ∙ append_assoc front p.come (take n u);
+      },
+      sym all,
+    )
 
 -- ---- the line of a chunk
 
@@ -193,7 +197,7 @@ line_fits u line read =
     omega (arith, length-append (print_chunk_line read.text) (drop line.len u), read.len)
 
 pub line_last : (settings : Settings) (total : ℕ) (framing : Framing) (front v t u u' : Text) (line : LineFound) → IsPart settings (Line total) framing front v t u
-    → LineIsRead u line → line.size ≡ 0 → u' ≡ drop line.len u → IsPart settings Trailer framing front v t u'
+    → LineIsRead u line → line.size ≡ 0 → u' ≡ drop line.len u → IsPart settings (Trailer total) framing front v t u'
 line_last settings total framing front v t u u' line x read none rest =
     let p = x.1 in
     let text = print_chunk_line read.text in (
@@ -203,6 +207,7 @@ line_last settings total framing front v t u u' line x read none rest =
         zero = read.text;
         each = p.each;
         within = omega (arith, p.within, p.carried);
+        carried = p.carried;
         is_last = record { line = read.begins.reads.0; short = read.begins.short; zero = sym read.size ∙ none };
         whole = p.whole ∙ ap (λ (y : Text). print_chunks p.chunks ++ y) (read.begins.reads.1 ∙ ap (λ (y : Text). text ++ y) (sym rest))
             ∙ sym (append_assoc (print_chunks p.chunks) text u');
@@ -409,20 +414,20 @@ data_shorter size t u t' w t'' u' kept rest same last =
 
 -- ---- the trailer
 
-at_last : (settings : Settings) (front v t u : Text) (p : BehindZero settings front v t u) (P : Text → Type 0) (w y : Text)
+at_last : (settings : Settings) (total : ℕ) (front v t u : Text) (p : BehindZero settings total front v t u) (P : Text → Type 0) (w y : Text)
     → w ≡ (print_chunks p.chunks ++ print_chunk_line p.zero) ++ y → P y → BehindLast settings P w
-at_last settings front v t u p P w y e h =
+at_last settings total front v t u p P w y e h =
     record { chunks = p.chunks; zero = p.zero; rest = y; whole = e; each = p.each; within = p.within; is_last = p.is_last; here = h }
 
-pub trailer_cut : (settings : Settings) (framing : Framing) (front v t u : Text) → IsPart settings Trailer framing front v t u → TrailerIsCut u → BodyIsCut settings framing v
-trailer_cut settings framing front v t u x cut =
-    subst (λ (f : Framing). BodyIsCut settings f v) (sym x.0) (inr (at_last settings front v t u x.1 TrailerIsCut v u x.1.whole cut))
+pub trailer_cut : (settings : Settings) (total : ℕ) (framing : Framing) (front v t u : Text) → IsPart settings (Trailer total) framing front v t u → TrailerIsCut u → BodyIsCut settings framing v
+trailer_cut settings total framing front v t u x cut =
+    subst (λ (f : Framing). BodyIsCut settings f v) (sym x.0) (inr (at_last settings total front v t u x.1 TrailerIsCut v u x.1.whole cut))
 
-pub trailer_never : (settings : Settings) (framing : Framing) (front v t u : Text) → IsPart settings Trailer framing front v t u → ((tail : Text) → HoldsNoTrailer (u ++ tail))
+pub trailer_never : (settings : Settings) (total : ℕ) (framing : Framing) (front v t u : Text) → IsPart settings (Trailer total) framing front v t u → ((tail : Text) → HoldsNoTrailer (u ++ tail))
     → (tail : Text) → BodyIsRefused settings framing (v ++ tail) UnreadableChunk
-trailer_never settings framing front v t u x never tail =
+trailer_never settings total framing front v t u x never tail =
     subst (λ (f : Framing). BodyIsRefused settings f (v ++ tail) UnreadableChunk) (sym x.0)
-    (inr (at_last settings front v t u x.1 (λ y. TrailerIsRefused y UnreadableChunk) (v ++ tail) (u ++ tail)
+    (inr (at_last settings total front v t u x.1 (λ y. TrailerIsRefused y UnreadableChunk) (v ++ tail) (u ++ tail)
     (on_tail v (print_chunks x.1.chunks ++ print_chunk_line x.1.zero) u tail x.1.whole) (refl, never tail)))
 
 pub trailer_fits : (u : Text) (len : ℕ) → TrailerIsRead u len → len ≤ length u
@@ -430,22 +435,24 @@ trailer_fits u len read =
     let size = ap length read.begins.reads.1 in
     omega (arith, length-append (print_section read.fields read.last) (drop len u), read.len_is)
 
-pub trailer_whole : (settings : Settings) (framing : Framing) (front v t u u' : Text) (len : ℕ) → IsPart settings Trailer framing front v t u → TrailerIsRead u len
-    → u' ≡ drop len u → BodyIsWhole settings framing front v t u'
-trailer_whole settings framing front v t u u' len x read rest =
+pub trailer_whole : (settings : Settings) (total : ℕ) (framing : Framing) (front v t u u' : Text) (len : ℕ) → IsPart settings (Trailer total) framing front v t u → TrailerIsRead u len
+    → u' ≡ drop len u → (w : BodyIsWhole settings framing front v t u') × (total ≡ length w.body)
+trailer_whole settings total framing front v t u u' len x read rest =
     let p = x.1 in
     let before = print_chunks p.chunks ++ print_chunk_line p.zero in
     let section = print_section read.fields read.last in
-    let body : ChunkedBody = record { chunks = p.chunks; zero = p.zero; fields = read.fields; last = read.last } in
-    record {
-      coded = before ++ section;
-      body = data_of p.chunks;
-      is_body = subst (λ (f : Framing). IsBody settings f (before ++ section) (data_of p.chunks)) (sym x.0) (
-        body,
-        record { each = p.each; within = p.within; zero = p.is_last; fields = read.begins.reads.0; few = read.few; short = read.begins.short },
-        refl,
-        refl,
-      );
-      whole = p.whole ∙ ap (λ (y : Text). before ++ y) (read.begins.reads.1 ∙ ap (λ (y : Text). section ++ y) (sym rest)) ∙ sym (append_assoc before section u');
-      kept = p.kept;
-    }
+    let body : ChunkedBody = record { chunks = p.chunks; zero = p.zero; fields = read.fields; last = read.last } in (
+      record {
+        coded = before ++ section;
+        body = data_of p.chunks;
+        is_body = subst (λ (f : Framing). IsBody settings f (before ++ section) (data_of p.chunks)) (sym x.0) (
+          body,
+          record { each = p.each; within = p.within; zero = p.is_last; fields = read.begins.reads.0; few = read.few; short = read.begins.short },
+          refl,
+          refl,
+        );
+        whole = p.whole ∙ ap (λ (y : Text). before ++ y) (read.begins.reads.1 ∙ ap (λ (y : Text). section ++ y) (sym rest)) ∙ sym (append_assoc before section u');
+        kept = p.kept;
+      },
+      p.carried,
+    )

@@ -55,12 +55,13 @@ pub record BehindSize (settings : Settings) (total size came : ℕ) (front v tak
   pub fits : came ≤ size
   pub kept : taken ≡ before ++ come
 
--- all chunks, and the line that ends them
-pub record BehindZero (settings : Settings) (front v taken unread : Text) : Type 0 where
+-- all chunks, which carry total bytes, and the line that ends them
+pub record BehindZero (settings : Settings) (total : ℕ) (front v taken unread : Text) : Type 0 where
   pub chunks : List Chunk
   pub zero : ChunkLine
   pub each : All IsChunk chunks
   pub within : length (data_of chunks) ≤ most_body settings
+  pub carried : total ≡ length (data_of chunks)
   pub is_last : IsLast zero
   pub whole : v ≡ (print_chunks chunks ++ print_chunk_line zero) ++ unread
   pub kept : taken ≡ front ++ data_of chunks
@@ -73,8 +74,8 @@ IsPart settings (Line total) framing front v taken unread =
     (framing ≡ framed.Chunked) × BehindTotal settings total front v taken unread
 IsPart settings (Data total size came) framing front v taken unread =
     (framing ≡ framed.Chunked) × BehindSize settings total size came front v taken unread
-IsPart settings Trailer framing front v taken unread =
-    (framing ≡ framed.Chunked) × BehindZero settings front v taken unread
+IsPart settings (Trailer total) framing front v taken unread =
+    (framing ≡ framed.Chunked) × BehindZero settings total front v taken unread
 
 -- a body that is framed so was taken
 pub record BodyIsWhole (settings : Settings) (framing : Framing) (front v taken unread : Text) : Type 0 where
@@ -94,8 +95,8 @@ FindsEnd behind.Never size b = (tail : Text) → HasBadEnd size (b ++ tail)
 abbrev pub TakesPart : Settings → Took → Framing → Text → Text → Text → Text → Type 0
 TakesPart settings (took.Next next) framing front v taken unread =
     IsPart settings next framing front v taken unread
-TakesPart settings took.Whole framing front v taken unread =
-    BodyIsWhole settings framing front v taken unread
+TakesPart settings (took.Whole size) framing front v taken unread =
+    (w : BodyIsWhole settings framing front v taken unread) × (size ≡ length w.body)
 TakesPart settings (took.NotYet next) framing front v taken unread =
     IsPart settings next framing front v taken unread × BodyIsCut settings framing v
 TakesPart settings (took.Never r) framing front v taken unread =
@@ -110,7 +111,8 @@ TakesFrom settings part found taken unread taken' unread' =
     → TakesPart settings found framing front v (carried ++ more) unread')
 
 abbrev pub TakesBody : Settings → Taken → Framing → Text → Text → Text → Text → Type 0
-TakesBody settings all.Whole framing front v taken unread = BodyIsWhole settings framing front v taken unread
+TakesBody settings (all.Whole size) framing front v taken unread =
+    (w : BodyIsWhole settings framing front v taken unread) × (size ≡ length w.body)
 TakesBody settings (all.Missing part) framing front v taken unread =
     IsPart settings part framing front v taken unread × BodyIsCut settings framing v
 TakesBody settings (all.Refused r) framing front v taken unread =
@@ -133,10 +135,10 @@ abbrev pub rank : Settings → Part → ℕ
 rank settings (Length size came) = 0
 rank settings (Line total) = 2 * (most_body settings - total) + 2
 rank settings (Data total size came) = 2 * (most_body settings - total) + 3
-rank settings Trailer = 1
+rank settings (Trailer total) = 1
 
 abbrev pub IsSmaller : Settings → Part → Took → Type 0
 IsSmaller settings part (took.Next next) = rank settings next < rank settings part
-IsSmaller settings part took.Whole = Unit {0}
+IsSmaller settings part (took.Whole size) = Unit {0}
 IsSmaller settings part (took.NotYet next) = Unit {0}
 IsSmaller settings part (took.Never r) = Unit {0}

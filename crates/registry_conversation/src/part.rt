@@ -27,8 +27,8 @@ pub enum Part {
         size: usize,
         came: usize,
     },
-    /// The trailer, behind the line that ends the chunks.
-    Trailer,
+    /// The trailer, behind the line that ends the chunks, which carry so many bytes.
+    Trailer(usize),
 }
 
 /// What the unread bytes hold behind the data of a chunk.
@@ -45,8 +45,8 @@ pub enum FoundEnd {
 pub enum Took {
     /// It was taken, and this part is next.
     Next(Part),
-    /// It was taken, and the body is whole.
-    Whole,
+    /// It was taken, and the body is whole: so many bytes.
+    Whole(usize),
     /// It is not whole yet: this is missing of it.
     NotYet(Part),
     /// It is refused, whatever bytes follow.
@@ -55,8 +55,8 @@ pub enum Took {
 
 /// What came of a body.
 pub enum Taken {
-    /// It was taken.
-    Whole,
+    /// It was taken: so many bytes.
+    Whole(usize),
     /// This is missing; what is before it was taken.
     Missing(Part),
     /// It is refused, whatever bytes follow.
@@ -100,7 +100,7 @@ fn take_length(buffer: &mut Buffer, size: usize, came: usize) -> Took
         });
     }
     buffer.pass(missing);
-    Took::Whole
+    Took::Whole(size)
 }
 
 /// Takes the line of a chunk, behind chunks that carry `total` bytes: with it they carry no more than the
@@ -124,7 +124,7 @@ fn take_line(buffer: &mut Buffer, total: usize, settings: Settings) -> Took
     buffer.skip(line.len);
     let size = line.size as usize;
     if size == 0 {
-        return Took::Next(Part::Trailer);
+        return Took::Next(Part::Trailer(total));
     }
     Took::Next(Part::Data {
         total: total + size,
@@ -161,20 +161,20 @@ fn take_data(buffer: &mut Buffer, total: usize, size: usize, came: usize) -> Too
     Took::Next(Part::Line(total))
 }
 
-/// Takes the trailer.
-fn take_trailer(buffer: &mut Buffer, fields: &mut [HeaderSpan]) -> Took
+/// Takes the trailer, behind chunks that carry `total` bytes.
+fn take_trailer(buffer: &mut Buffer, fields: &mut [HeaderSpan], total: usize) -> Took
     requires { length fields.old ≡ 8192 }
-    ensures takes { (settings : Settings) → TakesFrom settings Part.Trailer result
+    ensures takes { (settings : Settings) → TakesFrom settings (Part.Trailer total) result
         (before buffer.old) (behind buffer.old) (before buffer.new) (behind buffer.new) }
     ensures fewer { LetsGo (before buffer.old) (behind buffer.old) (before buffer.new) (behind buffer.new) }
-    ensures smaller { (settings : Settings) → IsSmaller settings Part.Trailer result }
+    ensures smaller { (settings : Settings) → IsSmaller settings (Part.Trailer total) result }
 {
     match find_trailer(buffer.behind(), fields) {
         FoundTrailer::Whole(len) => {
             buffer.skip(len);
-            Took::Whole
+            Took::Whole(total)
         }
-        FoundTrailer::NotYet => Took::NotYet(Part::Trailer),
+        FoundTrailer::NotYet => Took::NotYet(Part::Trailer(total)),
         FoundTrailer::Never => Took::Never(FramingRefusal::UnreadableChunk),
     }
 }
@@ -191,7 +191,7 @@ fn take_part(buffer: &mut Buffer, fields: &mut [HeaderSpan], part: Part, setting
         Part::Length { size, came } => take_length(buffer, size, came),
         Part::Line(total) => take_line(buffer, total, settings),
         Part::Data { total, size, came } => take_data(buffer, total, size, came),
-        Part::Trailer => take_trailer(buffer, fields),
+        Part::Trailer(total) => take_trailer(buffer, fields, total),
     }
 }
 
@@ -212,7 +212,7 @@ pub fn take_body(
     'parts: loop {
         match take_part(buffer, fields, next, settings) {
             Took::Next(more) => next = more,
-            Took::Whole => return Taken::Whole,
+            Took::Whole(size) => return Taken::Whole(size),
             Took::NotYet(missing) => return Taken::Missing(missing),
             Took::Never(refusal) => return Taken::Refused(refusal),
         }

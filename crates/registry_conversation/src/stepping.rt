@@ -4,7 +4,7 @@ ghost use Rattle.std.specs.Prelude.{◌≡◌, ◌≤◌, [], length, None, IfSo
 ghost use Rattle.std.specs.Bool.{MatchBool};
 ghost use Rattle.oci_types.specs.Text.{Text};
 ghost use Rattle.registry_model.specs.declared.settings.Settings.{Settings};
-ghost use Rattle.registry_model.specs.Keeping.{state_of};
+ghost use Rattle.registry_model.specs.Keeping.{HeldStays, state_of};
 ghost use Rattle.registry_http.specs.Expecting.{continue_if};
 
 use crate::heading::{FoundHead, Heading, find_head};
@@ -17,7 +17,7 @@ use registry_http::framing::Framing;
 use registry_http::head::{Parsed, parse_head};
 use registry_http::{End, FramingRefusal};
 use registry_model::{Keeper, Settings};
-use registry_service::Service;
+use registry_service::{Service, WholeBody};
 use std::alloc::Global;
 
 impl Conversation {
@@ -83,6 +83,7 @@ impl Conversation {
         room: &mut FieldRoom,
     ) -> Step
         ensures honest { K.is_honest service.new → K.is_honest service.old }
+        ensures holds { K.is_honest service.new → HeldStays (K.kept service.old) (K.kept service.new) }
         ensures finished { (shown self.new).finished ≡ (shown self.old).finished }
         ensures fewer { coming_len (shown self.new) ≤ coming_len (shown self.old) }
         ensures leads { LeadsOn result (shown self.old) (shown self.new) }
@@ -95,15 +96,11 @@ impl Conversation {
             return self.refuse(FramingRefusal::UnreadableHead);
         };
         let taken = self.buffer.before();
-        match reply_to(
-            alloc,
-            service,
-            settings,
-            taken,
-            &room.spans,
-            &spans,
-            &mut self.outbox,
-        ) {
+        let head = &taken[..spans.len];
+        let found = &room.spans[..spans.headers];
+        let body = WholeBody(&taken[spans.len..]);
+        let outbox = &mut self.outbox;
+        match reply_to(alloc, service, settings, head, found, &spans, body, outbox) {
             Ok(closing) => {
                 self.close_if(closing);
                 Step::Answered
@@ -124,6 +121,7 @@ impl Conversation {
         part: Part,
     ) -> Step
         ensures honest { K.is_honest service.new → K.is_honest service.old }
+        ensures holds { K.is_honest service.new → HeldStays (K.kept service.old) (K.kept service.new) }
         ensures finished { (shown self.new).finished ≡ (shown self.old).finished }
         ensures fewer { coming_len (shown self.new) ≤ coming_len (shown self.old) }
         ensures leads { LeadsOn result (shown self.old) (shown self.new) }
@@ -133,7 +131,7 @@ impl Conversation {
             (state_of (K.kept service.new)) (shown self.new) self.old.outbox.report self.new.outbox.report }
     {
         match take_body(&mut self.buffer, &mut room.spans, part, settings) {
-            Taken::Whole => self.reply(alloc, service, settings, room),
+            Taken::Whole(_) => self.reply(alloc, service, settings, room),
             Taken::Missing(next) => {
                 self.phase = Phase::Body(next);
                 self.wait(End::Cut)
@@ -155,6 +153,7 @@ impl Conversation {
     ) -> Step
         requires { (shown self.old).phase ≡ Phase.Head }
         ensures honest { K.is_honest service.new → K.is_honest service.old }
+        ensures holds { K.is_honest service.new → HeldStays (K.kept service.old) (K.kept service.new) }
         ensures finished { (shown self.new).finished ≡ (shown self.old).finished }
         ensures fewer { coming_len (shown self.new) ≤ coming_len (shown self.old) }
         ensures leads { LeadsOn result (shown self.old) (shown self.new) }
@@ -190,6 +189,7 @@ impl Conversation {
         requires within { heading.len ≤ length (shown self.old).unread }
         requires head { (shown self.old).phase ≡ Phase.Head }
         ensures honest { K.is_honest service.new → K.is_honest service.old }
+        ensures holds { K.is_honest service.new → HeldStays (K.kept service.old) (K.kept service.new) }
         ensures finished { (shown self.new).finished ≡ (shown self.old).finished }
         ensures fewer { coming_len (shown self.new) ≤ coming_len (shown self.old) }
         ensures leads { LeadsOn result (shown self.old) (shown self.new) }
@@ -238,6 +238,7 @@ impl Conversation {
     ) -> Step
         requires { (shown self.old).phase ≡ Phase.Head }
         ensures honest { K.is_honest service.new → K.is_honest service.old }
+        ensures holds { K.is_honest service.new → HeldStays (K.kept service.old) (K.kept service.new) }
         ensures finished { (shown self.new).finished ≡ (shown self.old).finished }
         ensures fewer { coming_len (shown self.new) ≤ coming_len (shown self.old) }
         ensures leads { LeadsOn result (shown self.old) (shown self.new) }
@@ -275,6 +276,7 @@ impl Conversation {
         room: &mut FieldRoom,
     ) -> Step
         ensures honest { K.is_honest service.new → K.is_honest service.old }
+        ensures holds { K.is_honest service.new → HeldStays (K.kept service.old) (K.kept service.new) }
         ensures finished { (shown self.new).finished ≡ (shown self.old).finished }
         ensures fewer { coming_len (shown self.new) ≤ coming_len (shown self.old) }
         ensures leads { LeadsOn result (shown self.old) (shown self.new) }

@@ -38,7 +38,7 @@ returns-in-Whole c =
       takes = (
         first.0 ++ then.0,
         more_taken _ _ _ first.0 then.0 first.1 then.1,
-        λ framing front v carried x. subst (λ (y : Text). TakesBody c.args.settings all.Whole framing front v y (behind c.take_part.new.buffer)) (append_assoc carried first.0 then.0) (then.2 framing front v (carried ++ first.0) (first.2 framing front v carried x)),
+        λ framing front v carried x. subst (λ (y : Text). TakesBody c.args.settings (all.Whole c.in-Whole.size) framing front v y (behind c.take_part.new.buffer)) (append_assoc carried first.0 then.0) (then.2 framing front v (carried ++ first.0) (first.2 framing front v carried x)),
       );
       fewer = omega (arith, c.parts.invariant.fewer, c.take_part.ensures.fewer);
     }

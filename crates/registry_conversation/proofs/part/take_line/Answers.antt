@@ -39,7 +39,7 @@ returns-then-size-eq0 c =
     let gone = length-drop c.in-Whole.line.len (behind c.args.buffer.now) in
     let none : c.in-Whole.line.size ≡ 0 = omega (arith, c.if-size-eq0.true) in
     record {
-      takes = takes_none c.args.settings (Line c.args.total) (took.Next Trailer) _ _ _ (behind c.skip.new.self) c.skip.ensures.before
+      takes = takes_none c.args.settings (Line c.args.total) (took.Next (Trailer c.args.total)) _ _ _ (behind c.skip.new.self) c.skip.ensures.before
           (λ framing front v carried x. line_last c.args.settings c.args.total framing front v carried _ _ c.in-Whole.line x (rw c.behind.ensures at c.in-Whole.ensures) none c.skip.ensures.behind);
       fewer = omega (arith, ap length c.skip.ensures.before, ap length c.skip.ensures.behind, gone);
       smaller = omega arith;

@@ -7,6 +7,7 @@ use Rattle.registry_conversation.proofs.conversation.Conversation.answer_next.Go
 pub returns-in-Head : goal.returns-in-Head
 returns-in-Head g c = record {
   honest = c.begin.ensures.honest;
+  holds = c.begin.ensures.holds;
   finished = c.begin.ensures.finished;
   fewer = c.begin.ensures.fewer;
   leads = c.begin.ensures.leads;
@@ -20,6 +21,7 @@ returns-in-Body g c =
     let old = shown c.args.self.now in
     record {
       honest = c.go_on.ensures.honest;
+      holds = c.go_on.ensures.holds;
       finished = c.go_on.ensures.finished;
       fewer = c.go_on.ensures.fewer;
       leads = c.go_on.ensures.leads;

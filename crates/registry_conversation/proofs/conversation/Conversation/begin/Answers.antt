@@ -8,11 +8,13 @@ use Rattle.registry_conversation.specs.Headings.{BeginsAt}
 use Rattle.registry_conversation.specs.Telling.{Tells}
 use Rattle.registry_conversation.specs.ConversationShowing.{shown}
 use Rattle.registry_conversation.proofs.SteppingLemmas.{held_at_head, empty_from, some_from, nothing_came, head_cut, head_never, waited_same, none_left, leads_waited, leads_refused}
+use Rattle.registry_model.proofs.HeldLaws.{held_rests}
 use Rattle.registry_conversation.proofs.conversation.Conversation.begin.Goals as goal
 
 pub returns-then-none : goal.returns-then-none
 returns-then-none g c = record {
   honest = λ honest. honest;
+  holds = λ honest. held_rests (g.K.Keeper.kept c.args.service.now) (g.K.Keeper.kept c.args.service.now) refl;
   finished = (waited_same c.wait.result _ (shown c.args.self.now) (shown c.wait.new.self) c.wait.ensures.waits).0;
   fewer = (waited_same c.wait.result _ (shown c.args.self.now) (shown c.wait.new.self) c.wait.ensures.waits).1;
   leads =
@@ -27,6 +29,7 @@ returns-then-none g c = record {
 pub returns-else-none : goal.returns-else-none
 returns-else-none g c = record {
   honest = λ honest. honest;
+  holds = λ honest. held_rests (g.K.Keeper.kept c.args.service.now) (g.K.Keeper.kept c.args.service.now) refl;
   finished = (waited_same c.wait-else-none.result _ (shown c.args.self.now) (shown c.wait-else-none.new.self) c.wait-else-none.ensures.waits).0;
   fewer = (waited_same c.wait-else-none.result _ (shown c.args.self.now) (shown c.wait-else-none.new.self) c.wait-else-none.ensures.waits).1;
   leads =
@@ -42,6 +45,7 @@ returns-else-none g c = record {
 pub returns-in-Never : goal.returns-in-Never
 returns-in-Never g c = record {
   honest = λ honest. honest;
+  holds = λ honest. held_rests (g.K.Keeper.kept c.args.service.now) (g.K.Keeper.kept c.args.service.now) refl;
   finished = c.refuse.ensures.refuses.finished;
   fewer = none_left (shown c.args.self.now) (shown c.refuse.new.self) c.refuse.ensures.refuses.none_held;
   leads = leads_refused c.refuse.result _ (shown c.args.self.now) (shown c.args.self.now) (shown c.refuse.new.self) c.refuse.ensures.refuses;
@@ -54,6 +58,7 @@ returns-in-Never g c = record {
 pub returns-in-Whole : goal.returns-in-Whole
 returns-in-Whole g c = record {
   honest = c.take_head.ensures.honest;
+  holds = c.take_head.ensures.holds;
   finished = c.take_head.ensures.finished;
   fewer = c.take_head.ensures.fewer;
   leads = c.take_head.ensures.leads;

@@ -9,11 +9,13 @@ use Rattle.registry_conversation.specs.Stepping.{continuing}
 use Rattle.registry_conversation.specs.Telling.{Tells}
 use Rattle.registry_conversation.proofs.HoldingLemmas.{before_there}
 use Rattle.registry_conversation.proofs.SteppingLemmas.{part_ends, leads_ended}
+use Rattle.registry_model.proofs.HeldLaws.{held_rests}
 use Rattle.registry_conversation.proofs.conversation.Conversation.begin_body.Goals as goal
 
 pub returns-then-not-awaits : goal.returns-then-not-awaits
 returns-then-not-awaits g c = record {
   honest = c.go_on.ensures.honest;
+  holds = c.go_on.ensures.holds;
   finished = c.go_on.ensures.finished;
   fewer = c.go_on.ensures.fewer;
   leads = c.go_on.ensures.leads;
@@ -27,6 +29,7 @@ returns-then-not-awaits g c = record {
 pub returns-in-Ok : goal.returns-in-Ok
 returns-in-Ok g c = record {
   honest = λ honest. honest;
+  holds = λ honest. held_rests (g.K.Keeper.kept c.args.service.now) (g.K.Keeper.kept c.args.service.now) refl;
   finished = refl;
   fewer = le_of_eq refl;
   leads = omega (arith, ap heads c.requires);
@@ -46,6 +49,7 @@ returns-in-Ok g c = record {
 pub returns-in-Err : goal.returns-in-Err
 returns-in-Err g c = record {
   honest = λ honest. honest;
+  holds = λ honest. held_rests (g.K.Keeper.kept c.args.service.now) (g.K.Keeper.kept c.args.service.now) refl;
   finished = ap (λ (k : Shown). k.finished) c.end.ensures.ends;
   fewer = le_of_eq (ap coming_len c.end.ensures.ends);
   leads =

@@ -9,11 +9,13 @@ use Rattle.registry_conversation.specs.declared.part.Taken.TheVariants as all
 use Rattle.registry_conversation.proofs.PartLemmas.{takes_here}
 use Rattle.registry_conversation.proofs.HoldingLemmas.{cut_there}
 use Rattle.registry_conversation.proofs.SteppingLemmas.{refused, body_never, waited_cut, waited_same, none_left, leads_from, leads_waited, leads_refused}
+use Rattle.registry_model.proofs.HeldLaws.{held_rests}
 use Rattle.registry_conversation.proofs.conversation.Conversation.go_on.Goals as goal
 
 pub returns-in-Whole : goal.returns-in-Whole
 returns-in-Whole g c = record {
   honest = c.reply.ensures.honest;
+  holds = c.reply.ensures.holds;
   finished = c.reply.ensures.finished;
   fewer = le_trans c.reply.ensures.fewer c.take_body.ensures.fewer;
   leads = leads_from c.reply.result (shown c.args.self.now) _ (shown c.reply.new.self) (omega (arith, c.take_body.ensures.fewer)) c.reply.ensures.leads;
@@ -23,7 +25,7 @@ returns-in-Whole g c = record {
         behind = x.1;
         there = x.2;
         said_is = x.3;
-        body = takes_here c.args.settings c.args.part all.Whole _ _ _ _ c.in-Whole.ensures.takes (framing c.args.settings x.0) (print_request x.0) x.1 x.4;
+        body = (takes_here c.args.settings c.args.part (all.Whole _) _ _ _ _ c.in-Whole.ensures.takes (framing c.args.settings x.0) (print_request x.0) x.1 x.4).0;
       });
 }
 
@@ -32,6 +34,7 @@ returns-in-Missing g c =
     let same = waited_same c.wait.result _ _ (shown c.wait.new.self) c.wait.ensures.waits in
     record {
       honest = λ honest. honest;
+      holds = λ honest. held_rests (g.K.Keeper.kept c.args.service.now) (g.K.Keeper.kept c.args.service.now) refl;
       finished = same.0;
       fewer = le_trans same.1 c.take_body.ensures.fewer;
       leads = leads_waited c.wait.result _ (shown c.args.self.now) _ (shown c.wait.new.self) c.wait.ensures.waits refl (omega (arith, c.take_body.ensures.fewer));
@@ -44,6 +47,7 @@ returns-in-Missing g c =
 pub returns-in-Refused : goal.returns-in-Refused
 returns-in-Refused g c = record {
   honest = λ honest. honest;
+  holds = λ honest. held_rests (g.K.Keeper.kept c.args.service.now) (g.K.Keeper.kept c.args.service.now) refl;
   finished = c.refuse.ensures.refuses.finished;
   fewer = none_left (shown c.args.self.now) (shown c.refuse.new.self) c.refuse.ensures.refuses.none_held;
   leads = leads_refused c.refuse.result _ (shown c.args.self.now) _ (shown c.refuse.new.self) c.refuse.ensures.refuses;

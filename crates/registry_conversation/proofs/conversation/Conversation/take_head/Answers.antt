@@ -1,9 +1,10 @@
-use Rattle.std.proofs.Common.{[], subst, le_trans, arith}
+use Rattle.std.proofs.Common.{refl, [], subst, le_trans, arith}
 use Rattle.oci_types.specs.Text.{Text}
 use Rattle.registry_conversation.specs.ConversationShowing.{shown}
 use Rattle.registry_conversation.specs.Stepping.{IsRefusedThere}
 use Rattle.registry_conversation.proofs.HoldingLemmas.{length_begins, chunks_begin}
 use Rattle.registry_conversation.proofs.SteppingLemmas.{refused_at, none_before, refused, passed, none_left, leads_from, leads_refused}
+use Rattle.registry_model.proofs.HeldLaws.{held_rests}
 use Rattle.registry_conversation.proofs.conversation.Conversation.take_head.Goals as goal
 
 pub returns-in-Length : goal.returns-in-Length
@@ -11,6 +12,7 @@ returns-in-Length g c =
     let few = passed c.args.heading.len (shown c.args.self.now) _ _ c.pass.ensures.before c.pass.ensures.behind in
     record {
       honest = c.begin_body.ensures.honest;
+      holds = c.begin_body.ensures.holds;
       finished = c.begin_body.ensures.finished;
       fewer = le_trans c.begin_body.ensures.fewer few;
       leads = leads_from c.begin_body.result (shown c.args.self.now) _ (shown c.begin_body.new.self) (omega (arith, few)) c.begin_body.ensures.leads;
@@ -24,6 +26,7 @@ returns-in-Chunked g c =
     let few = passed c.args.heading.len (shown c.args.self.now) _ _ c.pass.ensures.before c.pass.ensures.behind in
     record {
       honest = c.begin_body-in-Chunked.ensures.honest;
+      holds = c.begin_body-in-Chunked.ensures.holds;
       finished = c.begin_body-in-Chunked.ensures.finished;
       fewer = le_trans c.begin_body-in-Chunked.ensures.fewer few;
       leads = leads_from c.begin_body-in-Chunked.result (shown c.args.self.now) _ (shown c.begin_body-in-Chunked.new.self) (omega (arith, few)) c.begin_body-in-Chunked.ensures.leads;
@@ -35,6 +38,7 @@ returns-in-Chunked g c =
 pub returns-in-Refused : goal.returns-in-Refused
 returns-in-Refused g c = record {
   honest = λ honest. honest;
+  holds = λ honest. held_rests (g.K.Keeper.kept c.args.service.now) (g.K.Keeper.kept c.args.service.now) refl;
   finished = c.refuse.ensures.refuses.finished;
   fewer = none_left (shown c.args.self.now) (shown c.refuse.new.self) c.refuse.ensures.refuses.none_held;
   leads = leads_refused c.refuse.result _ (shown c.args.self.now) _ (shown c.refuse.new.self) c.refuse.ensures.refuses;
