@@ -9,13 +9,13 @@ use registry_service::{CountedBody, Service, StagedBody};
 use std::alloc::Global;
 use std::process::Abort;
 
-type Registry = Service<Holding<MapKeeper>>;
+pub type Registry = Service<Holding<MapKeeper>>;
 
-/// The repository `team/app` with a quota of 9 bytes, to which `t1` pushes and which `t2` pulls.
-fn setting(rt: &impl Abort, alloc: Global) -> Registry {
+/// The repository `team/app` with this quota, to which `t1` pushes and which `t2` pulls.
+pub fn registry_with(rt: &impl Abort, alloc: Global, quota: u64) -> Registry {
     let mut registry = Service::new(Holding::new(alloc, MapKeeper::new(alloc)));
     let name = &RepoName::parse(alloc, "team/app").expect(rt, "a name");
-    let quota = Quota::new(9).expect(rt, "a quota");
+    let quota = Quota::new(quota).expect(rt, "a quota");
     let added = registry.admin(alloc, &AdminCommand::AddRepo { name, quota });
     added.expect(rt, "a repository");
     for (token, level) in [("t1", Level::Push), ("t2", Level::Pull)] {
@@ -96,7 +96,7 @@ static ROWS: [Row; 11] = [
 #[test]
 fn staged_requests_are_answered(rt: HostRuntime) {
     let alloc = rt.alloc();
-    let mut registry = setting(&rt, alloc);
+    let mut registry = registry_with(&rt, alloc, 9);
     for (token, method, route, digest, bytes, status) in ROWS.iter() {
         let mut holder = registry.into_keeper();
         holder.stage(7, 0, false).expect(&rt, "a stage");
@@ -122,7 +122,7 @@ static COUNTED: [Row; 5] = [
 #[test]
 fn counted_requests_are_answered(rt: HostRuntime) {
     let alloc = rt.alloc();
-    let mut registry = setting(&rt, alloc);
+    let mut registry = registry_with(&rt, alloc, 9);
     for (token, method, route, digest, _, status) in COUNTED.iter() {
         let asked = request(token, *method, *route, *digest);
         let reply = registry.handle_with(alloc, &asked, CountedBody(3));

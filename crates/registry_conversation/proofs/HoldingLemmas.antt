@@ -131,14 +131,21 @@ module _ (settings : Settings) (taken unread b said : Text) (w : HoldsWhole sett
       body = same_head.1;
     }
 
+  -- what was taken begins with its head
+  pub head_there : HeadIsThere w.head taken w.body.body
+  head_there = record {
+    begins = record { reads = (w.there.begins.reads.0, w.body.kept); short = w.there.begins.short };
+    few = w.there.few;
+  }
+
+module _ (h : RequestHead) (taken v : Text) (x : HeadIsThere h taken v) where
   pub not_without_head : HasNoRequest taken → ⊥
-  not_without_head none = none w.head w.body.body (w.there.begins.reads.0, w.body.kept)
+  not_without_head none = none h v x.begins.reads
 
   pub not_hopeless : ((tail : Text) → HoldsNoHead (taken ++ tail)) → ⊥
   not_hopeless never =
-      let whole : taken ++ [] ≡ print_request w.head ++ w.body.body = append-nil taken ∙ w.body.kept in
-      head_readable (taken ++ []) (inl (never [])) w.head w.body.body
-      (record { reads = (w.there.begins.reads.0, whole); short = w.there.begins.short }) w.there.few
+      head_readable (taken ++ []) (inl (never [])) h v
+      (record { reads = (x.begins.reads.0, append-nil taken ∙ x.begins.reads.1); short = x.begins.short }) x.few
 
 -- what the spans say of the end of the connection
 pub closes_at : (head : Text) (fields : List HeaderSpan) (spans : RequestSpans) (i : Item) → IsHeadAt head fields spans i.head

@@ -5,3 +5,4 @@ pub mod SteppingLemmas
 pub mod EndLemmas
 pub mod LawLemmas
 pub mod ServingLemmas
+pub mod ApartLemmas

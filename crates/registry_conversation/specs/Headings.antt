@@ -1,6 +1,6 @@
 -- A head at the front of the unread bytes, and one that was taken.
 use Rattle.std.specs.Prelude.{◌≡◌, ◌≤◌, ◌⊎◌, List, [], ◌++◌, length, take, drop}
-use Rattle.httparse.specs.Grammar.{RequestHead, print_request}
+use Rattle.httparse.specs.Grammar.{RequestHead, IsRequestHead, print_request}
 use Rattle.httparse.specs.declared.spans.HeaderSpan.{HeaderSpan}
 use Rattle.httparse.specs.declared.spans.RequestSpans.{RequestSpans}
 use Rattle.oci_types.specs.Text.{Text}
@@ -19,6 +19,10 @@ use Rattle.registry_conversation.specs.declared.heading.FoundHead.TheVariants.{W
 pub record HeadIsThere (h : RequestHead) (b v : Text) : Type 0 where
   pub begins : BeginsWithHead b h v
   pub few : length h.fields ≤ most_fields
+
+-- the bytes are a head, and nothing else
+abbrev pub IsHead : Text → Type 0
+IsHead b = (h : RequestHead) × IsRequestHead h × (b ≡ print_request h)
 
 -- b begins with a head of which this is known
 pub record BeginsAt (settings : Settings) (heading : Heading) (b : Text) : Type 0 where

@@ -7,3 +7,4 @@ pub mod Stepping
 pub mod Telling
 pub mod ConversationEvents
 pub mod Accepting
+pub mod Receiving

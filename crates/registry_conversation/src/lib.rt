@@ -9,6 +9,7 @@
 
 pub mod accepting;
 pub mod answering;
+pub mod apart;
 pub mod conversation;
 pub mod conversation_laws;
 pub mod exchange;
@@ -17,6 +18,8 @@ pub mod heading;
 pub mod part;
 pub mod phase;
 pub mod read_fault;
+pub mod receiver;
+pub mod receiving;
 pub mod replying;
 pub mod stepping;
 pub mod whole_connection;
@@ -27,4 +30,5 @@ pub use exchange::Exchange;
 pub use field_room::FieldRoom;
 pub use phase::{Phase, Step, Wants};
 pub use read_fault::ReadFault;
+pub use receiver::{BodyPlace, Receiver};
 pub use whole_connection::serve_connection;

@@ -1,10 +1,12 @@
 //! The turns of a conversation.
 
-ghost use Rattle.std.specs.Prelude.{◌≡◌, ◌≤◌, [], length, None, IfSome, IfNone};
+ghost use Rattle.std.specs.Prelude.{◌≡◌, ◌≤◌, ◌++◌, [], length, None, IfSome, IfNone};
 ghost use Rattle.std.specs.Bool.{MatchBool};
 ghost use Rattle.oci_types.specs.Text.{Text};
+ghost use Rattle.httparse.specs.Grammar.{RequestHead};
 ghost use Rattle.registry_model.specs.declared.settings.Settings.{Settings};
 ghost use Rattle.registry_model.specs.Keeping.{HeldStays, state_of};
+ghost use Rattle.registry_service.specs.Bodies.{from_body};
 ghost use Rattle.registry_http.specs.Expecting.{continue_if};
 
 use crate::heading::{FoundHead, Heading, find_head};
@@ -17,20 +19,20 @@ use registry_http::framing::Framing;
 use registry_http::head::{Parsed, parse_head};
 use registry_http::{End, FramingRefusal};
 use registry_model::{Keeper, Settings};
-use registry_service::{Service, WholeBody};
+use registry_service::{RequestBody, Service, WholeBody};
 use std::alloc::Global;
 
 impl Conversation {
     ghost use Rattle.registry_conversation.specs.Shown.{coming_len};
     ghost use Rattle.registry_http.specs.Reading.{Parses};
     ghost use Rattle.registry_conversation.specs.ConversationShowing.{shown};
-    ghost use Rattle.registry_conversation.specs.Headings.{BeginsAt};
+    ghost use Rattle.registry_conversation.specs.Headings.{BeginsAt, HeadIsThere, IsHead};
     ghost use Rattle.registry_conversation.specs.Holding.{Holds, HoldsAs, HoldsWhole};
     ghost use Rattle.registry_conversation.specs.Stepping.{Acts, LeadsOn, Waited};
     ghost use Rattle.registry_conversation.specs.Telling.{Tells};
 
     /// The request in hand is not whole: more bytes are missing, or the input ended there.
-    fn wait(&mut self, end: End) -> Step
+    pub(crate) fn wait(&mut self, end: End) -> Step
         ensures waits { Waited result end (shown self.old) (shown self.new) }
         ensures report { self.new.outbox.report ≡ self.old.outbox.report }
     {
@@ -59,11 +61,11 @@ impl Conversation {
     }
 
     /// Finds the head that what was taken begins with.
-    fn taken_head(&self, room: &mut FieldRoom) -> Option<RequestSpans>
+    pub(crate) fn taken_head(&self, room: &mut FieldRoom) -> Option<RequestSpans>
         ensures found { IfSome result (λ spans.
             Parses (Parsed.Whole spans) (shown self.now).taken room.new.spans.items) }
-        ensures none { IfNone result ((settings : Settings) (b said : Text)
-            → HoldsWhole settings (shown self.now).taken (shown self.now).unread b said → ⊥) }
+        ensures none { IfNone result ((h : RequestHead) (v : Text)
+            → HeadIsThere h (shown self.now).taken v → ⊥) }
     {
         let taken = self.buffer.before();
         match parse_head(taken, &mut room.spans) {
@@ -99,6 +101,46 @@ impl Conversation {
         let head = &taken[..spans.len];
         let found = &room.spans[..spans.headers];
         let body = WholeBody(&taken[spans.len..]);
+        let outbox = &mut self.outbox;
+        match reply_to(alloc, service, settings, head, found, &spans, body, outbox) {
+            Ok(closing) => {
+                self.close_if(closing);
+                Step::Answered
+            }
+            Err(fault) => self.end(End::WriteFailed {
+                written: fault.written,
+            }),
+        }
+    }
+
+    /// Answers the request whose head was taken, and nothing behind it: its body lies elsewhere.
+    pub(crate) fn reply_to_head<K: Keeper, B: RequestBody<K>>(
+        &mut self,
+        alloc: Global,
+        service: &mut Service<K>,
+        settings: Settings,
+        room: &mut FieldRoom,
+        body: B,
+    ) -> Step
+        ensures honest { K.is_honest service.new → K.is_honest service.old }
+        ensures holds { K.is_honest service.new → (t : Text) → B.is_body body (K.kept service.old) t
+            → HeldStays (from_body (B.stage body) (K.kept service.old) (K.kept service.new))
+            (K.kept service.new) }
+        ensures finished { (shown self.new).finished ≡ (shown self.old).finished }
+        ensures fewer { coming_len (shown self.new) ≤ coming_len (shown self.old) }
+        ensures leads { LeadsOn result (shown self.old) (shown self.new) }
+        ensures acts { K.is_honest service.new → (t b said : Text) → IsHead (shown self.old).taken
+            → B.is_body body (K.kept service.old) t
+            → HoldsWhole settings ((shown self.old).taken ++ t) (shown self.old).unread b said
+            → Tells settings result b said (shown self.old) (state_of (K.kept service.old))
+            (state_of (K.kept service.new)) (shown self.new) self.old.outbox.report self.new.outbox.report }
+    {
+        let Some(spans) = self.taken_head(room) else {
+            return self.refuse(FramingRefusal::UnreadableHead);
+        };
+        let taken = self.buffer.before();
+        let head = &taken[..spans.len];
+        let found = &room.spans[..spans.headers];
         let outbox = &mut self.outbox;
         match reply_to(alloc, service, settings, head, found, &spans, body, outbox) {
             Ok(closing) => {

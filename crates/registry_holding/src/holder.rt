@@ -70,9 +70,9 @@ pub trait Holder: Keeper {
         ensures spends { Spends result (Self.kept self.old) (Self.kept self.new) }
         ensures honest { Self.is_honest self.new → Self.is_honest self.old };
 
-    /// Lets a stage go. Nothing where the keeper is spent; takes no memory.
+    /// Lets a stage go, also where the keeper is spent; takes no memory.
     fn unstage(&mut self, key: u64)
-        ensures gone { Self.is_honest self.new → (Self.kept self.old).spent ≡ false
+        ensures gone { Self.is_honest self.new
             → Self.kept self.new ≡ with_stage (Self.kept self.old) key None }
         ensures spent { (Self.kept self.new).spent ≡ (Self.kept self.old).spent }
         ensures honest { Self.is_honest self.new → Self.is_honest self.old };

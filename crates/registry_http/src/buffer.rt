@@ -167,6 +167,15 @@ impl Buffer {
         self.start = self.unread;
     }
 
+    /// Lets go the bytes before the place, but the first so many.
+    pub fn keep_front(&mut self, count: usize)
+        requires { count ≤ length (before self.old) }
+        ensures before { before self.new ≡ take count (before self.old) }
+        ensures behind { behind self.new ≡ behind self.old }
+    {
+        self.place = self.start + count;
+    }
+
     /// Moves all bytes to the front of the room.
     fn compact(&mut self)
         ensures before { before self.new ≡ before self.old }

@@ -279,7 +279,7 @@ impl<H: Holder> Service<H> {
 
     /// Lets a stage go, as `Holder::unstage` does.
     pub fn unstage(&mut self, key: u64)
-        ensures gone { H.is_honest self.new → (H.kept self.old).spent ≡ false
+        ensures gone { H.is_honest self.new
             → H.kept self.new ≡ with_stage (H.kept self.old) key None }
         ensures spent { (H.kept self.new).spent ≡ (H.kept self.old).spent }
         ensures honest { H.is_honest self.new → H.is_honest self.old }

@@ -1,4 +1,4 @@
-use Rattle.std.proofs.Common.{◌≡◌, ap, sym, subst, ◌∙◌, Some, Option}
+use Rattle.std.proofs.Common.{ap, sym, subst, ◌∙◌, Some, Option}
 use Rattle.oci_types.specs.Text.{Text}
 use Rattle.registry_http.specs.Ending.{SendsRefusal}
 use Rattle.registry_outbox.specs.declared.report.Report.{Report}

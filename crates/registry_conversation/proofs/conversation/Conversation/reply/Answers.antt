@@ -1,4 +1,4 @@
-use Rattle.std.proofs.Common.{◌≡◌, ◌<◌, ◌≤◌, List, Option, length, refl, sym, ap, ◌∙◌, subst, le_of_eq, arith}
+use Rattle.std.proofs.Common.{List, Option, refl, sym, ap, ◌∙◌, subst, le_of_eq, arith}
 use Rattle.oci_types.specs.Text.{Text}
 use Rattle.httparse.specs.declared.spans.HeaderSpan.{HeaderSpan}
 use Rattle.registry_http.specs.Spelling.{Item}
@@ -10,7 +10,7 @@ use Rattle.registry_conversation.specs.ConversationShowing.{shown}
 use Rattle.registry_outbox.specs.Outboxes.{left}
 use Rattle.registry_outbox.specs.declared.report.Report.{Report}
 use Rattle.registry_outbox.specs.Reports.{TellsAnswer, Reported}
-use Rattle.registry_conversation.proofs.HoldingLemmas.{item_taken}
+use Rattle.registry_conversation.proofs.HoldingLemmas.{item_taken, head_there}
 use Rattle.registry_conversation.proofs.SteppingLemmas.{answered_first, replied_in_part, part_ends, none_left, leads_refused, leads_answered, leads_ended}
 use Rattle.registry_model.proofs.HeldLaws.{held_rests}
 use Rattle.registry_conversation.proofs.conversation.Conversation.reply.Goals as goal
@@ -22,7 +22,9 @@ returns-in_default g c = record {
   finished = c.refuse.ensures.refuses.finished;
   fewer = none_left (shown c.args.self.now) (shown c.refuse.new.self) c.refuse.ensures.refuses.none_held;
   leads = leads_refused c.refuse.result _ (shown c.args.self.now) _ (shown c.refuse.new.self) c.refuse.ensures.refuses;
-  acts = λ honest b said w. absurd (c.in_default.ensures.none c.args.settings b said w);
+  acts = λ honest b said w.
+      let old = shown c.args.self.now in
+      absurd (c.in_default.ensures.none w.head w.body.body (head_there c.args.settings old.taken old.unread b said w));
 }
 
 pub returns-in-Ok : goal.returns-in-Ok

@@ -8,11 +8,11 @@ use Rattle.registry_conversation.proofs.conversation.Conversation.taken_head.Goa
 pub returns-in-NotYet : goal.returns-in-NotYet
 returns-in-NotYet c = record {
   found = tt;
-  none = λ settings b said w. not_without_head settings _ _ b said w (subst HasNoRequest c.before-taken.ensures c.in-NotYet.ensures.1);
+  none = λ h v x. not_without_head h _ v x (subst HasNoRequest c.before-taken.ensures c.in-NotYet.ensures.1);
 }
 
 pub returns-in-Never : goal.returns-in-Never
 returns-in-Never c = record {
   found = tt;
-  none = λ settings b said w. not_hopeless settings _ _ b said w (λ tail. subst (λ (x : Text). HoldsNoHead (x ++ tail)) c.before-taken.ensures (c.in-Never.ensures tail));
+  none = λ h v x. not_hopeless h _ v x (λ tail. subst (λ (x : Text). HoldsNoHead (x ++ tail)) c.before-taken.ensures (c.in-Never.ensures tail));
 }
