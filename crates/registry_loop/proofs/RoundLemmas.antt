@@ -1,13 +1,10 @@
 -- Rounds, one after the other, and what they come to.
 use Rattle.std.proofs.Common.{ℕ, zero, suc, List, refl, sym, subst}
 use Rattle.registry_model.specs.Keeping.{Kept, state_of}
-use Rattle.registry_model.specs.declared.settings.Settings.{Settings}
-use Rattle.registry_server.specs.declared.bounds.Bounds.{Bounds}
-use Rattle.registry_server.specs.Open.{Open, none}
+use Rattle.registry_server.specs.Open.{Open}
 use Rattle.registry_server.specs.Events.{Leads}
-use Rattle.registry_server.proofs.CallLemmas.{leads_none}
 use Rattle.order_sockets.specs.Calling.{Called}
-use Rattle.registry_loop.specs.Together.{Passed, Round, Rounds, GoesRounds, ServesRounds}
+use Rattle.registry_loop.specs.Together.{Passed, Round, Rounds, GoesRounds}
 use Rattle.registry_loop.proofs.TogetherLemmas.{passed_none, passed_then, passed_by}
 use Rattle.registry_loop.proofs.CallerLemmas.{round_beside}
 

@@ -8,14 +8,13 @@ ghost use Rattle.order_sockets.specs.Calls.{all_called};
 ghost use Rattle.order_sockets.specs.Calling.{AttendsRound};
 ghost use Rattle.registry_loop.specs.Together.{bounds_of, most_silence, Round, GoesRounds};
 
-use crate::doors::Doors;
 use crate::gathering::Gathering;
-use crate::sockets::{EVENTS, Sockets};
 use order_sockets::Callers;
 use registry_model::{Keeper, Settings};
 use registry_orders::Limits;
 use registry_server::{Bounds, Connections};
 use registry_service::Service;
+use registry_sockets::{Doors, EVENTS, Sockets};
 use request_log::Log;
 use std::alloc::Global;
 use std::io;

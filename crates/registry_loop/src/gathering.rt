@@ -4,9 +4,9 @@ ghost use Rattle.registry_model.specs.Keeping.{state_of};
 ghost use Rattle.registry_loop.specs.Together.{ServesTogether, ServesWithin, ServesRounds, bounds_of};
 ghost use Rattle.order_sockets.specs.Calling.{Called};
 
-use crate::doors::Doors;
 use registry_model::{Keeper, Settings};
 use registry_service::Service;
+use registry_sockets::Doors;
 use std::alloc::Global;
 use std::io;
 

@@ -6,17 +6,9 @@
 #![tactic(auto)]
 
 pub mod crowd;
-pub mod doors;
 pub mod gathering;
-mod parting;
-mod patience;
-pub mod peer;
-mod peers;
-mod sockets;
-pub mod standing;
-mod stopping;
 mod taking;
 
 pub use crowd::Crowd;
-pub use doors::Doors;
 pub use gathering::Gathering;
+pub use registry_sockets::Doors;

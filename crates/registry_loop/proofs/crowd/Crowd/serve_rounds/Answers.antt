@@ -1,7 +1,6 @@
 use Rattle.std.proofs.Common.{◌∙◌, refl, sym}
 use Rattle.std.proofs.lemmas.Result.{IfOk-from_err}
 use Rattle.registry_model.specs.Keeping.{state_of}
-use Rattle.registry_server.specs.Showing.{connected}
 use Rattle.registry_server.proofs.CallLemmas.{leads_none}
 use Rattle.registry_loop.proofs.RoundLemmas.{no_round, another_round, ends_rounds}
 use Rattle.registry_loop.proofs.crowd.Crowd.serve_rounds.Goals as goal

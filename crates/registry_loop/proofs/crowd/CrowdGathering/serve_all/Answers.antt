@@ -1,4 +1,3 @@
-use Rattle.std.proofs.Common.{refl, ap}
 use Rattle.registry_model.specs.Keeping.{state_of}
 use Rattle.registry_server.specs.Open.{none}
 use Rattle.registry_server.specs.Showing.{connected}

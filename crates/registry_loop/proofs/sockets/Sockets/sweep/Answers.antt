@@ -1,5 +1,0 @@
-use Rattle.registry_server.proofs.CallLemmas.{carries_then}
-use Rattle.registry_loop.proofs.sockets.Sockets.sweep.Goals as goal
-
-pub loop-preserved : goal.loop-preserved
-loop-preserved c = carries_then _ _ _ c.loop.invariant c.sweep_at-at.ensures

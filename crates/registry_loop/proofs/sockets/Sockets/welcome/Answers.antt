@@ -1,5 +1,0 @@
-use Rattle.registry_server.proofs.CallLemmas.{carries_then}
-use Rattle.registry_loop.proofs.sockets.Sockets.welcome.Goals as goal
-
-pub returns : goal.returns
-returns c = carries_then _ _ _ c.open.ensures.leads c.close.ensures.leads

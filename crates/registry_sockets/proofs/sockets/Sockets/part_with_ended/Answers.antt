@@ -1,0 +1,5 @@
+use Rattle.registry_server.proofs.CallLemmas.{carries_then}
+use Rattle.registry_sockets.proofs.sockets.Sockets.part_with_ended.Goals as goal
+
+pub loop-preserved : goal.loop-preserved
+loop-preserved c = carries_then _ _ _ c.loop.invariant c.part_with-at.ensures
