@@ -166,16 +166,15 @@ pub held_through : (key : ℕ) (k mid k' : Kept) → HeldStays (from_body (Some 
     → HeldStays (from_body (Some key) k k') k'
 held_through key k mid k' first second unspent =
     let b = second unspent in
-    let a = first b.0 in
-    (
+    let a = first b.0 in (
       a.0,
       b.1
-      ∙ (λ i. record {
-        stages =
-            (ap (put_under key (k'.held.stages key)) (ap (λ x. x.stages) a.1)
-            ∙ put_last k.held.stages key (mid.held.stages key) (k'.held.stages key)) i;
-        pins = (ap (λ x. x.pins) a.1) i;
-      }),
+          ∙ (λ i. record {
+            stages =
+                (ap (put_under key (k'.held.stages key)) (ap (λ x. x.stages) a.1)
+                ∙ put_last k.held.stages key (mid.held.stages key) (k'.held.stages key)) i;
+            pins = (ap (λ x. x.pins) a.1) i;
+          }),
     )
 
 -- bytes were put behind those of a stage

@@ -97,7 +97,9 @@ impl Receiver {
             self.new.conversation.outbox.report }
         ensures key { self.new.key ≡ self.old.key }
     {
-        let step = self.conversation.answer_next(alloc, service, settings, room);
+        let step = self
+            .conversation
+            .answer_next(alloc, service, settings, room);
         match self.conversation.phase {
             Phase::Head => {}
             Phase::Ended(_) => {}
@@ -176,9 +178,12 @@ impl Receiver {
                     key: self.key,
                     size,
                 };
-                self.conversation.reply_to_head(alloc, service, settings, room, body)
+                self.conversation
+                    .reply_to_head(alloc, service, settings, room, body)
             }
-            _ => self.conversation.reply_to_head(alloc, service, settings, room, CountedBody(size)),
+            _ => self
+                .conversation
+                .reply_to_head(alloc, service, settings, room, CountedBody(size)),
         };
         self.place = BodyPlace::Buffer;
         service.unstage(self.key);
@@ -211,7 +216,12 @@ impl Receiver {
     {
         self.conversation.outbox.report = None;
         let head = self.conversation.buffer.before().len();
-        match take_body(&mut self.conversation.buffer, &mut room.spans, part, settings) {
+        match take_body(
+            &mut self.conversation.buffer,
+            &mut room.spans,
+            part,
+            settings,
+        ) {
             Taken::Whole(size) => {
                 self.put_apart(service, head);
                 self.reply(alloc, service, settings, room, size)

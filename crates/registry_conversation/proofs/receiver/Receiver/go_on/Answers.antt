@@ -41,18 +41,18 @@ returns-in-Whole-clause-turns g c = λ honest apart lies.
     let there = subst (λ key. LiesApart mid.place key k1 (shown mid.conversation).taken (apart ++ came.0)) (sym c.put_apart.ensures.key)
     (subst (λ (t : Text). LiesApart mid.place old.key k1 t (apart ++ came.0)) (sym taken) far) in
     let both : (b said : Text) → HoldsAs settings here.phase (taken_at old.place here.taken apart) here.unread b said
-        → HeldStays (from_body (Some mid.key) k1 k') k'
-        × Tells settings c.reply.result b said (shown mid.conversation) (state_of k1) (state_of k') (shown c.reply.new.self.conversation) mid.conversation.outbox.report
-        c.reply.new.self.conversation.outbox.report =
-        λ b said x.
-        let y = subst (λ (p : Phase). HoldsAs settings p (taken_at old.place here.taken apart) here.unread b said) c.requires.body x in
-        let part = came.2 (framing settings y.0) (print_request y.0) y.1 (taken_at old.place here.taken apart) y.4 in
-        let v : HoldsWhole settings (taken_at old.place here.taken apart ++ came.0) (behind c.take_body.new.buffer) b said = record { head = y.0; behind = y.1; there = y.2; said_is = y.3; body = part.0 } in
-        let w = whole_apart settings old.place here.taken apart came.0 (behind c.take_body.new.buffer) b said so v in
-        c.reply.ensures.acts honest (c.put_apart.ensures.apart so) (apart ++ came.0) b said there
-        (part.1 ∙ ap length (body_apart settings old.place here.taken apart came.0 (behind c.take_body.new.buffer) b said so behind_head v))
-        (subst (λ (u : Text). HoldsWhole settings ((shown mid.conversation).taken ++ (apart ++ came.0)) u b said) (sym (ap (λ (z : Shown). z.unread) rest))
-        (subst (λ (t : Text). HoldsWhole settings (t ++ (apart ++ came.0)) (behind c.take_body.new.buffer) b said) (sym taken) w)) in
+    → HeldStays (from_body (Some mid.key) k1 k') k'
+    × Tells settings c.reply.result b said (shown mid.conversation) (state_of k1) (state_of k') (shown c.reply.new.self.conversation) mid.conversation.outbox.report
+    c.reply.new.self.conversation.outbox.report =
+    λ b said x.
+    let y = subst (λ (p : Phase). HoldsAs settings p (taken_at old.place here.taken apart) here.unread b said) c.requires.body x in
+    let part = came.2 (framing settings y.0) (print_request y.0) y.1 (taken_at old.place here.taken apart) y.4 in
+    let v : HoldsWhole settings (taken_at old.place here.taken apart ++ came.0) (behind c.take_body.new.buffer) b said = record { head = y.0; behind = y.1; there = y.2; said_is = y.3; body = part.0 } in
+    let w = whole_apart settings old.place here.taken apart came.0 (behind c.take_body.new.buffer) b said so v in
+    c.reply.ensures.acts honest (c.put_apart.ensures.apart so) (apart ++ came.0) b said there
+    (part.1 ∙ ap length (body_apart settings old.place here.taken apart came.0 (behind c.take_body.new.buffer) b said so behind_head v))
+    (subst (λ (u : Text). HoldsWhole settings ((shown mid.conversation).taken ++ (apart ++ came.0)) u b said) (sym (ap (λ (z : Shown). z.unread) rest))
+    (subst (λ (t : Text). HoldsWhole settings (t ++ (apart ++ came.0)) (behind c.take_body.new.buffer) b said) (sym taken) w)) in
     record {
       apart' = [];
       is_apart = subst (λ (p : BodyPlace). LiesApart p c.reply.new.self.key k' (before c.reply.new.self.conversation.buffer) []) (sym c.reply.ensures.place) tt;
