@@ -44,7 +44,7 @@ impl Drop for Talk {
 
 fn new_talk(rt: &impl Abort, alloc: Global) -> Talk {
     Talk {
-        receiver: Receiver::new(alloc, 7),
+        receiver: Receiver::new(alloc),
         room: FieldRoom::new(alloc).expect(rt, "memory"),
         registry: registry_with(rt, alloc, 1_000_000),
     }
@@ -56,6 +56,7 @@ fn step(alloc: Global, talk: &mut Talk, bytes: &[u8]) -> Step {
     talk.receiver.answer_next(
         alloc,
         &mut talk.registry,
+        7,
         Settings::profile(),
         &mut talk.room,
     )
@@ -77,7 +78,7 @@ fn begin(alloc: Global, talk: &mut Talk, target: &str, digest: &str, framing: Fr
     let _ = step(alloc, talk, framed.as_bytes());
 }
 
-/// A body of 200,000 bytes comes in pieces of a thousand; the connection holds no more than 90,000 at once.
+/// A body of 200,000 bytes comes in pieces of a thousand; the connection holds less than 65,536 at once.
 fn come(rt: &impl Abort, alloc: Global, talk: &mut Talk, framing: Framing) -> Step {
     let mut last = Step::Waits;
     for _ in 0..200 {
@@ -91,7 +92,7 @@ fn come(rt: &impl Abort, alloc: Global, talk: &mut Talk, framing: Framing) -> St
         if let Framing::InChunks = framing {
             last = step(alloc, talk, b"\r\n");
         }
-        assert!(rt; talk.receiver.conversation.coming() < 90_000);
+        assert!(rt; talk.receiver.coming() < 65_536);
     }
     if let Framing::InChunks = framing {
         last = step(alloc, talk, b"0\r\n\r\n");
@@ -101,10 +102,10 @@ fn come(rt: &impl Abort, alloc: Global, talk: &mut Talk, framing: Framing) -> St
 
 /// Whether what is to go out begins so; then it goes out.
 fn is_told(rt: &impl Abort, talk: &mut Talk, start: &str) {
-    let going = talk.receiver.conversation.outgoing();
+    let going = talk.receiver.outgoing();
     assert!(rt; going.head.starts_with(start.as_bytes()));
     let count = going.len();
-    talk.receiver.conversation.sent(count);
+    talk.receiver.sent(count);
 }
 
 /// What is asked, by which digest, how its body is framed, and how the reply begins.
@@ -154,8 +155,8 @@ fn a_body_that_is_cut_is_not_pushed(rt: HostRuntime) {
         talk.receiver.receive(b"0123456789");
         let _ = step(alloc, talk, b"");
     }
-    talk.receiver.conversation.finish();
+    talk.receiver.finish();
     let last = step(alloc, talk, b"");
     assert!(&rt; matches!(last, Step::Ended(End::Cut)));
-    assert!(&rt; talk.receiver.conversation.outgoing().is_empty());
+    assert!(&rt; talk.receiver.outgoing().is_empty());
 }

@@ -21,12 +21,12 @@ use Rattle.registry_http.proofs.HeadLemmas.{request_some}
 use Rattle.registry_conversation.specs.Headings.{HeadIsThere, IsHead}
 use Rattle.registry_conversation.specs.Holding.{Holds, HoldsAs, HoldsWhole}
 use Rattle.registry_conversation.specs.declared.phase.Phase.{Phase}
-use Rattle.registry_conversation.specs.declared.phase.Phase.TheVariants.{Head, Ended}
+use Rattle.registry_conversation.specs.declared.phase.Phase.TheVariants.{Head, Body, Ended}
 use Rattle.registry_conversation.specs.declared.phase.Step.{Step}
 use Rattle.registry_conversation.specs.declared.phase.Step.TheVariants as step
-use Rattle.registry_conversation.specs.declared.receiver.BodyPlace.{BodyPlace}
-use Rattle.registry_conversation.specs.declared.receiver.BodyPlace.TheVariants.{Buffer, Stage, Nowhere}
-use Rattle.registry_conversation.specs.Receiving.{LiesApart, Shortens, is_apart, joined_at, taken_at}
+use Rattle.registry_conversation.specs.declared.body_place.BodyPlace.{BodyPlace}
+use Rattle.registry_conversation.specs.declared.body_place.BodyPlace.TheVariants.{Buffer, Stage, Nowhere}
+use Rattle.registry_conversation.specs.Receiving.{ActsApart, Lies, LiesApart, LiesAs, Shortens, TellsApart, is_apart, joined, placed, taken_at}
 use Rattle.registry_conversation.specs.Shown.{Shown, coming_len, heads, listens, listens_as, with_phase}
 use Rattle.registry_outbox.specs.declared.report.Report.{Report}
 use Rattle.registry_conversation.specs.Stepping.{LeadsOn, Receives, Waited}
@@ -82,6 +82,20 @@ taken_apart Buffer taken apart so = absurd (let no = so in cc)
 taken_apart Stage taken apart so = refl
 taken_apart Nowhere taken apart so = refl
 
+-- ---- where bytes lie
+
+-- between two requests, or in the middle of one
+pub lies_of : (p : Phase) (place : BodyPlace) (n : ℕ) (k : Kept) (taken apart : Text) → LiesApart place n k taken apart → LiesAs p place n k taken apart
+lies_of Head place n k taken apart lies = lies
+lies_of (Body part) place n k taken apart lies = lies
+lies_of (Ended e) place n k taken apart lies = tt
+
+pub lies_in_buffer : (n : ℕ) (k : Kept) (c : Shown) (apart : Text) → c.place ≡ Buffer → Lies n k c apart
+lies_in_buffer n k c apart is = lies_of c.phase c.place n k c.taken apart (subst (λ (p : BodyPlace). LiesApart p n k c.taken apart) (sym is) tt)
+
+pub lies_at : (p : Phase) (n : ℕ) (k : Kept) (c : Shown) (apart : Text) → c.phase ≡ p → Lies n k c apart → LiesAs p c.place n k c.taken apart
+lies_at p n k c apart e lies = subst (λ (q : Phase). LiesAs q c.place n k c.taken apart) e lies
+
 -- more was taken of what lies apart
 pub joined_more : (place : BodyPlace) (taken apart more : Text) → is_apart place ≡ true → taken_at place taken apart ++ more ≡ taken ++ (apart ++ more)
 joined_more place taken apart more so = ap (λ (y : Text). y ++ more) (taken_apart place taken apart so) ∙ append_assoc taken apart more
@@ -111,15 +125,15 @@ body_apart settings place taken apart more unread b said so is w =
     sym (apart_is settings taken (apart ++ more) unread b said is (whole_apart settings place taken apart more unread b said so w))
 
 -- where the body in hand lies behind its head
-pub in_buffer : (settings : Settings) (place : BodyPlace) (apart : Text) (c : Shown) (b said : Text) → place ≡ Buffer → Holds settings (joined_at place apart c) b said → Holds settings c b said
-in_buffer settings place apart c b said is x = subst (λ (p : BodyPlace). Holds settings (joined_at p apart c) b said) is x
+pub in_buffer : (settings : Settings) (apart : Text) (c : Shown) (b said : Text) → c.place ≡ Buffer → Holds settings (joined apart c) b said → Holds settings c b said
+in_buffer settings apart c b said is x = subst (λ (p : BodyPlace). HoldsAs settings c.phase (taken_at p c.taken apart) c.unread b said) is x
 
 -- between two requests, wherever the one before lay
-pub at_head : (settings : Settings) (place : BodyPlace) (key : ℕ) (k : Kept) (apart : Text) (c : Shown) (b said : Text) → c.phase ≡ Head → LiesApart place key k c.taken apart
-    → Holds settings (joined_at place apart c) b said → Holds settings c b said
-at_head settings place key k apart c b said e lies x =
-    let y = subst (λ (p : Phase). HoldsAs settings p (taken_at place c.taken apart) c.unread b said) e x in
-    subst (λ (p : Phase). HoldsAs settings p c.taken c.unread b said) (sym e) (none_apart place key k c.taken apart lies y.0, y.1, y.2)
+pub at_head : (settings : Settings) (n : ℕ) (k : Kept) (apart : Text) (c : Shown) (b said : Text) → c.phase ≡ Head → Lies n k c apart → Holds settings (joined apart c) b said → Holds settings c b said
+at_head settings n k apart c b said e lies x =
+    let y = subst (λ (p : Phase). HoldsAs settings p (taken_at c.place c.taken apart) c.unread b said) e x in
+    subst (λ (p : Phase). HoldsAs settings p c.taken c.unread b said) (sym e)
+    (none_apart c.place n k c.taken apart (lies_at Head n k c apart e lies) y.0, y.1, y.2)
 
 -- what is told of a turn, from equal things
 pub tells_from : (settings : Settings) (found : Step) (b said : Text) (g g' : Text) (s t s' t' : State) (new new' : Shown) (was was' now : Option Report) → g ≡ g' → s ≡ t → s' ≡ t'
@@ -185,36 +199,29 @@ staged_more key k k' apart bytes e is unspent =
 
 -- ---- bytes came
 
-pub receives_at : (place : BodyPlace) (apart bytes : Text) (old new : Shown) → Receives bytes old new → Receives bytes (joined_at place apart old) (joined_at place apart new)
-receives_at place apart bytes old new (inl x) =
-    inl (comes (joined_at place apart old) (joined_at place apart new) bytes (ap (joined_at place apart) x.0))
-receives_at place apart bytes old new (inr x) = inr (record { end = x.end; sends = x.sends; ended = x.ended; finished = x.finished })
+pub placed_on : (place : BodyPlace) (bytes : Text) (old new : Shown) → Receives bytes old new → Receives bytes (placed place old) (placed place new)
+placed_on place bytes old new (inl x) = inl (comes (placed place old) (placed place new) bytes (ap (placed place) x.0))
+placed_on place bytes old new (inr x) = inr (record { end = x.end; sends = x.sends; ended = x.ended; finished = x.finished })
 
--- there was no memory for them: what lay apart is let go
-pub receives_ended : (place : BodyPlace) (apart bytes : Text) (old new : Shown) (e : End) → listens old ≡ true → new.phase ≡ Ended e → Receives bytes old new
-    → Receives bytes (joined_at place apart old) (joined_at Buffer apart new)
-receives_ended place apart bytes old new e hears is (inl x) =
-    let over : old.phase ≡ Ended e = sym (ap (λ (c : Shown). c.phase) x.0) ∙ is in
-    absurd (true≢false (sym hears ∙ ap (λ p. listens_as p old.finished) over))
-receives_ended place apart bytes old new e hears is (inr x) =
-    inr (record { end = x.end; sends = x.sends; ended = x.ended; finished = x.finished })
+pub joined_on : (apart bytes : Text) (old new : Shown) → Receives bytes old new → Receives bytes (joined apart old) (joined apart new)
+joined_on apart bytes old new (inl x) = inl (comes (joined apart old) (joined apart new) bytes (ap (joined apart) x.0))
+joined_on apart bytes old new (inr x) = inr (record { end = x.end; sends = x.sends; ended = x.ended; finished = x.finished })
 
--- where it did not end, what lies apart lies there
-pub lies_on : (place : BodyPlace) (key : ℕ) (k : Kept) (apart bytes : Text) (old new : Shown) → Receives bytes old new → ((e : End) → new.phase ≡ Ended e → ⊥)
-    → LiesApart place key k old.taken apart → LiesApart place key k new.taken apart
-lies_on place key k apart bytes old new (inl x) goes lies =
-    subst (λ (t : Text). LiesApart place key k t apart) (sym (ap (λ (c : Shown). c.taken) x.0)) lies
-lies_on place key k apart bytes old new (inr x) goes lies = absurd (goes x.end x.ended)
+-- what lies apart lies there
+pub lies_on : (n : ℕ) (k : Kept) (apart bytes : Text) (old new : Shown) → Receives bytes old new → Lies n k old apart → Lies n k new apart
+lies_on n k apart bytes old new (inl x) lies = subst (λ (c : Shown). Lies n k c apart) (sym x.0) lies
+lies_on n k apart bytes old new (inr x) lies = subst (λ (p : Phase). LiesAs p new.place n k new.taken apart) (sym x.ended) tt
 
 -- more is waited for, or there is no more
-pub waited_at : (place : BodyPlace) (apart : Text) (found : Step) (e : End) (old new : Shown) → Waited found e old new → Waited found e (joined_at place apart old) (joined_at place apart new)
+pub waited_at : (place : BodyPlace) (apart : Text) (found : Step) (e : End) (old new : Shown) → Waited found e old new
+    → Waited found e (joined apart (placed place old)) (joined apart (placed place new))
 waited_at place apart found e old new w = by_flag old.finished w
   where
     by_flag : (f : Bool) → MatchBool f ((found ≡ step.Ended e) × (new ≡ with_phase old (Ended e))) ((found ≡ step.Waits) × (new ≡ old))
-        → MatchBool f ((found ≡ step.Ended e) × (joined_at place apart new ≡ with_phase (joined_at place apart old) (Ended e)))
-        ((found ≡ step.Waits) × (joined_at place apart new ≡ joined_at place apart old))
-    by_flag true x = (x.0, ap (joined_at place apart) x.1)
-    by_flag false x = (x.0, ap (joined_at place apart) x.1)
+        → MatchBool f ((found ≡ step.Ended e) × (joined apart (placed place new) ≡ with_phase (joined apart (placed place old)) (Ended e)))
+        ((found ≡ step.Waits) × (joined apart (placed place new) ≡ joined apart (placed place old)))
+    by_flag true x = (x.0, ap (λ (c : Shown). joined apart (placed place c)) x.1)
+    by_flag false x = (x.0, ap (λ (c : Shown). joined apart (placed place c)) x.1)
 
 -- ---- turns come to an end
 
@@ -231,3 +238,10 @@ pub leads_shortened : (found : Step) (old mid new : Shown) → Shortens mid new 
 leads_shortened found old mid new x leads =
     leads_less found old mid new (ap (λ (c : Shown). c.phase) x.0) (ap (λ (c : Shown). c.finished) x.0)
     (omega (arith, ap (λ (c : Shown). length c.unread) x.0, x.1)) leads
+
+-- ---- without what is told
+
+pub acts_apart : (settings : Settings) (found : Step) (n : ℕ) (apart : Text) (c : Shown) (k : Kept) (c' : Shown) (k' : Kept) (report : Option Report)
+    → TellsApart settings found n apart c k c' k' report → ActsApart settings found n apart c k c' k'
+acts_apart settings found n apart c k c' k' report x =
+    record { apart' = x.apart'; lies = x.lies; holds = x.holds; acts = λ b said holds. (x.tells b said holds).0 }

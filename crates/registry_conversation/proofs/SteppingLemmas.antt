@@ -21,6 +21,7 @@ use Rattle.registry_http.specs.declared.ending.FramingRefusal.{FramingRefusal}
 use Rattle.registry_http.specs.declared.ending.FramingRefusal.TheVariants.{UnreadableHead, NoBufferMemory}
 use Rattle.registry_http.specs.declared.ending.End.{End}
 use Rattle.registry_http.specs.declared.ending.End.TheVariants.{Closed, Cut, Refused, ReadFailed, WriteFailed}
+use Rattle.registry_conversation.specs.declared.body_place.BodyPlace.TheVariants.{Buffer}
 use Rattle.registry_conversation.specs.declared.phase.Phase.{Phase}
 use Rattle.registry_conversation.specs.declared.phase.Phase.TheVariants as phase
 use Rattle.registry_conversation.specs.declared.phase.Step.{Step}
@@ -109,8 +110,8 @@ pub some_from : (xs : Text) (e : Bool) → e ≡ (length xs == 0) → e ≡ fals
 some_from xs e same is none = absurd (grind (arith, nat_tests, ap length none))
 
 pub grown : (p : Phase) (f : Bool) (g t t' u u' more : Text) → t' ≡ t → u' ≡ u ++ more
-    → (record { phase = p; taken = t'; unread = u'; finished = f; going = g }) ≡ with_more (record { phase = p; taken = t; unread = u; finished = f; going = g }) more
-grown p f g t t' u u' more e d = λ i. record { phase = p; taken = e i; unread = d i; finished = f; going = g }
+    → (record { phase = p; place = Buffer; taken = t'; unread = u'; finished = f; going = g }) ≡ with_more (record { phase = p; place = Buffer; taken = t; unread = u; finished = f; going = g }) more
+grown p f g t t' u u' more e d = λ i. record { phase = p; place = Buffer; taken = e i; unread = d i; finished = f; going = g }
 
 with_two : (c : Shown) (a b : Text) → with_more (with_more c a) b ≡ with_more c (a ++ b)
 with_two c a b = ap (λ (u : Text). record c { unread = u }) (append_assoc c.unread a b)
@@ -124,8 +125,8 @@ was_received old new bytes e = inl (comes old new bytes e)
 
 -- the last bytes stand behind those before
 pub all_received : (old : Shown) (p : Phase) (f : Bool) (g t t' u u' front left more left' bytes : Text) → bytes ≡ front ++ left
-    → (record { phase = p; taken = t; unread = u; finished = f; going = g }) ≡ with_more old front → t' ≡ t → u' ≡ u ++ more → left ≡ more ++ left' → left' ≡ []
-    → Receives bytes old (record { phase = p; taken = t'; unread = u'; finished = f; going = g })
+    → (record { phase = p; place = Buffer; taken = t; unread = u; finished = f; going = g }) ≡ with_more old front → t' ≡ t → u' ≡ u ++ more → left ≡ more ++ left' → left' ≡ []
+    → Receives bytes old (record { phase = p; place = Buffer; taken = t'; unread = u'; finished = f; going = g })
 all_received old p f g t t' u u' front left more left' bytes whole so_far kept grew rest none =
     was_received old _ bytes
     (grown p f g t t' u u' more kept grew ∙ ap (λ (c : Shown). with_more c more) so_far ∙ with_two old front more

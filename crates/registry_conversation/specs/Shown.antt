@@ -1,15 +1,19 @@
 -- A conversation as its contracts see it.
 use Rattle.std.specs.Prelude.{ℕ, ◌+◌, ◌*◌, Bool, true, false, not, [], ◌++◌, ◌==◌, length}
 use Rattle.oci_types.specs.Text.{Text}
+use Rattle.registry_conversation.specs.declared.body_place.BodyPlace.{BodyPlace}
+use Rattle.registry_conversation.specs.declared.body_place.BodyPlace.TheVariants.{Buffer}
 use Rattle.registry_conversation.specs.declared.phase.Phase.{Phase}
 use Rattle.registry_conversation.specs.declared.phase.Phase.TheVariants.{Head, Body, Ended}
 use Rattle.registry_conversation.specs.declared.phase.Wants.{Wants}
 use Rattle.registry_conversation.specs.declared.phase.Wants.TheVariants.{Bytes, Room, Nothing}
 
--- what was taken of the request in hand (its head, and what its body carries so far), what came and was not
--- taken yet, whether the input has ended, and what is to go out
+-- what was taken of the request in hand (its head, and what its body carries so far, but for what of it lies
+-- elsewhere), and where the rest of that lies; what came and was not taken yet, whether the input has ended,
+-- and what is to go out
 pub record Shown : Type 0 where
   pub phase : Phase
+  pub place : BodyPlace
   pub taken : Text
   pub unread : Text
   pub finished : Bool
@@ -17,7 +21,7 @@ pub record Shown : Type 0 where
 
 -- nothing came
 abbrev pub begun : Shown
-begun = record { phase = Head; taken = []; unread = []; finished = false; going = [] }
+begun = record { phase = Head; place = Buffer; taken = []; unread = []; finished = false; going = [] }
 
 abbrev pub with_more : Shown → Text → Shown
 with_more c bytes = record c { unread = c.unread ++ bytes }

@@ -10,6 +10,7 @@
 pub mod accepting;
 pub mod answering;
 pub mod apart;
+pub mod body_place;
 pub mod conversation;
 pub mod conversation_laws;
 pub mod exchange;
@@ -25,10 +26,11 @@ pub mod stepping;
 pub mod whole_connection;
 
 pub use accepting::serve_one;
+pub use body_place::BodyPlace;
 pub use conversation::Conversation;
 pub use exchange::Exchange;
 pub use field_room::FieldRoom;
 pub use phase::{Phase, Step, Wants};
 pub use read_fault::ReadFault;
-pub use receiver::{BodyPlace, Receiver};
+pub use receiver::Receiver;
 pub use whole_connection::serve_connection;

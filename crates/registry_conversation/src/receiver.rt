@@ -1,73 +1,121 @@
-ghost use Rattle.std.specs.Prelude.{◌≡◌, ◌+◌, ◌≤◌, true, false, length};
-ghost use Rattle.oci_types.specs.Text.{Text};
-ghost use Rattle.registry_model.specs.Keeping.{Kept};
+//! A connection that keeps no large body itself.
 
-use crate::Conversation;
-use crate::phase::Phase;
+ghost use Rattle.std.specs.Prelude.{◌≡◌, ◌+◌, ◌≤◌, true, false, length, drop, min, None};
+
+use crate::body_place::BodyPlace;
+use crate::phase::Wants;
+use crate::{Conversation, Exchange};
+use registry_outbox::Outgoing;
+use registry_outbox::report::Report;
 use std::alloc::Global;
-
-/// Where that lies which was taken of a body.
-#[derive(Clone, Copy)]
-pub enum BodyPlace {
-    /// Behind its head, in memory of the connection.
-    Buffer,
-    /// Apart from its head: it is staged, under the number of the connection.
-    Stage,
-    /// Nowhere: memory for it was wanting, and it is counted alone.
-    Nowhere,
-}
 
 /// A conversation that keeps no large body itself: what comes of one is staged by a service.
 ///
 /// It is a conversation as every other, but for where the bytes of the body in hand lie. A body is staged
-/// once more than 65,536 bytes of it came, where it is that of an upload (OCI Distribution Specification 1.1,
-/// Pushing blobs). Where memory for it is wanting it is let fall: its request is answered 503, or as it is
-/// without the bytes.
+/// once more than 49,152 bytes of its request were taken, where it is that of an upload (OCI Distribution
+/// Specification 1.1, Pushing blobs). Where memory for it is wanting it is let fall: its request is answered
+/// 503, or as it is without the bytes.
 #[derive(Drop)]
 pub struct Receiver {
-    /// The bytes that came but for those of a body that lies apart, and those that go out.
-    pub conversation: Conversation,
-    pub(crate) key: u64,
+    pub(crate) conversation: Conversation,
     pub(crate) place: BodyPlace,
 }
 
 impl Receiver {
-    ghost use Rattle.registry_conversation.specs.Shown.{begun, listens, coming_len};
-    ghost use Rattle.registry_conversation.specs.ConversationShowing.{shown};
+    ghost use Rattle.registry_conversation.specs.Shown.{begun, with_finished, with_going, listens, wants_of, coming_len, held_len};
     ghost use Rattle.registry_conversation.specs.Stepping.{Receives};
-    ghost use Rattle.registry_conversation.specs.Receiving.{IsApart, seen};
+    ghost use Rattle.registry_conversation.specs.Receiving.{received};
+    ghost use Rattle.registry_outbox.specs.Outboxes.{outgoing_text};
 
-    /// A connection of this number, to which nothing has come. It takes no memory before something does.
-    pub fn new(alloc: Global, key: u64) -> Receiver
-        ensures begun { (apart : Text) → seen apart result ≡ begun }
-        ensures key { result.key ≡ key }
-        ensures place { result.place ≡ BodyPlace.Buffer }
+    /// A connection to which nothing has come. It takes no memory before something does.
+    pub fn new(alloc: Global) -> Receiver
+        ensures { received result ≡ begun }
     {
         Receiver {
             conversation: Conversation::new(alloc),
-            key,
             place: BodyPlace::Buffer,
         }
     }
 
-    /// These bytes came, as `Conversation::receive` has it.
-    pub fn receive(&mut self, bytes: &[u8])
-        ensures ignores { (apart : Text) → listens (seen apart self.old) ≡ false → self.new ≡ self.old }
-        ensures keeps { (apart : Text) → listens (seen apart self.old) ≡ true
-            → Receives bytes.now (seen apart self.old) (seen apart self.new) }
-        ensures sized { coming_len (shown self.new.conversation)
-            ≤ coming_len (shown self.old.conversation) + length bytes.now }
-        ensures apart { (k : Kept) (apart : Text) → IsApart k self.old apart → IsApart k self.new apart }
-        ensures key { self.new.key ≡ self.old.key }
+    /// Whether bytes that come are kept, as `Conversation::listens` has it.
+    pub fn listens(&self) -> bool
+        ensures { result ≡ listens (received self.now) }
     {
-        if !self.conversation.listens() {
-            return;
-        }
+        self.conversation.listens()
+    }
+
+    /// These bytes came, as `Conversation::receive` takes them.
+    pub fn receive(&mut self, bytes: &[u8])
+        ensures ignores { listens (received self.old) ≡ false → received self.new ≡ received self.old }
+        ensures keeps { listens (received self.old) ≡ true
+            → Receives bytes.now (received self.old) (received self.new) }
+        ensures sized { coming_len (received self.new) ≤ coming_len (received self.old) + length bytes.now }
+    {
         self.conversation.receive(bytes);
-        match self.conversation.phase {
-            Phase::Head => {}
-            Phase::Body(_) => {}
-            Phase::Ended(_) => self.place = BodyPlace::Buffer,
-        }
+    }
+
+    /// The input has ended. What has come is answered all the same.
+    pub fn finish(&mut self)
+        ensures { received self.new ≡ with_finished (received self.old) }
+    {
+        self.conversation.finish();
+    }
+
+    /// The bytes that are to go out.
+    pub fn outgoing(&self) -> Outgoing<'_>
+        ensures { outgoing_text result ≡ (received self.now).going }
+    {
+        self.conversation.outgoing()
+    }
+
+    /// So many of the bytes that were to go out went.
+    pub fn sent(&mut self, count: usize)
+        requires { count ≤ length (received self.old).going }
+        ensures { received self.new
+            ≡ with_going (received self.old) (drop count (received self.old).going) }
+    {
+        self.conversation.sent(count);
+    }
+
+    /// What it waits for, once a turn came to nothing more.
+    pub fn wants(&self) -> Wants
+        ensures { result ≡ wants_of (received self.now) }
+    {
+        self.conversation.wants()
+    }
+
+    /// What was answered or refused in the last turn, as `Conversation::take_report` tells it.
+    pub fn take_report(&mut self) -> Option<Report>
+        ensures report { result ≡ self.old.conversation.outbox.report }
+        ensures none { self.new.conversation.outbox.report ≡ None }
+        ensures same { received self.new ≡ received self.old }
+    {
+        self.conversation.take_report()
+    }
+
+    /// The request in hand, or else the one that was answered last, as a log tells it.
+    pub fn exchange(&self) -> &Exchange {
+        self.conversation.exchange()
+    }
+
+    /// How many bytes it holds that came and are not answered; those of a body that lies apart do not count.
+    pub fn coming(&self) -> usize
+        ensures { result ≡ coming_len (received self.now) }
+    {
+        self.conversation.coming()
+    }
+
+    /// The same, and those that are to go out; more than 18,446,744,073,709,551,615 count as so many.
+    pub fn held(&self) -> usize
+        ensures { result ≡ min (held_len (received self.now)) usize.MAX }
+    {
+        self.conversation.held()
+    }
+
+    /// Gives back room that holds nothing, as `Conversation::give_back` does.
+    pub fn give_back(&mut self, alloc: Global)
+        ensures { received self.new ≡ received self.old }
+    {
+        self.conversation.give_back(alloc);
     }
 }

@@ -8,9 +8,10 @@ ghost use Rattle.registry_service.specs.Bodies.{from_body};
 
 use crate::FieldRoom;
 use crate::apart::plan_stage;
+use crate::body_place::BodyPlace;
 use crate::part::{Part, Taken, take_body};
 use crate::phase::{Phase, Step};
-use crate::receiver::{BodyPlace, Receiver};
+use crate::receiver::Receiver;
 use registry_holding::Holder;
 use registry_http::End;
 use registry_model::Settings;
@@ -18,8 +19,8 @@ use registry_service::{CountedBody, Service, StagedBody};
 use std::alloc::Global;
 
 /// So many bytes of a request at most are kept in memory of its connection, where its body may be staged: a
-/// head, and 65,536 bytes behind it.
-const MOST_BUFFERED: usize = 81_920;
+/// head, and 32,768 bytes behind it. It is less than each connection may hold whatever others do.
+const MOST_BUFFERED: usize = 49_152;
 
 impl Receiver {
     ghost use Rattle.registry_http.specs.Buffering.{before};
@@ -29,8 +30,8 @@ impl Receiver {
     ghost use Rattle.registry_conversation.specs.Holding.{HoldsWhole};
     ghost use Rattle.registry_conversation.specs.Stepping.{LeadsOn};
     ghost use Rattle.registry_conversation.specs.Telling.{Tells};
-    ghost use Rattle.registry_conversation.specs.Receiving.{IsApart, LiesApart, Shortens, TakesTurn};
-    ghost use Rattle.registry_conversation.specs.Receiving.{is_apart, seen};
+    ghost use Rattle.registry_conversation.specs.Receiving.{Lies, LiesApart, Shortens, TellsApart};
+    ghost use Rattle.registry_conversation.specs.Receiving.{is_apart, joined, received};
 
     /// Stages what came of the body in hand, where that is much. Where memory is wanting it stays where it
     /// is.
@@ -38,20 +39,21 @@ impl Receiver {
         &mut self,
         alloc: Global,
         service: &mut Service<K>,
+        key: u64,
         room: &mut FieldRoom,
         part: Part,
     )
         requires { self.old.place ≡ BodyPlace.Buffer }
         ensures honest { K.is_honest service.new → K.is_honest service.old }
         ensures holds { K.is_honest service.new → HeldStays
-            (from_body (Some self.old.key) (K.kept service.old) (K.kept service.new)) (K.kept service.new) }
+            (from_body (Some key) (K.kept service.old) (K.kept service.new)) (K.kept service.new) }
         ensures same { K.is_honest service.new
             → state_of (K.kept service.new) ≡ state_of (K.kept service.old) }
-        ensures lies { K.is_honest service.new → (apart : Text) × IsApart (K.kept service.new) self.new apart
-            × (seen apart self.new ≡ shown self.old.conversation) }
-        ensures rest { Shortens (shown self.old.conversation) (shown self.new.conversation) }
+        ensures lies { K.is_honest service.new → (apart : Text)
+            × LiesApart self.new.place key (K.kept service.new) (received self.new).taken apart
+            × (joined apart (received self.new) ≡ shown self.old.conversation) }
+        ensures rest { Shortens (received self.old) (received self.new) }
         ensures report { self.new.conversation.outbox.report ≡ self.old.conversation.outbox.report }
-        ensures key { self.new.key ≡ self.old.key }
     {
         if self.conversation.buffer.before().len() <= MOST_BUFFERED {
             return;
@@ -64,16 +66,16 @@ impl Receiver {
             Ok(Some(plan)) => plan,
             _ => return,
         };
-        match service.stage(self.key, plan.size, plan.with_sha512) {
+        match service.stage(key, plan.size, plan.with_sha512) {
             Ok(()) => {}
             Err(_) => return,
         }
-        match service.stage_more(self.key, &taken[spans.len..]) {
+        match service.stage_more(key, &taken[spans.len..]) {
             Ok(()) => {
                 self.conversation.buffer.keep_front(spans.len);
                 self.place = BodyPlace::Stage;
             }
-            Err(_) => service.unstage(self.key),
+            Err(_) => service.unstage(key),
         }
     }
 
@@ -82,20 +84,18 @@ impl Receiver {
         &mut self,
         alloc: Global,
         service: &mut Service<K>,
+        key: u64,
         settings: Settings,
         room: &mut FieldRoom,
     ) -> Step
         requires { self.old.place ≡ BodyPlace.Buffer }
         ensures honest { K.is_honest service.new → K.is_honest service.old }
-        ensures finished { (shown self.new.conversation).finished
-            ≡ (shown self.old.conversation).finished }
-        ensures fewer { coming_len (shown self.new.conversation)
-            ≤ coming_len (shown self.old.conversation) }
-        ensures leads { LeadsOn result (shown self.old.conversation) (shown self.new.conversation) }
+        ensures finished { (received self.new).finished ≡ (received self.old).finished }
+        ensures fewer { coming_len (received self.new) ≤ coming_len (received self.old) }
+        ensures leads { LeadsOn result (received self.old) (received self.new) }
         ensures turns { K.is_honest service.new → (apart : Text)
-            → TakesTurn settings result apart self.old self.new (K.kept service.old) (K.kept service.new)
-            self.new.conversation.outbox.report }
-        ensures key { self.new.key ≡ self.old.key }
+            → TellsApart settings result key apart (received self.old) (K.kept service.old)
+            (received self.new) (K.kept service.new) self.new.conversation.outbox.report }
     {
         let step = self
             .conversation
@@ -103,39 +103,37 @@ impl Receiver {
         match self.conversation.phase {
             Phase::Head => {}
             Phase::Ended(_) => {}
-            Phase::Body(part) => self.stage_body(alloc, service, room, part),
+            Phase::Body(part) => self.stage_body(alloc, service, key, room, part),
         }
         step
     }
 
     /// Puts what was taken of a body behind a head of so many bytes to the rest of it, which lies apart.
-    fn put_apart<K: Holder>(&mut self, service: &mut Service<K>, head: usize)
+    fn put_apart<K: Holder>(&mut self, service: &mut Service<K>, key: u64, head: usize)
         requires { head ≤ length (before self.old.conversation.buffer) }
         ensures honest { K.is_honest service.new → K.is_honest service.old }
         ensures holds { K.is_honest service.new → HeldStays
-            (from_body (Some self.old.key) (K.kept service.old) (K.kept service.new)) (K.kept service.new) }
+            (from_body (Some key) (K.kept service.old) (K.kept service.new)) (K.kept service.new) }
         ensures same { K.is_honest service.new
             → state_of (K.kept service.new) ≡ state_of (K.kept service.old) }
         ensures apart { is_apart self.old.place ≡ true → is_apart self.new.place ≡ true }
         ensures lies { K.is_honest service.new → is_apart self.old.place ≡ true → (front more apart : Text)
             → before self.old.conversation.buffer ≡ front ++ more → length front ≡ head
-            → LiesApart self.old.place self.old.key (K.kept service.old) front apart
-            → LiesApart self.new.place self.old.key (K.kept service.new) front (apart ++ more) }
-        ensures rest { is_apart self.old.place ≡ true
-            → shown self.new.conversation ≡ (record (shown self.old.conversation)
-            { taken = take head (shown self.old.conversation).taken }) }
+            → LiesApart self.old.place key (K.kept service.old) front apart
+            → LiesApart self.new.place key (K.kept service.new) front (apart ++ more) }
+        ensures rest { is_apart self.old.place ≡ true → received self.new ≡ (record (received self.old)
+            { place = self.new.place; taken = take head (received self.old).taken }) }
         ensures report { self.new.conversation.outbox.report ≡ self.old.conversation.outbox.report }
-        ensures key { self.new.key ≡ self.old.key }
     {
         match self.place {
             BodyPlace::Buffer => return,
             BodyPlace::Nowhere => {}
             BodyPlace::Stage => {
                 let taken = self.conversation.buffer.before();
-                match service.stage_more(self.key, &taken[head..]) {
+                match service.stage_more(key, &taken[head..]) {
                     Ok(()) => {}
                     Err(_) => {
-                        service.unstage(self.key);
+                        service.unstage(key);
                         self.place = BodyPlace::Nowhere;
                     }
                 }
@@ -150,34 +148,30 @@ impl Receiver {
         &mut self,
         alloc: Global,
         service: &mut Service<K>,
+        key: u64,
         settings: Settings,
         room: &mut FieldRoom,
         size: usize,
     ) -> Step
         ensures honest { K.is_honest service.new → K.is_honest service.old }
-        ensures finished { (shown self.new.conversation).finished
-            ≡ (shown self.old.conversation).finished }
-        ensures fewer { coming_len (shown self.new.conversation)
-            ≤ coming_len (shown self.old.conversation) }
-        ensures leads { LeadsOn result (shown self.old.conversation) (shown self.new.conversation) }
+        ensures finished { (received self.new).finished ≡ (received self.old).finished }
+        ensures fewer { coming_len (received self.new) ≤ coming_len (received self.old) }
+        ensures leads { LeadsOn result (received self.old) (received self.new) }
         ensures acts { K.is_honest service.new → is_apart self.old.place ≡ true → (apart b said : Text)
-            → IsApart (K.kept service.old) self.old apart → size ≡ length apart
-            → HoldsWhole settings ((shown self.old.conversation).taken ++ apart)
-            (shown self.old.conversation).unread b said
-            → HeldStays (from_body (Some self.old.key) (K.kept service.old) (K.kept service.new))
+            → LiesApart self.old.place key (K.kept service.old) (received self.old).taken apart
+            → size ≡ length apart
+            → HoldsWhole settings ((received self.old).taken ++ apart)
+            (received self.old).unread b said
+            → HeldStays (from_body (Some key) (K.kept service.old) (K.kept service.new))
             (K.kept service.new)
-            × Tells settings result b said (shown self.old.conversation) (state_of (K.kept service.old))
-            (state_of (K.kept service.new)) (shown self.new.conversation)
+            × Tells settings result b said (received self.old) (state_of (K.kept service.old))
+            (state_of (K.kept service.new)) (received self.new)
             self.old.conversation.outbox.report self.new.conversation.outbox.report }
         ensures place { self.new.place ≡ BodyPlace.Buffer }
-        ensures key { self.new.key ≡ self.old.key }
     {
         let step = match self.place {
             BodyPlace::Stage => {
-                let body = StagedBody {
-                    key: self.key,
-                    size,
-                };
+                let body = StagedBody { key, size };
                 self.conversation
                     .reply_to_head(alloc, service, settings, room, body)
             }
@@ -186,7 +180,7 @@ impl Receiver {
                 .reply_to_head(alloc, service, settings, room, CountedBody(size)),
         };
         self.place = BodyPlace::Buffer;
-        service.unstage(self.key);
+        service.unstage(key);
         step
     }
 
@@ -196,23 +190,21 @@ impl Receiver {
         &mut self,
         alloc: Global,
         service: &mut Service<K>,
+        key: u64,
         settings: Settings,
         room: &mut FieldRoom,
         part: Part,
     ) -> Step
         requires apart { is_apart self.old.place ≡ true }
-        requires body { (shown self.old.conversation).phase ≡ Phase.Body part }
+        requires body { (received self.old).phase ≡ Phase.Body part }
         ensures honest { K.is_honest service.new → K.is_honest service.old }
-        ensures finished { (shown self.new.conversation).finished
-            ≡ (shown self.old.conversation).finished }
-        ensures fewer { coming_len (shown self.new.conversation)
-            ≤ coming_len (shown self.old.conversation) }
-        ensures leads { LeadsOn result (shown self.old.conversation) (shown self.new.conversation) }
+        ensures finished { (received self.new).finished ≡ (received self.old).finished }
+        ensures fewer { coming_len (received self.new) ≤ coming_len (received self.old) }
+        ensures leads { LeadsOn result (received self.old) (received self.new) }
         ensures turns { K.is_honest service.new → (apart : Text)
-            → IsApart (K.kept service.old) self.old apart
-            → TakesTurn settings result apart self.old self.new (K.kept service.old) (K.kept service.new)
-            self.new.conversation.outbox.report }
-        ensures key { self.new.key ≡ self.old.key }
+            → Lies key (K.kept service.old) (received self.old) apart
+            → TellsApart settings result key apart (received self.old) (K.kept service.old)
+            (received self.new) (K.kept service.new) self.new.conversation.outbox.report }
     {
         self.conversation.outbox.report = None;
         let head = self.conversation.buffer.before().len();
@@ -223,17 +215,17 @@ impl Receiver {
             settings,
         ) {
             Taken::Whole(size) => {
-                self.put_apart(service, head);
-                self.reply(alloc, service, settings, room, size)
+                self.put_apart(service, key, head);
+                self.reply(alloc, service, key, settings, room, size)
             }
             Taken::Missing(next) => {
-                self.put_apart(service, head);
+                self.put_apart(service, key, head);
                 self.conversation.phase = Phase::Body(next);
                 self.conversation.wait(End::Cut)
             }
             Taken::Refused(refusal) => {
                 self.place = BodyPlace::Buffer;
-                service.unstage(self.key);
+                service.unstage(key);
                 self.conversation.refuse(refusal)
             }
         }
@@ -246,32 +238,31 @@ impl Receiver {
         &mut self,
         alloc: Global,
         service: &mut Service<K>,
+        key: u64,
         settings: Settings,
         room: &mut FieldRoom,
     ) -> Step
         ensures honest { K.is_honest service.new → K.is_honest service.old }
-        ensures finished { (shown self.new.conversation).finished
-            ≡ (shown self.old.conversation).finished }
-        ensures fewer { coming_len (shown self.new.conversation)
-            ≤ coming_len (shown self.old.conversation) }
-        ensures leads { LeadsOn result (shown self.old.conversation) (shown self.new.conversation) }
-        ensures over { (e : End) → (shown self.old.conversation).phase ≡ Phase.Ended e
-            → (result ≡ Step.Ended e) × (self.new ≡ self.old) × (service.new ≡ service.old) }
+        ensures finished { (received self.new).finished ≡ (received self.old).finished }
+        ensures fewer { coming_len (received self.new) ≤ coming_len (received self.old) }
+        ensures leads { LeadsOn result (received self.old) (received self.new) }
+        ensures over { (e : End) → (received self.old).phase ≡ Phase.Ended e
+            → (result ≡ Step.Ended e) × (received self.new ≡ received self.old)
+            × (service.new ≡ service.old) }
         ensures turns { K.is_honest service.new → (apart : Text)
-            → IsApart (K.kept service.old) self.old apart
-            → TakesTurn settings result apart self.old self.new (K.kept service.old) (K.kept service.new)
-            self.new.conversation.outbox.report }
-        ensures key { self.new.key ≡ self.old.key }
+            → Lies key (K.kept service.old) (received self.old) apart
+            → TellsApart settings result key apart (received self.old) (K.kept service.old)
+            (received self.new) (K.kept service.new) self.new.conversation.outbox.report }
     {
         match self.conversation.phase {
             Phase::Ended(end) => Step::Ended(end),
             Phase::Head => {
                 self.place = BodyPlace::Buffer;
-                self.turn(alloc, service, settings, room)
+                self.turn(alloc, service, key, settings, room)
             }
             Phase::Body(part) => match self.place {
-                BodyPlace::Buffer => self.turn(alloc, service, settings, room),
-                _ => self.go_on(alloc, service, settings, room, part),
+                BodyPlace::Buffer => self.turn(alloc, service, key, settings, room),
+                _ => self.go_on(alloc, service, key, settings, room, part),
             },
         }
     }

@@ -22,6 +22,8 @@ pub struct Holding<K: Keeper> {
     keeper: K,
     stages: Stages,
     pins: Pins,
+    /// How many bytes stages may have together.
+    most: u64,
 }
 
 /// What came of taking memory.
@@ -55,11 +57,21 @@ impl<K: Keeper> Holding<K> {
         ensures keeps { result.keeper ≡ keeper }
         ensures holds { held_in result.stages.map result.pins.map ≡ nothing_held }
     {
+        Holding::within(alloc, keeper, u64::MAX)
+    }
+
+    /// The same, where stages together may have so many bytes: one that would have more is not begun, as if
+    /// memory were wanting. A stage counts as many bytes as are expected, or as a largest blob.
+    pub fn within(alloc: Global, keeper: K, most: u64) -> Holding<K>
+        ensures keeps { result.keeper ≡ keeper }
+        ensures holds { held_in result.stages.map result.pins.map ≡ nothing_held }
+    {
         Holding {
             alloc,
             keeper,
             stages: Stages::new(alloc),
             pins: Pins::new(alloc),
+            most,
         }
     }
 
@@ -74,6 +86,9 @@ impl<K: Keeper> Holding<K> {
 
 impl<K: Keeper> Holder for Holding<K> {
     fn stage(&mut self, key: u64, expected: u64, with_sha512: bool) -> Result<(), AllocError> {
+        if !self.stages.has_room(expected, self.most) {
+            return Err(AllocError);
+        }
         self.stages.begin(key, expected, with_sha512)
     }
 

@@ -3,6 +3,7 @@ ghost use Rattle.oci_types.specs.Digest.{verdict_of};
 ghost use Rattle.registry_holding.specs.Holding.{sum_of};
 
 use oci_types::{Digest, Hashed, Verdict};
+use registry_model::LARGEST_BLOB;
 use sha2::{Digest as Hash, Sha256, Sha512};
 use std::alloc::{AllocError, Global};
 use std::marker::Model;
@@ -15,12 +16,23 @@ pub struct StageSum {
 }
 
 /// The bytes of a body that came so far, and the state of their SHA-256, and of their SHA-512 where it was
-/// asked for: each byte is hashed as it comes.
+/// asked for: each byte is hashed as it comes. Room is reserved for all of them from the start.
 #[derive(Drop)]
 pub struct Staged {
     bytes: Vec<u8>,
     sha256: Sha256,
     sha512: Option<Sha512>,
+    reserved: u64,
+}
+
+/// For how many bytes room is reserved where so many are expected: as many, or a largest blob where that is
+/// not known.
+pub fn room_for(expected: u64) -> u64 {
+    if expected == 0 {
+        LARGEST_BLOB
+    } else {
+        expected
+    }
 }
 
 impl Model for Staged {
@@ -50,7 +62,13 @@ impl Staged {
             bytes,
             sha256: Sha256::new(),
             sha512,
+            reserved: room_for(expected),
         })
+    }
+
+    /// For how many bytes room is reserved.
+    pub fn reserved(&self) -> u64 {
+        self.reserved
     }
 
     /// Puts a piece behind them, and hashes it. Where memory is wanting they stay.

@@ -3,7 +3,7 @@ ghost use Rattle.oci_types.specs.Digest.{verdict_of};
 ghost use Rattle.registry_holding.specs.Holding.{put_under, sum_of};
 ghost use Rattle.registry_holding.specs.Shown.{stages_in};
 
-use crate::staged::{StageSum, Staged};
+use crate::staged::{StageSum, Staged, room_for};
 use oci_types::{Digest, Verdict};
 use std::alloc::{AllocError, Global};
 use std::collections::BTreeMap;
@@ -13,6 +13,8 @@ use std::collections::BTreeMap;
 pub struct Stages {
     alloc: Global,
     map: BTreeMap<u64, Staged>,
+    /// For how many bytes room is reserved.
+    reserved: u64,
 }
 
 impl Stages {
@@ -23,6 +25,7 @@ impl Stages {
         Stages {
             alloc,
             map: BTreeMap::new(alloc),
+            reserved: 0,
         }
     }
 
@@ -32,8 +35,20 @@ impl Stages {
             (stages_in self.new.map ≡ put_under key (Some staged) (stages_in self.old.map)) }
         ensures err { OnErr result (stages_in self.new.map ≡ stages_in self.old.map) }
     {
-        self.map.insert(key, staged)?;
+        let more = staged.reserved();
+        let before = self.map.insert(key, staged)?;
+        let less = match &before {
+            Some(before) => before.reserved(),
+            None => 0,
+        };
+        self.reserved = self.reserved.saturating_add(more).saturating_sub(less);
         Ok(())
+    }
+
+    /// Whether there is room for a stage of which this many bytes are expected, where all together may have
+    /// so many.
+    pub fn has_room(&self, expected: u64, most: u64) -> bool {
+        room_for(expected) <= most.saturating_sub(self.reserved)
     }
 
     /// Begins an empty one under a number, with room for this many bytes. `with_sha512` asks for its SHA-512
@@ -52,7 +67,13 @@ impl Stages {
         ensures staged { result ≡ stages_in self.old.map key }
         ensures gone { stages_in self.new.map ≡ put_under key None (stages_in self.old.map) }
     {
-        self.map.remove(&key)
+        let staged = self.map.remove(&key);
+        let less = match &staged {
+            Some(staged) => staged.reserved(),
+            None => 0,
+        };
+        self.reserved = self.reserved.saturating_sub(less);
+        staged
     }
 
     /// Puts bytes behind those of the one under a number; nothing where there is none. Where memory is

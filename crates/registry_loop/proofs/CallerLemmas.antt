@@ -1,7 +1,7 @@
 -- Those who give orders, beside connections.
 use Rattle.std.proofs.Common.{◌≡◌, inl, inr, Bool, true, false, List, [], ◌∷◌, refl, sym, subst}
 use Rattle.oci_types.specs.Text.{Text}
-use Rattle.registry_model.specs.Keeping.{Kept, state_of}
+use Rattle.registry_model.specs.Keeping.{Kept}
 use Rattle.order_carrying.specs.Answering.{IsOneStep}
 use Rattle.order_sockets.specs.Calling.{Called, CarriesOutLine, Obeys, Attends, AttendsAll, AttendsRound}
 use Rattle.registry_loop.specs.Together.{PassesBeside}
@@ -27,12 +27,12 @@ one_attended old new s s' x = by_old old.answered refl
     by_old false e = by_new e new.answered refl
 
 -- all that is done for them leaves all connections as they are
-all_beside : (old new : List Called) (s s' : Kept) → AttendsAll old new s s' → PassesBeside (state_of s) (state_of s')
-all_beside [] [] s s' x = subst (λ (k : Kept). PassesBeside (state_of s) (state_of k)) (sym x) (beside_none (state_of s))
+all_beside : (old new : List Called) (s s' : Kept) → AttendsAll old new s s' → PassesBeside s s'
+all_beside [] [] s s' x = subst (λ (k : Kept). PassesBeside s k) (sym x) (beside_none s)
 all_beside [] (d ∷ new) s s' x = absurd x
 all_beside (c ∷ old) [] s s' x = absurd x
 all_beside (c ∷ old) (d ∷ new) s s' x =
-    beside_then (state_of s) (state_of x.0) (state_of s') (beside_step s x.0 (one_attended c d s x.0 x.1)) (all_beside old new x.0 s' x.2)
+    beside_then s x.0 s' (beside_step s x.0 (one_attended c d s x.0 x.1)) (all_beside old new x.0 s' x.2)
 
-pub round_beside : (old new : List Called) (s s' : Kept) → AttendsRound old new s s' → PassesBeside (state_of s) (state_of s')
+pub round_beside : (old new : List Called) (s s' : Kept) → AttendsRound old new s s' → PassesBeside s s'
 round_beside old new s s' x = all_beside x.there x.attended s s' x.attends

@@ -1,6 +1,6 @@
 -- Connections that are served together (profile).
 use Rattle.std.specs.Prelude.{◌≡◌, ◌/◌, ◌*◌, ℕ, zero, suc, min, List, [], ◌++◌}
-use Rattle.registry_model.specs.Keeping.{State, Kept, state_of}
+use Rattle.registry_model.specs.Keeping.{Held, Kept, nothing_held, state_of}
 use Rattle.registry_model.specs.declared.settings.Settings.{Settings}
 use Rattle.registry_server.specs.declared.bounds.Bounds.{Bounds}
 use Rattle.registry_orders.specs.declared.limits.Limits.{Limits}
@@ -18,32 +18,32 @@ abbrev pub most_silence : Limits → ℕ
 most_silence limits = min (limits.idle * 1000) 18446744073709551615
 
 -- some connections were served with these settings, at most so many at once and within these bounds: calls
--- of them led from the one state to the other, and one ledger of all that the service did explains the states
--- and every connection
-pub record ServesBounded (settings : Settings) (bounds : Bounds) (s s' : State) : Type 0 where
+-- of them led from what was kept to what is kept now, and one ledger of all that the service did explains the
+-- states and every connection
+pub record ServesBounded (settings : Settings) (bounds : Bounds) (k k' : Kept) : Type 0 where
   pub events : List Event
   pub last : Open
-  pub passes : Passes events (none settings bounds) s last s'
-  pub ledger : OneLedger events s s' last
+  pub passes : Passes events (none settings bounds) k last k'
+  pub ledger : OneLedger events (state_of k) (state_of k') last
   -- at the end, and in every state on the way, no more was in hand than may be
-  pub within : (front back : List Event) → events ≡ front ++ back → (u : Open) (t : State)
-      → Passes front (none settings bounds) s u t → (u.bounds ≡ bounds) × HoldsWithin u
+  pub within : (front back : List Event) → events ≡ front ++ back → (u : Open) (t : Kept)
+      → Passes front (none settings bounds) k u t → (u.bounds ≡ bounds) × HoldsWithin u
 
 -- the bounds are those of this buffer
-abbrev pub ServesWithin : Settings → ℕ → ℕ → State → State → Type 0
-ServesWithin settings at_once buffer s s' = ServesBounded settings (bounds_of at_once buffer) s s'
+abbrev pub ServesWithin : Settings → ℕ → ℕ → Kept → Kept → Type 0
+ServesWithin settings at_once buffer k k' = ServesBounded settings (bounds_of at_once buffer) k k'
 
 -- those of some buffer
-abbrev pub ServesTogether : Settings → ℕ → State → State → Type 0
-ServesTogether settings at_once s s' = (buffer : ℕ) × ServesWithin settings at_once buffer s s'
+abbrev pub ServesTogether : Settings → ℕ → Kept → Kept → Type 0
+ServesTogether settings at_once k k' = (buffer : ℕ) × ServesWithin settings at_once buffer k k'
 
 -- some events lead there, those beside connections among them
-abbrev pub Passed : Open → State → Open → State → Type 0
-Passed u s u' s' = (events : List Event) × Passes events u s u' s'
+abbrev pub Passed : Open → Kept → Open → Kept → Type 0
+Passed u k u' k' = (events : List Event) × Passes events u k u' k'
 
 -- some events that leave all connections as they are, whatever those are
-abbrev pub PassesBeside : State → State → Type 0
-PassesBeside s s' = (u : Open) → Passed u s u s'
+abbrev pub PassesBeside : Kept → Kept → Type 0
+PassesBeside k k' = (u : Open) → Passed u k u k'
 
 -- ---- what is done beside connections is what those who give orders have said
 
@@ -54,9 +54,9 @@ pub record Round (u : Open) (c : List Called) (k : Kept) (u' : Open) (c' : List 
   pub mid : Open
   pub before : Kept
   pub behind : Kept
-  pub leads : Leads u (state_of k) mid (state_of before)
+  pub leads : Leads u k mid before
   pub attends : AttendsRound c c' before behind
-  pub goes_on : Leads mid (state_of behind) u' (state_of k')
+  pub goes_on : Leads mid behind u' k'
 
 -- so many rounds, each over those whom the one before left
 abbrev pub Rounds : ℕ → Open → List Called → Kept → Open → List Called → Kept → Type 0
@@ -71,14 +71,20 @@ pub record GoesRounds (u : Open) (c : List Called) (k : Kept) (u' : Open) (k' : 
   pub there : List Called
   pub behind : Kept
   pub rounds : Rounds count u c k mid there behind
-  pub ends : Leads mid (state_of behind) u' (state_of k')
+  pub ends : Leads mid behind u' k'
 
 -- the same from no connection on, with these settings and within these bounds, where these give orders
 abbrev pub ServesRounds : Settings → Bounds → List Called → Kept → Kept → Type 0
 ServesRounds settings bounds c k k' = (last : Open) × GoesRounds (none settings bounds) c k last k'
 
--- Served together with these settings, at most so many at once and within this buffer, from nobody on: what
--- is done beside connections is what those who give orders have said.
+-- what is kept, with this held beside it
+abbrev pub with_held : Held → Kept → Kept
+with_held held k = record k { held = held }
+
+-- Served together with these settings, at most so many at once and within this buffer, from nobody on, and
+-- from nothing that is held beside what is kept: what is done beside connections is what those who give
+-- orders have said.
 abbrev pub ServesAll : Settings → ℕ → ℕ → Kept → Kept → Type 0
-ServesAll settings at_once buffer k k' = ServesWithin settings at_once buffer (state_of k) (state_of k')
-    × ServesRounds settings (bounds_of at_once buffer) [] k k'
+ServesAll settings at_once buffer k k' = (held : Held)
+    × ServesWithin settings at_once buffer (with_held nothing_held k) (with_held held k')
+    × ServesRounds settings (bounds_of at_once buffer) [] (with_held nothing_held k) (with_held held k')

@@ -1,6 +1,5 @@
 //! Many sockets by readiness, in one thread.
 ghost use Rattle.std.specs.Prelude.{◌≡◌, [], true, false, IfOk, OnOk, OnErr};
-ghost use Rattle.registry_model.specs.Keeping.{state_of};
 ghost use Rattle.registry_server.specs.Events.{Carries, Leads};
 ghost use Rattle.registry_server.specs.Showing.{connected};
 ghost use Rattle.registry_server.specs.Lives.{NoneSilent};
@@ -10,6 +9,7 @@ ghost use Rattle.registry_loop.specs.Together.{bounds_of, most_silence, Round, G
 
 use crate::gathering::Gathering;
 use order_sockets::Callers;
+use registry_holding::Holder;
 use registry_model::{Keeper, Settings};
 use registry_orders::Limits;
 use registry_server::{Bounds, Connections};
@@ -121,7 +121,7 @@ impl<'a, T: Clock, E: Write> Crowd<'a, T, E> {
     }
 
     /// Has one request answered, if there is room for a reply; says whether there may be another.
-    fn answer_one<K: Keeper>(
+    fn answer_one<K: Holder>(
         &mut self,
         alloc: Global,
         connections: &mut Connections,
@@ -129,8 +129,8 @@ impl<'a, T: Clock, E: Write> Crowd<'a, T, E> {
     ) -> bool
         ensures honest { K.is_honest service.new → K.is_honest service.old }
         ensures leads { K.is_honest service.new → Leads
-            (connected connections.old) (state_of (K.kept service.old))
-            (connected connections.new) (state_of (K.kept service.new)) }
+            (connected connections.old) (K.kept service.old)
+            (connected connections.new) (K.kept service.new) }
         ensures limits { self.new.limits ≡ self.old.limits }
         ensures callers { all_called self.new.callers.callers.items
             ≡ all_called self.old.callers.callers.items }
@@ -157,8 +157,9 @@ impl<'a, T: Clock, E: Write> Crowd<'a, T, E> {
         }
     }
 
-    /// Has requests answered, as long as there is room for replies, and others need not wait for long.
-    fn answer_all<K: Keeper>(
+    /// Lets go what is staged of connections that are gone, and has requests answered, as long as there is
+    /// room for replies, and others need not wait for long.
+    fn answer_all<K: Holder>(
         &mut self,
         alloc: Global,
         connections: &mut Connections,
@@ -166,12 +167,13 @@ impl<'a, T: Clock, E: Write> Crowd<'a, T, E> {
     )
         ensures honest { K.is_honest service.new → K.is_honest service.old }
         ensures leads { K.is_honest service.new → Leads
-            (connected connections.old) (state_of (K.kept service.old))
-            (connected connections.new) (state_of (K.kept service.new)) }
+            (connected connections.old) (K.kept service.old)
+            (connected connections.new) (K.kept service.new) }
         ensures limits { self.new.limits ≡ self.old.limits }
         ensures callers { all_called self.new.callers.callers.items
             ≡ all_called self.old.callers.callers.items }
     {
+        connections.let_go(service);
         let began = self.sockets.now;
         for _ in 0..EVENTS {
             let more = self.answer_one(alloc, connections, service);
@@ -250,7 +252,7 @@ impl<'a, T: Clock, E: Write> Crowd<'a, T, E> {
     /// One round: takes those who came, reads, has requests answered and orders carried out, begins to stop
     /// if that was asked, writes, and lets go. Behind it none is open that has been silent for as long as may
     /// be.
-    fn serve_round<K: Keeper>(
+    fn serve_round<K: Holder>(
         &mut self,
         alloc: Global,
         connections: &mut Connections,
@@ -262,8 +264,8 @@ impl<'a, T: Clock, E: Write> Crowd<'a, T, E> {
             (connected connections.old) (all_called self.old.callers.callers.items) (K.kept service.old)
             (connected connections.new) (all_called self.new.callers.callers.items) (K.kept service.new)) }
         ensures failed { K.is_honest service.new → OnErr result (Leads
-            (connected connections.old) (state_of (K.kept service.old))
-            (connected connections.new) (state_of (K.kept service.new))
+            (connected connections.old) (K.kept service.old)
+            (connected connections.new) (K.kept service.new)
             × (all_called self.new.callers.callers.items ≡ all_called self.old.callers.callers.items)) }
         ensures limits { self.new.limits ≡ self.old.limits }
         ensures none { OnOk result (NoneSilent (most_silence self.old.limits) connections.new) }
@@ -278,7 +280,7 @@ impl<'a, T: Clock, E: Write> Crowd<'a, T, E> {
 
     /// Serves in rounds until all have come and gone; or the service is spent: then everybody goes, and the
     /// answer is `false`.
-    fn serve_rounds<K: Keeper>(
+    fn serve_rounds<K: Holder>(
         &mut self,
         alloc: Global,
         connections: &mut Connections,
@@ -326,7 +328,7 @@ impl<'a, T: Clock, E: Write> Gathering for Crowd<'a, T, E> {
         self.log.introduce(line);
     }
 
-    fn serve_all<K: Keeper>(
+    fn serve_all<K: Holder>(
         &mut self,
         alloc: Global,
         service: &mut Service<K>,

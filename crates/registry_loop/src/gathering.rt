@@ -1,10 +1,10 @@
 //! Connections that are served together.
 ghost use Rattle.std.specs.Prelude.{◌≡◌, ℕ, List, [], true, false, IfOk, OnOk};
-ghost use Rattle.registry_model.specs.Keeping.{state_of};
 ghost use Rattle.registry_loop.specs.Together.{ServesTogether, ServesWithin, ServesRounds, bounds_of};
 ghost use Rattle.order_sockets.specs.Calling.{Called};
 
-use registry_model::{Keeper, Settings};
+use registry_holding::Holder;
+use registry_model::Settings;
 use registry_service::Service;
 use registry_sockets::Doors;
 use std::alloc::Global;
@@ -32,7 +32,7 @@ pub trait Gathering {
     /// Serves those who come with these settings, at most so many at once, until all have come and gone, as
     /// they have soon where somebody asks the server to stop; or the service is spent: then everybody goes,
     /// and the answer is `false`. An error is that nobody can come.
-    fn serve_all<K: Keeper>(
+    fn serve_all<K: Holder>(
         &mut self,
         alloc: Global,
         service: &mut Service<K>,
@@ -42,10 +42,10 @@ pub trait Gathering {
         ensures honest { K.is_honest service.new → K.is_honest service.old }
         ensures serves { K.is_honest service.new
             → ServesTogether settings at_once
-            (state_of (K.kept service.old)) (state_of (K.kept service.new)) }
+            (K.kept service.old) (K.kept service.new) }
         ensures within { K.is_honest service.new
             → ServesWithin settings at_once (buffer self.old)
-            (state_of (K.kept service.old)) (state_of (K.kept service.new)) }
+            (K.kept service.old) (K.kept service.new) }
         ensures rounds { K.is_honest service.new → ServesRounds settings (bounds_of at_once (buffer self.old))
             (callers self.old) (K.kept service.old) (K.kept service.new) }
         ensures none { OnOk result (callers self.new ≡ []) }

@@ -5,8 +5,8 @@ use Rattle.std.specs.Io.KnownBytes.{Appends}
 use Rattle.registry_opening.specs.Openings.{Between}
 use Rattle.registry_orders.specs.Outputs.{output}
 use Rattle.oci_types.specs.Text.{Text}
-use Rattle.registry_model.specs.Keeping.{Kept, state_of}
-use Rattle.registry_loop.specs.Together.{ServesAll, bounds_of}
+use Rattle.registry_model.specs.Keeping.{Kept, nothing_held}
+use Rattle.registry_loop.specs.Together.{ServesAll, bounds_of, with_held}
 use Rattle.registry_orders.specs.declared.failure.Failure.{Failure}
 use Rattle.registry_orders.specs.Failures.{IsOfServing}
 use Rattle.registry_tasks.specs.Sockets.{greeting, EndsAs, ServesAddress}
@@ -67,7 +67,8 @@ greets_by before after stop to h h' e x = subst (λ (z : Stop). GreetsFirst befo
 none_served : (settings : Settings) (at_once buffer : ℕ) (s : Kept) → ServesAll settings at_once buffer s s
 none_served settings at_once buffer s =
     let u = none settings (bounds_of at_once buffer) in
-    (within_none settings at_once buffer (state_of s), (u, ends_rounds u [] s u [] s u s (no_round u [] s) (leads_none u (state_of s))))
+    let h = with_held nothing_held s in
+    (nothing_held, within_none settings at_once buffer h, (u, ends_rounds u [] h u [] h u h (no_round u [] h) (leads_none u h)))
 
 pub not_begun : (settings : Settings) (limits : Limits) (f : Failure) (s s' : Kept) → Begins (Err f) s s' → ServesSpan settings limits (Failed f) s s'
 not_begun settings limits f s s' (inl same) =

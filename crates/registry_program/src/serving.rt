@@ -8,8 +8,9 @@ ghost use Rattle.registry_orders.specs.Outputs.{output};
 ghost use Rattle.registry_tasks.specs.Sockets.{ServesAddress, greeting};
 ghost use Rattle.registry_program.specs.Serving.{ServesSpan, ServesSpans, IsStopped, Begins};
 
+use registry_holding::Holding;
 use registry_loop::{Crowd, Doors, Gathering};
-use registry_model::{Keeper, Settings};
+use registry_model::{Keeper, LARGEST_BLOB, Settings};
 use registry_opening::{Ended, Opener, Work};
 use registry_orders::{Beside, Failure, Limits};
 use registry_service::Service;
@@ -48,7 +49,13 @@ pub enum Stop {
     Failed(Failure),
 }
 
-/// Serves those who gather over a keeper, and gives it back.
+/// How many bytes may be staged together, with this buffer: half of it, or a largest blob where that is more.
+fn most_staged(buffer: u64) -> u64 {
+    (buffer / 2).max(LARGEST_BLOB)
+}
+
+/// Serves those who gather over a keeper, beside which bodies that come are staged in memory, and gives it
+/// back.
 fn serve_gathered<K: Keeper, G: Gathering>(
     alloc: Global,
     kept: K,
@@ -64,7 +71,8 @@ fn serve_gathered<K: Keeper, G: Gathering>(
     ensures none { result.told ≡ Stop.Spent → G.callers gathering.new ≡ [] }
     ensures fails { IsStopped result.told }
 {
-    let mut service = Service::new(kept);
+    let holder = Holding::within(alloc, kept, most_staged(limits.buffer));
+    let mut service = Service::new(holder);
     let at_once = limits.at_once as usize;
     let told = match gathering.serve_all(alloc, &mut service, settings, at_once) {
         Ok(true) => Stop::Over,
@@ -72,7 +80,7 @@ fn serve_gathered<K: Keeper, G: Gathering>(
         Err(_) => Stop::Failed(Failure::ConnectionFailure),
     };
     Ended {
-        keeper: service.into_keeper(),
+        keeper: service.into_keeper().into_keeper(),
         told,
     }
 }

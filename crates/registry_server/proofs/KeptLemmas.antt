@@ -59,7 +59,7 @@ summed_without s front c back h = (
 -- what is to go out on one stands in a list of bytes
 one_fits : (x : Connection) → length (slot_of x).conversation.going < 2 ^ 65
 one_fits x =
-    let o = x.conversation.value.outbox in
+    let o = x.conversation.value.conversation.outbox in
     let body = sent_text (content_of o.body) in
     omega (
       arith,

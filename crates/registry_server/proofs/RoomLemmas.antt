@@ -2,14 +2,14 @@
 use Rattle.std.proofs.Common.{◌≡◌, ℕ, ◌+◌, ◌-◌, ◌*◌, ◌<◌, ◌≤◌, ◌⊎◌, inl, inr, suc, ◌==◌, nat_le, if◌then◌else◌, Bool, true, false, max, List, [], ◌∷◌, ◌++◌, length, Option, Some, IfSome, refl, sym, ap, ◌∙◌, subst, length-append, arith}
 use Rattle.std.proofs.lemmas.Bool.Decides.{nat_tests}
 use Rattle.oci_types.specs.Text.{Text}
-use Rattle.registry_model.specs.Keeping.{State}
+use Rattle.registry_model.specs.Keeping.{Kept}
 use Rattle.registry_conversation.specs.Shown.{Shown, begun, coming_len}
 use Rattle.registry_conversation.specs.declared.phase.Step.{Step}
-use Rattle.registry_conversation.specs.ConversationEvents.{Event as Call, came, ended, acted, sent, Happens as Does}
+use Rattle.registry_conversation.specs.ConversationEvents.{Event as Call, came, ended, acted, sent}
 use Rattle.registry_server.specs.declared.bounds.Bounds.{Bounds}
 use Rattle.registry_server.specs.Open.{Slot, Open, none, conversation_of, Changes, Closes, TakesTurn, Opens, Finishes, Sends, hears, goes_on}
 use Rattle.registry_server.specs.Room.{share, largest, pool, most_coming, over, over_sum, over_most, most_beside, room_beside, room_in, room_of, coming_sum, IsWithin, HoldsWithin}
-use Rattle.registry_server.specs.Events.{Event, comes, on, goes, elsewhere, HappensOn, Happens, Passes}
+use Rattle.registry_server.specs.Events.{Event, comes, on, goes, unstages, elsewhere, SendsText, HappensOn, Happens, Passes}
 use Rattle.registry_server.proofs.SlotLemmas.{of_same, skip, AreNumbered, among}
 use Rattle.registry_server.proofs.TurnLemmas.{numbers_after}
 use Rattle.registry_model.specs.declared.settings.Settings.{Settings}
@@ -198,20 +198,17 @@ as_many_ended c c' x = omega (arith, ap coming_len x)
 pub as_many_told : (count : ℕ) (c c' : Shown) → Sends count c c' → coming_len c' ≤ coming_len c
 as_many_told count c c' x = omega (arith, ap coming_len x.1)
 
-as_many_finished : (settings : Settings) (c c' : Shown) (s s' : State) → Does settings ended c s c' s' → coming_len c' ≤ coming_len c
-as_many_finished settings c c' s s' x = omega (arith, ap coming_len x.0)
+as_many_sent : (text : Text) (c c' : Shown) → SendsText text c c' → coming_len c' ≤ coming_len c
+as_many_sent text c c' x = omega (arith, ap coming_len x.1)
 
-as_many_sent : (settings : Settings) (text : Text) (c c' : Shown) (s s' : State) → Does settings (sent text) c s c' s' → coming_len c' ≤ coming_len c
-as_many_sent settings text c c' s s' x = omega (arith, ap coming_len x.1)
-
-within_call : (n : ℕ) (call : Call) (u : Open) (s : State) (u' : Open) (s' : State) → HappensOn n call u s u' s' → IsWithin u.bounds u.slots
+within_call : (n : ℕ) (call : Call) (u : Open) (s : Kept) (u' : Open) (s' : Kept) → HappensOn n call u s u' s' → IsWithin u.bounds u.slots
     → IsWithin u.bounds u'.slots
-within_call n (came bytes) u s u' s' x w = within_received u n bytes _ u'.slots (λ c c' h. h.1) x.0 x.1 w
-within_call n ended u s u' s' x w = within_changed u.bounds n _ _ u.slots u'.slots (λ c c' h. as_many_finished u.settings c c' s s' h) x w
+within_call n (came bytes) u s u' s' x w = within_received u n bytes _ u'.slots (λ c c' h. h.2) x.0 x.1 w
+within_call n ended u s u' s' x w = within_changed u.bounds n _ _ u.slots u'.slots (λ c c' h. as_many_ended c c' h) x.0 w
 within_call n (acted found) u s u' s' x w = within_turned u.bounds n found _ u.slots u'.slots (λ c c' h. h.1) x.0 w
-within_call n (sent text) u s u' s' x w = within_changed u.bounds n _ _ u.slots u'.slots (λ c c' h. as_many_sent u.settings text c c' s s' h) x w
+within_call n (sent text) u s u' s' x w = within_changed u.bounds n _ _ u.slots u'.slots (λ c c' h. as_many_sent text c c' h) x.0 w
 
-within_on : (e : Event) (u : Open) (s : State) (u' : Open) (s' : State) → Happens e u s u' s' → IsWithin u.bounds u.slots
+within_on : (e : Event) (u : Open) (s : Kept) (u' : Open) (s' : Kept) → Happens e u s u' s' → IsWithin u.bounds u.slots
     → (u'.bounds ≡ u.bounds) × IsWithin u'.bounds u'.slots
 within_on (comes n) u s u' s' x w = (ap (λ (v : Open). v.bounds) x.0.is, within_opened n u u' x.0 w)
 within_on (on n call) u s u' s' x w =
@@ -220,10 +217,12 @@ within_on (on n call) u s u' s' x w =
 within_on (goes n) u s u' s' x w =
     let same : u'.bounds ≡ u.bounds = ap (λ (v : Open). v.bounds) x.1 in
     (same, subst (λ (b : Bounds). IsWithin b u'.slots) (sym same) (within_closed u.bounds n u.slots u'.slots x.0 w))
+within_on (unstages n) u s u' s' x w =
+    (ap (λ (v : Open). v.bounds) x.0, subst (λ (v : Open). IsWithin v.bounds v.slots) (sym x.0) w)
 within_on (elsewhere step outcome) u s u' s' x w =
     (ap (λ (v : Open). v.bounds) x.0, subst (λ (v : Open). IsWithin v.bounds v.slots) (sym x.0) w)
 
-within_after : (es : List Event) (u : Open) (s : State) (u' : Open) (s' : State) → Passes es u s u' s' → IsWithin u.bounds u.slots
+within_after : (es : List Event) (u : Open) (s : Kept) (u' : Open) (s' : Kept) → Passes es u s u' s' → IsWithin u.bounds u.slots
     → (u'.bounds ≡ u.bounds) × IsWithin u'.bounds u'.slots
 within_after [] u s u' s' x w = (ap (λ (v : Open). v.bounds) x.0, subst (λ (v : Open). IsWithin v.bounds v.slots) (sym x.0) w)
 within_after (e ∷ es) u s u' s' x w =
@@ -287,7 +286,7 @@ first_of_some : (u : Open) (xs : List Slot) → u.slots ≡ xs → AreNumbered u
 first_of_some u [] e numbered w some = absurd (omega (arith, some, ap length e))
 first_of_some u (x ∷ xs) e numbered w some = one_may u (subst Heaviest (sym e) (heaviest x xs)) numbered w
 
-pub all_within : (events : List Event) (settings : Settings) (bounds : Bounds) (s : State) (u : Open) (s' : State) → Passes events (none settings bounds) s u s'
+pub all_within : (events : List Event) (settings : Settings) (bounds : Bounds) (s : Kept) (u : Open) (s' : Kept) → Passes events (none settings bounds) s u s'
     → (u.bounds ≡ bounds) × HoldsWithin u
 all_within events settings bounds s u s' x =
     let all = within_after events (none settings bounds) s u s' x (none_within bounds) in

@@ -3,20 +3,20 @@ use Rattle.std.proofs.Common.{◌≡◌, ◌≢◌, ℕ, ◌+◌, ◌⊎◌, inl
 use Rattle.std.proofs.lemmas.Bool.{cases_eq}
 use Rattle.std.proofs.lemmas.List.Elements.{All-head, All-tail}
 use Rattle.oci_types.specs.Text.{Text}
-use Rattle.registry_model.specs.Keeping.{State}
+use Rattle.registry_model.specs.Keeping.{Kept}
 use Rattle.registry_conversation.specs.declared.phase.Step.{Step}
 use Rattle.registry_conversation.specs.Shown.{Shown, listens}
 use Rattle.registry_conversation.specs.ConversationEvents.{Event as Call, came, ended, acted, sent}
 use Rattle.registry_server.specs.declared.bounds.Bounds.{Bounds}
 use Rattle.registry_server.specs.Open.{Slot, Open, none, conversation_of, Changes, TakesTurn, is_told, hears, sends}
-use Rattle.registry_server.specs.Events.{Event, comes, on, goes, elsewhere, HappensOn, Happens, Passes}
+use Rattle.registry_server.specs.Events.{Event, comes, on, goes, unstages, elsewhere, HappensOn, Happens, Passes}
 use Rattle.registry_server.specs.Turns.{IsStirred, HasTurn, TurnsTwice}
 use Rattle.registry_server.proofs.SlotLemmas.{of_same, of_other, skip, AreNumbered, among, pushed, in_place, to_back}
 use Rattle.registry_model.specs.declared.settings.Settings.{Settings}
 
 -- ---- each number is one connection's, after any events
 
-numbers_on : (e : Event) (u : Open) (s : State) (u' : Open) (s' : State) → Happens e u s u' s' → AreNumbered u.next u.slots → AreNumbered u'.next u'.slots
+numbers_on : (e : Event) (u : Open) (s : Kept) (u' : Open) (s' : Kept) → Happens e u s u' s' → AreNumbered u.next u.slots → AreNumbered u'.next u'.slots
 numbers_on (comes n) u s u' s' x h =
     let o = x.0 in
     subst (λ (v : Open). AreNumbered v.next v.slots) (sym o.is)
@@ -30,17 +30,18 @@ numbers_on (on n call) u s u' s' x h =
 
     by_call : (c : Call) → HappensOn n c u s u' s' → AreNumbered u.next u'.slots
     by_call (came bytes) y = changed _ _ y.0
-    by_call ended y = changed _ _ y
-    by_call (sent text) y = changed _ _ y
+    by_call ended y = changed _ _ y.0
+    by_call (sent text) y = changed _ _ y.0
     by_call (acted found) y =
         subst (AreNumbered u.next) (sym y.0.is) (to_back u.next y.0.front y.0.slot _ y.0.back (subst (AreNumbered u.next) y.0.was h) (sym y.0.numbered))
 numbers_on (goes n) u s u' s' x h =
     let y = x.0 in
     subst (λ (k : ℕ). AreNumbered k u'.slots) (sym (ap (λ (v : Open). v.next) x.1))
     (subst (AreNumbered u.next) (sym y.is) (among u.next y.front y.slot y.back (subst (AreNumbered u.next) y.was h)).others)
+numbers_on (unstages n) u s u' s' x h = subst (λ (v : Open). AreNumbered v.next v.slots) (sym x.0) h
 numbers_on (elsewhere step outcome) u s u' s' x h = subst (λ (v : Open). AreNumbered v.next v.slots) (sym x.0) h
 
-pub numbers_after : (es : List Event) (u : Open) (s : State) (u' : Open) (s' : State) → Passes es u s u' s' → AreNumbered u.next u.slots → AreNumbered u'.next u'.slots
+pub numbers_after : (es : List Event) (u : Open) (s : Kept) (u' : Open) (s' : Kept) → Passes es u s u' s' → AreNumbered u.next u.slots → AreNumbered u'.next u'.slots
 numbers_after [] u s u' s' x h = subst (λ (v : Open). AreNumbered v.next v.slots) (sym x.0) h
 numbers_after (e ∷ es) u s u' s' x h = numbers_after es x.0 x.1 u' s' x.3 (numbers_on e u s x.0 x.1 x.2 h)
 
@@ -100,9 +101,9 @@ or_true false b e = e
 
 module _ (m n : ℕ) (ne : m ≢ n) (second : Step) where
   abbrev Goal : List Event → Open → Type 0
-  Goal es u = (s : State) (u' : Open) (s' : State) → Passes (es ++ on n (acted second) ∷ []) u s u' s' → Before m n u.slots → HasTurn m es
+  Goal es u = (s : Kept) (u' : Open) (s' : Kept) → Passes (es ++ on n (acted second) ∷ []) u s u' s' → Before m n u.slots → HasTurn m es
 
-  at_last : (u : Open) (s : State) (u' : Open) (s' : State) → Passes (on n (acted second) ∷ []) u s u' s' → Before m n u.slots → ⊥
+  at_last : (u : Open) (s : Kept) (u' : Open) (s' : Kept) → Passes (on n (acted second) ∷ []) u s u' s' → Before m n u.slots → ⊥
   at_last u s u' s' x b =
       let t = x.2.0.0 in
       not_first m n t.front t.slot t.back ne t.numbered t.waiting (subst (Before m n) t.was b)
@@ -126,8 +127,8 @@ module _ (m n : ℕ) (ne : m ≢ n) (second : Step) where
   between : (es : List Event) (u : Open) → Goal es u
   between [] u s u' s' x b = absurd (at_last u s u' s' x b)
   between (on k (came bytes) ∷ es) u s u' s' x b = between es x.0 x.1 u' s' x.3 (still k _ _ u.slots x.0.slots heard x.2.0.0 b)
-  between (on k ended ∷ es) u s u' s' x b = between es x.0 x.1 u' s' x.3 (still k _ _ u.slots x.0.slots heard x.2.0 b)
-  between (on k (sent text) ∷ es) u s u' s' x b = between es x.0 x.1 u' s' x.3 (still k _ _ u.slots x.0.slots (told text) x.2.0 b)
+  between (on k ended ∷ es) u s u' s' x b = between es x.0 x.1 u' s' x.3 (still k _ _ u.slots x.0.slots heard x.2.0.0 b)
+  between (on k (sent text) ∷ es) u s u' s' x b = between es x.0 x.1 u' s' x.3 (still k _ _ u.slots x.0.slots (told text) x.2.0.0 b)
   between (on k (acted found) ∷ es) u s u' s' x b = elim (cases_eq k m) [
     | inl same ↦ inl same
     | inr other ↦ inr (between es x.0 x.1 u' s' x.3 (others_turn k found _ u.slots x.0.slots other x.2.0.0 b))
@@ -142,11 +143,13 @@ module _ (m n : ℕ) (ne : m ≢ n) (second : Step) where
   between (comes k ∷ es) u s u' s' x b =
       between es x.0 x.1 u' s' x.3
       (subst (λ (v : Open). Before m n v.slots) (sym x.2.0.is) (more_behind m n u.slots _ b))
+  between (unstages k ∷ es) u s u' s' x b =
+      between es x.0 x.1 u' s' x.3 (subst (λ (v : Open). Before m n v.slots) (sym x.2.0) b)
   between (elsewhere step outcome ∷ es) u s u' s' x b =
       between es x.0 x.1 u' s' x.3 (subst (λ (v : Open). Before m n v.slots) (sym x.2.0) b)
 
-pub turn_between : (events : List Event) (settings : Settings) (bounds : Bounds) (s : State) (u : Open) (t : State) → Passes events (none settings bounds) s u t
-    → (n m : ℕ) (es : List Event) (u' : Open) (t' : State) → m ≢ n → IsStirred m u.slots → TurnsTwice n es u t u' t' → HasTurn m es
+pub turn_between : (events : List Event) (settings : Settings) (bounds : Bounds) (s : Kept) (u : Open) (t : Kept) → Passes events (none settings bounds) s u t
+    → (n m : ℕ) (es : List Event) (u' : Open) (t' : Kept) → m ≢ n → IsStirred m u.slots → TurnsTwice n es u t u' t' → HasTurn m es
 turn_between events settings bounds s u t p n m es u' t' ne waits x =
     let y = x.2 in
     let f = y.2.0.0 in

@@ -1,12 +1,12 @@
 -- What a connection shows.
 use Rattle.std.specs.Prelude.{◌≡◌, ℕ, List, [], ◌∷◌, ◌++◌, map, slice_index_or}
 use Rattle.std.specs.List.{remove}
-use Rattle.registry_conversation.specs.ConversationShowing.{shown}
+use Rattle.registry_conversation.specs.Receiving.{received}
 use Rattle.registry_server.specs.declared.connection.Connection.{Connection}
 use Rattle.registry_server.specs.Open.{Slot}
 
 abbrev pub slot_of : Connection → Slot
-slot_of c = record { number = c.number; conversation = shown c.conversation.value; stirred = c.stirred }
+slot_of c = record { number = c.number; conversation = received c.conversation.value; stirred = c.stirred }
 
 abbrev pub slots_of : List Connection → List Slot
 slots_of connections = map slot_of connections

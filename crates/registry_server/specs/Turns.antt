@@ -1,10 +1,10 @@
 -- Whose turn comes when.
 use Rattle.std.specs.Prelude.{◌≡◌, ℕ, ◌⊎◌, true, List, [], ◌∷◌, ◌++◌}
-use Rattle.registry_model.specs.Keeping.{State}
+use Rattle.registry_model.specs.Keeping.{Kept}
 use Rattle.registry_conversation.specs.declared.phase.Step.{Step}
 use Rattle.registry_conversation.specs.ConversationEvents.{came, ended, acted, sent}
 use Rattle.registry_server.specs.Open.{Slot, Open}
-use Rattle.registry_server.specs.Events.{Event, comes, on, goes, elsewhere, Passes}
+use Rattle.registry_server.specs.Events.{Event, comes, on, goes, unstages, elsewhere, Passes}
 
 -- the connection is open and is to be looked at: nothing is to go out on it, and something came for it, or
 -- its last reply has gone out
@@ -21,10 +21,11 @@ HasTurn m (on k ended ∷ events) = HasTurn m events
 HasTurn m (on k (sent text) ∷ events) = HasTurn m events
 HasTurn m (goes k ∷ events) = (k ≡ m) ⊎ HasTurn m events
 HasTurn m (comes k ∷ events) = HasTurn m events
+HasTurn m (unstages k ∷ events) = HasTurn m events
 HasTurn m (elsewhere step outcome ∷ events) = HasTurn m events
 
 -- two turns of the connection n, one after the other but for these events
-abbrev pub TurnsTwice : ℕ → List Event → Open → State → Open → State → Type 0
+abbrev pub TurnsTwice : ℕ → List Event → Open → Kept → Open → Kept → Type 0
 TurnsTwice n between u s u' s' =
     (first : Step) × (second : Step)
     × Passes (on n (acted first) ∷ between ++ on n (acted second) ∷ []) u s u' s'

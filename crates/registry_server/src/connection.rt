@@ -3,13 +3,13 @@ ghost use Rattle.registry_server.specs.Open.{LastAt, StirredAt, conversation_of}
 ghost use Rattle.registry_server.specs.Slots.{slots_of, IsMoved};
 ghost use Rattle.registry_server.specs.declared.connection.Connection.{Connection};
 ghost use Rattle.oci_types.specs.Text.{Text};
-ghost use Rattle.registry_model.specs.Keeping.{state_of};
 
 use crate::life::Life;
 use crate::sums::Sums;
 use crate::turn::Turn;
-use crate::{Conversation, FieldRoom, Step};
-use registry_model::{Keeper, Settings};
+use crate::{FieldRoom, Receiver, Step};
+use registry_holding::Holder;
+use registry_model::Settings;
 use registry_service::Service;
 use std::alloc::Global;
 
@@ -17,7 +17,7 @@ use std::alloc::Global;
 pub struct Connection {
     pub number: u64,
     /// Elsewhere, so that what stands in a row of connections is small.
-    pub conversation: Box<Conversation>,
+    pub conversation: Box<Receiver>,
     /// Nothing is to go out on it, and something came for it that it was not asked about yet, or its last
     /// reply has gone out.
     pub stirred: bool,
@@ -36,14 +36,12 @@ impl Drop for Connection {
 }
 
 impl Connection {
-    ghost use Rattle.registry_conversation.specs.ConversationEvents.{Happens, acted};
     ghost use Rattle.registry_conversation.specs.Shown.{coming_len};
     ghost use Rattle.registry_server.specs.Open.{Becomes, Hears, Finishes, Sends, hears, sends, goes_on};
     ghost use Rattle.registry_server.specs.Slots.{slot_of};
     ghost use Rattle.registry_server.specs.Held.{with_other};
     ghost use Rattle.registry_server.specs.Lives.{alive_at, moved_by, sent_by};
-    ghost use Rattle.registry_conversation.specs.Holding.{Holds};
-    ghost use Rattle.registry_conversation.specs.Telling.{Tells};
+    ghost use Rattle.registry_conversation.specs.Receiving.{ActsOn, Lies, TellsApart};
 
     /// These bytes came on it.
     pub fn receive(&mut self, bytes: &[u8], time: u64, sums: &mut Sums)
@@ -128,7 +126,7 @@ impl Connection {
 
     /// It takes a turn. Where it answered a request, or has told its client to go on with the body, it is
     /// to be looked at again once nothing is to go out.
-    pub fn answer_next<K: Keeper>(
+    pub fn answer_next<K: Holder>(
         &mut self,
         alloc: Global,
         service: &mut Service<K>,
@@ -139,24 +137,22 @@ impl Connection {
         ensures honest { K.is_honest service.new → K.is_honest service.old }
         ensures number { result.number ≡ self.old.number }
         ensures acts { Becomes (λ c c'. K.is_honest service.new
-            → Happens settings (acted result.step) c (state_of (K.kept service.old)) c'
-            (state_of (K.kept service.new)))
+            → ActsOn settings result.step self.old.number c (K.kept service.old) c' (K.kept service.new))
             (goes_on result.step (slot_of self.new).conversation) (slot_of self.old) (slot_of self.new) }
         ensures fewer { coming_len (slot_of self.new).conversation
             ≤ coming_len (slot_of self.old).conversation }
         ensures lives { self.new.life ≡ self.old.life }
         ensures sums { sums.new ≡ with_other (slot_of self.old).conversation
             (slot_of self.new).conversation sums.old }
-        ensures tells { K.is_honest service.new → (b said : Text)
-            → Holds settings (slot_of self.old).conversation b said
-            → Tells settings result.step b said (slot_of self.old).conversation
-            (state_of (K.kept service.old)) (state_of (K.kept service.new))
-            (slot_of self.new).conversation None result.report }
+        ensures tells { K.is_honest service.new → (apart : Text)
+            → Lies self.old.number (K.kept service.old) (slot_of self.old).conversation apart
+            → TellsApart settings result.step self.old.number apart (slot_of self.old).conversation
+            (K.kept service.old) (slot_of self.new).conversation (K.kept service.new) result.report }
     {
         sums.take(&self.conversation);
         let step = self
             .conversation
-            .answer_next(alloc, service, settings, fields);
+            .answer_next(alloc, service, self.number, settings, fields);
         sums.add(&self.conversation);
         let report = self.conversation.take_report();
         self.settle(step);

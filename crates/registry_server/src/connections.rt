@@ -1,5 +1,4 @@
 ghost use Rattle.std.specs.Prelude.{◌≡◌, true, false, ◌<◌, ◌≤◌, ◌^◌, ◌⊎◌, ◌↔◌, length, option_map, if◌then◌else◌, ◌==◌, Some, None, All, IsTrue, IfOk, IfErr, IfSome, IfNone};
-ghost use Rattle.registry_model.specs.Keeping.{state_of};
 ghost use Rattle.registry_server.specs.Open.{are_numbered};
 ghost use Rattle.registry_server.specs.Room.{IsWithin};
 ghost use Rattle.registry_server.specs.Held.{IsKept};
@@ -12,8 +11,9 @@ use crate::receipt::Receipt;
 use crate::refusal::Refusal;
 use crate::sums::Sums;
 use crate::turn::Turn;
-use crate::{Conversation, Exchange, FieldRoom, Wants};
-use registry_model::{Keeper, Settings};
+use crate::{Exchange, FieldRoom, Receiver, Wants};
+use registry_holding::Holder;
+use registry_model::Settings;
 use registry_outbox::Outgoing;
 use registry_service::Service;
 use std::alloc::{AllocError, Global};
@@ -42,6 +42,8 @@ pub struct Connections {
     pub(crate) oldest: u64,
     /// When that was last looked up in all of them.
     pub(crate) looked: u64,
+    /// The numbers of those that are gone, of which something may still be staged.
+    pub(crate) gone: Vec<u64>,
     ghost numbered: { are_numbered next (slots_of connections.items) ≡ true },
     ghost within: { IsWithin bounds (slots_of connections.items) },
     ghost fits: { bounds.coming < 2 ^ 64 },
@@ -61,13 +63,14 @@ impl Drop for Connections {
             resting: _,
             oldest: _,
             looked: _,
+            gone: _,
         } = self;
     }
 }
 
 impl Connections {
     ghost use Rattle.registry_conversation.specs.Shown.{coming_len, wants_of};
-    ghost use Rattle.registry_conversation.specs.ConversationEvents.{Happens, acted};
+    ghost use Rattle.registry_conversation.specs.Receiving.{ActsOn};
     ghost use Rattle.registry_outbox.specs.Outboxes.{outgoing_text};
     ghost use Rattle.registry_server.specs.Open.{none, FoundAt, conversation_of, outgoing_of, held_of, Opens, Refuses, Changes, Closes, TakesTurn, IfOpen, IfResting, with_slots, hears, sends, Finishes, Sends};
     ghost use Rattle.registry_server.specs.Room.{going_sum, room_of, IsReceived};
@@ -95,6 +98,7 @@ impl Connections {
             resting: 0,
             oldest: 0,
             looked: 0,
+            gone: Vec::new(alloc),
         })
     }
 
@@ -115,7 +119,10 @@ impl Connections {
         if self.next == u64::MAX {
             return Err(Refusal::NoNumber);
         }
-        let Ok(conversation) = Box::new(alloc, Conversation::new(alloc)) else {
+        let Ok(conversation) = Box::new(alloc, Receiver::new(alloc)) else {
+            return Err(Refusal::Memory);
+        };
+        let Ok(()) = self.gone.reserve(self.connections.len() + 1) else {
             return Err(Refusal::Memory);
         };
         let number = self.next;
@@ -167,7 +174,7 @@ impl Connections {
         }
     }
 
-    /// These bytes came on a connection, as `Conversation::receive` takes them, if there is room for them:
+    /// These bytes came on a connection, as `Receiver::receive` takes them, if there is room for them:
     /// they are no more than `room` says. Where they are not taken nothing has changed.
     pub fn receive(&mut self, number: u64, bytes: &[u8]) -> Receipt
         ensures receives { IsReceived result number bytes.now (connected self.old) (connected self.new) }
@@ -258,7 +265,7 @@ impl Connections {
         }
     }
 
-    /// How many bytes a connection holds, as `Conversation::held` has it; 0 where it is not open.
+    /// How many bytes a connection holds, as `Receiver::held` has it; 0 where it is not open.
     pub fn held(&self, number: u64) -> usize
         ensures { result ≡ held_of number (connected self.now).slots }
     {
@@ -268,7 +275,7 @@ impl Connections {
         }
     }
 
-    /// Gives back the room of a connection that holds nothing, as `Conversation::give_back` does.
+    /// Gives back the room of a connection that holds nothing, as `Receiver::give_back` does.
     pub fn give_back(&mut self, alloc: Global, number: u64)
         ensures same { connected self.new ≡ connected self.old }
         ensures lives { LivesOn self.old self.new }
@@ -278,8 +285,8 @@ impl Connections {
         }
     }
 
-    /// A connection is gone: what was held of it is let go, and nothing of it is answered any more. Says
-    /// whether it was open.
+    /// A connection is gone: what was held of it is let go, and nothing of it is answered any more. What is
+    /// staged of its body in hand is let go by `let_go`. Says whether it was open.
     pub fn close(&mut self, number: u64) -> bool
         ensures closes { IfOpen result number (Closes number) (connected self.old) (connected self.new) }
         ensures lives { LivesBut number None self.old self.new }
@@ -288,6 +295,8 @@ impl Connections {
         match self.place_of(number) {
             Some(at) => {
                 let gone = self.connections.remove(at);
+                // (there is room for it since it came)
+                let _ = self.gone.push(number);
                 self.sums.take(&gone.conversation);
                 self.resting = self.resting.saturating_sub(1);
                 self.oldest = oldest_without(
@@ -329,19 +338,19 @@ impl Connections {
         self.sums.going < self.bounds.going as u128
     }
 
-    /// One connection takes one turn, as `Conversation::answer_next` does: the first that is to be looked
+    /// One connection takes one turn, as `Receiver::answer_next` does: the first that is to be looked
     /// at, which goes behind all others. None takes one where nothing came for any that it has not
     /// answered yet, nor where the replies that wait to go out are as many bytes as may.
     ///
     /// A connection that waited for more bytes is not looked at again before something comes for it, and one
     /// that answered not before its reply has gone out: so none holds more than one reply. What is told of a
     /// turn is told of the request that it answered or refused, and of no other.
-    pub fn turn<K: Keeper>(&mut self, alloc: Global, service: &mut Service<K>) -> Option<Turn>
+    pub fn turn<K: Holder>(&mut self, alloc: Global, service: &mut Service<K>) -> Option<Turn>
         ensures honest { K.is_honest service.new → K.is_honest service.old }
         ensures takes { IfSome result (λ turn. TakesTurn turn.number turn.step
             (λ c c'. (K.is_honest service.new
-            → Happens (connected self.old).settings (acted turn.step) c (state_of (K.kept service.old))
-            c' (state_of (K.kept service.new)))
+            → ActsOn (connected self.old).settings turn.step turn.number c (K.kept service.old)
+            c' (K.kept service.new))
             × (coming_len c' ≤ coming_len c))
             (connected self.old).slots (connected self.new).slots
             × (connected self.new ≡ with_slots (connected self.old) (connected self.new).slots)
@@ -350,11 +359,11 @@ impl Connections {
             × (All (λ s. s.stirred ≡ false) (connected self.old).slots
             ⊎ ((connected self.old).bounds.going ≤ going_sum (connected self.old).slots))) }
         ensures tells { K.is_honest service.new → IfSome result (λ turn.
-            TellsTurn turn.number turn.step turn.report (connected self.old) (state_of (K.kept service.old))
-            (connected self.new) (state_of (K.kept service.new))) }
+            TellsTurn turn.number turn.step turn.report (connected self.old) (K.kept service.old)
+            (connected self.new) (K.kept service.new)) }
         ensures lives { LivesOn self.old self.new }
-        ensures leads { K.is_honest service.new → Leads (connected self.old) (state_of (K.kept service.old))
-            (connected self.new) (state_of (K.kept service.new)) }
+        ensures leads { K.is_honest service.new → Leads (connected self.old) (K.kept service.old)
+            (connected self.new) (K.kept service.new) }
     {
         if !self.has_room_for_reply() {
             return None;

@@ -1,7 +1,7 @@
 //! What any list of calls comes to, over all connections.
 
 ghost use Rattle.std.specs.Prelude.{◌≡◌, ◌≢◌, ℕ, List};
-ghost use Rattle.registry_model.specs.Keeping.{State};
+ghost use Rattle.registry_model.specs.Keeping.{Kept, state_of};
 ghost use Rattle.registry_model.specs.declared.settings.Settings.{Settings};
 ghost use Rattle.registry_server.specs.declared.bounds.Bounds.{Bounds};
 ghost use Rattle.registry_server.specs.Open.{Open, none};
@@ -17,9 +17,9 @@ ghost use Rattle.registry_server.specs.Turns.{IsStirred, HasTurn, TurnsTwice};
 /// laws of a run hold of all connections together: a team is told, on all its connections, what it would be
 /// told alone.
 pub fn connections_are_served()
-    ensures { (events : List Event) (settings : Settings) (bounds : Bounds) (s : State) (u : Open)
-        (s' : State)
-        → Passes events (none settings bounds) s u s' → OneLedger events s s' u }
+    ensures { (events : List Event) (settings : Settings) (bounds : Bounds) (k : Kept) (u : Open)
+        (k' : Kept) → Passes events (none settings bounds) k u k'
+        → OneLedger events (state_of k) (state_of k') u }
 {}
 
 /// Whatever calls the connections get, they hold no more bytes of requests together than they may: what was
@@ -27,16 +27,16 @@ pub fn connections_are_served()
 /// than its share and one largest request. And if any is open, one of them may hold so much, so that its
 /// request can get whole. Since this is so after any calls, it is so in every state on the way.
 pub fn requests_keep_within_bounds()
-    ensures { (events : List Event) (settings : Settings) (bounds : Bounds) (s : State) (u : Open)
-        (s' : State)
-        → Passes events (none settings bounds) s u s' → (u.bounds ≡ bounds) × HoldsWithin u }
+    ensures { (events : List Event) (settings : Settings) (bounds : Bounds) (k : Kept) (u : Open)
+        (k' : Kept)
+        → Passes events (none settings bounds) k u k' → (u.bounds ≡ bounds) × HoldsWithin u }
 {}
 
 /// Between two turns of a connection each other one that was to be looked at before the first takes one, or
 /// it is gone: none is served twice while another waits.
 pub fn none_takes_two_turns_before_another()
-    ensures { (events : List Event) (settings : Settings) (bounds : Bounds) (s : State) (u : Open) (t : State)
-        → Passes events (none settings bounds) s u t
-        → (n m : ℕ) (between : List Event) (u' : Open) (t' : State) → m ≢ n → IsStirred m u.slots
+    ensures { (events : List Event) (settings : Settings) (bounds : Bounds) (k : Kept) (u : Open) (t : Kept)
+        → Passes events (none settings bounds) k u t
+        → (n m : ℕ) (between : List Event) (u' : Open) (t' : Kept) → m ≢ n → IsStirred m u.slots
         → TurnsTwice n between u t u' t' → HasTurn m between }
 {}

@@ -1,4 +1,4 @@
-//! The connections of a server over one service, each a `Conversation`.
+//! The connections of a server over one service, each a `Receiver`.
 //!
 //! The crates above rely on `Connections`: each call says what it made of the connection that it names, and
 //! that every other one is exactly as it was; `laws` say what any list of calls comes to. What serves one
@@ -8,6 +8,7 @@
 pub mod bounds;
 pub mod connection;
 pub mod connections;
+pub mod gone;
 pub mod laws;
 pub mod life;
 pub mod receipt;
@@ -21,6 +22,7 @@ pub use connections::Connections;
 pub use receipt::Receipt;
 pub use refusal::Refusal;
 pub use registry_conversation::{
-    Conversation, Exchange, FieldRoom, Phase, ReadFault, Step, Wants, serve_connection, serve_one,
+    Conversation, Exchange, FieldRoom, Phase, ReadFault, Receiver, Step, Wants, serve_connection,
+    serve_one,
 };
 pub use turn::Turn;

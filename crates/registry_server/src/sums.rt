@@ -1,8 +1,8 @@
 ghost use Rattle.std.specs.Prelude.{◌≡◌};
-ghost use Rattle.registry_conversation.specs.ConversationShowing.{shown};
+ghost use Rattle.registry_conversation.specs.Receiving.{received};
 ghost use Rattle.registry_server.specs.Held.{with_one, without_one};
 
-use crate::Conversation;
+use crate::Receiver;
 use crate::bounds::SHARE;
 
 /// What connections hold together. It is kept as they change, so that nobody walks over all of them for it.
@@ -16,8 +16,8 @@ pub struct Sums {
 
 impl Sums {
     /// The conversation of a connection is one of theirs.
-    pub fn add(&mut self, conversation: &Conversation)
-        ensures { self.new ≡ with_one (shown conversation.now) self.old }
+    pub fn add(&mut self, conversation: &Receiver)
+        ensures { self.new ≡ with_one (received conversation.now) self.old }
     {
         let over = conversation.coming().saturating_sub(SHARE);
         let going = conversation.outgoing().len();
@@ -26,8 +26,8 @@ impl Sums {
     }
 
     /// It is none of theirs.
-    pub fn take(&mut self, conversation: &Conversation)
-        ensures { self.new ≡ without_one (shown conversation.now) self.old }
+    pub fn take(&mut self, conversation: &Receiver)
+        ensures { self.new ≡ without_one (received conversation.now) self.old }
     {
         let over = conversation.coming().saturating_sub(SHARE);
         let going = conversation.outgoing().len();

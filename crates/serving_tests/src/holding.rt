@@ -3,7 +3,7 @@
 use crate::setting::{is_told, same, setting};
 use crate::texts::{ABC, BLOB_UNKNOWN, CREATED, DELETE, DELETED, GET};
 use oci_types::{Digest, RepoName};
-use registry_holding::{Holder, Holding};
+use registry_holding::Holder;
 use registry_service::Service;
 use std::process::Abort;
 
@@ -28,7 +28,7 @@ fn is_staged<H: Holder>(rt: &impl Abort, holder: &mut H, key: u64, size: u64, sh
 #[test]
 fn stages_are_apart(rt: HostRuntime) {
     let alloc = rt.alloc();
-    let mut holder = Holding::new(alloc, setting(&rt, alloc).into_keeper());
+    let mut holder = setting(&rt, alloc).into_keeper();
     holder.stage(7, 3, false).expect(&rt, "a stage");
     holder.stage(8, 0, true).expect(&rt, "another");
     holder.stage_more(7, b"a").expect(&rt, "a piece");
@@ -49,7 +49,7 @@ fn stages_are_apart(rt: HostRuntime) {
 #[test]
 fn a_pin_outlives_its_blob(rt: HostRuntime) {
     let alloc = rt.alloc();
-    let mut registry = Service::new(Holding::new(alloc, setting(&rt, alloc).into_keeper()));
+    let mut registry = setting(&rt, alloc);
     is_told(&rt, alloc, &mut registry, ABC, PUSH_ABC, CREATED);
     let mut holder = registry.into_keeper();
     let name = RepoName::parse(alloc, "team/app").expect(&rt, "a name");

@@ -3,6 +3,7 @@
 use crate::setting::{Registry, is_told, setting};
 use crate::texts::CREATED;
 use oci_types::RepoName;
+use registry_holding::Holding;
 use registry_service::Service;
 use std::alloc::Global;
 use std::process::Abort;
@@ -36,9 +37,9 @@ const CLOSE: &str =
 /// The setting, where all numbers of `team/app` but one were given: no number of requests leads there.
 fn all_but_one(rt: &impl Abort, alloc: Global) -> Registry {
     let name = RepoName::parse(alloc, "team/app").expect(rt, "a name");
-    let mut keeper = setting(rt, alloc).into_keeper();
+    let mut keeper = setting(rt, alloc).into_keeper().into_keeper();
     keeper.set_last_number(&name, LARGEST - 1);
-    Service::new(keeper)
+    Service::new(Holding::new(alloc, keeper))
 }
 
 /// What is asked, one after the other, and the reply to each.

@@ -3,6 +3,7 @@
 
 use crate::texts::filled;
 use oci_types::{RepoName, Token};
+use registry_holding::Holding;
 use registry_http::End;
 use registry_maps::MapKeeper;
 use registry_model::{AdminCommand, Keeper, Level, Quota, Settings};
@@ -14,7 +15,7 @@ use std::io::{Read, Write};
 use std::process::Abort;
 
 /// A registry that forgets all when it ends.
-pub type Registry = Service<MapKeeper>;
+pub type Registry = Service<Holding<MapKeeper>>;
 
 /// Both are the same: what a comparison prints where it fails is proved here, and not at each.
 pub fn same<T: PartialEq + Debug + Drop>(rt: &impl Abort, place: usize, found: T, wanted: T) {
@@ -23,7 +24,7 @@ pub fn same<T: PartialEq + Debug + Drop>(rt: &impl Abort, place: usize, found: T
 
 /// A registry of no repositories and no grants.
 pub fn empty(alloc: Global) -> Registry {
-    Service::new(MapKeeper::new(alloc))
+    Service::new(Holding::new(alloc, MapKeeper::new(alloc)))
 }
 
 /// Carries a command out.

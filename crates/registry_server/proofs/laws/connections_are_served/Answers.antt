@@ -2,4 +2,4 @@ use Rattle.registry_server.proofs.LedgerLemmas.{all_are_served}
 use Rattle.registry_server.proofs.laws.connections_are_served.Goals as goal
 
 pub returns : goal.returns
-returns c = λ events settings bounds s u s' x. all_are_served settings events bounds s u s' x
+returns c = λ events settings bounds k u k' x. all_are_served settings events bounds k u k' x

@@ -1,12 +1,11 @@
 use Rattle.std.proofs.Common.{◌∙◌, refl}
-use Rattle.registry_model.specs.Keeping.{state_of}
 use Rattle.registry_server.specs.Showing.{connected}
-use Rattle.registry_server.proofs.CallLemmas.{leads_none, leads_then}
+use Rattle.registry_server.proofs.CallLemmas.{leads_then}
 use Rattle.registry_loop.proofs.crowd.Crowd.answer_all.Goals as goal
 
 pub loop-init : goal.loop-init
 loop-init g c = record {
-  leads = λ honest. (honest, leads_none (connected c.args.connections.now) (state_of (g.K.Keeper.kept c.args.service.now)));
+  leads = λ honest. (c.let_go.ensures.honest honest, c.let_go.ensures.leads honest);
   limits = refl;
   callers = refl;
 }
@@ -15,7 +14,7 @@ pub loop-preserved : goal.loop-preserved
 loop-preserved g c = record {
   leads = λ honest.
       let before = c.loop.invariant.leads (c.answer_one-more.ensures.honest honest) in
-      (before.0, leads_then _ _ (connected c.loop.connections) (state_of (g.K.Keeper.kept c.loop.service)) _ _ before.1 (c.answer_one-more.ensures.leads honest));
+      (before.0, leads_then _ _ (connected c.loop.connections) (g.K.Keeper.kept c.loop.service) _ _ before.1 (c.answer_one-more.ensures.leads honest));
   limits = c.answer_one-more.ensures.limits ∙ c.loop.invariant.limits;
   callers = c.answer_one-more.ensures.callers ∙ c.loop.invariant.callers;
 }
@@ -25,7 +24,7 @@ returns-then-not-more g c = record {
   honest = λ honest. (c.loop.invariant.leads (c.answer_one-more.ensures.honest honest)).0;
   leads = λ honest.
       let before = c.loop.invariant.leads (c.answer_one-more.ensures.honest honest) in
-      leads_then _ _ (connected c.loop.connections) (state_of (g.K.Keeper.kept c.loop.service)) _ _ before.1 (c.answer_one-more.ensures.leads honest);
+      leads_then _ _ (connected c.loop.connections) (g.K.Keeper.kept c.loop.service) _ _ before.1 (c.answer_one-more.ensures.leads honest);
   limits = c.answer_one-more.ensures.limits ∙ c.loop.invariant.limits;
   callers = c.answer_one-more.ensures.callers ∙ c.loop.invariant.callers;
 }

@@ -1,5 +1,4 @@
 use Rattle.std.proofs.Common.{refl}
-use Rattle.registry_model.specs.Keeping.{state_of}
 use Rattle.registry_server.specs.Showing.{connected}
 use Rattle.registry_server.proofs.CallLemmas.{leads_none, leads_then, carries_then, carries_same}
 use Rattle.registry_loop.proofs.crowd.Crowd.answer_one.Goals as goal
@@ -7,7 +6,7 @@ use Rattle.registry_loop.proofs.crowd.Crowd.answer_one.Goals as goal
 pub returns-then-spent : goal.returns-then-spent
 returns-then-spent g c = record {
   honest = λ honest. honest;
-  leads = λ honest. leads_none (connected c.args.connections.now) (state_of (g.K.Keeper.kept c.args.service.now));
+  leads = λ honest. leads_none (connected c.args.connections.now) (g.K.Keeper.kept c.args.service.now);
   limits = refl;
   callers = refl;
 }
@@ -16,7 +15,7 @@ pub returns-in-Some : goal.returns-in-Some
 returns-in-Some g c = record {
   honest = c.turn.ensures.honest;
   leads = λ honest.
-      let t = state_of (g.K.Keeper.kept c.turn.new.service) in
+      let t = g.K.Keeper.kept c.turn.new.service in
       let noted = carries_same _ _ c.note_work.ensures.same in
       let told = carries_then _ _ _ noted c.tell_of.ensures in
       leads_then _ _ (connected c.turn.new.self) t _ t (c.turn.ensures.leads honest) (told t);

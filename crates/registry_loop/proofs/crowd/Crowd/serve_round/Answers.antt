@@ -1,7 +1,6 @@
 use Rattle.std.proofs.Common.{◌≡◌, ◌∙◌, sym, subst}
 use Rattle.std.proofs.lemmas.Result.{IfOk-from_err}
 use Rattle.order_sockets.proofs.CallingLemmas.{anyway_on_err}
-use Rattle.registry_model.specs.Keeping.{state_of}
 use Rattle.registry_server.specs.Showing.{connected}
 use Rattle.registry_server.specs.Events.{Leads}
 use Rattle.registry_server.specs.Lives.{NoneSilent}
@@ -24,11 +23,11 @@ returns g c =
         mid = connected c.answer_all.new.connections;
         before = t;
         behind = r;
-        leads = leads_then _ (state_of s) (connected c.hear_all.new.connections) (state_of s) _ (state_of t) (carries_then _ _ _ c.begin_round.ensures.leads c.hear_all.ensures (state_of s))
+        leads = leads_then _ s (connected c.hear_all.new.connections) s _ t (carries_then _ _ _ c.begin_round.ensures.leads c.hear_all.ensures s)
             (c.answer_all.ensures.leads (c.carry_out.ensures.honest honest));
         attends = subst (λ l. AttendsRound l (all_called c.end_round.new.self.callers.callers.items) t r) there
             (subst (λ l. AttendsRound (all_called c.answer_all.new.self.callers.callers.items) l t r) (sym c.end_round.ensures.callers) (c.carry_out.ensures.attends honest));
-        goes_on = carries_then _ _ _ (carries_same _ _ c.carry_out.ensures.same) c.end_round.ensures.leads (state_of r);
+        goes_on = carries_then _ _ _ (carries_same _ _ c.carry_out.ensures.same) c.end_round.ensures.leads r;
       };
       failed = λ honest. tt;
       limits = c.end_round.ensures.limits ∙ stayed;
@@ -40,7 +39,7 @@ returns-in_err-begin_round g c = record {
   honest = λ honest. honest;
   round = λ honest. IfOk-from_err c.from_residual.result _ c.from_residual.ensures.0;
   failed = λ honest.
-      let s = state_of (g.K.Keeper.kept c.args.service.now) in
+      let s = g.K.Keeper.kept c.args.service.now in
       let both : Leads (connected c.args.connections.now) s (connected c.begin_round.new.connections) s
       × (all_called c.begin_round.new.self.callers.callers.items ≡ all_called c.args.self.now.callers.callers.items) =
       (c.begin_round.ensures.leads s, c.begin_round.ensures.callers) in

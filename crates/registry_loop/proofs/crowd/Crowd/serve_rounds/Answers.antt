@@ -1,6 +1,5 @@
 use Rattle.std.proofs.Common.{◌∙◌, refl, sym}
 use Rattle.std.proofs.lemmas.Result.{IfOk-from_err}
-use Rattle.registry_model.specs.Keeping.{state_of}
 use Rattle.registry_server.proofs.CallLemmas.{leads_none}
 use Rattle.registry_loop.proofs.RoundLemmas.{no_round, another_round, ends_rounds}
 use Rattle.registry_loop.proofs.crowd.Crowd.serve_rounds.Goals as goal
@@ -19,7 +18,7 @@ loop-preserved g c = record {
 pub returns-then-spent : goal.returns-then-spent
 returns-then-spent g c = record {
   honest = λ honest. (c.loop.invariant.rounds honest).0;
-  serves = λ honest. ends_rounds _ _ _ _ _ _ _ _ (c.loop.invariant.rounds honest).1 (c.leave.ensures (state_of (g.K.Keeper.kept c.loop.service)));
+  serves = λ honest. ends_rounds _ _ _ _ _ _ _ _ (c.loop.invariant.rounds honest).1 (c.leave.ensures (g.K.Keeper.kept c.loop.service));
   none = c.leave-then-spent.ensures.none;
   limits = c.loop.invariant.limits;
   spent = λ over. sym c.spent.ensures ∙ c.if-spent.true;

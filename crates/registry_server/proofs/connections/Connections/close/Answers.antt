@@ -1,7 +1,7 @@
 use Rattle.std.proofs.Common.{◌≤◌, List, All, true, refl, ap, ◌∙◌, subst}
 use Rattle.registry_server.specs.declared.connection.Connection.{Connection}
-use Rattle.registry_conversation.specs.declared.conversation.Conversation.{Conversation}
-use Rattle.registry_conversation.specs.ConversationShowing.{shown}
+use Rattle.registry_conversation.specs.declared.receiver.Receiver.{Receiver}
+use Rattle.registry_conversation.specs.Receiving.{received}
 use Rattle.registry_server.specs.Held.{without_one}
 use Rattle.registry_server.proofs.PlaceLemmas.{closes, closed_numbers}
 use Rattle.registry_server.specs.Slots.{slots_of}
@@ -23,7 +23,7 @@ invariant_of-self c = record {
   fits = c.args.self.now.fits;
   kept = kept_without c.args.self.now.sums _ c.args.self.now.resting _ c.args.self.now.oldest _ c.args.self.now.time c.args.number c.in-Some.at c.args.self.now.connections.items
       c.remove-gone.new.self.items c.remove-gone.result c.remove-gone.ensures.value c.in-Some.ensures.found c.remove-gone.ensures.items c.args.self.now.kept
-      (c.take.ensures ∙ ap (λ (v : Conversation). without_one (shown v) c.args.self.now.sums) c.deref.ensures) c.saturating_sub-self.ensures
+      (c.take.ensures ∙ ap (λ (v : Receiver). without_one (received v) c.args.self.now.sums) c.deref.ensures) c.saturating_sub-self.ensures
       c.oldest_without-self.ensures.past
       (subst (λ (xs : List Connection). All (λ (x : Connection). c.oldest_without-self.result ≤ x.life.since) xs) c.deref-in-Some.ensures.value c.oldest_without-self.ensures.each);
 }

@@ -1,12 +1,10 @@
-use Rattle.std.proofs.Common.{◌≤◌, None, inl, refl, ap, arith}
+use Rattle.std.proofs.Common.{◌≤◌, ℕ, inl, refl, sym, ap, subst, arith}
 use Rattle.oci_types.specs.Text.{Text}
-use Rattle.registry_model.specs.Keeping.{state_of}
 use Rattle.registry_conversation.specs.Shown.{coming_len}
 use Rattle.registry_server.specs.Open.{Slot}
-use Rattle.registry_server.specs.Slots.{slots_of}
+use Rattle.registry_server.specs.Slots.{slot_of, slots_of}
 use Rattle.registry_server.specs.Showing.{connected}
-use Rattle.registry_conversation.specs.Holding.{Holds}
-use Rattle.registry_conversation.specs.Telling.{Tells}
+use Rattle.registry_conversation.specs.Receiving.{ActsOn, Lies, TellsApart}
 use Rattle.registry_server.proofs.PlaceLemmas.{stirred_on, idle_on, within_found, moved_in, turned, turned_numbers}
 use Rattle.registry_server.proofs.KeptLemmas.{kept_turned, kept_idle}
 use Rattle.registry_server.proofs.RoomLemmas.{within_turned}
@@ -57,14 +55,27 @@ returns g c =
     let m = moved_in c.in-Some.at c.args.self.now.connections.len items c.deref_mut.result.now c.to_back.new.connections y
     c.deref_mut.ensures.value c.deref_mut.ensures.len lt c.to_back.ensures in
     let room = c.has_room_for_reply.ensures.0 c.if-not-has_room_for_reply.false in
-    let took = turned c.args.self.now.next c.answer_next-turn.result.number c.in-Some.at c.answer_next-turn.result.step _ items _ c.index_mut.result.now y c.index_mut.ensures.value f
-    c.args.self.now.numbered c.answer_next-turn.ensures.number
-    ((c.answer_next-turn.ensures.acts.0, c.answer_next-turn.ensures.fewer), c.answer_next-turn.ensures.acts.1) m in
-    let said = turned c.args.self.now.next c.answer_next-turn.result.number c.in-Some.at c.answer_next-turn.result.step
-    (λ k k'. g.K.Keeper.is_honest c.answer_next-turn.new.service → (b said : Text) → Holds c.args.self.now.settings k b said
-    → Tells c.args.self.now.settings c.answer_next-turn.result.step b said k (state_of (g.K.Keeper.kept c.args.service.now)) (state_of (g.K.Keeper.kept c.answer_next-turn.new.service)) k' None c.answer_next-turn.result.report)
+    let number = c.answer_next-turn.ensures.number in
+    let k = g.K.Keeper.kept c.args.service.now in
+    let k' = g.K.Keeper.kept c.answer_next-turn.new.service in
+    let settings = c.args.self.now.settings in
+    let step = c.answer_next-turn.result.step in
+    let before = (slot_of c.index_mut.result.now).conversation in
+    let after = (slot_of y).conversation in
+    let took = turned c.args.self.now.next c.answer_next-turn.result.number c.in-Some.at step
+    (λ a b. (g.K.Keeper.is_honest c.answer_next-turn.new.service → ActsOn settings step c.answer_next-turn.result.number a k b k') × (coming_len b ≤ coming_len a))
     items _ c.index_mut.result.now y c.index_mut.ensures.value f
-    c.args.self.now.numbered c.answer_next-turn.ensures.number (c.answer_next-turn.ensures.tells, c.answer_next-turn.ensures.acts.1) m in
+    c.args.self.now.numbered number
+    ((λ honest. subst (λ (m : ℕ). ActsOn settings step m before k after k') (sym number) (c.answer_next-turn.ensures.acts.0 honest), c.answer_next-turn.ensures.fewer), c.answer_next-turn.ensures.acts.1)
+    m in
+    let said = turned c.args.self.now.next c.answer_next-turn.result.number c.in-Some.at step
+    (λ a b. g.K.Keeper.is_honest c.answer_next-turn.new.service → (apart : Text) → Lies c.answer_next-turn.result.number k a apart
+    → TellsApart settings step c.answer_next-turn.result.number apart a k b k' c.answer_next-turn.result.report)
+    items _ c.index_mut.result.now y c.index_mut.ensures.value f
+    c.args.self.now.numbered number (
+      λ honest apart. subst (λ (m : ℕ). Lies m k before apart → TellsApart settings step m apart before k after k' c.answer_next-turn.result.report) (sym number) (c.answer_next-turn.ensures.tells honest apart),
+      c.answer_next-turn.ensures.acts.1,
+    ) m in
     record {
       honest = c.answer_next-turn.ensures.honest;
       takes = (took, refl, room);
@@ -93,5 +104,5 @@ returns-in_default g c =
       idle = (refl, refl, inl (idle_on c.deref.result.now c.args.self.now.connections.items c.deref.ensures.value c.in_default.ensures.none));
       tells = λ honest. tt;
       lives = record { time = refl; all = λ n. refl };
-      leads = λ honest. leads_none (connected c.args.self.now) (state_of (g.K.Keeper.kept c.args.service.now));
+      leads = λ honest. leads_none (connected c.args.self.now) (g.K.Keeper.kept c.args.service.now);
     }
