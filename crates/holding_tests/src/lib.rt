@@ -2,6 +2,8 @@
 #![tactic(auto)]
 
 #[cfg(test)]
+mod gone;
+#[cfg(test)]
 mod receiving;
 #[cfg(test)]
 mod requests;

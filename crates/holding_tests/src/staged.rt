@@ -68,3 +68,16 @@ fn stages_are_verified(rt: HostRuntime) {
     let verdict = holder.verdict(7, &wide).expect(&rt, "a verdict");
     assert!(rt; matches!(verdict, Some(Verdict::Matches)));
 }
+
+/// Stages share their room: each takes as much as is expected of it, or as a largest blob.
+#[test]
+fn stages_share_their_room(rt: HostRuntime) {
+    let alloc = rt.alloc();
+    let mut holder = Holding::within(alloc, MapKeeper::new(alloc), 10);
+    assert!(&rt; holder.stage(1, 6, false).is_ok());
+    assert!(&rt; holder.stage(2, 5, false).is_err());
+    assert!(&rt; holder.stage(2, 4, false).is_ok());
+    holder.unstage(1);
+    assert!(&rt; holder.stage(3, 0, false).is_err());
+    assert!(&rt; holder.stage(3, 6, false).is_ok());
+}
