@@ -8,7 +8,7 @@ from hostile.crowd import closed, prepared
 from hostile.ordering import ordered
 from hostile.said import look_side_by_side
 from hostile.server import Server, answer
-from hostile.writes import push, request
+from hostile.writes import request
 
 # each holds so many times this, and a piece of it is still to come
 PIECE = 128 << 10
@@ -20,8 +20,17 @@ SHARE, LARGEST = 65_536, 67_190_784
 PATIENCE, PATIENCE_WITH_TOKEN = 5, 15
 # so many seconds later somebody who waits is answered, other work on the machine included
 LATER = 4
+
+
+def collected(body):
+    """A request whose body is collected whole, and what is answered where it is no manifest. (The body of an upload is
+    staged, and takes no room of requests.)"""
+    return request("PUT", "/v2/team/app/manifests/v1", body)
+
+
+REFUSED = 400
 # more than a connection may always hold
-LARGE = push(os.urandom(97 << 10))
+LARGE = collected(os.urandom(97 << 10))
 SMALL = request("GET", "/v2/")
 HALF_HEAD = b"GET /v2/ HTTP/1.1\r\nHost: r\r\n"
 WITHOUT_BODY = b"POST /v2/team/app/blobs/uploads/ HTTP/1.1\r\nHost: r\r\nContent-Length: 10\r\n\r\n"
@@ -94,12 +103,12 @@ def all_read(server):
 def fill_room(room):
     """four strangers with most of a body each"""
     server = quiet(room, "filled", *sized(13 * PIECE))
-    texts = [without_token(push(bytes(count * PIECE)))[:-PIECE] for count in (5, 7, 5, 5)]
+    texts = [without_token(collected(bytes(count * PIECE)))[:-PIECE] for count in (5, 7, 5, 5)]
     strangers = [began(server, it) for it in texts]
     all_read(server)
     found = waited(server, LARGE)
-    what = "four strangers fill the room for requests and are silent: a push of 97 KiB is answered"
-    yield in_time(found, [201], 2, PATIENCE + LATER, what)
+    what = "four strangers fill the room for requests and are silent: a manifest of 97 KiB is answered"
+    yield in_time(found, [REFUSED], 2, PATIENCE + LATER, what)
     gone = [closed(it, 0.5) for it in strangers]
     yield gone == [False, True, False, False], "the one goes that holds most, and nobody else", [gone]
     server.kill()
@@ -109,7 +118,7 @@ def drip_into_room(room):
     """four strangers who send more now and then"""
     idle, often, more = 4, 2.5, 70_000
     server = quiet(room, "dripped", *sized(29 * PIECE), "--idle", str(idle))
-    text = without_token(push(bytes(20 * PIECE)))[: 8 * PIECE]
+    text = without_token(collected(bytes(20 * PIECE)))[: 8 * PIECE]
     strangers = [began(server, text) for _ in range(4)]
     all_read(server)
     client, start = began(server, LARGE), time.monotonic()
@@ -122,8 +131,8 @@ def drip_into_room(room):
     for it in strangers:
         it.close()
     reply = answer(client, b"")
-    what = f"a push that the server does not read for {2 * idle} s, since others fill the room, is not closed for a silence of {idle} s"
-    yield reply is not None and reply[0] == 201, what, [reply]
+    what = f"a manifest that the server does not read for {2 * idle} s, since others fill the room, is not closed for a silence of {idle} s"
+    yield reply is not None and reply[0] == REFUSED, what, [reply]
     client.close()
     server.kill()
 
@@ -131,19 +140,19 @@ def drip_into_room(room):
 def hold_room(room, goes_on):
     """four clients with a known token and most of a body each"""
     server = quiet(room, f"held-{goes_on}", *sized(13 * PIECE))
-    text = push(bytes(5 * PIECE))
+    text = collected(bytes(5 * PIECE))
     clients = [known(server, text[:-PIECE]) for _ in range(4)]
     all_read(server)
     if not goes_on:
         what = "four with a known token do so: another is answered, and not before"
-        yield in_time(waited(server, LARGE), [201], PATIENCE_WITH_TOKEN - 2, PATIENCE_WITH_TOKEN + LATER, what)
+        yield in_time(waited(server, LARGE), [REFUSED], PATIENCE_WITH_TOKEN - 2, PATIENCE_WITH_TOKEN + LATER, what)
     else:
         other = began(server, LARGE)
         time.sleep(PATIENCE + 3)
         replies = [answer(it, text[-PIECE:]) for it in clients] + [answer(other, b"")]
         statuses = [it and it[0] for it in replies]
         what = f"four with a known token go on after {PATIENCE + 3} s: they are answered, and so is another"
-        yield statuses == [201] * 5, what, [statuses]
+        yield statuses == [REFUSED] * 5, what, [statuses]
     server.kill()
 
 
