@@ -49,7 +49,7 @@ fn program<'a>(alloc: Global) -> Result<Command<'a>, AllocError>
 {
     Command::new(alloc, "registry")
         .about("An OCI artifact registry")
-        .version("0.1.0")
+        .version("0.2.0")
         .no_binary_name(true)
         .subcommand_required(true)
         .bin_name("registry")
