@@ -70,6 +70,10 @@ at_once = with_default (codes "256") (within 1 65536 (option (codes "at-once")))
 abbrev pub buffer : Rule
 buffer = with_default (codes "536870912") (within 134217728 most (option (codes "buffer")))
 
+-- at least a largest blob
+abbrev pub staged : Rule
+staged = within 67108864 most (option (codes "staged"))
+
 abbrev pub idle : Rule
 idle = with_default (codes "60") (within 1 86400 (option (codes "idle")))
 
@@ -84,7 +88,7 @@ subcommand word options = record (new_shape word) { rules = options }
 
 abbrev pub serve : Shape
 serve = subcommand (codes "serve")
-    (required db ∷ listen ∷ connections ∷ at_once ∷ buffer ∷ idle ∷ orders ∷ flag (codes "log")
+    (required db ∷ listen ∷ connections ∷ at_once ∷ buffer ∷ staged ∷ idle ∷ orders ∷ flag (codes "log")
     ∷ flag (codes "stop-at-eof") ∷ login ∷ health ∷ [])
 
 abbrev pub stdio : Shape

@@ -58,5 +58,8 @@ pub(crate) fn argument<'a>(alloc: Global, given: &SubOption<'a>) -> Arg<'a>
             most,
             default,
         } => within(option(alloc, word, value, help), least, most).default_value(default),
+        Takes::NumberIf { value, least, most } => {
+            within(option(alloc, word, value, help), least, most)
+        }
     }
 }

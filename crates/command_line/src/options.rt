@@ -6,6 +6,9 @@ const MOST: u64 = 9_223_372_036_854_775_807;
 /// The fewest bytes that may be given for requests and replies in hand: the largest of each.
 const LEAST_BUFFER: u64 = 134_217_728;
 
+/// The fewest bytes that may be given for staged bodies: a largest blob.
+const LEAST_STAGED: u64 = 67_108_864;
+
 /// What an option takes. Values are called in the help by the name that is given.
 pub enum Takes<'a> {
     /// Nothing: it is given or not.
@@ -28,6 +31,12 @@ pub enum Takes<'a> {
         least: u64,
         most: u64,
         default: &'a str,
+    },
+    /// A number from the least to the most, which may be left out.
+    NumberIf {
+        value: &'a str,
+        least: u64,
+        most: u64,
     },
 }
 
@@ -159,6 +168,15 @@ pub const SERVE: &[SubOption<'static>] = &[
             default: "536870912",
         },
         help: "About how many bytes of requests and replies may be in hand",
+    },
+    SubOption {
+        word: "staged",
+        takes: Takes::NumberIf {
+            value: "BYTES",
+            least: LEAST_STAGED,
+            most: MOST,
+        },
+        help: "How many bytes of uploads may be put aside; without it, half of the buffer",
     },
     SubOption {
         word: "idle",

@@ -1,8 +1,11 @@
 -- What options were given, by what `clap` says of its getters.
 use Rattle.std.proofs.Common.{◌≡◌, ◌∙◌, Bool, true, false, ℕ, Option, Some, None, Result, Ok, refl, sym, ap, arith}
-use Rattle.std.specs.Prelude.{◌↔◌, IfOk, codes, slice_index, ok_or, unwrap_or}
+use Rattle.std.specs.Prelude.{◌↔◌, IfOk, List, codes, slice_index, slice_get, find, ok_or, option_and_then, option_map, unwrap_or}
 use Rattle.std.specs.Str.Parse.{ParsesUnsigned, ParsesBool}
-use Rattle.clap.specs.Words.{ReadsOne}
+use Rattle.clap.specs.Words.{ReadsOne, Row, first_of, one_of}
+use Rattle.clap.specs.Walk.{row_text}
+use Rattle.clap.specs.Values.{read_as}
+use Rattle.std.specs.Str.{bytes_eq}
 use Rattle.oci_types.specs.Text.{Text}
 use Rattle.registry_orders.specs.declared.failure.Failure.{Failure}
 use Rattle.registry_orders.specs.Options.{IsNumberOf}
@@ -16,6 +19,14 @@ pub number_read : (E : Type 0) (gives : Text → Result ℕ E → Type 0) (value
 number_read E gives value None failure only reads = tt
 number_read E gives None (Some n) failure only reads = absurd (let none : Some n ≡ None = reads.0 refl in cc)
 number_read E gives (Some t) (Some n) failure only reads = let read = only t (Ok n) (reads.1 t refl) in (read.0.0, read.1)
+
+-- an option that has no text has none that is read
+pub no_text : (id : Text) (rows : List Row) → first_of id rows ≡ None → one_of id rows ≡ None
+no_text id rows none = of_row (find (λ r. bytes_eq r.id id) rows) none
+  where
+    of_row : (o : Option Row) → option_and_then (λ r. slice_get r.values 0) o ≡ None → option_and_then row_text o ≡ None
+    of_row None e = refl
+    of_row (Some r) e = ap (option_map (read_as r.reading)) e
 
 text_in : {x y : Text} → Some x ≡ Some y → x ≡ y
 text_in e = cc

@@ -26,6 +26,11 @@ abbrev pub IsNumberOf : Option Text → ℕ → Type 0
 IsNumberOf None n = ⊥
 IsNumberOf (Some text) n = IsDecimal (without_leading_plus text) n
 
+-- the option was not given, or its value writes the number
+abbrev pub IsNumberIf : Option Text → Option ℕ → Type 0
+IsNumberIf value None = value ≡ None
+IsNumberIf value (Some n) = IsNumberOf value n
+
 -- and the number is the level's
 abbrev pub IsLevelOf : Option Text → Level → Type 0
 IsLevelOf value level = (n : ℕ) × IsNumberOf value n × (level_numbered n ≡ Some level)

@@ -2,7 +2,7 @@
 ghost use Rattle.std.specs.Prelude.{◌≡◌, ◌↔◌, IfOk, IfErr, Some, codes, map, option_map, true};
 ghost use Rattle.clap.specs.Words.{found_of, rows_of, all_of, first_of, one_of};
 ghost use Rattle.registry_orders.specs.Failures.{IsOfWords};
-ghost use Rattle.registry_orders.specs.Options.{IsNumberOf};
+ghost use Rattle.registry_orders.specs.Options.{IsNumberIf, IsNumberOf};
 
 use crate::failure::Failure;
 use clap::ArgMatches;
@@ -30,6 +30,20 @@ pub fn number_given(matches: &ArgMatches, option: &str) -> Result<u64, Failure>
     matches
         .get_one::<u64>(option)
         .ok_or(Failure::InvalidOptions)
+}
+
+/// The number of an option that may be left out.
+pub fn number_if(matches: &ArgMatches, option: &str) -> Result<Option<u64>, Failure>
+    ensures found { IfOk result (IsNumberIf (one_of option.now (rows_of (found_of matches.now)))) }
+    ensures refused { IfErr result IsOfWords }
+{
+    match text_given(matches, option) {
+        None => Ok(None),
+        Some(_) => match number_given(matches, option) {
+            Ok(number) => Ok(Some(number)),
+            Err(failure) => Err(failure),
+        },
+    }
 }
 
 /// Whether a flag is given.

@@ -5,7 +5,7 @@ ghost use Rattle.registry_orders.specs.Failures.{IsOfWords};
 ghost use Rattle.registry_orders.specs.Limits.{AreLimitsIn};
 
 use crate::failure::Failure;
-use crate::given::number_given;
+use crate::given::{number_given, number_if};
 use clap::ArgMatches;
 
 /// How much connections that are served together may take.
@@ -15,6 +15,8 @@ pub struct Limits {
     pub at_once: u64,
     /// About how many bytes of requests and of replies may be in hand, of all of them together.
     pub buffer: u64,
+    /// How many bytes of uploads may be staged together; without it, half of the buffer.
+    pub staged: Option<u64>,
     /// The seconds after which one is closed that says nothing and takes nothing.
     pub idle: u64,
 }
@@ -27,6 +29,7 @@ pub(crate) fn limits_given(matches: &ArgMatches) -> Result<Limits, Failure>
     Ok(Limits {
         at_once: number_given(matches, "at-once")?,
         buffer: number_given(matches, "buffer")?,
+        staged: number_if(matches, "staged")?,
         idle: number_given(matches, "idle")?,
     })
 }

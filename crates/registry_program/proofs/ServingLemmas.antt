@@ -1,5 +1,5 @@
 -- What is said on standard output as a server begins, and what is done over each opening.
-use Rattle.std.proofs.Common.{◌≡◌, ◌⊎◌, ℕ, Bool, true, false, [], Option, Ok, Err, Result, inl, inr, refl, sym, subst, ap}
+use Rattle.std.proofs.Common.{◌≡◌, ℕ, Bool, true, false, [], Option, Ok, Err, Result, inl, inr, sym, subst, ap}
 use Rattle.std.specs.Prelude.{OnOk, IfErr}
 use Rattle.std.specs.Io.KnownBytes.{Appends}
 use Rattle.registry_opening.specs.Openings.{Between}

@@ -49,9 +49,13 @@ pub enum Stop {
     Failed(Failure),
 }
 
-/// How many bytes may be staged together, with this buffer: half of it, or a largest blob where that is more.
-fn most_staged(buffer: u64) -> u64 {
-    (buffer / 2).max(LARGEST_BLOB)
+/// How many bytes may be staged together: where that is not said, half of the buffer, or a largest blob where
+/// that is more.
+fn most_staged(limits: &Limits) -> u64 {
+    match limits.staged {
+        Some(bytes) => bytes,
+        None => (limits.buffer / 2).max(LARGEST_BLOB),
+    }
 }
 
 /// Serves those who gather over a keeper, beside which bodies that come are staged in memory, and gives it
@@ -71,7 +75,7 @@ fn serve_gathered<K: Keeper, G: Gathering>(
     ensures none { result.told ≡ Stop.Spent → G.callers gathering.new ≡ [] }
     ensures fails { IsStopped result.told }
 {
-    let holder = Holding::within(alloc, kept, most_staged(limits.buffer));
+    let holder = Holding::within(alloc, kept, most_staged(&limits));
     let mut service = Service::new(holder);
     let at_once = limits.at_once as usize;
     let told = match gathering.serve_all(alloc, &mut service, settings, at_once) {

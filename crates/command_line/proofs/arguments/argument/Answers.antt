@@ -22,3 +22,7 @@ pub returns-in-NumberOr : goal.returns-in-NumberOr
 returns-in-NumberOr c =
     let less = c.within-in-NumberOr.ensures (spec.option c.args.given.now.word.now) c.option-in-NumberOr.ensures in
     rw (c.in-NumberOr.is, c.default_value.ensures) (ap (spec.with_default c.in-NumberOr.default.now) less.0, less.1)
+
+pub returns-in-NumberIf : goal.returns-in-NumberIf
+returns-in-NumberIf c =
+    rw c.in-NumberIf.is (c.within-in-NumberIf.ensures (spec.option c.args.given.now.word.now) c.option-in-NumberIf.ensures)
