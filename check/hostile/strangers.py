@@ -8,13 +8,16 @@ from hostile.crowd import closed, prepared
 from hostile.ordering import ordered
 from hostile.said import look_side_by_side
 from hostile.server import Server, answer
-from hostile.writes import request
+from hostile.writes import digest, request
 
-# each holds so many times this, and a piece of it is still to come
+# a piece of what each holds is still to come
 PIECE = 128 << 10
-PLACES = 16
-# what each connection may always hold of requests, and the largest request (registry_server/specs/Room.antt)
-SHARE, LARGEST = 65_536, 67_190_784
+# the largest manifest: more of a request no connection holds
+MANIFEST = 4 << 20
+# so many hold most of one, under the least buffer: half of it, without the shares of all places and one largest
+# request, they fill together (registry_server/specs/Room.antt)
+PLACES, HOLDERS = 24, 16
+LEAST = "--at-once", str(PLACES), "--buffer", str(128 << 20)
 # who holds room or a place, and is silent, goes after so many seconds where another waits; where it was answered as
 # one whose token is known
 PATIENCE, PATIENCE_WITH_TOKEN = 5, 15
@@ -28,6 +31,11 @@ def collected(body):
     return request("PUT", "/v2/team/app/manifests/v1", body)
 
 
+def pushed(body):
+    """A push of a blob of these bytes, which is staged."""
+    return request("POST", f"/v2/team/app/blobs/uploads/?digest={digest(body)}", body)
+
+
 REFUSED = 400
 # more than a connection may always hold
 LARGE = collected(os.urandom(97 << 10))
@@ -39,12 +47,6 @@ WITH_TOKEN = request("POST", "/v2/team/app/blobs/uploads/", bytes(10))
 
 def quiet(room, name, *words):
     return Server(prepared(room, name), *words, stderr=subprocess.DEVNULL)
-
-
-def sized(pool):
-    """With room for so many bytes above the shares. Where three connections hold no more than that, a fourth may hold
-    the largest request; where four do not, a fifth has its share alone."""
-    return "--at-once", str(PLACES), "--buffer", str(2 * (PLACES * SHARE + LARGEST + pool))
 
 
 def without_token(text):
@@ -101,34 +103,38 @@ def all_read(server):
 
 
 def fill_room(room):
-    """four strangers with most of a body each"""
-    server = quiet(room, "filled", *sized(13 * PIECE))
-    texts = [without_token(collected(bytes(count * PIECE)))[:-PIECE] for count in (5, 7, 5, 5)]
-    strangers = [began(server, it) for it in texts]
+    """strangers with most of a body each"""
+    server = quiet(room, "filled", *LEAST)
+    largest = without_token(pushed(bytes(64 << 20)))
+    strangers = [began(server, without_token(collected(bytes(MANIFEST)))[:-PIECE]) for _ in range(HOLDERS)]
+    strangers += [began(server, largest[: -4 << 20]) for _ in range(4)]
     all_read(server)
-    found = waited(server, LARGE)
-    what = "four strangers fill the room for requests and are silent: a manifest of 97 KiB is answered"
-    yield in_time(found, [REFUSED], 2, PATIENCE + LATER, what)
-    gone = [closed(it, 0.5) for it in strangers]
-    yield gone == [False, True, False, False], "the one goes that holds most, and nobody else", [gone]
+    for text, status, what in ((LARGE, REFUSED, "a manifest"), (pushed(os.urandom(97 << 10)), 201, "a blob")):
+        what = f"strangers send most of large bodies and are silent: {what} of 97 KiB is answered at once"
+        yield in_time(waited(server, text), [status], 0, LATER, what)
+    gone = [closed(it, 0.1) for it in strangers]
+    yield not any(gone), "none of them goes for that", [gone]
+    replies = [answer(it, bytes(PIECE)) for it in strangers[:HOLDERS]]
+    replies += [answer(it, bytes(4 << 20)) for it in strangers[HOLDERS:]]
+    yield all(it and it[0] == 401 for it in replies), "each is refused once its body is whole", [replies]
     server.kill()
 
 
 def drip_into_room(room):
-    """four strangers who send more now and then"""
+    """clients with a known token who send more now and then"""
     idle, often, more = 4, 2.5, 70_000
-    server = quiet(room, "dripped", *sized(29 * PIECE), "--idle", str(idle))
-    text = without_token(collected(bytes(20 * PIECE)))[: 8 * PIECE]
-    strangers = [began(server, text) for _ in range(4)]
+    server = quiet(room, "dripped", *LEAST, "--idle", str(idle))
+    text = collected(bytes(MANIFEST))[: MANIFEST - 4 * more]
+    holders = [known(server, text) for _ in range(HOLDERS)]
     all_read(server)
     client, start = began(server, LARGE), time.monotonic()
     while time.monotonic() - start < 2 * idle:
-        for it in strangers:
+        for it in holders:
             # (one who is let go sends no more)
             with contextlib.suppress(ConnectionError):
                 it.sendall(bytes(more))
         time.sleep(often)
-    for it in strangers:
+    for it in holders:
         it.close()
     reply = answer(client, b"")
     what = f"a manifest that the server does not read for {2 * idle} s, since others fill the room, is not closed for a silence of {idle} s"
@@ -138,21 +144,46 @@ def drip_into_room(room):
 
 
 def hold_room(room, goes_on):
-    """four clients with a known token and most of a body each"""
-    server = quiet(room, f"held-{goes_on}", *sized(13 * PIECE))
-    text = collected(bytes(5 * PIECE))
-    clients = [known(server, text[:-PIECE]) for _ in range(4)]
+    """clients with a known token and most of a body each"""
+    server = quiet(room, f"held-{goes_on}", *LEAST)
+    text = collected(bytes(MANIFEST))
+    sizes = [MANIFEST - (1 if at == 3 else 2) * PIECE for at in range(HOLDERS)]
+    clients = [known(server, text[:size]) for size in sizes]
     all_read(server)
     if not goes_on:
-        what = "four with a known token do so: another is answered, and not before"
+        what = f"{HOLDERS} with a known token do so: another is answered, and not before"
         yield in_time(waited(server, LARGE), [REFUSED], PATIENCE_WITH_TOKEN - 2, PATIENCE_WITH_TOKEN + LATER, what)
+        gone = [closed(it, 0.1) for it in clients]
+        yield gone == [at == 3 for at in range(HOLDERS)], "the one goes that holds most, and nobody else", [gone]
     else:
         other = began(server, LARGE)
         time.sleep(PATIENCE + 3)
-        replies = [answer(it, text[-PIECE:]) for it in clients] + [answer(other, b"")]
+        replies = [answer(it, text[size:]) for it, size in zip(clients, sizes)] + [answer(other, b"")]
         statuses = [it and it[0] for it in replies]
-        what = f"four with a known token go on after {PATIENCE + 3} s: they are answered, and so is another"
-        yield statuses == [REFUSED] * 5, what, [statuses]
+        what = f"{HOLDERS} with a known token go on after {PATIENCE + 3} s: they are answered, and so is another"
+        yield statuses == [REFUSED] * (HOLDERS + 1), what, [statuses]
+    server.kill()
+
+
+# ---- the room for bodies that are staged
+
+
+def hold_stages(room, goes_on):
+    """a client with a known token whose body takes all the room"""
+    server = quiet(room, f"staged-{goes_on}", "--staged", str(64 << 20))
+    text = pushed(bytes(64 << 20))
+    client = known(server, text[: -4 << 20])
+    all_read(server)
+    small = pushed(os.urandom(97 << 10))
+    if not goes_on:
+        what = "a client with a known token whose body takes all the room for stages is silent: three wait, and are pushed"
+        yield in_time(waited(server, small, 3), [201] * 3, PATIENCE_WITH_TOKEN - 2, PATIENCE_WITH_TOKEN + LATER, what)
+        yield closed(client, 0.1), "it goes", []
+    else:
+        others = [began(server, small) for _ in range(3)]
+        time.sleep(PATIENCE + 3)
+        statuses = [it and it[0] for it in (answer(client, text[-4 << 20 :]), *(answer(it, b"") for it in others))]
+        yield statuses == [201] * 4, f"it goes on after {PATIENCE + 3} s: it is pushed, and so are three who waited", [statuses]
     server.kill()
 
 
@@ -212,6 +243,6 @@ PLACES_HELD = [
 
 def look_at_strangers(room):
     looks = [(it, room) for it in (fill_room, drip_into_room, hold_places, order_beside_one)]
-    looks += [(hold_room, room, goes_on) for goes_on in (True, False)]
+    looks += [(it, room, goes_on) for it in (hold_room, hold_stages) for goes_on in (True, False)]
     looks += [(fill_places, room, *held) for held in PLACES_HELD]
     look_side_by_side(looks)

@@ -59,6 +59,7 @@ fn step(alloc: Global, talk: &mut Talk, bytes: &[u8]) -> Step {
         7,
         Settings::profile(),
         &mut talk.room,
+        true,
     )
 }
 
@@ -159,4 +160,37 @@ fn a_body_that_is_cut_is_not_pushed(rt: HostRuntime) {
     let last = step(alloc, talk, b"");
     assert!(&rt; matches!(last, Step::Ended(End::Cut)));
     assert!(&rt; talk.receiver.outgoing().is_empty());
+}
+
+/// The head of a request without a token, or of a manifest that is larger than any.
+const UNREAD: [(&str, usize, &str); 2] = [
+    (
+        "POST /v2/team/app/blobs/uploads/?digest=sha256:0 HTTP/1.1\r\nHost: x\r\n\
+          Content-Length: 200000\r\n\r\n",
+        200,
+        "HTTP/1.1 401 ",
+    ),
+    (
+        "PUT /v2/team/app/manifests/v1 HTTP/1.1\r\nHost: x\r\nAuthorization: Bearer t1\r\n\
+          Content-Length: 4195000\r\n\r\n",
+        4_195,
+        "HTTP/1.1 413 ",
+    ),
+];
+
+/// A body on which no answer depends is let fall as it comes, and the request is answered all the same.
+#[test]
+fn bodies_that_nobody_reads_are_counted(rt: HostRuntime) {
+    let alloc = rt.alloc();
+    let talk = &mut new_talk(&rt, alloc);
+    for (head, count, start) in UNREAD.iter() {
+        let mut last = step(alloc, talk, head.as_bytes());
+        for _ in 0..*count {
+            last = step(alloc, talk, &[b'x'; 1_000]);
+            assert!(&rt; talk.receiver.coming() < 65_536);
+            assert!(&rt; !talk.receiver.has_stage());
+        }
+        assert!(&rt; matches!(last, Step::Answered));
+        is_told(&rt, talk, start);
+    }
 }

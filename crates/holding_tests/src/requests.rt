@@ -13,7 +13,13 @@ pub type Registry = Service<Holding<MapKeeper>>;
 
 /// The repository `team/app` with this quota, to which `t1` pushes and which `t2` pulls.
 pub fn registry_with(rt: &impl Abort, alloc: Global, quota: u64) -> Registry {
-    let mut registry = Service::new(Holding::new(alloc, MapKeeper::new(alloc)));
+    registry_within(rt, alloc, quota, u64::MAX)
+}
+
+/// The same, where so many bytes may be staged.
+pub fn registry_within(rt: &impl Abort, alloc: Global, quota: u64, most: u64) -> Registry {
+    let holding = Holding::within(alloc, MapKeeper::new(alloc), most);
+    let mut registry = Service::new(holding);
     let name = &RepoName::parse(alloc, "team/app").expect(rt, "a name");
     let quota = Quota::new(quota).expect(rt, "a quota");
     let added = registry.admin(alloc, &AdminCommand::AddRepo { name, quota });

@@ -6,7 +6,7 @@ use Rattle.std.specs.List.{filter_map, cons_option}
 use Rattle.std.proofs.lemmas.List.Elements.{filter_map-append, filter-append}
 use Rattle.oci_types.specs.Text.{Text}
 use Rattle.oci_types.specs.Digest.{is_digest}
-use Rattle.oci_types.specs.Referrers.{ReferrerShown, referrers_line}
+use Rattle.oci_types.specs.Referrers.{ReferrerShown}
 use Rattle.registry_model.specs.declared.refusal.Refusal.TheVariants.{InvalidDigest}
 use Rattle.registry_model.specs.World.{Repo, repo_at, has_repo}
 use Rattle.registry_model.specs.Answer.{Answer, Content, refused}

@@ -1,12 +1,13 @@
 //! PUT of a manifest, by tag and by digest (OCI Distribution Specification 1.1, Pushing Manifests,
 //! Pushing Manifests with Subject).
 
-ghost use Rattle.std.specs.Prelude.{◌≡◌, ◌≤◌, true, Some, Ok, length};
+ghost use Rattle.std.specs.Prelude.{◌≡◌, ◌≤◌, true, Option, Some, Ok, IfErr, length};
+ghost use Rattle.oci_types.specs.Text.{Text};
 ghost use Rattle.oci_types.specs.Digest.{matches, sha256_digest, verdict_of};
 ghost use Rattle.oci_types.specs.Manifest.{shown, manifest_in};
 ghost use Rattle.registry_model.specs.Limits.{largest_manifest};
 ghost use Rattle.registry_model.specs.Ask.{text_in};
-ghost use Rattle.registry_model.specs.Keeping.{Spends};
+ghost use Rattle.registry_model.specs.Keeping.{Kept, Spends};
 ghost use Rattle.registry_model.specs.Manifests.{push_manifest};
 ghost use Rattle.operation_parts.specs.Operating.{Operates, IsUnspent, HasRepo, Answers, Carries};
 ghost use Rattle.manifest_operations.specs.Saying.{Says};
@@ -271,5 +272,29 @@ pub fn push_manifest<K: Keeper>(
             content_type,
             body,
         ),
+    }
+}
+
+/// What refuses the push of a manifest of so many bytes, whatever they are, to a repository that is there.
+/// Where nothing does it gives up with `Fault::Memory`.
+pub fn refuse_manifest(alloc: Global, reference: &str, size: usize) -> Result<Reply, Fault>
+    ensures comes { (k : Kept) (name : Text) (content_type : Option Text) (body : Text)
+        → IsUnspent k → HasRepo k name → size ≡ length body → Operates result name
+        (λ r. push_manifest r name reference.now content_type body) k k }
+    ensures memory { IfErr result (λ fault. fault ≡ Fault.Memory) }
+    ensures answers { Answers result }
+    ensures carries { Carries result }
+{
+    match Reference::parse(alloc, reference) {
+        Ok(_) => {}
+        Err(fault) => match fault {
+            NameFault::Memory => return Err(Fault::Memory),
+            _ => return Ok(Reply::refusal(Refusal::InvalidReference)),
+        },
+    }
+    if size as u64 > LARGEST_MANIFEST {
+        Ok(Reply::refusal(Refusal::ContentTooLarge))
+    } else {
+        Err(Fault::Memory)
     }
 }

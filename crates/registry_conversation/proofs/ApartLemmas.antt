@@ -2,7 +2,6 @@
 use Rattle.std.proofs.Common.{◌≡◌, ◌≤◌, ℕ, List, [], ◌++◌, length, take, drop, refl, sym, ap, ◌∙◌, subst, append-nil, append_assoc, length-append, arith, Option, Some, Bool, true, false, inl, inr}
 use Rattle.std.specs.Prelude.{option_map}
 use Rattle.std.specs.Bool.{MatchBool}
-use Rattle.std.proofs.lemmas.Bool.{true≢false}
 use Rattle.registry_http.specs.declared.ending.End.{End}
 use Rattle.std.proofs.lemmas.List.{take_at}
 use Rattle.httparse.specs.Grammar.{RequestHead, print_request}
@@ -27,7 +26,7 @@ use Rattle.registry_conversation.specs.declared.phase.Step.TheVariants as step
 use Rattle.registry_conversation.specs.declared.body_place.BodyPlace.{BodyPlace}
 use Rattle.registry_conversation.specs.declared.body_place.BodyPlace.TheVariants.{Buffer, Stage, Nowhere}
 use Rattle.registry_conversation.specs.Receiving.{ActsApart, Lies, LiesApart, LiesAs, Shortens, TellsApart, is_apart, joined, placed, taken_at}
-use Rattle.registry_conversation.specs.Shown.{Shown, coming_len, heads, listens, listens_as, with_phase}
+use Rattle.registry_conversation.specs.Shown.{Shown, coming_len, heads, listens_as, with_phase}
 use Rattle.registry_outbox.specs.declared.report.Report.{Report}
 use Rattle.registry_conversation.specs.Stepping.{LeadsOn, Receives, Waited}
 use Rattle.registry_conversation.specs.Telling.{TellsAs}

@@ -5,6 +5,6 @@ pub enum BodyPlace {
     Buffer,
     /// Apart from its head: it is staged, under the number of the connection.
     Stage,
-    /// Nowhere: memory for it was wanting, and it is counted alone.
+    /// Nowhere: no answer depends on it, or memory for it was wanting, and it is counted alone.
     Nowhere,
 }

@@ -9,8 +9,8 @@
 
 pub mod accepting;
 pub mod answering;
-pub mod apart;
 pub mod body_place;
+pub mod body_plan;
 pub mod conversation;
 pub mod conversation_laws;
 pub mod exchange;

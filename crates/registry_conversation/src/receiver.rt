@@ -11,14 +11,17 @@ use std::alloc::Global;
 
 /// A conversation that keeps no large body itself: what comes of one is staged by a service.
 ///
-/// It is a conversation as every other, but for where the bytes of the body in hand lie. A body is staged
-/// once more than 49,152 bytes of its request were taken, where it is that of an upload (OCI Distribution
-/// Specification 1.1, Pushing blobs). Where memory for it is wanting it is let fall: its request is answered
-/// 503, or as it is without the bytes.
+/// It is a conversation as every other, but for where the bytes of the body in hand lie. Once more than
+/// 49,152 bytes of its request were taken, a body that is pushed to an upload is staged (OCI Distribution
+/// Specification 1.1, Pushing blobs); one on whose bytes no answer depends is counted and let fall; a
+/// manifest stays. Where there is no room for a stage the connection waits, and is not to be read. Where
+/// memory for it is wanting the body is let fall: its request is answered 503, or as it is without the bytes.
 #[derive(Drop)]
 pub struct Receiver {
     pub(crate) conversation: Conversation,
     pub(crate) place: BodyPlace,
+    /// The body in hand waits for room to be staged.
+    pub(crate) waits: bool,
 }
 
 impl Receiver {
@@ -34,7 +37,19 @@ impl Receiver {
         Receiver {
             conversation: Conversation::new(alloc),
             place: BodyPlace::Buffer,
+            waits: false,
         }
+    }
+
+    /// Whether the body in hand waits for room to be staged: nothing is to be read meanwhile, and a turn with
+    /// `may_stage` tries it again.
+    pub fn waits_for_room(&self) -> bool {
+        self.waits
+    }
+
+    /// Whether the body in hand is staged.
+    pub fn has_stage(&self) -> bool {
+        matches!(self.place, BodyPlace::Stage)
     }
 
     /// Whether bytes that come are kept, as `Conversation::listens` has it.

@@ -7,8 +7,8 @@ ghost use Rattle.registry_model.specs.Keeping.{HeldStays, state_of};
 ghost use Rattle.registry_service.specs.Bodies.{from_body};
 
 use crate::FieldRoom;
-use crate::apart::plan_stage;
 use crate::body_place::BodyPlace;
+use crate::body_plan::{BodyPlan, plan_body};
 use crate::part::{Part, Taken, take_body};
 use crate::phase::{Phase, Step};
 use crate::receiver::Receiver;
@@ -32,16 +32,54 @@ impl Receiver {
     ghost use Rattle.registry_conversation.specs.Telling.{Tells};
     ghost use Rattle.registry_conversation.specs.Receiving.{Lies, LiesApart, Shortens, TellsApart};
     ghost use Rattle.registry_conversation.specs.Receiving.{is_apart, joined, received};
+    ghost use Rattle.registry_conversation.specs.Headings.{IsHead};
 
-    /// Stages what came of the body in hand, where that is much. Where memory is wanting it stays where it
-    /// is.
-    fn stage_body<K: Holder>(
+    /// Puts what came of the body in hand, behind a head of so many bytes, where the plan has it, and tells
+    /// where: where memory is wanting, nowhere.
+    fn put_first<K: Holder>(
+        &self,
+        service: &mut Service<K>,
+        key: u64,
+        head: usize,
+        plan: BodyPlan,
+    ) -> BodyPlace
+        requires { head ≤ length (before self.now.conversation.buffer) }
+        ensures honest { K.is_honest service.new → K.is_honest service.old }
+        ensures holds { K.is_honest service.new → HeldStays
+            (from_body (Some key) (K.kept service.old) (K.kept service.new)) (K.kept service.new) }
+        ensures same { K.is_honest service.new
+            → state_of (K.kept service.new) ≡ state_of (K.kept service.old) }
+        ensures apart { is_apart result ≡ true }
+        ensures lies { K.is_honest service.new → (front more : Text)
+            → before self.now.conversation.buffer ≡ front ++ more → length front ≡ head → IsHead front
+            → LiesApart result key (K.kept service.new) front more }
+    {
+        let BodyPlan::Stage { size, with_sha512 } = plan else {
+            return BodyPlace::Nowhere;
+        };
+        match service.stage(key, size, with_sha512) {
+            Ok(()) => {}
+            Err(_) => return BodyPlace::Nowhere,
+        }
+        let taken = self.conversation.buffer.before();
+        match service.stage_more(key, &taken[head..]) {
+            Ok(()) => BodyPlace::Stage,
+            Err(_) => {
+                service.unstage(key);
+                BodyPlace::Nowhere
+            }
+        }
+    }
+
+    /// Finds a place for what came of the body in hand, where that is much.
+    fn place_body<K: Holder>(
         &mut self,
         alloc: Global,
         service: &mut Service<K>,
         key: u64,
         room: &mut FieldRoom,
         part: Part,
+        may_stage: bool,
     )
         requires { self.old.place ≡ BodyPlace.Buffer }
         ensures honest { K.is_honest service.new → K.is_honest service.old }
@@ -62,21 +100,15 @@ impl Receiver {
             return;
         };
         let taken = self.conversation.buffer.before();
-        let plan = match plan_stage(alloc, &taken[..spans.len], &spans, part) {
-            Ok(Some(plan)) => plan,
-            _ => return,
-        };
-        match service.stage(key, plan.size, plan.with_sha512) {
-            Ok(()) => {}
-            Err(_) => return,
+        let fields = &room.spans[..spans.headers];
+        let came = taken.len() - spans.len;
+        let plan = plan_body(alloc, &taken[..spans.len], fields, &spans, part, came);
+        self.waits = plan.waits(service, may_stage);
+        if plan.keeps() || self.waits {
+            return;
         }
-        match service.stage_more(key, &taken[spans.len..]) {
-            Ok(()) => {
-                self.conversation.buffer.keep_front(spans.len);
-                self.place = BodyPlace::Stage;
-            }
-            Err(_) => service.unstage(key),
-        }
+        self.place = self.put_first(service, key, spans.len, plan);
+        self.conversation.buffer.keep_front(spans.len);
     }
 
     /// Takes a turn of a conversation whose body in hand lies behind its head.
@@ -87,6 +119,7 @@ impl Receiver {
         key: u64,
         settings: Settings,
         room: &mut FieldRoom,
+        may_stage: bool,
     ) -> Step
         requires { self.old.place ≡ BodyPlace.Buffer }
         ensures honest { K.is_honest service.new → K.is_honest service.old }
@@ -103,7 +136,7 @@ impl Receiver {
         match self.conversation.phase {
             Phase::Head => {}
             Phase::Ended(_) => {}
-            Phase::Body(part) => self.stage_body(alloc, service, key, room, part),
+            Phase::Body(part) => self.place_body(alloc, service, key, room, part, may_stage),
         }
         step
     }
@@ -233,7 +266,7 @@ impl Receiver {
 
     /// Takes the next turn, as `Conversation::answer_next` does, but that a large body is staged as it comes,
     /// and its request answered over the stage. What is staged under the number of the connection belongs to
-    /// the request in hand; nobody else may use that number.
+    /// the request in hand; nobody else may use that number. Without `may_stage` no stage is begun.
     pub fn answer_next<K: Holder>(
         &mut self,
         alloc: Global,
@@ -241,6 +274,7 @@ impl Receiver {
         key: u64,
         settings: Settings,
         room: &mut FieldRoom,
+        may_stage: bool,
     ) -> Step
         ensures honest { K.is_honest service.new → K.is_honest service.old }
         ensures finished { (received self.new).finished ≡ (received self.old).finished }
@@ -254,14 +288,15 @@ impl Receiver {
             → TellsApart settings result key apart (received self.old) (K.kept service.old)
             (received self.new) (K.kept service.new) self.new.conversation.outbox.report }
     {
+        self.waits = false;
         match self.conversation.phase {
             Phase::Ended(end) => Step::Ended(end),
             Phase::Head => {
                 self.place = BodyPlace::Buffer;
-                self.turn(alloc, service, key, settings, room)
+                self.turn(alloc, service, key, settings, room, may_stage)
             }
             Phase::Body(part) => match self.place {
-                BodyPlace::Buffer => self.turn(alloc, service, key, settings, room),
+                BodyPlace::Buffer => self.turn(alloc, service, key, settings, room, may_stage),
                 _ => self.go_on(alloc, service, key, settings, room, part),
             },
         }

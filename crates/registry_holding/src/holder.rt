@@ -19,6 +19,10 @@ use std::alloc::AllocError;
 /// pin that was asked for nothing is known; after `Fault::Storage` the keeper is spent. A stage that cannot
 /// be kept spends no keeper, since its bytes are in nobody's world.
 pub trait Holder: Keeper {
+    /// Whether there is room for one more stage, of which so many bytes are expected, or any number where
+    /// that is 0. No contract speaks of it.
+    fn has_room(&self, expected: u64) -> bool;
+
     /// Begins an empty stage, in the place of one that is there. `expected` bytes are to come, or any number:
     /// it says how much room to take at once. `with_sha512` says that a digest of that hash will be compared:
     /// the bytes are hashed for it too, as they come.

@@ -85,6 +85,10 @@ impl<K: Keeper> Holding<K> {
 }
 
 impl<K: Keeper> Holder for Holding<K> {
+    fn has_room(&self, expected: u64) -> bool {
+        self.stages.has_room(expected, self.most)
+    }
+
     fn stage(&mut self, key: u64, expected: u64, with_sha512: bool) -> Result<(), AllocError> {
         if !self.stages.has_room(expected, self.most) {
             return Err(AllocError);

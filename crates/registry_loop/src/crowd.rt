@@ -157,8 +157,8 @@ impl<'a, T: Clock, E: Write> Crowd<'a, T, E> {
         }
     }
 
-    /// Lets go what is staged of connections that are gone, and has requests answered, as long as there is
-    /// room for replies, and others need not wait for long.
+    /// Lets go what is staged of connections that are gone, looks after those that wait for that room, and
+    /// has requests answered, as long as there is room for replies, and others need not wait for long.
     fn answer_all<K: Holder>(
         &mut self,
         alloc: Global,
@@ -174,6 +174,7 @@ impl<'a, T: Clock, E: Write> Crowd<'a, T, E> {
             ≡ all_called self.old.callers.callers.items }
     {
         connections.let_go(service);
+        connections.stir_waiting();
         let began = self.sockets.now;
         for _ in 0..EVENTS {
             let more = self.answer_one(alloc, connections, service);

@@ -1,5 +1,5 @@
 -- From the clause of each call to its event, and of calls one after the other.
-use Rattle.std.proofs.Common.{◌≡◌, ℕ, ◌+◌, ◌<◌, ◌≤◌, Bool, true, false, List, [], ◌∷◌, ◌++◌, length, take, drop, None, refl, sym, ap, subst, ◌∙◌}
+use Rattle.std.proofs.Common.{◌≡◌, ℕ, ◌<◌, ◌≤◌, Bool, true, false, List, [], ◌∷◌, ◌++◌, length, take, drop, None, refl, sym, ap, subst, ◌∙◌}
 use Rattle.std.proofs.lemmas.List.{length-take-le, take-append-drop}
 use Rattle.std.proofs.lemmas.List.Elements.{All-nil, All-cons, All-append}
 use Rattle.oci_types.specs.Text.{Text}
@@ -13,7 +13,7 @@ use Rattle.registry_server.specs.declared.receipt.Receipt.{Receipt}
 use Rattle.registry_server.specs.declared.receipt.Receipt.TheVariants.{Taken, NoRoom, NotOpen}
 use Rattle.registry_server.specs.Room.{IsReceived, going_sum}
 use Rattle.registry_server.specs.Open.{Slot, Open, conversation_of, Opens, Changes, Closes, TakesTurn, IfOpen, with_slots, hears, sends, Finishes, Sends}
-use Rattle.registry_server.specs.Events.{Event, comes, on, goes, unstages, SendsText, HappensOn, Happens, Passes, IsOfConnection, Leads, Carries}
+use Rattle.registry_server.specs.Events.{Event, comes, on, goes, unstages, SendsText, Happens, Passes, IsOfConnection, Leads, Carries}
 
 -- ---- none, one, and one behind the other
 

@@ -13,9 +13,9 @@ use Rattle.registry_server.specs.Open.{Slot, Open, conversation_of, Changes, wit
 abbrev pub share : ℕ
 share = 65536
 
--- a head of 16,384 bytes, a body of 67,108,864, and as many bytes as are read at once
+-- a head of 16,384 bytes, a manifest of 4,194,304, and as many bytes as are read at once
 abbrev pub largest : ℕ
-largest = 67190784
+largest = 4276224
 
 -- the shares of all that may be open, and one largest request
 abbrev pub least : Bounds → ℕ

@@ -4,9 +4,9 @@ ghost use Rattle.registry_server.specs.Room.{largest, pool as pool_of, room_besi
 /// So many bytes of requests a connection may always hold, however many others do.
 pub const SHARE: usize = 65_536;
 
-/// How long the largest request is, a head of 16,384 bytes and a body of 67,108,864, and as many bytes as are
-/// read at once.
-pub const LARGEST: usize = 67_190_784;
+/// How much of a request is kept with its connection at most: a head of 16,384 bytes and a manifest of
+/// 4,194,304, and as many bytes as are read at once. Larger bodies are staged, or counted alone.
+pub const LARGEST: usize = 4_276_224;
 
 /// How much connections may take together.
 #[derive(Clone, Copy)]

@@ -7,6 +7,7 @@ ghost use Rattle.oci_types.specs.Text.{Text};
 use crate::life::Life;
 use crate::sums::Sums;
 use crate::turn::Turn;
+use crate::waiting::Waiting;
 use crate::{FieldRoom, Receiver, Step};
 use registry_holding::Holder;
 use registry_model::Settings;
@@ -133,6 +134,7 @@ impl Connection {
         settings: Settings,
         fields: &mut FieldRoom,
         sums: &mut Sums,
+        waiting: &mut Waiting,
     ) -> Turn
         ensures honest { K.is_honest service.new → K.is_honest service.old }
         ensures number { result.number ≡ self.old.number }
@@ -149,11 +151,15 @@ impl Connection {
             → TellsApart settings result.step self.old.number apart (slot_of self.old).conversation
             (K.kept service.old) (slot_of self.new).conversation (K.kept service.new) result.report }
     {
+        let had_stage = self.conversation.has_stage();
+        let may_stage = waiting.may_take(self.number);
         sums.take(&self.conversation);
         let step = self
             .conversation
-            .answer_next(alloc, service, self.number, settings, fields);
+            .answer_next(alloc, service, self.number, settings, fields, may_stage);
         sums.add(&self.conversation);
+        let let_go = had_stage && !self.conversation.has_stage();
+        waiting.note_turn(self.number, self.conversation.waits_for_room(), let_go);
         let report = self.conversation.take_report();
         self.settle(step);
         Turn {

@@ -11,6 +11,7 @@ use crate::receipt::Receipt;
 use crate::refusal::Refusal;
 use crate::sums::Sums;
 use crate::turn::Turn;
+use crate::waiting::Waiting;
 use crate::{Exchange, FieldRoom, Receiver, Wants};
 use registry_holding::Holder;
 use registry_model::Settings;
@@ -44,6 +45,8 @@ pub struct Connections {
     pub(crate) looked: u64,
     /// The numbers of those that are gone, of which something may still be staged.
     pub(crate) gone: Vec<u64>,
+    /// Those that wait for room to stage a body.
+    pub(crate) waiting: Waiting,
     ghost numbered: { are_numbered next (slots_of connections.items) ≡ true },
     ghost within: { IsWithin bounds (slots_of connections.items) },
     ghost fits: { bounds.coming < 2 ^ 64 },
@@ -64,6 +67,7 @@ impl Drop for Connections {
             oldest: _,
             looked: _,
             gone: _,
+            waiting: _,
         } = self;
     }
 }
@@ -99,6 +103,7 @@ impl Connections {
             oldest: 0,
             looked: 0,
             gone: Vec::new(alloc),
+            waiting: Waiting::new(alloc),
         })
     }
 
@@ -123,6 +128,9 @@ impl Connections {
             return Err(Refusal::Memory);
         };
         let Ok(()) = self.gone.reserve(self.connections.len() + 1) else {
+            return Err(Refusal::Memory);
+        };
+        let Ok(()) = self.waiting.reserve(self.connections.len() + 1) else {
             return Err(Refusal::Memory);
         };
         let number = self.next;
@@ -297,6 +305,7 @@ impl Connections {
                 let gone = self.connections.remove(at);
                 // (there is room for it since it came)
                 let _ = self.gone.push(number);
+                self.waiting.remove(number);
                 self.sums.take(&gone.conversation);
                 self.resting = self.resting.saturating_sub(1);
                 self.oldest = oldest_without(
@@ -378,6 +387,7 @@ impl Connections {
             self.settings,
             &mut self.fields,
             &mut self.sums,
+            &mut self.waiting,
         );
         to_back(&mut self.connections, at);
         self.resting = at;

@@ -1,13 +1,15 @@
-//! What is staged of connections that are gone.
+//! What is staged of connections that are gone, and who waits for room to stage a body.
 
-ghost use Rattle.std.specs.Prelude.{◌≡◌};
+ghost use Rattle.std.specs.Prelude.{◌≡◌, ◌≤◌, ◌⊎◌, ℕ, []};
+ghost use Rattle.registry_server.specs.declared.receipt.Receipt.TheVariants.{Taken};
 
 use crate::connections::Connections;
 use registry_holding::Holder;
 use registry_service::Service;
 
 impl Connections {
-    ghost use Rattle.registry_server.specs.Events.{Leads};
+    ghost use Rattle.registry_server.specs.Events.{Carries, Leads};
+    ghost use Rattle.registry_server.specs.Room.{room_of, IsReceived};
     ghost use Rattle.registry_server.specs.Lives.{LivesOn};
     ghost use Rattle.registry_server.specs.Showing.{connected};
 
@@ -22,6 +24,7 @@ impl Connections {
         let Some(number) = self.gone.pop() else {
             return;
         };
+        self.waiting.note_room();
         match self.place_of(number) {
             None => service.unstage(number),
             Some(_) => {}
@@ -38,6 +41,45 @@ impl Connections {
     {
         for _ in 0..self.gone.len() {
             self.let_one_go(service);
+        }
+    }
+
+    /// How many bytes of a connection are to be read now: none where its body in hand waits for room to be
+    /// staged, else as many as `room` says.
+    pub fn takes(&self, number: u64) -> usize
+        ensures { result ≤ room_of number (connected self.now) }
+    {
+        if self.waits_for_stage(number) {
+            return 0;
+        }
+        self.room(number)
+    }
+
+    /// Whether the body in hand of a connection waits for room to be staged. No contract speaks of it.
+    pub fn waits_for_stage(&self, number: u64) -> bool {
+        match self.under(number) {
+            Some(connection) => connection.conversation.waits_for_room(),
+            None => false,
+        }
+    }
+
+    /// Whether the body in hand of a connection is staged. No contract speaks of it.
+    pub fn has_stage(&self, number: u64) -> bool {
+        match self.under(number) {
+            Some(connection) => connection.conversation.has_stage(),
+            None => false,
+        }
+    }
+
+    /// Where room may have been made for a body that waits to be staged, the first of those that wait is to
+    /// be looked at again, as if something had come on it.
+    pub fn stir_waiting(&mut self)
+        ensures stirs { (connected self.new ≡ connected self.old)
+            ⊎ ((number : ℕ) × IsReceived Taken number [] (connected self.old) (connected self.new)) }
+        ensures leads { Carries (connected self.old) (connected self.new) }
+    {
+        if let Some(number) = self.waiting.take_due() {
+            let _ = self.receive(number, b"");
         }
     }
 }

@@ -16,6 +16,7 @@ pub mod refusal;
 pub mod silence;
 pub mod sums;
 pub mod turn;
+pub mod waiting;
 
 pub use bounds::{Bounds, LARGEST, SHARE};
 pub use connections::Connections;

@@ -14,7 +14,7 @@ ghost use Rattle.registry_service.specs.Bodies.{StageIs, from_body};
 use blob_operations::blobs::push_blob;
 use blob_operations::session_close::close_session;
 use blob_operations::uploads::append_chunk;
-use manifest_operations::manifest_push::push_manifest;
+use manifest_operations::manifest_push::{push_manifest, refuse_manifest};
 use oci_types::{Fault, RepoName};
 use registry_holding::Holder;
 use registry_model::{Keeper, Reply};
@@ -236,7 +236,8 @@ impl<H: Holder> RequestBody<H> for StagedBody {
     }
 }
 
-/// How many bytes came, which were not kept. What would look at them gives up.
+/// How many bytes came, which were not kept. What would look at them gives up; a manifest that is larger than
+/// any is refused.
 #[derive(Clone, Copy)]
 pub struct CountedBody(pub usize);
 
@@ -285,11 +286,11 @@ impl<K: Keeper> RequestBody<K> for CountedBody {
     fn push_manifest(
         self,
         _keeper: &mut K,
-        _alloc: Global,
+        alloc: Global,
         _name: &RepoName,
-        _reference: &str,
+        reference: &str,
         _content_type: Option<&[u8]>,
     ) -> Result<Reply, Fault> {
-        Err(Fault::Memory)
+        refuse_manifest(alloc, reference, self.0)
     }
 }

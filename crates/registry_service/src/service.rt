@@ -256,6 +256,11 @@ impl<K: Keeper> Service<K> {
 }
 
 impl<H: Holder> Service<H> {
+    /// Whether there is room for one more stage, as `Holder::has_room` tells it.
+    pub fn has_room(&self, expected: u64) -> bool {
+        self.keeper.has_room(expected)
+    }
+
     /// Begins an empty stage under the number of a connection, as `Holder::stage` does.
     pub fn stage(&mut self, key: u64, expected: u64, with_sha512: bool) -> Result<(), AllocError>
         ensures stages { H.is_honest self.new

@@ -14,6 +14,7 @@ pub mod sockets;
 pub mod standing;
 mod stopping;
 pub mod taking;
+mod wanted;
 
 pub use doors::Doors;
 pub use sockets::{EVENTS, Sockets};

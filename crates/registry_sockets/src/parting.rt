@@ -5,8 +5,9 @@ ghost use Rattle.registry_server.specs.Showing.{connected};
 ghost use Rattle.registry_server.specs.Lives.{NoneSilent};
 
 use crate::patience::{stalls, waits_for_room};
-use crate::peers::{first_that_holds_up, list, peer_of};
+use crate::peers::{first_that_holds_stage, first_that_holds_up, list, peer_of};
 use crate::sockets::Sockets;
+use crate::wanted::Wanted;
 use registry_server::Connections;
 use std::alloc::Global;
 use std::time::Duration;
@@ -70,30 +71,42 @@ impl Sockets {
         }
     }
 
-    /// Excuses those that wait for room, which are not silent by their own doing; says whether there are any.
-    fn excuse_waiting(&mut self, connections: &mut Connections) -> bool
+    /// Excuses those that wait for room, which are not silent by their own doing; says what room is wanted.
+    fn excuse_waiting(&mut self, connections: &mut Connections) -> Wanted
         ensures { connected connections.new ≡ connected connections.old }
     {
-        let mut any = false;
+        let mut wanted = Wanted::none();
         for number in self.awake.iter() {
             if let Some(peer) = peer_of(&mut self.peers, *number) {
                 if waits_for_room(peer, connections) {
+                    wanted.note(connections.waits_for_stage(*number));
                     connections.excuse(*number);
-                    any = true;
                 }
             }
         }
-        any
+        wanted
+    }
+
+    /// Who goes, where room is wanted: one that holds it up.
+    fn first_to_make_room(&self, connections: &Connections, wanted: Wanted) -> Option<u64> {
+        let holds_up = if wanted.for_requests {
+            first_that_holds_up(&self.peers, connections)
+        } else {
+            None
+        };
+        match holds_up {
+            Some(number) => Some(number),
+            None if wanted.for_stages => first_that_holds_stage(&self.peers, connections),
+            None => None,
+        }
     }
 
     /// Where any waits for room, one goes that holds it up.
     fn make_room(&mut self, connections: &mut Connections)
         ensures { Carries (connected connections.old) (connected connections.new) }
     {
-        if !self.excuse_waiting(connections) {
-            return;
-        }
-        if let Some(number) = first_that_holds_up(&self.peers, connections) {
+        let wanted = self.excuse_waiting(connections);
+        if let Some(number) = self.first_to_make_room(connections, wanted) {
             self.dismiss(connections, number);
         }
     }

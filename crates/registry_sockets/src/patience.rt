@@ -52,12 +52,18 @@ pub fn gives_way(peer: &Peer, connections: &Connections, pressing: bool, now: Du
 
 /// Whether it is the server that makes it wait: something is there to be read, and there is no room for it.
 pub fn waits_for_room(peer: &Peer, connections: &Connections) -> bool {
-    peer.speaks() && connections.room(peer.number) == 0
+    peer.speaks() && connections.takes(peer.number) == 0
 }
 
 /// Whether it goes where another waits for room: it holds more than its share, and says nothing.
 pub fn holds_up(peer: &Peer, connections: &Connections) -> bool {
     let holds = peer.coming > SHARE && !peer.readable;
+    holds && connections.silence(peer.number) >= patience_with(peer)
+}
+
+/// The same, where another waits for room to stage a body: its own is staged, and it says nothing.
+pub fn holds_stage(peer: &Peer, connections: &Connections) -> bool {
+    let holds = connections.has_stage(peer.number) && !peer.readable;
     holds && connections.silence(peer.number) >= patience_with(peer)
 }
 

@@ -112,7 +112,7 @@ impl Peer {
 
     /// The same, and its connection takes what comes.
     pub fn may_speak(&self, connections: &Connections) -> bool {
-        self.speaks() && connections.room(self.number) > 0
+        self.speaks() && connections.takes(self.number) > 0
     }
 
     /// It is to be written to.
@@ -203,7 +203,7 @@ impl Peer {
     fn read_once(&mut self, connections: &mut Connections, room: &mut [u8])
         ensures { Carries (connected connections.old) (connected connections.new) }
     {
-        let most = connections.room(self.number).min(room.len());
+        let most = connections.takes(self.number).min(room.len());
         let room = &mut room[..most];
         match self.stream.read(room) {
             Ok(0) => {

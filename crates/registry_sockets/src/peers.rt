@@ -1,6 +1,6 @@
 //! Many sockets in the order of their numbers, found by them.
 
-use crate::patience::{gives_way, holds_up, waits_for_room};
+use crate::patience::{gives_way, holds_stage, holds_up};
 use crate::peer::Peer;
 use mio::event::Event;
 use registry_server::Connections;
@@ -77,4 +77,14 @@ pub fn first_that_holds_up(peers: &[Peer], connections: &Connections) -> Option<
         }
     }
     found
+}
+
+/// The one that goes where another waits for room to stage a body, of several the one that was open longest.
+pub fn first_that_holds_stage(peers: &[Peer], connections: &Connections) -> Option<u64> {
+    for peer in peers.iter() {
+        if holds_stage(peer, connections) {
+            return Some(peer.number);
+        }
+    }
+    None
 }

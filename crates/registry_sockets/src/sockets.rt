@@ -252,7 +252,7 @@ impl Sockets {
     }
 
     /// Sends what came of a turn.
-    pub fn tell_of(&mut self, connections: &mut Connections, turn: &Turn)
+    fn tell_peer_of(&mut self, connections: &mut Connections, turn: &Turn)
         ensures { Carries (connected connections.old) (connected connections.new) }
     {
         let now = self.now;
@@ -261,6 +261,14 @@ impl Sockets {
             peer.tell_of(turn, connections, now);
             let _ = list(&mut self.awake, peer);
         }
+    }
+
+    /// The same, and looks after those that wait for the room that the turn may have made.
+    pub fn tell_of(&mut self, connections: &mut Connections, turn: &Turn)
+        ensures { Carries (connected connections.old) (connected connections.new) }
+    {
+        self.tell_peer_of(connections, turn);
+        connections.stir_waiting();
     }
 
     /// The server worked for a time in which nobody was heard: the silence of all begins now.

@@ -1,8 +1,8 @@
 -- What the end of an order says of its exit status.
-use Rattle.std.proofs.Common.{arith, ◌≡◌, ◌<◌, ◌≤◌, ◌≢◌, ◌∙◌, ℕ, Result, Ok, Err, sym}
+use Rattle.std.proofs.Common.{arith, ◌≡◌, ◌<◌, ◌≢◌, ◌∙◌, ℕ, Result, Ok, Err, sym}
 use Rattle.registry_orders.specs.declared.failure.Failure.{Failure}
 use Rattle.registry_orders.specs.declared.failure.Failure.TheVariants as failure
-use Rattle.registry_orders.specs.Failures.{status_of, status_if, IsOfOrder}
+use Rattle.registry_orders.specs.Failures.{status_of, status_if}
 use Rattle.registry_orders.specs.Outputs.{Output, IsSilent}
 use Rattle.order_carrying.specs.Carrying.{IsSilentUnlessBroken}
 use Rattle.order_carrying.proofs.OrderStatuses.{order_status}

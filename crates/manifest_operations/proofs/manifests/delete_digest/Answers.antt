@@ -1,4 +1,4 @@
-use Rattle.std.proofs.Common.{◌≡◌, ◌∙◌, ℕ, false, refl, sym, ap, None, Some}
+use Rattle.std.proofs.Common.{◌≡◌, ◌∙◌, ℕ, refl, sym, ap, None, Some}
 use Rattle.std.specs.Prelude.{Option}
 use Rattle.oci_types.specs.declared.kind.Kind.{Kind}
 use Rattle.registry_model.specs.declared.refusal.Refusal.TheVariants.{ManifestUnknown}

@@ -1,4 +1,4 @@
-use Rattle.std.proofs.Common.{◌≡◌, ◌∙◌, false, refl, sym, ap, None, Some}
+use Rattle.std.proofs.Common.{◌≡◌, ◌∙◌, refl, sym, ap, None, Some}
 use Rattle.std.specs.Prelude.{Option}
 use Rattle.oci_types.specs.Text.{Text}
 use Rattle.registry_model.specs.declared.refusal.Refusal.TheVariants.{ManifestUnknown}

@@ -47,20 +47,20 @@ returns-in-Body-clause-turns g c = λ honest apart.
     let old = c.args.self.now in
     let k = g.K.Keeper.kept c.args.service.now in
     let mid = g.K.Keeper.kept c.answer_next-step.new.service in
-    let k' = g.K.Keeper.kept c.stage_body.new.service in
+    let k' = g.K.Keeper.kept c.place_body.new.service in
     let now = shown c.answer_next-step.new.self in
-    let there = c.stage_body.ensures.honest honest in
-    let lies = c.stage_body.ensures.lies honest in
-    let new = received c.stage_body.new.self in
+    let there = c.place_body.ensures.honest honest in
+    let lies = c.place_body.ensures.lies honest in
+    let new = received c.place_body.new.self in
     record {
       apart' = lies.0;
       lies = lies_of new.phase new.place c.args.key k' new.taken lies.0 lies.1;
       holds = λ b said x.
-          held_through c.args.key k mid k' (held_from_all c.args.key k mid (c.answer_next-step.ensures.holds there)) (c.stage_body.ensures.holds honest);
+          held_through c.args.key k mid k' (held_from_all c.args.key k mid (c.answer_next-step.ensures.holds there)) (c.place_body.ensures.holds honest);
       tells = λ b said x.
           subst (λ (o : Option Report). Tells c.args.settings c.answer_next-step.result b said (joined apart (received old)) (state_of k) (state_of k') (joined lies.0 new) None o)
-          (sym c.stage_body.ensures.report)
+          (sym c.place_body.ensures.report)
           (tells_from c.args.settings c.answer_next-step.result b said (shown old.conversation).going (shown old.conversation).going (state_of k) (state_of k) (state_of mid) (state_of k')
-          now (joined lies.0 new) None None _ refl refl (sym (c.stage_body.ensures.same honest)) (sym lies.2) refl
+          now (joined lies.0 new) None None _ refl refl (sym (c.place_body.ensures.same honest)) (sym lies.2) refl
           (c.answer_next-step.ensures.tells there b said (subst (λ (p : BodyPlace). Holds c.args.settings (joined apart (placed p (shown old.conversation))) b said) c.requires x)));
     }

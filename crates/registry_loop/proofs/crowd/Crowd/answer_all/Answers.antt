@@ -5,7 +5,11 @@ use Rattle.registry_loop.proofs.crowd.Crowd.answer_all.Goals as goal
 
 pub loop-init : goal.loop-init
 loop-init g c = record {
-  leads = λ honest. (c.let_go.ensures.honest honest, c.let_go.ensures.leads honest);
+  leads = λ honest.
+      let k = g.K.Keeper.kept c.let_go.new.service in (
+        c.let_go.ensures.honest honest,
+        leads_then _ _ (connected c.let_go.new.self) k _ k (c.let_go.ensures.leads honest) (c.stir_waiting.ensures.leads k),
+      );
   limits = refl;
   callers = refl;
 }

@@ -1,5 +1,4 @@
-use Rattle.std.proofs.Common.{◌≡◌, ◌≤◌, ℕ, Bool, Option, None, sym, ap, subst, ◌∙◌}
-use Rattle.oci_types.specs.Text.{Text}
+use Rattle.std.proofs.Common.{◌≡◌, ◌≤◌, ℕ, Option, sym, ap, subst, ◌∙◌}
 use Rattle.registry_conversation.specs.declared.phase.Step.{Step}
 use Rattle.registry_outbox.specs.declared.report.Report.{Report}
 use Rattle.registry_conversation.specs.Receiving.{ActsOn, Lies, TellsApart, received}
@@ -46,9 +45,9 @@ returns g c =
       );
       fewer = subst (λ (k : Shown). coming_len k ≤ coming_len old) (sym same) (subst (λ (o : Shown). coming_len mid ≤ coming_len o) begins c.answer_next-step.ensures.fewer);
       lives = c.settle.ensures.lives;
-      sums = c.add.ensures ∙ ap (with_one (received c.deref-2.result.now)) c.take.ensures
-          ∙ ap (λ (x : Receiver). with_one (received c.deref-2.result.now) (without_one (received x) c.args.sums.now)) c.deref.ensures
-          ∙ ap (λ (x : Receiver). with_one (received x) (without_one old c.args.sums.now)) c.deref-2.ensures
+      sums = c.add.ensures ∙ ap (with_one (received c.deref-3.result.now)) c.take.ensures
+          ∙ ap (λ (x : Receiver). with_one (received c.deref-3.result.now) (without_one (received x) c.args.sums.now)) c.deref-2.ensures
+          ∙ ap (λ (x : Receiver). with_one (received x) (without_one old c.args.sums.now)) c.deref-3.ensures
           ∙ ap (λ (k : Shown). with_one k (without_one old c.args.sums.now)) (sym same);
       tells = λ honest apart lies.
           subst (λ (x : Shown). TellsApart c.args.settings step n apart old k x k' c.take_report-report.result) (sym same)

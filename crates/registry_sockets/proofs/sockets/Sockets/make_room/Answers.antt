@@ -2,4 +2,4 @@ use Rattle.registry_server.proofs.CallLemmas.{carries_then, carries_same}
 use Rattle.registry_sockets.proofs.sockets.Sockets.make_room.Goals as goal
 
 pub returns-in-Some : goal.returns-in-Some
-returns-in-Some c = carries_then _ _ _ (carries_same _ _ c.excuse_waiting.ensures) c.dismiss.ensures
+returns-in-Some c = carries_then _ _ _ (carries_same _ _ c.excuse_waiting-wanted.ensures) c.dismiss.ensures
