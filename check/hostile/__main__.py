@@ -1,7 +1,7 @@
 """Memory that is refused, a disk that stops, a server that is killed, a client that opens all it can, many at once,
 orders beside them, strangers who hold what they can, and links, logs and descriptors that are short.
 
-    python3 -m hostile [memory|disk|kill|open|many|orders|strangers|door|links|log|descriptors ..] [--kills N]
+    python3 -m hostile [memory|disk|kill|uploads|open|many|orders|strangers|door|links|log|descriptors ..] [--kills N]
 
 in check/: these parts, or all where none is named.
 
@@ -23,6 +23,9 @@ same writes with a system that stops at any place in them: of what was not synce
 part, as it is drawn. A file of schema 1 that is taken over is such a write.
 *kill*: a server is killed at random moments of pushes, chunks, manifests, tags and deletions; all that was
 acknowledged is there, byte for byte, and sqlite3 finds the file sound.
+*uploads*: large bodies of eight connections, cut as drawn, are answered as alone, also where they wait for room to be
+put aside; with a growth of memory refused they are 503; where a write fails amid a chunk all of it is there, or
+nothing; and of servers that are killed amid eight uploads all that was acknowledged is there.
 *open*: a client opens 1,000 upload sessions over a file; the next is refused, in this repository alone, until
 one ends; and where the numbers of sessions are used up none opens. A file that was taken over from schema 1 is
 asked the same as one that never was, by two teams together and by each alone.
@@ -68,11 +71,12 @@ from hostile.slow_links import look_at_slow_links
 from hostile.stopping import stop_servers
 from hostile.strangers import look_at_strangers
 from hostile.unread_log import look_at_logs
+from hostile.uploads import upload_large
 
 # the status where a machine lacks what this needs
 CANNOT_RUN = 3
 
-PARTS = ["memory", "disk", "kill", "open", "many", "orders", "strangers", "door", "links", "log", "descriptors"]
+PARTS = ["memory", "disk", "kill", "uploads", "open", "many", "orders", "strangers", "door", "links", "log", "descriptors"]
 
 
 def main():
@@ -104,6 +108,8 @@ def main():
             stop_in_migration(refusing, room)
         if "kill" in words:
             kill_servers(room, kills)
+        if "uploads" in words:
+            upload_large(refusing, room, kills)
         if "open" in words:
             open_sessions(room)
             look_beside_a_new_file(room)
