@@ -188,7 +188,7 @@ def push_together(room):
     bad = [str(it) for it in statuses if it != 201]
     say(len(statuses) == 32 and not bad, "32 pushes of 64 MiB at once are all answered 201", bad)
     say(small, "a small request beside them is answered")
-    say(took < 640, f"with a buffer of 128 MiB the server took {took} MiB for them")
+    say(took < 450, f"with a buffer of 128 MiB the server took {took} MiB for them")
     server.kill()
 
 
