@@ -4,6 +4,8 @@
 #[cfg(test)]
 mod gone;
 #[cfg(test)]
+mod meanwhile;
+#[cfg(test)]
 mod receiving;
 #[cfg(test)]
 mod requests;

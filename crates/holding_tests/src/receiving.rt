@@ -8,7 +8,7 @@ use std::alloc::Global;
 use std::process::Abort;
 
 /// The digests of `0123456789`, 20,000 times (FIPS 180-4; Python's hashlib).
-const LARGE: &str = "sha256:8ddf9b2317645923bc681372ebcfc99afec63b3a6870db4b6ee7bc1bd56eb262";
+pub const LARGE: &str = "sha256:8ddf9b2317645923bc681372ebcfc99afec63b3a6870db4b6ee7bc1bd56eb262";
 
 /// The same of 40,000 times.
 const TWICE: &str = "sha512:a27028ed9f8ef77762569f74b80a541546565d667e75eec58833af841b52813e\
@@ -19,17 +19,17 @@ const OTHER: &str = "sha256:ba7816bf8f01cfea414140de5dae2223b00361a396177a9cb410
 
 /// How a body of 200,000 bytes is framed.
 #[derive(Clone, Copy)]
-enum Framing {
+pub enum Framing {
     ByLength,
     /// Each piece is a chunk.
     InChunks,
 }
 
 /// A connection, and the registry that it is had with.
-struct Talk {
-    receiver: Receiver,
+pub struct Talk {
+    pub receiver: Receiver,
     room: FieldRoom,
-    registry: Registry,
+    pub registry: Registry,
 }
 
 impl Drop for Talk {
@@ -42,7 +42,7 @@ impl Drop for Talk {
     }
 }
 
-fn new_talk(rt: &impl Abort, alloc: Global) -> Talk {
+pub fn new_talk(rt: &impl Abort, alloc: Global) -> Talk {
     Talk {
         receiver: Receiver::new(alloc),
         room: FieldRoom::new(alloc).expect(rt, "memory"),
@@ -64,7 +64,7 @@ fn step(alloc: Global, talk: &mut Talk, bytes: &[u8]) -> Step {
 }
 
 /// The head of a request by `t1` comes.
-fn begin(alloc: Global, talk: &mut Talk, target: &str, digest: &str, framing: Framing) {
+pub fn begin(alloc: Global, talk: &mut Talk, target: &str, digest: &str, framing: Framing) {
     let _ = step(alloc, talk, target.as_bytes());
     let _ = step(alloc, talk, digest.as_bytes());
     let _ = step(
@@ -79,10 +79,16 @@ fn begin(alloc: Global, talk: &mut Talk, target: &str, digest: &str, framing: Fr
     let _ = step(alloc, talk, framed.as_bytes());
 }
 
-/// A body of 200,000 bytes comes in pieces of a thousand; the connection holds less than 65,536 at once.
-fn come(rt: &impl Abort, alloc: Global, talk: &mut Talk, framing: Framing) -> Step {
+/// So many pieces of a thousand bytes come of a body; the connection holds less than 65,536 at once.
+pub fn come_in(
+    rt: &impl Abort,
+    alloc: Global,
+    talk: &mut Talk,
+    framing: Framing,
+    pieces: usize,
+) -> Step {
     let mut last = Step::Waits;
-    for _ in 0..200 {
+    for _ in 0..pieces {
         if let Framing::InChunks = framing {
             let _ = step(alloc, talk, b"3e8\r\n");
         }
@@ -95,14 +101,20 @@ fn come(rt: &impl Abort, alloc: Global, talk: &mut Talk, framing: Framing) -> St
         }
         assert!(rt; talk.receiver.coming() < 65_536);
     }
+    last
+}
+
+/// A body of 200,000 bytes comes.
+fn come(rt: &impl Abort, alloc: Global, talk: &mut Talk, framing: Framing) -> Step {
+    let last = come_in(rt, alloc, talk, framing, 200);
     if let Framing::InChunks = framing {
-        last = step(alloc, talk, b"0\r\n\r\n");
+        return step(alloc, talk, b"0\r\n\r\n");
     }
     last
 }
 
 /// Whether what is to go out begins so; then it goes out.
-fn is_told(rt: &impl Abort, talk: &mut Talk, start: &str) {
+pub fn is_told(rt: &impl Abort, talk: &mut Talk, start: &str) {
     let going = talk.receiver.outgoing();
     assert!(rt; going.head.starts_with(start.as_bytes()));
     let count = going.len();
@@ -123,7 +135,7 @@ static ROWS: [Row; 8] = [
     (CLOSE, TWICE, Framing::ByLength, "HTTP/1.1 201 "),
 ];
 
-const PUSH: &str = "POST /v2/team/app/blobs/uploads/?digest=";
+pub const PUSH: &str = "POST /v2/team/app/blobs/uploads/?digest=";
 
 const PUSH_ELSEWHERE: &str = "POST /v2/team/other/blobs/uploads/?digest=";
 

@@ -1,6 +1,6 @@
 -- A connection whose body in hand may lie apart from its head: what it shows, alone and with the bytes of
 -- that body.
-use Rattle.std.specs.Prelude.{◌≡◌, ℕ, ◌≤◌, Bool, true, false, ◌++◌, length, Some, None, Option, ⊤}
+use Rattle.std.specs.Prelude.{◌≡◌, ◌⊎◌, ℕ, ◌≤◌, Bool, true, false, ◌++◌, length, Some, None, Option, ⊤}
 use Rattle.oci_types.specs.Text.{Text}
 use Rattle.registry_model.specs.declared.settings.Settings.{Settings}
 use Rattle.registry_model.specs.Keeping.{Kept, HeldStays, state_of}
@@ -61,6 +61,10 @@ LiesAs (Ended e) place n k taken apart = ⊤
 -- of the connection of this number
 abbrev pub Lies : ℕ → Kept → Shown → Text → Type 0
 Lies n k c apart = LiesAs c.phase c.place n k c.taken apart
+
+-- a connection that had a stage has it still, or nothing is staged under its number
+abbrev pub StageIsKept : BodyPlace → BodyPlace → ℕ → Kept → Type 0
+StageIsKept old new n k = old ≡ Stage → (new ≡ Stage) ⊎ (k.held.stages n ≡ None)
 
 -- ---- a turn
 

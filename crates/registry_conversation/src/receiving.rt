@@ -30,7 +30,7 @@ impl Receiver {
     ghost use Rattle.registry_conversation.specs.Holding.{HoldsWhole};
     ghost use Rattle.registry_conversation.specs.Stepping.{LeadsOn};
     ghost use Rattle.registry_conversation.specs.Telling.{Tells};
-    ghost use Rattle.registry_conversation.specs.Receiving.{Lies, LiesApart, Shortens, TellsApart};
+    ghost use Rattle.registry_conversation.specs.Receiving.{Lies, LiesApart, Shortens, StageIsKept, TellsApart};
     ghost use Rattle.registry_conversation.specs.Receiving.{is_apart, joined, received};
     ghost use Rattle.registry_conversation.specs.Headings.{IsHead};
 
@@ -150,6 +150,8 @@ impl Receiver {
         ensures same { K.is_honest service.new
             → state_of (K.kept service.new) ≡ state_of (K.kept service.old) }
         ensures apart { is_apart self.old.place ≡ true → is_apart self.new.place ≡ true }
+        ensures unstaged { K.is_honest service.new
+            → StageIsKept self.old.place self.new.place key (K.kept service.new) }
         ensures lies { K.is_honest service.new → is_apart self.old.place ≡ true → (front more apart : Text)
             → before self.old.conversation.buffer ≡ front ++ more → length front ≡ head
             → LiesApart self.old.place key (K.kept service.old) front apart
@@ -201,6 +203,7 @@ impl Receiver {
             (state_of (K.kept service.new)) (received self.new)
             self.old.conversation.outbox.report self.new.conversation.outbox.report }
         ensures place { self.new.place ≡ BodyPlace.Buffer }
+        ensures unstaged { K.is_honest service.new → (K.kept service.new).held.stages key ≡ None }
     {
         let step = match self.place {
             BodyPlace::Stage => {
@@ -238,6 +241,8 @@ impl Receiver {
             → Lies key (K.kept service.old) (received self.old) apart
             → TellsApart settings result key apart (received self.old) (K.kept service.old)
             (received self.new) (K.kept service.new) self.new.conversation.outbox.report }
+        ensures unstaged { K.is_honest service.new
+            → StageIsKept self.old.place self.new.place key (K.kept service.new) }
     {
         self.conversation.outbox.report = None;
         let head = self.conversation.buffer.before().len();
@@ -266,7 +271,8 @@ impl Receiver {
 
     /// Takes the next turn, as `Conversation::answer_next` does, but that a large body is staged as it comes,
     /// and its request answered over the stage. What is staged under the number of the connection belongs to
-    /// the request in hand; nobody else may use that number. Without `may_stage` no stage is begun.
+    /// the request in hand; nobody else may use that number. It is let go when that request was answered.
+    /// Without `may_stage` no stage is begun.
     pub fn answer_next<K: Holder>(
         &mut self,
         alloc: Global,
@@ -287,6 +293,9 @@ impl Receiver {
             → Lies key (K.kept service.old) (received self.old) apart
             → TellsApart settings result key apart (received self.old) (K.kept service.old)
             (received self.new) (K.kept service.new) self.new.conversation.outbox.report }
+        ensures unstaged { K.is_honest service.new → (part : Part)
+            → (received self.old).phase ≡ Phase.Body part
+            → StageIsKept self.old.place self.new.place key (K.kept service.new) }
     {
         self.waits = false;
         match self.conversation.phase {
