@@ -21,7 +21,7 @@ help:
 	@echo 'make edits CRATE=x   tries the must-fail edits of one crate (20 to 60 s each)'
 	@echo 'make dear CRATE=x    what takes long in a check of one crate, or with FN=f which goals of a function'
 	@echo '                     (after make build; 1 to 5 min)'
-	@echo 'make lint            lengths of files and lines, reasons of edits, tables of crates (1 s)'
+	@echo 'make lint            lengths of files and lines, reasons of edits, tables of crates, scripts (1 s)'
 	@echo 'make check-file      a server'"'"'s file after pushes by curl, looked at by sqlite3'
 	@echo 'make check-rows      the worked examples by the program itself, over a file (after make test; 10 s)'
 	@echo 'make check-words     command lines, and what they say, end with and leave in files (after make test; 1 min)'
@@ -53,7 +53,7 @@ demo:
 # Proves the program and everything below it, and leaves the executable as build/registry.
 build:
 	@echo 'Proves some 1,500 functions, from nothing the first time: one to two hours of a processor, on all there are side by side, and up to 8 GB of memory.' >&2
-	python3 check/build.py
+	python3 -m tools.build
 
 # The program unproved: a command, or for SECONDS_OF_TRY a server. Name files by whole paths.
 SECONDS_OF_TRY = 600
@@ -69,40 +69,40 @@ edits:
 # What takes long in a check of one crate, and with FN=f which goals of a function are long searched for.
 FN =
 dear:
-	python3 check/dear.py $(CRATE) $(FN)
+	python3 -m tools.dear $(CRATE) $(FN)
 
 # What no proof looks at: lengths, the reasons of edits, the tables of crates.
 lint:
-	@python3 check/lint.py
+	@python3 -m tools.lint
 
 # The merge gate. A check for each processor, four at most: by itself rt waits until more memory is free than
 # its checks take. What it leaves is build/registry, too.
 test:
-	@sum=$$(python3 check/build.py --sum) && \
-	  RT_JOBS=$$(( $(PROCESSORS) < 4 ? $(PROCESSORS) : 4 )) rt ci && python3 check/build.py --of-gate $$sum
+	@sum=$$(python3 -m tools.build --sum) && \
+	  RT_JOBS=$$(( $(PROCESSORS) < 4 ? $(PROCESSORS) : 4 )) rt ci && python3 -m tools.build --of-gate $$sum
 
 # A server's database file, looked at by another program: needs curl and sqlite3 beside python3.
 check-file: build/registry
-	python3 check/file.py
+	python3 -m check.file
 
 # The worked examples by the program itself, commands by its orders (python3).
 check-rows:
-	python3 check/rows.py
+	python3 -m check.rows
 
 # The program on command lines, over files and sockets (python3 with its sqlite3).
 check-words:
-	python3 check/words.py
+	python3 -m check.words
 
 # Hostile memory, a hostile disk, kills, and orders beside requests, over the executables that `make test` leaves: python3 and rustc.
 KILLS = 100
 check-hostile:
-	cd check && python3 -m hostile --kills $(KILLS)
+	python3 -m check.hostile --kills $(KILLS)
 
 # Real clients, straight and through nginx with the configuration of deploy/nginx, and edges (python3, nginx,
 # openssl). ONLY names some of the ways (straight, nginx, edges), or clients.
 ONLY =
 check-clients:
-	python3 check/clients.py $(ONLY)
+	python3 -m check.clients $(ONLY)
 
 # Where things go; nginx and the service read SYSCONFDIR.
 PREFIX = /usr/local
@@ -123,28 +123,28 @@ deb: build/registry
 
 # What these two make: files and modes, the man page and the completion beside --help, the unit by systemd-analyze.
 check-install: build/registry
-	python3 check/install.py
+	python3 -m check.install
 
 # The image of deploy/container, and the registry in it (buildah, curl, root; 10 s).
 check-container: build/registry
-	python3 check/container.py
+	python3 -m check.container
 
 # The commands of the pages, and what they print (python3, curl, skopeo, podman, nginx, openssl, sqlite3).
 check-docs: build/registry
-	python3 check/docs.py
+	python3 -m check.docs
 
 # Requests over loopback on a database file, beside docker-registry and nginx where installed, sha256sum, dd and cat
 # (python3 with its sqlite3). OLD names an older executable, which is measured in the same run.
 OLD =
 bench: build
-	python3 bench/loopback.py $(if $(OLD),--old '$(OLD)')
+	python3 -m bench.loopback $(if $(OLD),--old '$(OLD)')
 
 bench-quick: build
-	python3 bench/loopback.py --quick
+	python3 -m bench.loopback --quick
 
 # Requests a second and MB/s over standard input, beside `cat` and `sha256sum` of the same bytes (python3).
 bench-http: build
-	python3 bench/stdio.py
+	python3 -m bench.stdio
 
 fmt:
 	for crate in crates/*/; do (cd $$crate && rt fmt) || exit 1; done

@@ -5,8 +5,9 @@ import sys
 import time
 from dataclasses import dataclass, field
 
-import filling
-from servers import IMAGES, KIB, LIB, MANY, MIB, REPO, Blob, Docker, digest
+from bench import filling
+from bench.servers import IMAGES, KIB, LIB, MANY, MIB, REPO, Blob, Docker
+from tools.shared import digest
 
 IMAGE = "application/vnd.oci.image."
 MEDIA = IMAGE + "manifest.v1+json"

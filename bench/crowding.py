@@ -3,7 +3,7 @@ import select
 import socket
 import time
 
-from driver import READ
+from bench.driver import READ
 
 # so many seconds are between a reply and the next request
 BETWEEN = 0.5

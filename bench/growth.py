@@ -12,11 +12,11 @@ import tempfile
 import time
 from contextlib import ExitStack, contextmanager
 
-import filling
-from cases import MEDIA, Manifest, manifest_of
-from driver import connect, reply_size, take as take_reply
-from laws import FLAT, LINEAR, Cost, Row, expected
-from servers import IMAGES, KIB, LIB, MANY, REPO, Blob, Firkhen, copy_database, new_database
+from bench import filling
+from bench.cases import MEDIA, Manifest, manifest_of
+from bench.driver import connect, reply_size, take as take_reply
+from bench.laws import FLAT, LINEAR, Cost, Row, expected
+from bench.servers import IMAGES, KIB, LIB, MANY, REPO, Blob, Firkhen, copy_database, new_database
 
 # so many repositories at most where an older program is beside, and where the links of one are many
 REPOS, MOST_BESIDE, FEW = (300, 1_000, 3_000, 10_000), 3_000, 300

@@ -1,4 +1,3 @@
-#!/usr/bin/env python3
 """Measures `registry serve` over loopback, on a database file, and beside it docker-registry where installed.
 
 Each case is a number of requests on one kept connection, each reply read to its end. Each time is the
@@ -17,13 +16,13 @@ import sys
 import tempfile
 import time
 
-import laws
-import limits
-from cases import PARTS as CASES, QUICK, Cases, Plan
-from growth import GROWTH, shares
-from many import driven, many
-from pulling import BY_EDGE, NGINX, PULLS, pulls
-from servers import Docker, Firkhen, new_database
+from bench import laws
+from bench import limits
+from bench.cases import PARTS as CASES, QUICK, Cases, Plan
+from bench.growth import GROWTH, shares
+from bench.many import driven, many
+from bench.pulling import BY_EDGE, NGINX, PULLS, pulls
+from bench.servers import Docker, Firkhen, new_database
 
 REGISTRY = os.path.abspath("build/registry")
 US, OLD, DOCKER, LIMITS = "registry", "old", "docker-registry", "limits"

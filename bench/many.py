@@ -3,9 +3,9 @@ import copy
 import time
 from contextlib import ExitStack
 
-from cases import MEDIA, manifest_of
-from crowding import crowd
-from driver import (
+from bench.cases import MEDIA, manifest_of
+from bench.crowding import crowd
+from bench.driver import (
     FORKED,
     SECONDS,
     against_a_trivial_server,
@@ -16,7 +16,7 @@ from driver import (
     reply_size,
     take,
 )
-from servers import IMAGES, KIB, MIB
+from bench.servers import IMAGES, KIB, MIB
 
 AT_ONCE = (1, 8, 64, 256)
 IDLE = 256

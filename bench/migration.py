@@ -1,4 +1,3 @@
-#!/usr/bin/env python3
 """Measures `registry migrate` over files of schema 1 that sqlite3 makes: blobs of half a MiB each, as many as make
 up the sizes that are given in MiB (else 64 and 1024). Every third has the bytes of the one before it, and is in a
 repository of its own.
@@ -14,11 +13,8 @@ import sys
 import tempfile
 import time
 
-TOP = os.path.dirname(os.path.dirname(os.path.abspath(__file__)))
-sys.path.insert(0, f"{TOP}/check")
-
-from hostile.writes import digest
-from old_file import TABLES
+from check.old_file import TABLES
+from tools.shared import digest
 
 REGISTRY = os.path.abspath("build/registry")
 BLOB = 1 << 19

@@ -10,8 +10,9 @@ import tempfile
 import threading
 import time
 
-from driver import FORKED, SECONDS
-from servers import MIB, REPO, Firkhen, free_port
+from bench.driver import FORKED, SECONDS
+from bench.servers import MIB, REPO, Firkhen
+from tools.shared import free_port
 
 CLIENTS, SIZE, READ = 16, 64 * MIB, 1 << 20
 PULLS = f"GET of 64 MiB, {CLIENTS} at once"

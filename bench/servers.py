@@ -6,15 +6,12 @@ import socket
 import subprocess
 import time
 
-import filling
+from bench import filling
+from tools.shared import digest, free_port
 
 REPO, IMAGES, MANY, LIB = "team/app", "team/images", "team/many", "team/lib"
 KIB, MIB = 1 << 10, 1 << 20
 OCTETS = {"Content-Type": "application/octet-stream"}
-
-
-def digest(data):
-    return "sha256:" + hashlib.sha256(data).hexdigest()
 
 
 class Blob:
@@ -24,12 +21,6 @@ class Blob:
         self.bytes = hashlib.sha256(seed.encode()).digest() + b"\0" * (size - 32)
         self.digest = digest(self.bytes)
         self.hex = self.digest[7:]
-
-
-def free_port():
-    with socket.socket() as it:
-        it.bind(("127.0.0.1", 0))
-        return it.getsockname()[1]
 
 
 class Peer:

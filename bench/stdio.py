@@ -1,4 +1,3 @@
-#!/usr/bin/env python3
 """Measures build/registry over standard input, beside `cat` of the same bytes in the same run.
 
 Each case is a file of requests that is handed to a fresh registry over memory; the replies are
@@ -6,11 +5,12 @@ counted, and their lengths checked. Each time is the least of five. Ratios withi
 counts: the machine's own speed is in them twice. `sha256sum` of the same bytes tells what hashing
 alone costs.
 """
-import hashlib
 import subprocess
 import sys
 import tempfile
 import time
+
+from tools.shared import digest
 
 REGISTRY = "build/registry"
 WORDS = ["stdio", "--memory", "--repo", "team/app=9223372036854775807", "--grant", "t1=team/app=3"]
@@ -19,12 +19,8 @@ MIB = 1 << 20
 RUNS = 5
 
 
-def digest(body):
-    return b"sha256:" + hashlib.sha256(body).hexdigest().encode()
-
-
 def push(body, framing, payload):
-    line = b"POST /v2/team/app/blobs/uploads/?digest=" + digest(body) + b" HTTP/1.1\r\n"
+    line = b"POST /v2/team/app/blobs/uploads/?digest=" + digest(body).encode() + b" HTTP/1.1\r\n"
     return line + FIELDS + framing + b"\r\n" + payload
 
 
@@ -39,7 +35,7 @@ def chunked(body, size):
 
 
 def fetch(body):
-    return b"GET /v2/team/app/blobs/" + digest(body) + b" HTTP/1.1\r\n" + FIELDS + b"\r\n"
+    return b"GET /v2/team/app/blobs/" + digest(body).encode() + b" HTTP/1.1\r\n" + FIELDS + b"\r\n"
 
 
 def timed(words, path):
@@ -82,4 +78,5 @@ def main():
     measure("push and GET of 64 MiB", whole(large) + fetch(large), created + found + 7 + len(large), 2 * len(large), 2)
 
 
-main()
+if __name__ == "__main__":
+    main()

@@ -1,5 +1,5 @@
 """What is asked of a client, and what of it was wrong."""
-from layout import Layout
+from check.layout import Layout
 
 MIB = 1 << 20
 

@@ -5,9 +5,9 @@ import re
 import shutil
 import tempfile
 
-from executables import TOP
-from serving import must, run, until
-from layout import MEDIA, digest, top_of
+from tools.shared import TOP, digest
+from check.serving import must, run, until
+from check.layout import MEDIA, top_of
 
 ACCEPTED = ("manifest.v1+json", "index.v1+json")
 

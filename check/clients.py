@@ -1,7 +1,6 @@
-#!/usr/bin/env python3
 """Real clients to a server over a file: straight, and through nginx with TLS as deploy/nginx has it.
 
-    python3 check/clients.py [straight] [nginx] [edges] [CLIENT..]    some of the ways, or all; these clients, or all
+    python3 -m check.clients [straight] [nginx] [edges] [CLIENT..]    some of the ways, or all; these clients, or all
 
 *straight* (check/straight.py): those that can be given a token push, pull, are refused, and push twelve layers; eight
 push and pull at once; skopeo carries what buildah and podman keep. Then, to a server with `--login http`
@@ -28,16 +27,16 @@ import sys
 import tempfile
 from concurrent.futures import ThreadPoolExecutor
 
-from asking import MIB, Check, is_there, say
-from client_kinds import CLIENTS, Curl, Docker, Skopeo
-from crowded import push_in_a_crowd
-from edges import go_through_edges
-from executables import REGISTRY
-from front import Front
-from layout import Layout
-from logins import log_in
-from serving import basic, end, must
-from straight import all_at_once, go_straight
+from check.asking import MIB, Check, is_there, say
+from check.client_kinds import CLIENTS, Curl, Docker, Skopeo
+from check.crowded import push_in_a_crowd
+from check.edges import go_through_edges
+from tools.shared import REGISTRY
+from check.front import Front
+from check.layout import Layout
+from check.logins import log_in
+from check.serving import basic, end, must
+from check.straight import all_at_once, go_straight
 
 WAYS = ["straight", "nginx", "edges"]
 

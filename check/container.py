@@ -1,4 +1,3 @@
-#!/usr/bin/env python3
 """Builds the image of deploy/container, and runs the registry in it.
 
 What the image holds and says; a server that is started by the image's own words, on a port of its own; an order, a
@@ -14,8 +13,8 @@ import subprocess
 import sys
 import tempfile
 
-from executables import TOP
-from serving import until
+from tools.shared import TOP
+from check.serving import until
 
 IMAGE = "localhost/firkhen-check:try"
 REGISTRY = "/usr/bin/registry"

@@ -2,12 +2,13 @@
 import threading
 from concurrent.futures import ThreadPoolExecutor
 
-from asking import MIB, say
-from client_kinds import Curl, Oras
-from hostile.door import CLIENTS, PLACES, Crowd
-from hostile.writes import ABC, AT, digest
-from layout import Layout
-from straight import StraightCtr
+from check.asking import MIB, say
+from check.client_kinds import Curl, Oras
+from check.hostile.door import CLIENTS, PLACES, Crowd
+from check.hostile.writes import ABC, AT
+from check.layout import Layout
+from check.straight import StraightCtr
+from tools.shared import digest
 
 ROUNDS = 3
 

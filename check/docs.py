@@ -1,4 +1,3 @@
-#!/usr/bin/env python3
 """Runs the commands of the pages as they stand, and compares what they print with the page.
 
 A command is a line that begins with four spaces and `$ `, with the lines behind it that begin with `> `. What
@@ -7,8 +6,8 @@ text, and alone on a line for any lines. One shell has all commands of a page, i
 away again, with a home folder that has this checkout as `firkhen`. A command that ends in `&` goes on; it is
 waited for until it has printed what the page says.
 
-The picture in docs/ARCHITECTURE.md is compared with what check/house.py draws, what docs/THEOREM.md quotes with the
-files that it names, and what all pages cite is looked up (check/citations.py). `make check-docs` calls this.
+The picture in docs/ARCHITECTURE.md is compared with what tools/house.py draws, what docs/THEOREM.md quotes with the
+files that it names, and what all pages cite is looked up (tools/citations.py). `make check-docs` calls this.
 (podman and skopeo note in /var/lib/containers/cache where they have seen blobs.)
 """
 import glob
@@ -22,12 +21,12 @@ import tempfile
 import time
 from contextlib import suppress
 
-import citations
-import definitions
-import house
-from executables import TOP
-from serving import listens, until
-from layout import Layout
+from tools import citations
+from tools import definitions
+from tools import house
+from tools.shared import TOP
+from check.serving import listens, until
+from check.layout import Layout
 
 PROGRAM = f"{TOP}/build/registry"
 PATH = f"{os.environ['PATH']}:/usr/sbin"

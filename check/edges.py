@@ -14,12 +14,12 @@ from http.client import IncompleteRead
 from http.server import BaseHTTPRequestHandler, ThreadingHTTPServer
 from threading import Thread
 
-from asking import MIB, Check, is_there, say
-from client_kinds import Curl, Podman, Skopeo
-from executables import REGISTRY
-from front import Front, configuration, shipped, shipped_options
-from layout import Layout, bytes_of
-from serving import basic, end, free_port, must, until
+from check.asking import MIB, Check, is_there, say
+from check.client_kinds import Curl, Podman, Skopeo
+from tools.shared import REGISTRY, free_port
+from check.front import Front, configuration, shipped, shipped_options
+from check.layout import Layout, bytes_of
+from check.serving import basic, end, must, until
 
 # what an edge writes itself (deploy/nginx/edge.conf)
 OWN = {"server", "date", "connection", "accept-ranges"}

@@ -1,4 +1,3 @@
-#!/usr/bin/env python3
 """Looks at a registry's database with another program.
 
 A server is started on loopback over a new file, images are pushed with curl, the server is ended, and
@@ -22,17 +21,13 @@ import subprocess
 import sys
 import tempfile
 
-from file_tables import INDEXES, TABLES, WITHOUT_REPO
-from old_file import TABLES as TABLES_OF_SCHEMA_1
+from check.file_tables import INDEXES, TABLES, WITHOUT_REPO
+from check.old_file import TABLES as TABLES_OF_SCHEMA_1
+from tools.shared import REGISTRY, digest, free_port
 
-REGISTRY = os.path.abspath("build/registry")
 REPO = "team/app"
 # 1,000,000,000 bytes
 QUOTA = "1000000000"
-
-
-def digest(body):
-    return "sha256:" + hashlib.sha256(body).hexdigest()
 
 
 def say(held, what):
@@ -47,12 +42,6 @@ say.wrong = 0
 def registry(*words):
     ran = subprocess.run([REGISTRY, *words], capture_output=True, check=False)
     say(ran.returncode == 0, "registry " + " ".join(words[:1]) + ran.stderr.decode())
-
-
-def free_port():
-    with socket.socket() as it:
-        it.bind(("127.0.0.1", 0))
-        return it.getsockname()[1]
 
 
 def bounded(limit):

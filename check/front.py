@@ -4,8 +4,8 @@ import re
 import shutil
 import ssl
 
-from executables import TOP
-from serving import Serving, free_port, listens, must, until
+from tools.shared import TOP, free_port
+from check.serving import Serving, listens, must, until
 
 NGINX = f"{TOP}/deploy/nginx"
 

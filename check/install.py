@@ -1,4 +1,3 @@
-#!/usr/bin/env python3
 """Looks at what `make install` and `make deb` make, in a folder that is taken away again.
 
 The files and their modes; that each page which a page names is there; that a second installation leaves the
@@ -14,7 +13,7 @@ import subprocess
 import sys
 import tempfile
 
-from executables import REGISTRY, TOP
+from tools.shared import REGISTRY, TOP
 
 PROGRAM = f"{TOP}/build/registry"
 FILES = {

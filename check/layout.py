@@ -6,11 +6,9 @@ import json
 import os
 import tarfile
 
+from tools.shared import digest
+
 MEDIA = "application/vnd.oci.image.{}"
-
-
-def digest(body):
-    return "sha256:" + hashlib.sha256(body).hexdigest()
 
 
 def bytes_of(seed, size):

@@ -7,11 +7,11 @@ nobody, and with two passwords that open nothing.
 import json
 import tempfile
 
-from asking import Check, is_there, say
-from client_kinds import Buildah, Ctr, Curl, Docker, Oras, Podman, Skopeo
-from layout import Layout
-from serving import LOGINS, Serving, basic
-from straight import StraightSkopeo
+from check.asking import Check, is_there, say
+from check.client_kinds import Buildah, Ctr, Curl, Docker, Oras, Podman, Skopeo
+from check.layout import Layout
+from check.serving import LOGINS, Serving, basic
+from check.straight import StraightSkopeo
 
 # passwords that open nothing: a token on which no level is, and what is no token
 WRONG = {"stale": ("t3", "an unknown token for a password"), "noise": ("p1>>>???", "a password that is no token")}

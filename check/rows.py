@@ -1,4 +1,3 @@
-#!/usr/bin/env python3
 """Plays the worked examples by the program itself, over a file.
 
 The examples of crates/registry_examples/data are asked of `registry`: requests by `registry stdio --db`, the
@@ -15,7 +14,7 @@ import subprocess
 import sys
 import tempfile
 
-from executables import REGISTRY, TOP
+from tools.shared import REGISTRY, TOP
 
 DATA = f"{TOP}/crates/registry_examples"
 LEVELS = {"pull": "1", "push": "2", "delete": "3"}

@@ -10,7 +10,7 @@ import time
 import urllib.error
 import urllib.request
 
-from executables import REGISTRY
+from tools.shared import REGISTRY, free_port
 
 # the password and the token of each user (a password in base64 may have + and /, which are more than themselves in a
 # pattern)
@@ -22,12 +22,6 @@ GRANTS = [("t1", "team/app"), ("t1", "team/lib"), ("t1", "team/small"), ("t2", "
 NO_END = 1000
 # what a process that is told to end may take
 SECONDS_TO_END = 60
-
-
-def free_port():
-    with socket.socket() as it:
-        it.bind(("127.0.0.1", 0))
-        return it.getsockname()[1]
 
 
 def run(*words, given=b"", env=None, cwd=None, seconds=300):

@@ -10,10 +10,10 @@ import tempfile
 import time
 from concurrent.futures import ThreadPoolExecutor
 
-from asking import MIB, Check, is_there, say
-from client_kinds import Buildah, Ctr, Curl, Docker, Podman, Skopeo
-from layout import Layout
-from serving import Serving
+from check.asking import MIB, Check, is_there, say
+from check.client_kinds import Buildah, Ctr, Curl, Docker, Podman, Skopeo
+from check.layout import Layout
+from check.serving import Serving
 
 # what a client says that is to ask `registry`, the realm of the challenge, for a token
 NO_PLACE = "unsupported protocol scheme"

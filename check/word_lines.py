@@ -1,8 +1,8 @@
 """Reads the examples of check/words, as the head of words.py has their lines."""
 import re
 
-from old_file import TABLES
-from rows import Words, unescaped
+from check.old_file import TABLES
+from check.rows import Words, unescaped
 
 # What stands for more than one text where something must come.
 MARKS = {

@@ -9,7 +9,7 @@ import tempfile
 import time
 from typing import NamedTuple, Optional
 
-from executables import REGISTRY
+from tools.shared import REGISTRY
 
 # the longest that anything may take
 SECONDS = 60

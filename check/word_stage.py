@@ -7,8 +7,8 @@ import socket
 import sqlite3
 import stat
 
-from word_lines import bytes_of
-from word_runs import SECONDS, Outcome, Run
+from check.word_lines import bytes_of
+from check.word_runs import SECONDS, Outcome, Run
 
 LISTENING = b"registry: listening\n"
 

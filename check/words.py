@@ -1,4 +1,3 @@
-#!/usr/bin/env python3
 r"""Runs the program on command lines, and compares what it says, what it ends with and what it leaves.
 
 The examples stand in check/words/*.talk; whoever adds one needs no line of this script. What comes is compared to the
@@ -67,9 +66,9 @@ import subprocess
 import sys
 import tempfile
 
-from executables import REGISTRY, TOP
-from word_lines import Book, is_so
-from word_stage import Stage
+from tools.shared import REGISTRY, TOP
+from check.word_lines import Book, is_so
+from check.word_stage import Stage
 
 
 def differences(step, found, port):

@@ -1,9 +1,9 @@
 """Memory that is refused, a disk that stops, a server that is killed, a client that opens all it can, many at once,
 orders beside them, strangers who hold what they can, and links, logs and descriptors that are short.
 
-    python3 -m hostile [memory|disk|kill|uploads|open|many|orders|strangers|door|links|log|descriptors ..] [--kills N]
+    python3 -m check.hostile [memory|disk|kill|uploads|open|many|orders|strangers|door|links|log|descriptors ..] [--kills N]
 
-in check/: these parts, or all where none is named.
+These parts, or all where none is named.
 
 The executables are the proved ones that `make build` and `make test` leave. refusing.rs, a library that is
 loaded before a program, lets one growth of memory fail, or the disk stop at one write; `rustc` compiles it.
@@ -52,26 +52,26 @@ import subprocess
 import sys
 import tempfile
 
-from executables import EXAMPLES, REGISTRY
-from hostile.crashes import crash_in_writes
-from hostile.crowd import serve_many
-from hostile.descriptors import run_short
-from hostile.disk import fail_once_on_sockets, stop_in_writes
-from hostile.door import knock
-from hostile.handing import hand_over
-from hostile.kills import kill_servers
-from hostile.memory import refuse_in_orders, refuse_in_rows, refuse_on_sockets
-from hostile.migration import look_beside_a_new_file, refuse_in_migration, stop_in_migration
-from hostile.ordering import give_orders
-from hostile.refusing import Refusing
-from hostile.replies import refuse_in_replies
-from hostile.said import wrong
-from hostile.sessions import open_sessions
-from hostile.slow_links import look_at_slow_links
-from hostile.stopping import stop_servers
-from hostile.strangers import look_at_strangers
-from hostile.unread_log import look_at_logs
-from hostile.uploads import upload_large
+from tools.shared import EXAMPLES, REGISTRY
+from check.hostile.crashes import crash_in_writes
+from check.hostile.crowd import serve_many
+from check.hostile.descriptors import run_short
+from check.hostile.disk import fail_once_on_sockets, stop_in_writes
+from check.hostile.door import knock
+from check.hostile.handing import hand_over
+from check.hostile.kills import kill_servers
+from check.hostile.memory import refuse_in_orders, refuse_in_rows, refuse_on_sockets
+from check.hostile.migration import look_beside_a_new_file, refuse_in_migration, stop_in_migration
+from check.hostile.ordering import give_orders
+from check.hostile.refusing import Refusing
+from check.hostile.replies import refuse_in_replies
+from check.hostile.said import wrong
+from check.hostile.sessions import open_sessions
+from check.hostile.slow_links import look_at_slow_links
+from check.hostile.stopping import stop_servers
+from check.hostile.strangers import look_at_strangers
+from check.hostile.unread_log import look_at_logs
+from check.hostile.uploads import upload_large
 
 # the status where a machine lacks what this needs
 CANNOT_RUN = 3

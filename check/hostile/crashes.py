@@ -3,11 +3,11 @@ import os
 import random
 import struct
 
-from executables import REGISTRY
-from hostile.disk import is_opened
-from hostile.said import say
-from hostile.worlds import copied, parts_of, world
-from hostile.writes import WRITES
+from tools.shared import REGISTRY
+from check.hostile.disk import is_opened
+from check.hostile.said import say
+from check.hostile.worlds import copied, parts_of, world
+from check.hostile.writes import WRITES
 
 
 def records(data):

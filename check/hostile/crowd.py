@@ -5,9 +5,10 @@ import subprocess
 import threading
 import time
 
-from hostile.said import SECONDS, say
-from hostile.server import Server, answer
-from hostile.writes import ABC, AT, ORDERS, digest, order, push, request
+from check.hostile.said import SECONDS, say
+from check.hostile.server import Server, answer
+from check.hostile.writes import ABC, AT, ORDERS, order, push, request
+from tools.shared import digest
 
 LARGE = 64 << 20
 GET_ABC = request("GET", f"{AT}/blobs/{digest(ABC)}")

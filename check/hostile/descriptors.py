@@ -2,10 +2,10 @@
 import resource
 import time
 
-from hostile.crowd import prepared, works
-from hostile.door import MOST, Crowd, say_of
-from hostile.said import say
-from hostile.server import Server
+from check.hostile.crowd import prepared, works
+from check.hostile.door import MOST, Crowd, say_of
+from check.hostile.said import say
+from check.hostile.server import Server
 
 # the system gives the server so many, of which it needs some for its file and for its doors
 DESCRIPTORS, CLIENTS = 64, 100

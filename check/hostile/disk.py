@@ -1,11 +1,11 @@
 """A disk that stops at a write, and one of whose writes fails."""
 import subprocess
 
-from executables import REGISTRY
-from hostile.said import say
-from hostile.server import pushes_on_sockets
-from hostile.worlds import copied, world
-from hostile.writes import ABC, FAILED, NO_TOKEN, ORDERS, UNAUTHORIZED, WRITES, push
+from tools.shared import REGISTRY
+from check.hostile.said import say
+from check.hostile.server import pushes_on_sockets
+from check.hostile.worlds import copied, world
+from check.hostile.writes import ABC, FAILED, NO_TOKEN, ORDERS, UNAUTHORIZED, WRITES, push
 
 STOPPED = (3, b"registry: storage failure\n")
 

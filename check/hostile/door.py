@@ -8,10 +8,11 @@ import threading
 import time
 from contextlib import ExitStack
 
-from hostile.crowd import GET_ABC, prepared, works
-from hostile.said import SECONDS, say
-from hostile.server import Server, answer
-from hostile.writes import ABC, AT, digest, push, request
+from check.hostile.crowd import GET_ABC, prepared, works
+from check.hostile.said import SECONDS, say
+from check.hostile.server import Server, answer
+from check.hostile.writes import ABC, AT, request
+from tools.shared import digest
 
 CLIENTS, PLACES, MOST = 600, 256, 10
 # each asks so often, with so many seconds between a reply and the next request

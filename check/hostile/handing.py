@@ -4,11 +4,11 @@ import shutil
 import socket
 import subprocess
 
-from executables import REGISTRY
-from hostile.crowd import prepared
-from hostile.said import SECONDS, say
-from hostile.server import answer
-from hostile.writes import ABC, push
+from tools.shared import REGISTRY
+from check.hostile.crowd import prepared
+from check.hostile.said import SECONDS, say
+from check.hostile.server import answer
+from check.hostile.writes import ABC, push
 
 NO_SOCKET = b"registry: connection failure\nregistry: fd:3: is no socket\n"
 

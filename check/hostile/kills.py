@@ -3,10 +3,11 @@ import random
 import subprocess
 import time
 
-from hostile.said import say
-from hostile.server import Server, answer
-from hostile.worlds import world
-from hostile.writes import AT, CONFIG, MANIFEST, ORDERS, digest, order, push, request
+from check.hostile.said import say
+from check.hostile.server import Server, answer
+from check.hostile.worlds import world
+from check.hostile.writes import AT, CONFIG, MANIFEST, ORDERS, order, push, request
+from tools.shared import digest
 
 
 class Believed:

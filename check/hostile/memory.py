@@ -3,11 +3,11 @@ import os
 import re
 import subprocess
 
-from executables import EXAMPLES, TOP
-from hostile.said import say
-from hostile.server import pushes_on_sockets
-from hostile.worlds import EMPTY, copied, rows
-from hostile.writes import ORDERS
+from tools.shared import EXAMPLES, TOP
+from check.hostile.said import say
+from check.hostile.server import pushes_on_sockets
+from check.hostile.worlds import EMPTY, copied, rows
+from check.hostile.writes import ORDERS
 
 DATA = f"{TOP}/crates/registry_examples/data"
 

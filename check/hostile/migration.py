@@ -5,14 +5,14 @@ import random
 import sqlite3
 import subprocess
 
-from executables import REGISTRY
-from hostile.crashes import crash_in_write
-from hostile.disk import stop_in_write
-from hostile.memory import refuse_in_order
-from hostile.said import say
-from hostile.worlds import copied, world
-from hostile.writes import ABC, AT, HELLO, digest, order, push, request
-from old_file import TABLES
+from tools.shared import REGISTRY, digest
+from check.hostile.crashes import crash_in_write
+from check.hostile.disk import stop_in_write
+from check.hostile.memory import refuse_in_order
+from check.hostile.said import say
+from check.hostile.worlds import copied, world
+from check.hostile.writes import ABC, AT, HELLO, order, push, request
+from check.old_file import TABLES
 
 MIGRATE = order("migrate")
 # a blob of many pages, one of many chunks of a connection's input, and one that stands in two repositories

@@ -8,12 +8,12 @@ import subprocess
 import threading
 import time
 
-from executables import REGISTRY
-from hostile.said import SECONDS, say
-from hostile.server import Server, answer
-from hostile.telling import tell_failures, tell_requests
-from hostile.worlds import copied, world
-from hostile.writes import ORDERS, order, push, request
+from tools.shared import REGISTRY
+from check.hostile.said import SECONDS, say
+from check.hostile.server import Server, answer
+from check.hostile.telling import tell_failures, tell_requests
+from check.hostile.worlds import copied, world
+from check.hostile.writes import ORDERS, order, push, request
 
 # more callers than the server has at once; the one of them that has been silent longest gives way to another
 SILENT, SOON = 40, 5

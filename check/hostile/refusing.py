@@ -3,8 +3,8 @@ import os
 import re
 import subprocess
 
-from executables import TOP
-from hostile.said import SECONDS
+from tools.shared import TOP
+from check.hostile.said import SECONDS
 
 
 class Refusing:

@@ -3,11 +3,12 @@ import hashlib
 import socket
 import subprocess
 
-from hostile.crowd import prepared
-from hostile.said import say
-from hostile.server import Server, answer, asked_on_sockets
-from hostile.worlds import copied
-from hostile.writes import AT, CONFIG, MANIFEST, digest, push, request
+from check.hostile.crowd import prepared
+from check.hostile.said import say
+from check.hostile.server import Server, answer, asked_on_sockets
+from check.hostile.worlds import copied
+from check.hostile.writes import AT, CONFIG, MANIFEST, push, request
+from tools.shared import digest
 
 BODY = hashlib.shake_256(b"a reply").digest(300_000)
 BLOB, WHOLE, REFUSED, NOTHING = f"{AT}/blobs/{digest(BODY)}", "200", "503", "nothing"

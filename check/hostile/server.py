@@ -4,9 +4,9 @@ import re
 import socket
 import subprocess
 
-from executables import REGISTRY
-from hostile.said import SECONDS
-from hostile.writes import ABC, push
+from tools.shared import REGISTRY
+from check.hostile.said import SECONDS
+from check.hostile.writes import ABC, push
 
 
 class Server:

@@ -2,9 +2,10 @@
 import sqlite3
 import subprocess
 
-from hostile.said import say
-from hostile.server import Server, answer
-from hostile.writes import AT, ORDERS, WRITES, digest, order, request
+from check.hostile.said import say
+from check.hostile.server import Server, answer
+from check.hostile.writes import AT, ORDERS, WRITES, order, request
+from tools.shared import digest
 
 TOO_MANY = 429, b'{"errors":[{"code":"TOOMANYREQUESTS","message":"too many uploads"}]}'
 

@@ -5,11 +5,12 @@ import socket
 import subprocess
 import time
 
-from hostile.crowd import closed, prepared
-from hostile.said import SECONDS, look_side_by_side, say
-from hostile.server import Server, answer
-from hostile.worlds import copied
-from hostile.writes import AT, digest, push, request
+from check.hostile.crowd import closed, prepared
+from check.hostile.said import SECONDS, look_side_by_side, say
+from check.hostile.server import Server, answer
+from check.hostile.worlds import copied
+from check.hostile.writes import AT, push, request
+from tools.shared import digest
 
 MIB = 1 << 20
 # Half of the least buffer is for replies. So many replies of this length fill it, also where the system takes some

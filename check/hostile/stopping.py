@@ -4,12 +4,12 @@ import shutil
 import subprocess
 import time
 
-from executables import REGISTRY
-from hostile.crowd import closed, works
-from hostile.ordering import is_told, ordered, prepared, rows_of, told
-from hostile.said import SECONDS, say
-from hostile.server import Server, answer
-from hostile.writes import ABC, AT, HELLO, digest, push, request
+from tools.shared import REGISTRY, digest
+from check.hostile.crowd import closed, works
+from check.hostile.ordering import is_told, ordered, prepared, rows_of, told
+from check.hostile.said import SECONDS, say
+from check.hostile.server import Server, answer
+from check.hostile.writes import ABC, AT, HELLO, push, request
 
 # for so many seconds a server that is to stop waits for who has something in hand
 PATIENCE = 10

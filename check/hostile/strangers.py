@@ -4,11 +4,12 @@ import os
 import subprocess
 import time
 
-from hostile.crowd import closed, prepared
-from hostile.ordering import ordered
-from hostile.said import look_side_by_side
-from hostile.server import Server, answer
-from hostile.writes import digest, request
+from check.hostile.crowd import closed, prepared
+from check.hostile.ordering import ordered
+from check.hostile.said import look_side_by_side
+from check.hostile.server import Server, answer
+from check.hostile.writes import request
+from tools.shared import digest
 
 # a piece of what each holds is still to come
 PIECE = 128 << 10

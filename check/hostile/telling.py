@@ -4,10 +4,11 @@ import re
 import subprocess
 import time
 
-from hostile.said import SECONDS, say
-from hostile.server import Server, pushes_on_sockets
-from hostile.worlds import copied
-from hostile.writes import ABC, AT, CONFIG, HELLO, MANIFEST, ORDERS, digest, order
+from check.hostile.said import SECONDS, say
+from check.hostile.server import Server, pushes_on_sockets
+from check.hostile.worlds import copied
+from check.hostile.writes import ABC, AT, CONFIG, HELLO, MANIFEST, ORDERS, order
+from tools.shared import digest
 
 # a token and a query that nothing else is like
 TOKEN, UNKNOWN, QUERY = "token-of-nobody-else", "no-token-of-anybody", "last=nothing-else-is-like-this"

@@ -5,11 +5,11 @@ import os
 import re
 import time
 
-from hostile.crowd import prepared, works
-from hostile.said import look_side_by_side
-from hostile.server import Server, answer
-from hostile.telling import LINE
-from hostile.writes import NO_TOKEN
+from check.hostile.crowd import prepared, works
+from check.hostile.said import look_side_by_side
+from check.hostile.server import Server, answer
+from check.hostile.telling import LINE
+from check.hostile.writes import NO_TOKEN
 
 # the most bytes of a line, with --log and without it, and how many a second are said without it
 MOST, MOST_WITHOUT, A_SECOND = 4_096, 300, 10

@@ -6,11 +6,12 @@ import subprocess
 import threading
 import time
 
-from hostile.crowd import prepared
-from hostile.said import SECONDS, say
-from hostile.server import Server, answer, asked_on_sockets
-from hostile.worlds import copied, world
-from hostile.writes import ABC, AT, digest, push, request
+from check.hostile.crowd import prepared
+from check.hostile.said import SECONDS, say
+from check.hostile.server import Server, answer, asked_on_sockets
+from check.hostile.worlds import copied, world
+from check.hostile.writes import ABC, AT, push, request
+from tools.shared import digest
 
 # three times what a connection keeps of a request, and more than a piece of it more
 LARGE = 200_000

@@ -1,13 +1,8 @@
 """Everything that writes: orders of the administrator's, and requests of a client's."""
 import functools
-import hashlib
 import json
 
-from executables import REGISTRY
-
-
-def digest(body):
-    return "sha256:" + hashlib.sha256(body).hexdigest()
+from tools.shared import REGISTRY, digest
 
 
 def order_of(words, db):

@@ -1,4 +1,3 @@
-#!/usr/bin/env python3
 """Hands the lines of a merge gate on as they come, and says behind them in which minute each crate was proved,
 its tests were, and its must-fail edits were begun; and how long all of it took. `.ci/run` calls it: what the
 gate costs on an idle machine is seen there.

@@ -1,12 +1,11 @@
-#!/usr/bin/env python3
 """Proves the program and all that it stands on, and leaves it as build/registry.
 
 Each library is checked once, by `rattle build`, over what those below it state, and the program last, by the run
 that compiles it. Crates that do not stand on each other are proved side by side, one a processor, those with the
 most behind them first; where processors rest a check gets more than one. What was proved stays in build/proved,
 each crate by a sum of its files, of the kit and of the crates below it: after an edit, that crate and those above
-it are proved again. No must-fail edit is tried and no test is run: `make test` does that. What `build.py --sum` says
-before a gate, `build.py --of-gate SUM` is given behind it, and takes the executable that it left.
+it are proved again. No must-fail edit is tried and no test is run: `make test` does that. What `build --sum` says
+before a gate, `build --of-gate SUM` is given behind it, and takes the executable that it left.
 """
 import concurrent.futures
 import contextlib
@@ -19,13 +18,13 @@ import subprocess
 import sys
 import time
 
-from executables import TOP
+from tools.shared import TOP
 
 KIT = os.path.dirname(os.path.dirname(os.path.realpath(shutil.which("rt") or "rt")))
 PROVED = f"{TOP}/build/proved"
 PROGRAM = "registry_cli"
 # what a check of each crate took in one build; only which takes longer than which counts
-with open(f"{TOP}/check/seconds.txt", encoding="ascii") as it:
+with open(f"{TOP}/tools/seconds.txt", encoding="ascii") as it:
     SECONDS = {name: int(seconds) for name, seconds in (line.split() for line in it if not line.startswith("#"))}
 # the bytes of memory that a check is given room for; most take less, and the program runs alone
 ROOM = 2_500_000_000
@@ -76,7 +75,7 @@ class Crate:
             os.remove(f"{PROVED}/{self.name}.sum")
 
     def length(self):
-        """The seconds that a check takes: those of check/seconds.txt, or by its lines of code."""
+        """The seconds that a check takes: those of tools/seconds.txt, or by its lines of code."""
         lines = sum(open(it, "rb").read().count(b"\n") for it in self.files() if it.endswith(".rt"))
         return SECONDS.get(self.name, 40 + lines // 11)
 

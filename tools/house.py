@@ -1,11 +1,10 @@
-#!/usr/bin/env python3
 """Draws which crate stands on which, from crates.txt: the picture in docs/ARCHITECTURE.md.
 
 A row is a crate, and the crates that it stands on are below it. Each crate that something stands on has a
 line of its own, which begins at the first row that stands on it and ends at its own row. Only the nearest
 are drawn, none that is also below another of them. `make check-docs` says where the page differs.
 """
-from executables import TOP
+from tools.shared import TOP
 
 
 def read():

@@ -1,12 +1,15 @@
-#!/usr/bin/env python3
 """What takes long in the check of one crate, over what `make build` left of those below it.
 
-`dear.py CRATE` checks it from nothing by one process, and prints each part of it that took a second or more. Parts
-are files of lemmas, and of each function: what is made of its code (`Lts`, `Tie`, `Layout` and others), its written
-answers (`Answers`), and what is left to search (`Proof`).
+    python3 -m tools.dear CRATE
 
-`dear.py CRATE FUNCTION` prints the goals of a function for which it takes two seconds or more to find an answer: the
-search is left out for half of them, for half of that half, and so on. It works on a copy, build/dear.
+checks it from nothing by one process, and prints each part of it that took a second or more. Parts are files of
+lemmas, and of each function: what is made of its code (`Lts`, `Tie`, `Layout` and others), its written answers
+(`Answers`), and what is left to search (`Proof`).
+
+    python3 -m tools.dear CRATE FUNCTION
+
+prints the goals of a function for which it takes two seconds or more to find an answer: the search is left out for
+half of them, for half of that half, and so on. It works on a copy, build/dear.
 """
 import glob
 import os
@@ -16,7 +19,7 @@ import subprocess
 import sys
 import time
 
-import build
+from tools import build
 
 DEAR = f"{build.TOP}/build/dear"
 

@@ -1,19 +1,21 @@
-#!/usr/bin/env python3
 """Looks whether sources, definitions and edits keep the house's measures, and names each place that does not.
 
 - a file of `src/` or `specs/` has at most 400 lines, of at most 110 characters each (imports stand on one line);
 - a must-fail edit begins with a line `# ..` that says which wrong body it is, and its `old:` texts stand in the file
   that it names once each;
-- each folder of `crates/` has its line in `crates.txt`, and its row in the table of docs/COSTS.md.
+- each folder of `crates/` has its line in `crates.txt`, and its row in the table of docs/COSTS.md;
+- a script begins with what it is for, and pyflakes, where that is installed, finds nothing in it.
 
 `make lint` calls this. It proves nothing and runs nothing; `rt fmt` looks at the layout in the gate.
 """
 import glob
 import os
 import re
+import shutil
+import subprocess
 import sys
 
-from executables import TOP
+from tools.shared import TOP
 
 MOST_LINES, MOST_CHARACTERS = 400, 110
 IMPORT = re.compile(r"\s*(?:pub )?(?:ghost )?use ")
@@ -67,8 +69,18 @@ def tables():
         yield f"docs/COSTS.md: no row for {crate}"
 
 
+def scripts():
+    paths = [*found("tools/*.py", "check/*.py", "check/hostile/*.py", "bench/*.py", "deploy/*.py")]
+    for path in paths:
+        if not re.match(r'(#!.*\n)?r?"""\S', read(path)):
+            yield f"{path}: it does not begin with what it is for"
+    pyflakes = shutil.which("pyflakes3") or shutil.which("pyflakes")
+    if pyflakes:
+        yield from subprocess.run([pyflakes, *paths], cwd=TOP, capture_output=True, text=True, check=False).stdout.splitlines()
+
+
 def main():
-    wrong = [*measures(), *edits(), *tables()]
+    wrong = [*measures(), *edits(), *tables(), *scripts()]
     print(*wrong, sep="\n" if wrong else "", end="\n" if wrong else "")
     print(f"{len(wrong)} places are to be mended" if wrong else "sources, definitions and edits keep the measures")
     return 1 if wrong else 0

@@ -4,7 +4,7 @@ kit's own definitions are not."""
 import os
 import re
 
-from executables import TOP
+from tools.shared import TOP
 
 USE = re.compile(r"^(?:pub )?use Rattle\.(\w+)\.specs\.([\w.]+?)(?:\.\{|\.TheVariants|\.TheConstants| as |$)", re.M)
 

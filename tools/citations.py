@@ -1,4 +1,3 @@
-#!/usr/bin/env python3
 """Looks up what the pages cite of this repository, and says what is not there.
 
 Citations stand in backquotes, outside blocks of commands:
@@ -17,7 +16,7 @@ import os
 import re
 import sys
 
-from executables import TOP
+from tools.shared import TOP
 
 PAGES = ["README.md", "CONTRIBUTING.md", *sorted(os.path.relpath(it, TOP) for it in glob.glob(f"{TOP}/docs/*.md"))]
 # what a build makes, and what is no text of ours
