@@ -2,6 +2,7 @@ pub mod SlotLemmas
 pub mod PlaceLemmas
 pub mod ProgressLemmas
 pub mod AccountLemmas
+pub mod GoneLemmas
 pub mod LyingLemmas
 pub mod LedgerLemmas
 pub mod TurnLemmas

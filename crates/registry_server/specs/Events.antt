@@ -10,9 +10,13 @@ use Rattle.registry_http.specs.Asking.{ask_in}
 use Rattle.registry_conversation.specs.Shown.{Shown, with_going, coming_len}
 use Rattle.registry_conversation.specs.Receiving.{ActsOn, joined}
 use Rattle.registry_conversation.specs.ConversationEvents.{Event as Call, came, ended, acted, sent, heard, went}
-use Rattle.registry_server.specs.Open.{Open, conversation_of, Opens, Changes, Closes, TakesTurn, with_slots, hears, sends, Hears, Finishes}
+use Rattle.registry_server.specs.Open.{Open, Slot, conversation_of, Opens, Changes, Closes, TakesTurn, with_slots, hears, sends, Hears, Finishes}
 use Rattle.registry_server.specs.Room.{room_of, going_sum}
 use Rattle.registry_server.specs.Accounts.{Replied, Accounts}
+
+-- nothing is staged under this number, where it is that of no connection
+abbrev pub IsUnstaged : List Slot → Kept → ℕ → Type 0
+IsUnstaged slots k n = conversation_of n slots ≡ None → k.held.stages n ≡ None
 
 -- ---- events
 

@@ -1,6 +1,6 @@
 //! What is staged of connections that are gone, and who waits for room to stage a body.
 
-ghost use Rattle.std.specs.Prelude.{◌≡◌, ◌≤◌, ◌⊎◌, ℕ, []};
+ghost use Rattle.std.specs.Prelude.{◌≡◌, ◌≤◌, ◌⊎◌, ℕ, [], All, None};
 ghost use Rattle.registry_server.specs.declared.receipt.Receipt.TheVariants.{Taken};
 
 use crate::connections::Connections;
@@ -8,22 +8,24 @@ use registry_holding::Holder;
 use registry_service::Service;
 
 impl Connections {
-    ghost use Rattle.registry_server.specs.Events.{Carries, Leads};
+    ghost use Rattle.registry_server.specs.Events.{Carries, IsUnstaged, Leads};
     ghost use Rattle.registry_server.specs.Room.{room_of, IsReceived};
     ghost use Rattle.registry_server.specs.Lives.{LivesOn};
     ghost use Rattle.registry_server.specs.Showing.{connected};
 
-    /// What is staged of one connection that is gone is let go.
-    fn let_one_go<K: Holder>(&mut self, service: &mut Service<K>)
+    /// What is staged under this number is let go, where the connection is gone.
+    fn unstage_if_gone<K: Holder>(&mut self, service: &mut Service<K>, number: u64)
         ensures honest { K.is_honest service.new → K.is_honest service.old }
         ensures same { connected self.new ≡ connected self.old }
         ensures lives { LivesOn self.old self.new }
         ensures leads { K.is_honest service.new → Leads (connected self.old) (K.kept service.old)
             (connected self.new) (K.kept service.new) }
+        ensures gone { self.new.gone ≡ self.old.gone }
+        ensures unstaged { K.is_honest service.new
+            → IsUnstaged (connected self.old).slots (K.kept service.new) number }
+        ensures others { K.is_honest service.new → (n : ℕ) → (K.kept service.old).held.stages n ≡ None
+            → (K.kept service.new).held.stages n ≡ None }
     {
-        let Some(number) = self.gone.pop() else {
-            return;
-        };
         self.waiting.note_room();
         match self.place_of(number) {
             None => service.unstage(number),
@@ -38,9 +40,12 @@ impl Connections {
         ensures lives { LivesOn self.old self.new }
         ensures leads { K.is_honest service.new → Leads (connected self.old) (K.kept service.old)
             (connected self.new) (K.kept service.new) }
+        ensures unstaged { K.is_honest service.new
+            → All (IsUnstaged (connected self.old).slots (K.kept service.new)) self.old.gone.items }
+        ensures none { self.new.gone.items ≡ [] }
     {
-        for _ in 0..self.gone.len() {
-            self.let_one_go(service);
+        while let Some(number) = self.gone.pop() {
+            self.unstage_if_gone(service, number);
         }
     }
 
