@@ -86,7 +86,8 @@ pub record IsWithin (b : Bounds) (slots : List Slot) : Type 0 where
   pub others : over_sum slots ≤ pool b + over_most slots
 
 -- what that comes to: all together hold no more than they may, each no more than its share and one largest
--- request, and, if any is open, one of them may hold so much: its request can get whole
+-- request, and, if any is open, one of them may hold so much: its request can get whole, where its body stays
+-- with it
 pub record HoldsWithin (u : Open) : Type 0 where
   pub together : coming_sum u.slots ≤ most_coming u.bounds
   pub each : (n : ℕ) → IfSome (conversation_of n u.slots) (λ c. coming_len c ≤ share + largest)
