@@ -4,7 +4,7 @@ ghost use Rattle.registry_server.specs.Room.{IsWithin};
 ghost use Rattle.registry_server.specs.Held.{IsKept};
 ghost use Rattle.registry_server.specs.Slots.{slot_of, slots_of};
 
-use crate::bounds::{Bounds, pool, room_beside};
+use crate::bounds::Bounds;
 use crate::connection::{Connection, find, find_stirred, oldest_without, to_back};
 use crate::life::Life;
 use crate::receipt::Receipt;
@@ -29,14 +29,14 @@ pub struct Connections {
     /// The number of the connection that comes next.
     next: u64,
     /// How many may be open at once, and how much they may hold.
-    bounds: Bounds,
+    pub(crate) bounds: Bounds,
     settings: Settings,
     /// The time that was handed in last, in milliseconds.
     pub(crate) time: u64,
     /// What all of them find header fields in, one turn after the other.
     fields: FieldRoom,
     /// What they hold together.
-    sums: Sums,
+    pub(crate) sums: Sums,
     /// So many of them from the front are not to be looked at.
     resting: usize,
     /// None of them gave its last sign of life before this time.
@@ -77,7 +77,7 @@ impl Connections {
     ghost use Rattle.registry_conversation.specs.Receiving.{ActsOn};
     ghost use Rattle.registry_outbox.specs.Outboxes.{outgoing_text};
     ghost use Rattle.registry_server.specs.Open.{none, FoundAt, conversation_of, outgoing_of, held_of, Opens, Refuses, Changes, Closes, TakesTurn, IfOpen, IfResting, with_slots, hears, sends, Finishes, Sends};
-    ghost use Rattle.registry_server.specs.Room.{going_sum, room_of, IsReceived};
+    ghost use Rattle.registry_server.specs.Room.{going_sum, IsReceived};
     ghost use Rattle.registry_server.specs.Events.{Leads, Carries};
     ghost use Rattle.registry_server.specs.Showing.{connected};
     ghost use Rattle.registry_server.specs.Lives.{alive_at, sent_by, life_of};
@@ -163,23 +163,6 @@ impl Connections {
     {
         let at = self.place_of(number)?;
         Some(&self.connections[at])
-    }
-
-    /// How many bytes a connection may be given now; 0 where it is not open.
-    ///
-    /// Each may always hold `SHARE` bytes of requests, whatever others hold. Where what the others hold above
-    /// their shares is no more than there is for all, it may hold `LARGEST` more: so of those that hold much
-    /// one can always go on to the end of its request.
-    pub fn room(&self, number: u64) -> usize
-        ensures { result ≡ room_of number (connected self.now) }
-    {
-        match self.under(number) {
-            Some(connection) => {
-                let held = connection.conversation.coming();
-                room_beside(self.sums.over, held, pool(&self.bounds))
-            }
-            None => 0,
-        }
     }
 
     /// These bytes came on a connection, as `Receiver::receive` takes them, if there is room for them:

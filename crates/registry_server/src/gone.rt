@@ -1,6 +1,6 @@
 //! What is staged of connections that are gone, and who waits for room to stage a body.
 
-ghost use Rattle.std.specs.Prelude.{◌≡◌, ◌≤◌, ◌⊎◌, ℕ, [], All, None};
+ghost use Rattle.std.specs.Prelude.{◌≡◌, ◌⊎◌, ℕ, [], All, None};
 ghost use Rattle.registry_server.specs.declared.receipt.Receipt.TheVariants.{Taken};
 
 use crate::connections::Connections;
@@ -9,7 +9,7 @@ use registry_service::Service;
 
 impl Connections {
     ghost use Rattle.registry_server.specs.Events.{Carries, IsUnstaged, Leads};
-    ghost use Rattle.registry_server.specs.Room.{room_of, IsReceived};
+    ghost use Rattle.registry_server.specs.Room.{IsReceived};
     ghost use Rattle.registry_server.specs.Lives.{LivesOn};
     ghost use Rattle.registry_server.specs.Showing.{connected};
 
@@ -47,17 +47,6 @@ impl Connections {
         while let Some(number) = self.gone.pop() {
             self.unstage_if_gone(service, number);
         }
-    }
-
-    /// How many bytes of a connection are to be read now: none where its body in hand waits for room to be
-    /// staged, else as many as `room` says.
-    pub fn takes(&self, number: u64) -> usize
-        ensures { result ≤ room_of number (connected self.now) }
-    {
-        if self.waits_for_stage(number) {
-            return 0;
-        }
-        self.room(number)
     }
 
     /// Whether the body in hand of a connection waits for room to be staged. No contract speaks of it.

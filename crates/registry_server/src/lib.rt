@@ -13,6 +13,7 @@ pub mod laws;
 pub mod life;
 pub mod receipt;
 pub mod refusal;
+pub mod room;
 pub mod silence;
 pub mod sums;
 pub mod turn;

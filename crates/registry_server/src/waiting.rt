@@ -42,6 +42,9 @@ impl Waiting {
     /// A connection does not wait, or not any more.
     pub fn remove(&mut self, number: u64) {
         let before = self.numbers.len();
+        if before == 0 {
+            return;
+        }
         self.numbers.retain(|waiting| *waiting != number);
         self.due = self.due || self.numbers.len() < before;
     }
