@@ -53,7 +53,8 @@ pub const TOKEN_REQUIRED: &str =
       {\"errors\":[{\"code\":\"UNAUTHORIZED\",\"message\":\"token required\"}]}";
 
 /// The head of a request whose body is longer than a connection's share.
-pub const LARGE_HEAD: &[u8] = b"PUT /v2/ HTTP/1.1\r\nHost: r\r\nContent-Length: 1000000\r\n\r\n";
+pub const LARGE_HEAD: &[u8] = b"PUT /v2/team/app/manifests/v1 HTTP/1.1\r\nHost: r\r\n\
+      Authorization: Bearer t1\r\nContent-Length: 1000000\r\n\r\n";
 
 /// The body `hello` in chunks, with an extension and a trailer, of a client that waits.
 pub const IN_CHUNKS: &str = "Expect: 100-continue\r\nTransfer-Encoding: chunked\r\n\r\n\
