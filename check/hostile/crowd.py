@@ -6,7 +6,7 @@ import threading
 import time
 
 from check.hostile.said import SECONDS, say
-from check.hostile.server import Server, answer
+from check.hostile.server import Server, answer, answered_alone, collected
 from check.hostile.writes import ABC, AT, ORDERS, order, push, request
 from tools.shared import digest
 
@@ -108,18 +108,7 @@ def interleave(room):
         texts += [request("GET", "/v2/"), request("GET", f"{AT}/blobs/{digest(b'none')}"), b"GET / HTTP/1.0\r\n\r\n"]
         subjects.append(b"".join(texts))
 
-    def collected(connection):
-        parts = []
-        while more := connection.recv(65536):
-            parts.append(more)
-        return b"".join(parts)
-
-    alone = []
-    for text in subjects:
-        with server.connect() as connection:
-            connection.sendall(text)
-            connection.shutdown(socket.SHUT_WR)
-            alone.append(collected(connection))
+    alone = answered_alone(server, subjects)
     bad = []
     for seed in range(40):
         drawn = random.Random(seed)

@@ -5,7 +5,7 @@ import subprocess
 
 from tools.shared import EXAMPLES, TOP
 from check.hostile.said import say
-from check.hostile.server import pushes_on_sockets
+from check.hostile.server import refuse_in_pushes, status_of_push
 from check.hostile.worlds import EMPTY, copied, rows
 from check.hostile.writes import ORDERS
 
@@ -137,18 +137,4 @@ def refuse_on_sockets(refusing, room):
     db = f"{room}/sockets.db"
     for words in (ORDERS[0], ORDERS[2]):
         subprocess.run(words(db), check=True)
-    statuses, growths, _ = pushes_on_sockets(refusing, copied(db, f"{room}/socket.db"))
-    say(statuses == [201, 201], "a server over a socket answers two pushes 201")
-    seen, bad = {}, []
-    # both pushes lie in the last growths; the opening of the file takes those before
-    for n in range(growths, growths - 600, -3):
-        try:
-            statuses, _, _ = pushes_on_sockets(refusing, copied(db, f"{room}/socket.db"), growth=n)
-        except OSError:
-            break
-        seen[tuple(statuses)] = seen.get(tuple(statuses), 0) + 1
-        # a reply that there is no memory for is none, and its connection is closed
-        if statuses not in ([201, 201], [503, 201], [201, 503], [None, 201], [201, None]):
-            bad.append(f"growth {n}: {statuses}")
-    told = f"{sum(seen.values())} growths refused to a server over a socket, answered {', '.join(f'{k}: {v}' for k, v in seen.items())}"
-    say(not bad and (503, 201) in seen, told, bad)
+    refuse_in_pushes(refusing, db, f"{room}/socket.db", [status_of_push] * 2, "two pushes")

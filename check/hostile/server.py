@@ -5,7 +5,8 @@ import socket
 import subprocess
 
 from tools.shared import REGISTRY
-from check.hostile.said import SECONDS
+from check.hostile.said import SECONDS, say
+from check.hostile.worlds import copied
 from check.hostile.writes import ABC, push
 
 
@@ -73,11 +74,58 @@ def asked_on_sockets(refusing, db, asks, growth=0, write=0, said=subprocess.DEVN
     return found, int(counts[1]), int(counts[2])
 
 
-def status_of_push(connection):
-    reply = answer(connection, push(ABC))
-    return reply and reply[0]
+def status_of(text):
+    """A call that asks this on a connection, and gives the status."""
+
+    def ask(connection):
+        reply = answer(connection, text)
+        return reply and reply[0]
+
+    return ask
+
+
+status_of_push = status_of(push(ABC))
 
 
 def pushes_on_sockets(refusing, db, **how):
     """The statuses of two pushes on connections of their own, likewise."""
     return asked_on_sockets(refusing, db, [status_of_push] * 2, **how)
+
+
+def collected(connection):
+    """All that comes on a connection until it ends."""
+    parts = []
+    while more := connection.recv(65536):
+        parts.append(more)
+    return b"".join(parts)
+
+
+def answered_alone(server, texts):
+    """What each of these is answered on a connection of its own, one after the other."""
+    alone = []
+    for text in texts:
+        with server.connect() as connection:
+            connection.sendall(text)
+            connection.shutdown(socket.SHUT_WR)
+            alone.append(collected(connection))
+    return alone
+
+
+def refuse_in_pushes(refusing, db, at, asks, what):
+    """Two pushes to a server with each third of their growths of memory refused, one a run: who lacks memory is
+    answered 503, or not at all, and the next is served."""
+    statuses, growths, _ = asked_on_sockets(refusing, copied(db, at), asks)
+    say(statuses == [201, 201], f"a server over a socket answers {what} 201")
+    seen, bad = {}, []
+    # both pushes lie in the last growths; the opening of the file takes those before
+    for n in range(growths, growths - 600, -3):
+        try:
+            statuses, _, _ = asked_on_sockets(refusing, copied(db, at), asks, growth=n)
+        except OSError:
+            break
+        seen[tuple(statuses)] = seen.get(tuple(statuses), 0) + 1
+        # a reply that there is no memory for is none, and its connection is closed
+        if statuses not in ([201, 201], [503, 201], [201, 503], [None, 201], [201, None]):
+            bad.append(f"growth {n}: {statuses}")
+    told = f"{sum(seen.values())} growths refused in {what}, answered {', '.join(f'{k}: {v}' for k, v in seen.items())}"
+    say(not bad and (503, 201) in seen, told, bad)

@@ -8,7 +8,7 @@ import time
 
 from check.hostile.crowd import prepared
 from check.hostile.said import SECONDS, say
-from check.hostile.server import Server, answer, asked_on_sockets
+from check.hostile.server import Server, answer, answered_alone, asked_on_sockets, collected, refuse_in_pushes, status_of
 from check.hostile.worlds import copied, world
 from check.hostile.writes import ABC, AT, push, request
 from tools.shared import digest
@@ -60,13 +60,6 @@ def subjects():
     return texts
 
 
-def collected(connection):
-    parts = []
-    while more := connection.recv(65536):
-        parts.append(more)
-    return b"".join(parts)
-
-
 def say_in_pieces(server, text, drawn, replies, at):
     with server.connect() as connection:
         while text:
@@ -93,12 +86,7 @@ def interleave_large(room):
     texts = [b"".join(it) for it in said]
     for words in ((), ("--staged", str(64 << 20))):
         server = Server(prepared(room, f"large-{len(words)}"), *words, stderr=subprocess.DEVNULL)
-        alone = []
-        for text in texts:
-            with server.connect() as connection:
-                connection.sendall(text)
-                connection.shutdown(socket.SHUT_WR)
-                alone.append(collected(connection))
+        alone = answered_alone(server, texts)
         bad = [f"connection {at}" for at, it in enumerate(alone) if it.count(b"HTTP/1.1 ") != len(said[at])]
         bad += [f"connection {at}: {status}" for at, it in enumerate(alone) for status in (500, 503) if b"HTTP/1.1 %d" % status in it]
         for seed in range(10):
@@ -109,14 +97,6 @@ def interleave_large(room):
         server.kill()
 
 
-def status_of(text):
-    def ask(connection):
-        reply = answer(connection, text)
-        return reply and reply[0]
-
-    return ask
-
-
 def chunk(connection):
     """The statuses of a session that is opened, and of a large chunk to it."""
     opened = status_of(request("POST", f"{AT}/blobs/uploads/"))(connection)
@@ -124,21 +104,9 @@ def chunk(connection):
 
 
 def refuse_growths(refusing, room):
-    """Each growth of memory in a push of a large body."""
-    db, asks = prepared(room, "growths"), [status_of(push(drawn_bytes(1, LARGE)))] * 2
-    statuses, growths, _ = asked_on_sockets(refusing, copied(db, f"{room}/growth.db"), asks)
-    seen, bad = {}, [] if statuses == [201, 201] else [statuses]
-    # both pushes lie in the last growths; the opening of the file takes those before
-    for n in range(growths, growths - 600, -3):
-        try:
-            statuses, _, _ = asked_on_sockets(refusing, copied(db, f"{room}/growth.db"), asks, growth=n)
-        except OSError:
-            break
-        seen[tuple(statuses)] = seen.get(tuple(statuses), 0) + 1
-        if statuses not in ([201, 201], [503, 201], [201, 503], [None, 201], [201, None]):
-            bad.append(f"growth {n}: {statuses}")
-    told = f"{sum(seen.values())} growths refused in pushes of {LARGE} bytes, answered {', '.join(f'{k}: {v}' for k, v in seen.items())}"
-    say(not bad and (503, 201) in seen, told, bad)
+    """Each third growth of memory in pushes of a large body."""
+    asks = [status_of(push(drawn_bytes(1, LARGE)))] * 2
+    refuse_in_pushes(refusing, prepared(room, "growths"), f"{room}/growth.db", asks, f"two pushes of {LARGE} bytes")
 
 
 def fail_writes(refusing, room):
