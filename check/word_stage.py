@@ -118,7 +118,8 @@ class Stage:
         self.runs += 1
         self.server = Run(self.folder, ["serve", *words], bytes_of(step.given, self.port), step.how)
         self.servers.append(self.server)
-        self.held.append(words[words.index("--db") + 1])
+        # (one in memory has no file)
+        self.held.append(words[words.index("--db") + 1] if "--db" in words else "")
         self.server.wait_for(LISTENING)
         said = re.search(rb" on 127\.0\.0\.1:(\d+)\n", self.server.has_said(2))
         if said is None:

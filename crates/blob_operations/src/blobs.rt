@@ -36,7 +36,7 @@ pub fn read_blob<K: Keeper>(
         Err(reply) => return reply,
     };
     match found_or(keeper.blob(alloc, name, &digest), Refusal::BlobUnknown) {
-        Ok(bytes) => Ok(found(digest, "application/octet-stream", Body::Owned(bytes))),
+        Ok(bytes) => Ok(found(digest, "application/octet-stream", Body::Shared(bytes))),
         Err(reply) => reply,
     }
 }

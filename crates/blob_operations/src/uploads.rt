@@ -183,7 +183,7 @@ fn append<K: Keeper>(
     let Ok(reply) = session_reply(alloc, Status::Accepted, name, upload.number, size) else {
         return Err(Fault::Memory);
     };
-    after(keeper.append(name, upload.number, body), reply)
+    after(keeper.append(name, upload.number, body, None), reply)
 }
 
 /// PATCH: puts a chunk behind the bytes of an upload session (OCI Distribution Specification 1.1,

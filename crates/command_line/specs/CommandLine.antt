@@ -83,17 +83,27 @@ login = option (codes "login")
 abbrev pub health : Rule
 health = flag (codes "health")
 
+-- a registry that is served without a database, and the repositories and grants that it begins with
+abbrev pub memory : Rule
+memory = flag (codes "memory")
+
+abbrev pub begin_repo : Rule
+begin_repo = repeated (codes "repo")
+
+abbrev pub begin_grant : Rule
+begin_grant = repeated (codes "grant")
+
 abbrev pub subcommand : Text → List Rule → Shape
 subcommand word options = record (new_shape word) { rules = options }
 
 abbrev pub serve : Shape
 serve = subcommand (codes "serve")
-    (required db ∷ listen ∷ connections ∷ at_once ∷ buffer ∷ staged ∷ idle ∷ orders ∷ flag (codes "log")
-    ∷ flag (codes "stop-at-eof") ∷ login ∷ health ∷ [])
+    (db ∷ memory ∷ begin_repo ∷ begin_grant ∷ listen ∷ connections ∷ at_once ∷ buffer ∷ staged ∷ idle
+    ∷ orders ∷ flag (codes "log") ∷ flag (codes "stop-at-eof") ∷ login ∷ health ∷ [])
 
 abbrev pub stdio : Shape
 stdio = subcommand (codes "stdio")
-    (db ∷ flag (codes "memory") ∷ repeated (codes "repo") ∷ repeated (codes "grant") ∷ login ∷ health ∷ [])
+    (db ∷ memory ∷ begin_repo ∷ begin_grant ∷ login ∷ health ∷ [])
 
 -- over a database that no server holds
 abbrev pub over_database : Text → Shape

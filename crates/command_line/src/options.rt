@@ -110,30 +110,41 @@ const HEALTH: SubOption<'static> = SubOption {
     help: "Answer GET /healthz",
 };
 
+/// A registry that is served without a database.
+const MEMORY: SubOption<'static> = SubOption {
+    word: "memory",
+    takes: Takes::Nothing,
+    help: "Keep everything in memory",
+};
+
+/// What a registry in memory begins with.
+const BEGIN_REPO: SubOption<'static> = SubOption {
+    word: "repo",
+    takes: Takes::Many("NAME=QUOTA"),
+    help: "Make a repository with a quota in bytes",
+};
+
+const BEGIN_GRANT: SubOption<'static> = SubOption {
+    word: "grant",
+    takes: Takes::Many("TOKEN=NAME=LEVEL"),
+    help: "Give a token a level on a repository: 1 pull, 2 push, 3 delete",
+};
+
 pub const STDIO: &[SubOption<'static>] = &[
     DATABASE,
-    SubOption {
-        word: "memory",
-        takes: Takes::Nothing,
-        help: "Keep everything in memory",
-    },
-    SubOption {
-        word: "repo",
-        takes: Takes::Many("NAME=QUOTA"),
-        help: "Make a repository with a quota in bytes",
-    },
-    SubOption {
-        word: "grant",
-        takes: Takes::Many("TOKEN=NAME=LEVEL"),
-        help: "Give a token a level on a repository: 1 pull, 2 push, 3 delete",
-    },
+    MEMORY,
+    BEGIN_REPO,
+    BEGIN_GRANT,
     LOGIN,
     HEALTH,
 ];
 
 /// Of one that serves connections within limits.
 pub const SERVE: &[SubOption<'static>] = &[
-    DATABASE_WANTED,
+    DATABASE,
+    MEMORY,
+    BEGIN_REPO,
+    BEGIN_GRANT,
     SubOption {
         word: "listen",
         takes: Takes::Required("ADDR"),

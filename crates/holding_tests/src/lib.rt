@@ -10,4 +10,6 @@ mod receiving;
 #[cfg(test)]
 mod requests;
 #[cfg(test)]
+mod sharing;
+#[cfg(test)]
 mod staged;

@@ -18,7 +18,17 @@ pub fn registry_with(rt: &impl Abort, alloc: Global, quota: u64) -> Registry {
 
 /// The same, where so many bytes may be staged.
 pub fn registry_within(rt: &impl Abort, alloc: Global, quota: u64, most: u64) -> Registry {
-    let holding = Holding::within(alloc, MapKeeper::new(alloc), most);
+    let holding = Holding::within(alloc, MapKeeper::new(alloc), most, 0);
+    registry_over(rt, alloc, holding, quota)
+}
+
+/// The same over an empty registry.
+pub fn registry_over(
+    rt: &impl Abort,
+    alloc: Global,
+    holding: Holding<MapKeeper>,
+    quota: u64,
+) -> Registry {
     let mut registry = Service::new(holding);
     let name = &RepoName::parse(alloc, "team/app").expect(rt, "a name");
     let quota = Quota::new(quota).expect(rt, "a quota");
@@ -33,7 +43,7 @@ pub fn registry_within(rt: &impl Abort, alloc: Global, quota: u64, most: u64) ->
 }
 
 /// A request without a body of its own.
-fn request<'a>(
+pub fn request<'a>(
     token: &'a str,
     method: Verb,
     route: Route<'a>,

@@ -73,7 +73,7 @@ fn stages_are_verified(rt: HostRuntime) {
 #[test]
 fn stages_share_their_room(rt: HostRuntime) {
     let alloc = rt.alloc();
-    let mut holder = Holding::within(alloc, MapKeeper::new(alloc), 10);
+    let mut holder = Holding::within(alloc, MapKeeper::new(alloc), 10, 0);
     assert!(&rt; holder.stage(1, 6, false).is_ok());
     assert!(&rt; holder.stage(2, 5, false).is_err());
     assert!(&rt; holder.stage(2, 4, false).is_ok());

@@ -1,7 +1,7 @@
 //! Whether what is kept under a digest is what it says.
 ghost use Rattle.std.specs.Prelude.{◌≡◌, MatchResult};
 ghost use Rattle.oci_types.specs.Manifest.{manifest_in};
-ghost use Rattle.registry_model.specs.Keeping.{bytes_in, manifest_shown};
+ghost use Rattle.registry_model.specs.Keeping.{shared_in, manifest_shown};
 ghost use Rattle.registry_checking.specs.Wrongs.{is_of, wrong_bytes, wrong_blob, wrong_reading, wrong_manifest, untied};
 
 use crate::notes::content;
@@ -9,6 +9,7 @@ use crate::wrong::{Flaw, Wrong};
 use oci_documents::read_manifest;
 use oci_types::{Digest, Fault, Kind, ManifestFault, RepoName, Tag, Verdict};
 use std::alloc::Global;
+use std::rc::Rc;
 
 /// Whether the digest is that of the bytes.
 fn is_of(digest: &Digest, bytes: &[u8]) -> bool
@@ -44,10 +45,10 @@ fn wrong_bytes(
 pub fn wrong_blob(
     repo: &RepoName,
     digest: &Digest,
-    bytes: Option<Vec<u8>>,
+    bytes: Option<Rc<Vec<u8>>>,
     size: Option<u64>,
 ) -> Result<Option<Wrong>, Fault>
-    ensures { MatchResult result (λ found. found ≡ wrong_blob repo.now digest.now (bytes_in bytes) size)
+    ensures { MatchResult result (λ found. found ≡ wrong_blob repo.now digest.now (shared_in bytes) size)
         (λ fault. fault ≡ Fault.Memory) }
 {
     match (bytes, size) {

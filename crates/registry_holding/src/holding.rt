@@ -3,11 +3,13 @@ ghost use Rattle.oci_types.specs.Digest.{matches};
 ghost use Rattle.registry_model.specs.Limits.{largest_blob};
 ghost use Rattle.registry_model.specs.Keeping.{nothing_held};
 ghost use Rattle.registry_holding.specs.Shown.{held_in, or_memory};
+ghost use Rattle.registry_holding.specs.Sharing.{AreShared};
 
 mod keeper;
 
 use crate::Holder;
 use crate::pins::Pins;
+use crate::shared_blobs::SharedBlobs;
 use crate::staged::{StageSum, Staged};
 use crate::stages::Stages;
 use oci_types::{Digest, Fault, RepoName, Verdict};
@@ -22,8 +24,11 @@ pub struct Holding<K: Keeper> {
     keeper: K,
     stages: Stages,
     pins: Pins,
+    /// Blobs that were read, as the keeper has them.
+    shared: SharedBlobs,
     /// How many bytes stages may have together.
     most: u64,
+    ghost shares: { AreShared shared.map (K.is_honest keeper) (K.kept keeper) },
 }
 
 /// What came of taking memory.
@@ -36,11 +41,11 @@ fn or_memory(taken: Result<(), AllocError>) -> Result<(), Fault>
     }
 }
 
-/// Whether the digest is that of the bytes.
-fn has_digest(digest: &Digest, bytes: &[u8]) -> bool
-    ensures { result ≡ true → matches digest.now bytes.now ≡ true }
+/// Whether bytes may be a blob of this digest.
+fn is_blob(digest: &Digest, bytes: &[u8]) -> bool
+    ensures { result ≡ true → (matches digest.now bytes.now ≡ true) × (length bytes.now ≤ largest_blob) }
 {
-    matches!(digest.verifies(bytes), Verdict::Matches)
+    bytes.len() as u64 <= LARGEST_BLOB && matches!(digest.verifies(bytes), Verdict::Matches)
 }
 
 /// Whether a stage may be a blob of this digest.
@@ -57,12 +62,13 @@ impl<K: Keeper> Holding<K> {
         ensures keeps { result.keeper ≡ keeper }
         ensures holds { held_in result.stages.map result.pins.map ≡ nothing_held }
     {
-        Holding::within(alloc, keeper, u64::MAX)
+        Holding::within(alloc, keeper, u64::MAX, 0)
     }
 
     /// The same, where stages together may have so many bytes: one that would have more is not begun, as if
-    /// memory were wanting. A stage counts as many bytes as are expected, or as a largest blob.
-    pub fn within(alloc: Global, keeper: K, most: u64) -> Holding<K>
+    /// memory were wanting. A stage counts as many bytes as are expected, or as a largest blob. Of blobs that
+    /// were read last, as many bytes are held as `recent` says, so that they need not be read again.
+    pub fn within(alloc: Global, keeper: K, most: u64, recent: usize) -> Holding<K>
         ensures keeps { result.keeper ≡ keeper }
         ensures holds { held_in result.stages.map result.pins.map ≡ nothing_held }
     {
@@ -71,6 +77,7 @@ impl<K: Keeper> Holding<K> {
             keeper,
             stages: Stages::new(alloc),
             pins: Pins::new(alloc),
+            shared: SharedBlobs::new(alloc, recent),
             most,
         }
     }
@@ -140,10 +147,14 @@ impl<K: Keeper> Holder for Holding<K> {
             return Err(Fault::Storage);
         }
         match self.stages.take(key) {
-            Some(staged) if fits(&staged, digest) => {
-                self.keeper.put_blob(repo, digest, staged.bytes())
+            Some(staged) => {
+                if fits(&staged, digest) {
+                    self.keeper.put_blob(repo, digest, staged.bytes())
+                } else {
+                    Err(Fault::Memory)
+                }
             }
-            _ => Err(Fault::Memory),
+            None => Err(Fault::Memory),
         }
     }
 
@@ -152,7 +163,10 @@ impl<K: Keeper> Holder for Holding<K> {
             return Err(Fault::Storage);
         }
         match self.stages.take(key) {
-            Some(staged) => self.keeper.append(repo, number, staged.bytes()),
+            Some(staged) => {
+                let hash = staged.sum().sha256;
+                self.keeper.append(repo, number, staged.bytes(), Some(hash))
+            }
             None => Err(Fault::Memory),
         }
     }
@@ -174,7 +188,7 @@ impl<K: Keeper> Holder for Holding<K> {
             return Err(Fault::Memory);
         };
         let whole = bytes.as_slice();
-        if whole.len() as u64 > LARGEST_BLOB || !has_digest(digest, whole) {
+        if !is_blob(digest, whole) {
             return Err(Fault::Memory);
         }
         self.keeper.finish(repo, number, digest, whole)

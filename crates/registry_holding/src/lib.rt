@@ -6,6 +6,8 @@
 pub mod holder;
 pub mod holding;
 pub mod pins;
+pub mod recent;
+pub mod shared_blobs;
 pub mod staged;
 pub mod stages;
 

@@ -5,11 +5,12 @@ ghost use Rattle.registry_holding.specs.Shown.{pins_in};
 
 use std::alloc::{AllocError, Global};
 use std::collections::BTreeMap;
+use std::rc::Rc;
 
 /// Contents under numbers, in memory.
 #[derive(Drop)]
 pub struct Pins {
-    map: BTreeMap<u64, Vec<u8>>,
+    map: BTreeMap<u64, Rc<Vec<u8>>>,
 }
 
 impl Pins {
@@ -23,9 +24,9 @@ impl Pins {
     }
 
     /// Puts a content under a number, in the place of one that is there.
-    pub fn put(&mut self, key: u64, bytes: Vec<u8>) -> Result<(), AllocError>
+    pub fn put(&mut self, key: u64, bytes: Rc<Vec<u8>>) -> Result<(), AllocError>
         ensures ok { OnOk result
-            (pins_in self.new.map ≡ put_under key (Some bytes.items) (pins_in self.old.map)) }
+            (pins_in self.new.map ≡ put_under key (Some bytes.value.items) (pins_in self.old.map)) }
         ensures err { OnErr result (pins_in self.new.map ≡ pins_in self.old.map) }
     {
         self.map.insert(key, bytes)?;

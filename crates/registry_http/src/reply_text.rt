@@ -123,6 +123,7 @@ pub fn body_bytes(body: &Body) -> &[u8]
     match body {
         Body::Constant(text) => text.as_bytes(),
         Body::Owned(bytes) => bytes.as_slice(),
+        Body::Shared(bytes) => bytes.as_slice(),
         Body::Unsent(_) => b"",
     }
 }
@@ -134,6 +135,7 @@ fn body_length(body: &Body) -> u64
     match body {
         Body::Constant(text) => text.len() as u64,
         Body::Owned(bytes) => bytes.len() as u64,
+        Body::Shared(bytes) => bytes.len() as u64,
         Body::Unsent(length) => *length,
     }
 }

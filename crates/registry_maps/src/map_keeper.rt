@@ -15,6 +15,7 @@ use oci_types::{Digest, Fault, Kind, Manifest, RepoName, Tag, Token};
 use registry_model::{Grant, Keeper, Level, Quota, Usage};
 use std::alloc::Global;
 use std::collections::BTreeMap;
+use std::rc::Rc;
 
 /// A keeper over ordered maps, whose bytes lie in memory. It never answers `Fault::Storage`.
 pub struct MapKeeper {
@@ -90,8 +91,8 @@ impl Keeper for MapKeeper {
         alloc: Global,
         repo: &RepoName,
         digest: &Digest,
-    ) -> Result<Option<Vec<u8>>, Fault> {
-        or_memory(self.copy_of_blob(alloc, repo, digest))
+    ) -> Result<Option<Rc<Vec<u8>>>, Fault> {
+        or_memory(self.shared_blob(alloc, repo, digest))
     }
 
     fn blob_size(&mut self, repo: &RepoName, digest: &Digest) -> Result<Option<u64>, Fault> {
@@ -248,7 +249,13 @@ impl Keeper for MapKeeper {
         }
     }
 
-    fn append(&mut self, repo: &RepoName, number: u64, bytes: &[u8]) -> Result<(), Fault> {
+    fn append(
+        &mut self,
+        repo: &RepoName,
+        number: u64,
+        bytes: &[u8],
+        _hash: Option<[u8; 32]>,
+    ) -> Result<(), Fault> {
         match self.repos.get_mut(repo) {
             Some(repository) => or_memory(repository.append(number, bytes)),
             None => Ok(()),

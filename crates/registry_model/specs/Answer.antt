@@ -8,7 +8,7 @@ use Rattle.registry_model.specs.declared.refusal.Refusal.TheVariants.{TokenRequi
 use Rattle.registry_model.specs.declared.reply.Status.{Status}
 use Rattle.registry_model.specs.declared.reply.Status.TheVariants as status
 use Rattle.registry_model.specs.declared.reply.Body.{Body}
-use Rattle.registry_model.specs.declared.reply.Body.TheVariants.{Constant, Owned, Unsent}
+use Rattle.registry_model.specs.declared.reply.Body.TheVariants.{Constant, Owned, Shared, Unsent}
 use Rattle.registry_model.specs.declared.reply.Challenge.{Challenge}
 use Rattle.registry_model.specs.declared.reply.Challenge.TheVariants as challenge
 use Rattle.registry_model.specs.declared.reply.Reply.{Reply}
@@ -93,6 +93,7 @@ failed_answer = bare_answer status.InternalServerError
 abbrev pub content_of : Body → Content
 content_of (Constant text) = sent text.now
 content_of (Owned bytes) = sent bytes.items
+content_of (Shared bytes) = sent bytes.value.items
 content_of (Unsent n) = unsent n
 
 abbrev pub owned : Option (String Global) → Option Text

@@ -1,6 +1,7 @@
 -- What the calls of a keeper say of the world that it keeps, and of what it holds beside the world.
 use Rattle.std.specs.Prelude.{◌≡◌, ℕ, Bool, true, false, List, map, Option, None, Result, Ok, Err, ⊤, Vec, option_map}
 use Rattle.std.specs.declared.alloc.Global.{Global}
+use Rattle.std.specs.declared.rc.Rc.{Rc}
 use Rattle.oci_types.specs.Text.{Text}
 use Rattle.oci_types.specs.declared.fault.Fault.{Fault}
 use Rattle.oci_types.specs.declared.fault.Fault.TheVariants.{Memory, Storage}
@@ -79,6 +80,10 @@ Spends (Err Storage) k k' = k'.spent ≡ true
 -- the bytes that a vector holds, if there is one
 abbrev pub bytes_in : Option (Vec ℕ Global) → Option Text
 bytes_in o = option_map (λ v. v.items) o
+
+-- the same of one that is shared
+abbrev pub shared_in : Option (Rc (Vec ℕ Global) Global) → Option Text
+shared_in o = option_map (λ r. r.value.items) o
 
 -- ---- what the answers show
 

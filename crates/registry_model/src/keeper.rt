@@ -1,4 +1,5 @@
-ghost use Rattle.std.specs.Prelude.{◌≡◌, ◌≤◌, ◌<◌, ◌+◌, true, false, length, is_some, Option, Result, Ok};
+ghost use Rattle.std.specs.Prelude.{◌≡◌, ◌≤◌, ◌<◌, ◌+◌, true, false, length, is_some, Option, Result, Ok, IfSome};
+ghost use Rattle.sha2.specs.Sha256.{sha256};
 ghost use Rattle.oci_types.specs.Digest.{matches};
 ghost use Rattle.oci_types.specs.Manifest.{shown, manifest_in};
 ghost use Rattle.registry_model.specs.Limits.{largest, largest_blob, largest_manifest, most_sessions};
@@ -7,15 +8,14 @@ ghost use Rattle.registry_model.specs.Lookups.{AreLevelsOn, AreLevelsOver, repo_
 ghost use Rattle.registry_model.specs.Command.{set_repo, drop_repo, grant, revoke, revoke_all, drop_sessions};
 ghost use Rattle.registry_model.specs.Pruning.{delete_blobs};
 ghost use Rattle.registry_model.specs.Ask.{text_in};
-ghost use Rattle.registry_model.specs.Keeping.{Kept, Asks, Reads, ReadsBy, ReadsSo, Writes, WritesBy, Spends, bytes_in, manifest_shown, page_shown, entries_shown, usages_shown, digests_shown, names_shown, tags_shown};
+ghost use Rattle.registry_model.specs.Keeping.{Kept, Asks, Reads, ReadsBy, ReadsSo, Writes, WritesBy, Spends, bytes_in, shared_in, manifest_shown, page_shown, entries_shown, usages_shown, digests_shown, names_shown, tags_shown};
 ghost use Rattle.registry_model.specs.Closing.{session_matches, finish_as_is, WritesWhereSo};
 
+pub use crate::outcome::{Found, Hash, Outcome};
 use crate::{Grant, Level, Quota, Usage};
 use oci_types::{Digest, Fault, Kind, Manifest, RepoName, Tag, Token};
 use std::alloc::Global;
-
-/// What a read finds, or that it is not there.
-pub type Found<T> = Result<Option<T>, Fault>;
+use std::rc::Rc;
 
 /// What keeps a registry's world. After `Fault::Memory` nothing has changed; after `Fault::Storage` the
 /// keeper is spent, and answers `Storage` alone. A read leaves the world as it is, and finds nothing in a
@@ -67,9 +67,9 @@ pub trait Keeper {
         ensures spends { Spends result (kept self.old) (kept self.new) }
         ensures honest { is_honest self.new → is_honest self.old };
 
-    /// The bytes of a blob.
-    fn blob(&mut self, alloc: Global, repo: &RepoName, digest: &Digest) -> Found<Vec<u8>>
-        ensures found { is_honest self.new → ReadsBy bytes_in result
+    /// The bytes of a blob. They may be shared with others that read it.
+    fn blob(&mut self, alloc: Global, repo: &RepoName, digest: &Digest) -> Found<Rc<Vec<u8>>>
+        ensures found { is_honest self.new → ReadsBy shared_in result
             (blob_at (kept self.old).world repo.now digest.now) (kept self.old) (kept self.new) }
         ensures spends { Spends result (kept self.old) (kept self.new) }
         ensures honest { is_honest self.new → is_honest self.old };
@@ -237,8 +237,9 @@ pub trait Keeper {
         ensures honest { is_honest self.new → is_honest self.old };
 
     /// Puts bytes behind those of an open upload session (`session_size` tells), which then has at most
-    /// 67,108,864. Touches none that it has.
-    fn append(&mut self, repo: &RepoName, number: u64, bytes: &[u8]) -> Result<(), Fault>
+    /// 67,108,864. Touches none that it has. Who has hashed them says so: they need not be hashed again.
+    fn append(&mut self, repo: &RepoName, number: u64, bytes: &[u8], hash: Option<Hash>) -> Outcome
+        requires hashed { IfSome hash (λ h. h ≡ sha256 bytes.now) }
         requires open { Asks (is_honest self.old) (kept self.old)
             (λ w. is_some (session_at w repo.now number) ≡ true) }
         requires fits { Asks (is_honest self.old) (kept self.old)
@@ -249,13 +250,7 @@ pub trait Keeper {
         ensures honest { is_honest self.new → is_honest self.old };
 
     /// Ends an open session and adds its whole bytes, the last chunk with them, as a blob of that digest.
-    fn finish(
-        &mut self,
-        repo: &RepoName,
-        number: u64,
-        digest: &Digest,
-        bytes: &[u8],
-    ) -> Result<(), Fault>
+    fn finish(&mut self, repo: &RepoName, number: u64, digest: &Digest, bytes: &[u8]) -> Outcome
         requires open { Asks (is_honest self.old) (kept self.old)
             (λ w. is_some (session_at w repo.now number) ≡ true) }
         requires matching { matches digest.now bytes.now ≡ true }

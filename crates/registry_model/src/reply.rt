@@ -3,6 +3,7 @@ ghost use Rattle.registry_model.specs.Answer.{answer_of, busy_answer, failed_ans
 
 use crate::Refusal;
 use oci_types::Digest;
+use std::rc::Rc;
 
 /// A reply's status (RFC 9110, section 15; 429: RFC 6585).
 #[derive(Clone, Copy)]
@@ -47,10 +48,12 @@ impl Status {
     }
 }
 
-/// A reply's body: a constant text, bytes of its own, or what HEAD leaves of a body, its length.
+/// A reply's body: a constant text, bytes of its own, bytes that it shares with others, or what HEAD leaves
+/// of a body, its length.
 pub enum Body {
     Constant(&'static str),
     Owned(Vec<u8>),
+    Shared(Rc<Vec<u8>>),
     Unsent(u64),
 }
 
@@ -60,6 +63,7 @@ impl Drop for Body {
         match self {
             Body::Constant(_) => {}
             Body::Owned(_) => {}
+            Body::Shared(_) => {}
             Body::Unsent(_) => {}
         }
     }

@@ -4,7 +4,7 @@ use Rattle.std.specs.Prelude.{◌==◌, ◌||◌, codes, if◌then◌else◌}
 use Rattle.std.proofs.lemmas.List.Folds.{list_any-append}
 use Rattle.oci_types.specs.Text.{Text}
 use Rattle.registry_orders.specs.declared.cause.Cause.{Cause}
-use Rattle.registry_orders.specs.declared.cause.Cause.TheVariants.{InUse, NoFolder, IsFolder, NoFileName, NoPlainFile, NoRightToRead, NoRightToWrite, ReadOnly, NoDatabase, Journal, DiskFull, NoRegistry, PortInUse, NoAddress, NoHost, Elsewhere, NoRightToPort, StdioOptions, LoginOptions, TokenOptions, PlaceOptions, NoFile, Unreadable, NoToken, NoServer, ServerThere, NoSocket}
+use Rattle.registry_orders.specs.declared.cause.Cause.TheVariants.{InUse, NoFolder, IsFolder, NoFileName, NoPlainFile, NoRightToRead, NoRightToWrite, ReadOnly, NoDatabase, Journal, DiskFull, NoRegistry, PortInUse, NoAddress, NoHost, Elsewhere, NoRightToPort, RegistryOptions, LoginOptions, TokenOptions, PlaceOptions, NoFile, Unreadable, NoToken, NoServer, ServerThere, NoSocket}
 use Rattle.registry_orders.specs.Outputs.{newline}
 use Rattle.registry_orders.specs.Causes.{words_of, reason_of, has_line_end, line_if, IsAtMostOneLine}
 
@@ -26,7 +26,7 @@ words_end_nowhere NoAddress = refl
 words_end_nowhere NoHost = refl
 words_end_nowhere Elsewhere = refl
 words_end_nowhere NoRightToPort = refl
-words_end_nowhere StdioOptions = refl
+words_end_nowhere RegistryOptions = refl
 words_end_nowhere LoginOptions = refl
 words_end_nowhere TokenOptions = refl
 words_end_nowhere PlaceOptions = refl

@@ -3,7 +3,7 @@ use Rattle.std.specs.Prelude.{◌≡◌, ◌⊎◌, ◌==◌, Bool, false, Optio
 use Rattle.std.specs.List.{list_any}
 use Rattle.oci_types.specs.Text.{Text}
 use Rattle.registry_orders.specs.declared.cause.Cause.{Cause}
-use Rattle.registry_orders.specs.declared.cause.Cause.TheVariants.{InUse, NoFolder, IsFolder, NoFileName, NoPlainFile, NoRightToRead, NoRightToWrite, ReadOnly, NoDatabase, Journal, DiskFull, NoRegistry, PortInUse, NoAddress, NoHost, Elsewhere, NoRightToPort, StdioOptions, LoginOptions, TokenOptions, PlaceOptions, NoFile, Unreadable, NoToken, NoServer, ServerThere, NoSocket}
+use Rattle.registry_orders.specs.declared.cause.Cause.TheVariants.{InUse, NoFolder, IsFolder, NoFileName, NoPlainFile, NoRightToRead, NoRightToWrite, ReadOnly, NoDatabase, Journal, DiskFull, NoRegistry, PortInUse, NoAddress, NoHost, Elsewhere, NoRightToPort, RegistryOptions, LoginOptions, TokenOptions, PlaceOptions, NoFile, Unreadable, NoToken, NoServer, ServerThere, NoSocket}
 use Rattle.registry_orders.specs.declared.failure.Failure.{Failure}
 use Rattle.registry_orders.specs.Failures.{text_of}
 use Rattle.registry_orders.specs.Outputs.{newline}
@@ -26,7 +26,7 @@ words_of NoAddress = codes "not an address"
 words_of NoHost = codes "no address is known for this name"
 words_of Elsewhere = codes "not an address of this machine"
 words_of NoRightToPort = codes "no right to the port"
-words_of StdioOptions =
+words_of RegistryOptions =
     codes "wants --db PATH, or --memory with --repo NAME=QUOTA and --grant TOKEN=NAME=LEVEL"
 words_of LoginOptions = codes "wants --login http or --login https"
 words_of TokenOptions = codes "wants one of --token TOKEN and --token-file PATH"

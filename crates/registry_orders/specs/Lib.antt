@@ -10,5 +10,6 @@ pub mod Causes
 pub mod Tokens
 pub mod Orders
 pub mod Places
+pub mod Served
 pub mod Tasks
 pub mod Outputs

@@ -1,15 +1,17 @@
 -- What the words of a command line ask for (profile).
-use Rattle.std.specs.Prelude.{◌≡◌, ◌↔◌, true, List, [], Option, Some, None, codes, option_map}
+use Rattle.std.specs.Prelude.{◌≡◌, ◌↔◌, true, List, Option, Some, None, codes, option_map}
 use Rattle.clap.specs.Words.{Row, first_of, one_of, subcommand_of}
 use Rattle.oci_types.specs.Text.{Text}
 use Rattle.registry_orders.specs.declared.beside.Beside.{Beside}
+use Rattle.registry_orders.specs.declared.served.Served.TheVariants as served
 use Rattle.registry_orders.specs.declared.tasks.Task.{Task}
 use Rattle.registry_orders.specs.declared.tasks.Task.TheVariants.{Memory, Stored, Server, Order, TokenOrder, Check, Migration, Stop}
 use Rattle.command_line.specs.CommandLine.{registry}
 use Rattle.registry_orders.specs.Limits.{AreLimitsIn}
-use Rattle.registry_orders.specs.Options.{texts_of, HasFlag, IsNumberOf, SpellsSetup}
+use Rattle.registry_orders.specs.Options.{HasFlag, IsNumberOf}
 use Rattle.registry_orders.specs.Orders.{HasValue, IsOrderIn, IsTokenOrderIn}
 use Rattle.registry_orders.specs.Places.{IsPlaceIn}
+use Rattle.registry_orders.specs.Served.{IsServedIn}
 use Rattle.registry_orders.specs.Settings.{AreSettingsIn}
 use Rattle.registry_orders.specs.Tokens.{IsTokenFrom}
 
@@ -23,16 +25,11 @@ pub record IsBesideIn (options : List Row) (b : Beside) : Type 0 where
 -- the word of the subcommand, and the options that it was given, say what the task is
 abbrev pub IsTaskIn : Text → List Row → Task → Type 0
 IsTaskIn word options (Memory setup settings) =
-    (word ≡ codes "stdio") × HasFlag options (codes "memory") × (first_of (codes "db") options ≡ None)
-    × SpellsSetup (texts_of (codes "repo") options) (texts_of (codes "grant") options) setup
-    × AreSettingsIn options settings
+    (word ≡ codes "stdio") × IsServedIn options (served.Memory setup) × AreSettingsIn options settings
 IsTaskIn word options (Stored path settings) =
-    (word ≡ codes "stdio") × ¬ (HasFlag options (codes "memory")) × HasValue options (codes "db") path.now
-    × (texts_of (codes "repo") options ≡ []) × (texts_of (codes "grant") options ≡ [])
-    × AreSettingsIn options settings
-IsTaskIn word options (Server path address connections limits beside settings) =
-    (word ≡ codes "serve") × HasValue options (codes "db") path.now
-    × HasValue options (codes "listen") address.now
+    (word ≡ codes "stdio") × IsServedIn options (served.Stored path) × AreSettingsIn options settings
+IsTaskIn word options (Server over address connections limits beside settings) =
+    (word ≡ codes "serve") × IsServedIn options over × HasValue options (codes "listen") address.now
     × IsNumberOf (one_of (codes "connections") options) connections × AreLimitsIn options limits
     × IsBesideIn options beside × AreSettingsIn options settings
 IsTaskIn word options (Order place order) = IsPlaceIn options place × IsOrderIn word options order

@@ -38,8 +38,8 @@ pub enum Cause {
     /// No address of this machine.
     Elsewhere,
     NoRightToPort,
-    /// The options of `stdio` do not go together.
-    StdioOptions,
+    /// The registry that is to be served is given twice, or not at all, or not as it is to be.
+    RegistryOptions,
     /// The scheme by which clients log in is none.
     LoginOptions,
     /// A token is given twice, or not at all.
@@ -83,7 +83,7 @@ impl Cause {
             Cause::NoHost => "no address is known for this name",
             Cause::Elsewhere => "not an address of this machine",
             Cause::NoRightToPort => "no right to the port",
-            Cause::StdioOptions => {
+            Cause::RegistryOptions => {
                 "wants --db PATH, or --memory with --repo NAME=QUOTA and --grant TOKEN=NAME=LEVEL"
             }
             Cause::LoginOptions => "wants --login http or --login https",

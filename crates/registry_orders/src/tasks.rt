@@ -6,11 +6,12 @@ ghost use Rattle.registry_orders.specs.Tasks.{IsTaskIn};
 
 use crate::beside::{Beside, beside_given};
 use crate::failure::Failure;
-use crate::given::{is_given, number_given, text_given, texts_given};
+use crate::given::{number_given, text_given};
 use crate::limits::{Limits, limits_given};
 use crate::options::Setup;
 use crate::orders::{Order, TokenOrder, read_order, read_token_order};
 use crate::place::{Place, place_given};
+use crate::served::{Served, served_given};
 use crate::settings::settings_given;
 use crate::tokens::{TokenSource, is_token_given, token_source};
 use clap::ArgMatches;
@@ -30,9 +31,9 @@ pub enum Task<'a> {
         path: &'a str,
         settings: Settings,
     },
-    /// Serve an address over the registry at a path, so many connections, within these limits.
+    /// Serve an address over a registry, so many connections, within these limits.
     Server {
-        path: &'a str,
+        served: Served<'a>,
         address: &'a str,
         connections: u64,
         limits: Limits,
@@ -64,42 +65,33 @@ pub enum Task<'a> {
     },
 }
 
-/// What `registry stdio` is to serve: a database, or a registry in memory, which alone is set up here.
+/// What `registry stdio` is to serve, and how.
 fn stdio_task<'a>(alloc: Global, matches: &ArgMatches<'a>) -> Result<Task<'a>, Failure>
     ensures read { IfOk result (IsTaskIn (codes "stdio") (rows_of (found_of matches.now))) }
     ensures refused { IfErr result IsOfWords }
 {
-    let repos = texts_given(matches, "repo").unwrap_or(&[]);
-    let grants = texts_given(matches, "grant").unwrap_or(&[]);
-    let memory = is_given(matches, "memory");
     let settings = settings_given(matches)?;
-    match text_given(matches, "db") {
-        Some(path) if !memory && repos.is_empty() && grants.is_empty() => {
-            Ok(Task::Stored { path, settings })
-        }
-        None if memory => {
-            let setup = Setup::read(alloc, repos, grants)?;
-            Ok(Task::Memory { setup, settings })
-        }
-        _ => Err(Failure::InvalidOptions),
+    match served_given(alloc, matches)? {
+        Served::Memory(setup) => Ok(Task::Memory { setup, settings }),
+        Served::Stored(path) => Ok(Task::Stored { path, settings }),
     }
 }
 
 /// What `registry serve` is to serve, and how.
-fn serve_task<'a>(matches: &ArgMatches<'a>) -> Result<Task<'a>, Failure>
+fn serve_task<'a>(alloc: Global, matches: &ArgMatches<'a>) -> Result<Task<'a>, Failure>
     ensures read { IfOk result (IsTaskIn (codes "serve") (rows_of (found_of matches.now))) }
     ensures refused { IfErr result IsOfWords }
 {
-    let places = (text_given(matches, "db"), text_given(matches, "listen"));
-    let (Some(path), Some(address)) = places else {
+    let Some(address) = text_given(matches, "listen") else {
         return Err(Failure::InvalidOptions);
     };
     let connections = number_given(matches, "connections")?;
     let limits = limits_given(matches)?;
     let beside = beside_given(matches);
     let settings = settings_given(matches)?;
+    let served = served_given(alloc, matches)?;
     Ok(Task::Server {
-        path,
+        served,
         address,
         connections,
         limits,
@@ -170,7 +162,7 @@ pub(crate) fn task_of<'a>(
 {
     match word {
         "stdio" => stdio_task(alloc, matches),
-        "serve" => serve_task(matches),
+        "serve" => serve_task(alloc, matches),
         "check" | "migrate" => database_task(word, matches),
         "stop" => stop_task(matches),
         "grant" | "revoke" => token_task(alloc, word, matches),

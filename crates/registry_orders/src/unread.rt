@@ -20,13 +20,12 @@ pub enum Told<'a> {
 }
 
 /// Which options a subcommand wants that got others. Where both the place and the token of an order are a
-/// mistake, the place is told. A subcommand that is no order has one place, which `clap` wants, as it wants
-/// all that `serve` does but a scheme that is one.
+/// mistake, the place is told. Of what is served the scheme by which clients log in is told first. A
+/// subcommand that is neither has one place, which `clap` wants.
 fn wanted(word: &str, matches: &ArgMatches) -> Option<Cause> {
     match word {
         "stdio" | "serve" if settings_given(matches).is_err() => Some(Cause::LoginOptions),
-        "stdio" => Some(Cause::StdioOptions),
-        "serve" => None,
+        "stdio" | "serve" => Some(Cause::RegistryOptions),
         _ if place_given(matches).is_err() => Some(Cause::PlaceOptions),
         "grant" | "revoke" | "grants" => Some(Cause::TokenOptions),
         _ => None,

@@ -1,2 +1,3 @@
 pub mod EndedTasks
 pub mod ServingLemmas
+pub mod MemoryLemmas

@@ -56,7 +56,7 @@ module _ (x y : Serving) (same : x ≡ y) (stop : Stop) (s s' : Kept) (q : Serve
   failed_ends f e = go (as_stopped (Failed f) e)
     where
       go : ServesSpan x.settings x.limits (Failed f) s s' → EndsAs (ServesAll y.settings y.limits.at_once y.limits.buffer) (Err f) s s'
-      go (inl z) = inl (together z)
+      go (inl z) = inl (together z.0)
       go (inr z) = inr (ap Err z.0, z.1)
 
 pub greets_by : (before after : Bool) (stop to : Stop) (h h' : Option Text) → stop ≡ to → GreetsFirst before stop after h h' → GreetsFirst before to after h h'
@@ -64,7 +64,7 @@ greets_by before after stop to h h' e x = subst (λ (z : Stop). GreetsFirst befo
 
 -- ---- nobody is served yet
 
-none_served : (settings : Settings) (at_once buffer : ℕ) (s : Kept) → ServesAll settings at_once buffer s s
+pub none_served : (settings : Settings) (at_once buffer : ℕ) (s : Kept) → ServesAll settings at_once buffer s s
 none_served settings at_once buffer s =
     let u = none settings (bounds_of at_once buffer) in
     let h = with_held nothing_held s in
@@ -72,7 +72,7 @@ none_served settings at_once buffer s =
 
 pub not_begun : (settings : Settings) (limits : Limits) (f : Failure) (s s' : Kept) → Begins (Err f) s s' → ServesSpan settings limits (Failed f) s s'
 not_begun settings limits f s s' (inl same) =
-    inl (subst (λ (k : Kept). ServesAll settings limits.at_once limits.buffer s k) (sym same) (none_served settings limits.at_once limits.buffer s))
+    inl (subst (λ (k : Kept). ServesAll settings limits.at_once limits.buffer s k) (sym same.0) (none_served settings limits.at_once limits.buffer s), same.1)
 not_begun settings limits f s s' (inr lost) = inr lost
 
 -- ---- both ends of it

@@ -5,6 +5,9 @@ use Rattle.registry_model.specs.declared.settings.Settings.{Settings}
 use Rattle.registry_orders.specs.declared.failure.Failure.{Failure}
 use Rattle.registry_orders.specs.declared.failure.Failure.TheVariants.{OutOfMemory}
 use Rattle.registry_orders.specs.declared.limits.Limits.{Limits}
+use Rattle.registry_orders.specs.declared.options.Setup.{Setup}
+use Rattle.registry_orders.specs.declared.served.Served.{Served}
+use Rattle.registry_orders.specs.declared.served.Served.TheVariants.{Memory, Stored}
 use Rattle.registry_orders.specs.declared.tasks.Task.{Task}
 use Rattle.registry_orders.specs.declared.tasks.Task.TheVariants as task
 use Rattle.registry_orders.specs.declared.tokens.TokenSource.TheVariants.{Input}
@@ -22,6 +25,7 @@ use Rattle.registry_tasks.specs.Sending.{SendsStop}
 use Rattle.registry_tasks.specs.Telling.{TellsLine, TellsAt}
 use Rattle.registry_tasks.specs.Opened.{output_of, RunsAt, RunsTokenOrder, LacksTokenOf, RunsCheck}
 use Rattle.registry_tasks.specs.Opened.{RunsStored, EndsMigration}
+use Rattle.registry_program.specs.Memory.{ServesMemory}
 
 -- connections over sockets with these settings and within these limits, over the registry at the path, which
 -- is opened again where its storage failed
@@ -30,16 +34,29 @@ RunsServer {K} b settings limits path status o =
     (result : Result (Unit {0}) Failure) × (status ≡ status_if result)
     × ServesAddress b path (ServesAll settings limits.at_once limits.buffer) result o
 
--- what a task comes to: a registry over memory that is set up so is served; or the one at the path is, by one
--- connection or over sockets, or is taken over, or is looked at for what is wrong; or an order is carried out
--- or sent, or the line that ends a server is. What a server says on standard error is not said here
+-- the same over a registry in memory that begins so
+abbrev pub RunsMemoryServer : Settings → Limits → Setup → ℕ → Output → Type 0
+RunsMemoryServer settings limits setup status o =
+    (result : Result (Unit {0}) Failure) × (status ≡ status_if result)
+    × ServesMemory settings limits setup result o
+
+-- over the one or the other; where the registry is in memory, none is opened
+abbrev pub RunsServed : {K : Type 0} → Between K → Settings → Limits → Served → ℕ → Output → Type 0
+RunsServed {K} b settings limits (Memory setup) status o =
+    Never b × RunsMemoryServer settings limits setup status o
+RunsServed {K} b settings limits (Stored path) status o = RunsServer b settings limits path.now status o
+
+-- what a task comes to: a registry in memory that is set up so is served, or the one at the path is, by one
+-- connection or over sockets; or the latter is taken over, or is looked at for what is wrong; or an order is
+-- carried out or sent, or the line that ends a server is. What a server says on standard error is not said
+-- here
 abbrev pub RunsTask : {K : Type 0} → Acts K → Task → ℕ → Streams → Output → Type 0
 RunsTask {K} a (task.Memory setup settings) status e errors =
     DoesNothing a × RunsMemory settings setup status e errors
 RunsTask {K} a (task.Stored path settings) status e errors =
     SendsNone a × RunsStored a.openings settings path.now status e errors
-RunsTask {K} a (task.Server path address connections limits beside settings) status e errors =
-    SendsNone a × (e.left' ≡ e.left) × RunsServer a.openings settings limits path.now status (output_of e)
+RunsTask {K} a (task.Server served address connections limits beside settings) status e errors =
+    SendsNone a × (e.left' ≡ e.left) × RunsServed a.openings settings limits served status (output_of e)
 RunsTask {K} a (task.Order place order) status e errors =
     (e.left' ≡ e.left) × RunsAt a place order status (output_of e) errors
 RunsTask {K} a (task.TokenOrder place source order) status e errors =

@@ -6,13 +6,20 @@ use Rattle.registry_model.specs.Keeping.{Kept}
 use Rattle.registry_model.specs.declared.settings.Settings.{Settings}
 use Rattle.registry_opening.specs.Openings.{Between, Opening, Spans}
 use Rattle.registry_orders.specs.declared.failure.Failure.{Failure}
-use Rattle.registry_orders.specs.declared.failure.Failure.TheVariants.{StorageFailure}
+use Rattle.registry_orders.specs.declared.failure.Failure.TheVariants.{OutOfMemory, StorageFailure, ConnectionFailure}
 use Rattle.registry_orders.specs.declared.limits.Limits.{Limits}
 use Rattle.registry_orders.specs.Failures.{IsOfServing}
 use Rattle.registry_loop.specs.Together.{ServesAll}
 use Rattle.registry_tasks.specs.Sockets.{greeting, EndsAs}
 use Rattle.registry_program.specs.declared.serving.Stop.{Stop}
 use Rattle.registry_program.specs.declared.serving.Stop.TheVariants.{Over, Spent, Failed}
+
+-- why nobody is served, or nobody any more, though the storage goes on: memory is wanting, or a socket or
+-- writing failed
+abbrev pub IsOfSockets : Failure → Type 0
+IsOfSockets OutOfMemory = ⊤
+IsOfSockets ConnectionFailure = ⊤
+IsOfSockets _ = ⊥
 
 -- Connections were served together, from none on, until all had gone or the storage failed; or nobody is
 -- served, since that failed as it was asked how many repositories there are.
@@ -21,7 +28,8 @@ ServesSpan settings limits Over s s' = ServesAll settings limits.at_once limits.
 ServesSpan settings limits Spent s s' =
     ServesAll settings limits.at_once limits.buffer s s' × (s'.spent ≡ true)
 ServesSpan settings limits (Failed f) s s' =
-    ServesAll settings limits.at_once limits.buffer s s' ⊎ ((f ≡ StorageFailure) × (s'.spent ≡ true))
+    (ServesAll settings limits.at_once limits.buffer s s' × IsOfSockets f)
+    ⊎ ((f ≡ StorageFailure) × (s'.spent ≡ true))
 
 abbrev pub IsStopped : Stop → Type 0
 IsStopped (Failed f) = IsOfServing f
@@ -31,7 +39,7 @@ IsStopped _ = ⊤
 -- there are
 abbrev pub Begins : Result (Unit {0}) Failure → Kept → Kept → Type 0
 Begins (Ok v) s s' = s' ≡ s
-Begins (Err f) s s' = (s' ≡ s) ⊎ ((f ≡ StorageFailure) × (s'.spent ≡ true))
+Begins (Err f) s s' = ((s' ≡ s) × IsOfSockets f) ⊎ ((f ≡ StorageFailure) × (s'.spent ≡ true))
 
 -- the greeting is written, unless it was before
 abbrev pub Greets : Bool → Option Text → Option Text → Type 0

@@ -3,9 +3,11 @@
 //! storage fails. It knows no database.
 //!
 //! The program relies on `run_words`: which task words come to, what that does over which registries, and the
-//! exit status. `serving::serve` says so of a server alone.
+//! exit status. `serving::serve` says so of a server alone, `memory::serve_in_memory` of one over a registry
+//! in memory.
 #![tactic(auto)]
 
+pub mod memory;
 mod running;
 pub mod serving;
 

@@ -1,11 +1,13 @@
 //! What the words of a command line come to.
-ghost use Rattle.std.specs.Prelude.{◌<◌, ◌≤◌, map};
+ghost use Rattle.std.specs.Prelude.{◌≢◌, ◌<◌, ◌≤◌, map};
 ghost use Rattle.registry_opening.specs.Openings.{between};
 ghost use Rattle.registry_tasks.specs.Acts.{acts};
 ghost use Rattle.registry_tasks.specs.Program.{streams};
-ghost use Rattle.registry_program.specs.Running.{RunsServer, RunsWords, IsSparedFor, EndsTask, IsSparedBy};
-ghost use Rattle.registry_orders.specs.Outputs.{output};
+ghost use Rattle.registry_program.specs.Running.{RunsServer, RunsMemoryServer, RunsServed};
+ghost use Rattle.registry_program.specs.Running.{RunsWords, IsSparedFor, EndsTask, IsSparedBy};
+ghost use Rattle.registry_orders.specs.Outputs.{output, IsSilent};
 
+use crate::memory::serve_in_memory;
 use crate::serving::{Serving, serve};
 use registry_checking::Watch;
 use registry_model::Keeper;
@@ -13,8 +15,9 @@ use registry_opening::Opener;
 use registry_orders::cause::say_at;
 use registry_orders::failure::say;
 use registry_orders::line::read_words;
+use registry_orders::options::Setup;
 use registry_orders::unread::Told;
-use registry_orders::{Failure, Task};
+use registry_orders::{Failure, Served, Task};
 use registry_tasks::{
     Messenger, run_check, run_migration, run_order_at, run_stored, run_token_order, send_stop,
     serve_memory, tell,
@@ -42,6 +45,48 @@ fn run_server<'a, K: Keeper, O: Opener<K>, W: Write, E: Write>(
         (Ok(()), _) => 0,
         (Err(failure), Some(none)) => say_at(err, failure, none.place, none.cause),
         (Err(failure), None) => say_at(err, failure, path, opener.cause(path, failure)),
+    }
+}
+
+/// Makes a registry in memory that begins with this setup, and does the same over it.
+fn run_memory_server<'a, W: Write, E: Write>(
+    rt: &HostRuntime,
+    setup: &Setup,
+    serving: Serving<'a>,
+    out: &mut W,
+    err: &mut E,
+) -> u8
+    ensures runs { RunsMemoryServer serving.entry.settings serving.entry.limits setup.now
+        result (output (W.contents out.old) (W.contents out.new)) }
+    ensures status { result ≤ 4 }
+{
+    match serve_in_memory(rt, setup, serving, out, err) {
+        (Ok(()), _) => 0,
+        (Err(failure), Some(none)) => say_at(err, failure, none.place, none.cause),
+        (Err(failure), None) => say(err, failure),
+    }
+}
+
+/// Serves so many connections over a registry, in memory or at a path.
+fn run_server_over<'a, K: Keeper, O: Opener<K>, W: Write, E: Write>(
+    rt: &HostRuntime,
+    opener: &mut O,
+    served: Served<'a>,
+    serving: Serving<'a>,
+    out: &mut W,
+    err: &mut E,
+) -> u8
+    ensures runs { RunsServed (between K.is_honest K.kept O.opens (O.had opener.old) (O.had opener.new))
+        serving.entry.settings serving.entry.limits served.entry
+        result (output (W.contents out.old) (W.contents out.new)) }
+    ensures silent { 0 < result → result < 3
+        → IsSilent (output (W.contents out.old) (W.contents out.new)) }
+    ensures status { result ≤ 4 }
+    ensures read { result ≢ 2 }
+{
+    match served {
+        Served::Memory(setup) => run_memory_server(rt, &setup, serving, out, err),
+        Served::Stored(path) => run_server(rt, opener, path, serving, out, err),
     }
 }
 
@@ -76,7 +121,7 @@ fn run_task<K: Keeper, O: Opener<K>, M: Messenger, V: Watch, R: Read, W: Write, 
             run_stored(alloc, opener, path, settings, reader, out, err)
         }
         Task::Server {
-            path,
+            served,
             address,
             connections,
             limits,
@@ -90,7 +135,7 @@ fn run_task<K: Keeper, O: Opener<K>, M: Messenger, V: Watch, R: Read, W: Write, 
                 beside,
                 settings,
             };
-            run_server(rt, opener, path, serving, out, err)
+            run_server_over(rt, opener, served, serving, out, err)
         }
         Task::Order { place, order } => run_order_at(
             alloc, opener, messenger, place, &order, out, err,

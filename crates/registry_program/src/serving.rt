@@ -6,7 +6,7 @@ ghost use Rattle.registry_opening.specs.Openings.{between};
 ghost use Rattle.registry_orders.specs.Failures.{IsOfServing};
 ghost use Rattle.registry_orders.specs.Outputs.{output};
 ghost use Rattle.registry_tasks.specs.Sockets.{ServesAddress, greeting};
-ghost use Rattle.registry_program.specs.Serving.{ServesSpan, ServesSpans, IsStopped, Begins};
+ghost use Rattle.registry_program.specs.Serving.{ServesSpan, ServesSpans, IsOfSockets, IsStopped, Begins};
 
 use registry_holding::Holding;
 use registry_loop::{Crowd, Doors, Gathering};
@@ -58,6 +58,11 @@ fn most_staged(limits: &Limits) -> u64 {
     }
 }
 
+/// How many bytes of blobs that were read last are held: a quarter of the buffer.
+fn most_recent(limits: &Limits) -> usize {
+    (limits.buffer / 4) as usize
+}
+
 /// Serves those who gather over a keeper, beside which bodies that come are staged in memory, and gives it
 /// back.
 fn serve_gathered<K: Keeper, G: Gathering>(
@@ -75,7 +80,7 @@ fn serve_gathered<K: Keeper, G: Gathering>(
     ensures none { result.told ≡ Stop.Spent → G.callers gathering.new ≡ [] }
     ensures fails { IsStopped result.told }
 {
-    let holder = Holding::within(alloc, kept, most_staged(&limits));
+    let holder = Holding::within(alloc, kept, most_staged(&limits), most_recent(&limits));
     let mut service = Service::new(holder);
     let at_once = limits.at_once as usize;
     let told = match gathering.serve_all(alloc, &mut service, settings, at_once) {
@@ -91,7 +96,8 @@ fn serve_gathered<K: Keeper, G: Gathering>(
 
 /// Why nobody can come.
 fn of_gathering(error: io::Error) -> Failure
-    ensures { IsOfServing result }
+    ensures sockets { IsOfSockets result }
+    ensures serving { IsOfServing result }
 {
     match error.kind() {
         io::ErrorKind::OutOfMemory => Failure::OutOfMemory,
@@ -111,30 +117,30 @@ fn doors_of(listeners: Listeners, serving: Serving) -> Doors {
 
 /// Where a server listens.
 #[derive(Clone, Copy)]
-struct Binding<'a> {
+pub(crate) struct Binding<'a> {
     /// The place at which it cannot.
-    not_bound: Option<NotBound<'a>>,
+    pub(crate) not_bound: Option<NotBound<'a>>,
     /// It does, or did.
-    listens: bool,
+    pub(crate) listens: bool,
 }
 
-/// What a server is to do.
+/// What a server is to do. The path is that of its registry, or what is said in the place of one.
 #[derive(Clone, Copy)]
-struct ServeTask<'r, 'a> {
-    rt: &'r HostRuntime,
-    path: &'a str,
-    serving: Serving<'a>,
+pub(crate) struct ServeTask<'r, 'a> {
+    pub(crate) rt: &'r HostRuntime,
+    pub(crate) path: &'a str,
+    pub(crate) serving: Serving<'a>,
 }
 
 /// A server, of which nobody knows until its registry is opened.
 #[derive(Drop)]
-struct Server<'t, 'r, 'a, 'g, 'b, 'o, G: Gathering, W: Write> {
-    task: &'t ServeTask<'r, 'a>,
-    gathering: &'g mut G,
-    binding: &'b mut Binding<'a>,
-    out: &'o mut W,
+pub(crate) struct Server<'t, 'r, 'a, 'g, 'b, 'o, G: Gathering, W: Write> {
+    pub(crate) task: &'t ServeTask<'r, 'a>,
+    pub(crate) gathering: &'g mut G,
+    pub(crate) binding: &'b mut Binding<'a>,
+    pub(crate) out: &'o mut W,
     /// It was said on standard output that connections are taken.
-    greeted: bool,
+    pub(crate) greeted: bool,
 }
 
 impl<'t, 'r, 'a, 'g, 'b, 'o, G: Gathering, W: Write> Server<'t, 'r, 'a, 'g, 'b, 'o, G, W> {
@@ -274,8 +280,28 @@ fn serve_together<'a, K: Keeper, O: Opener<K>, G: Gathering, W: Write>(
     Err(Failure::StorageFailure)
 }
 
+/// Those who are to be served, of whom nobody has come yet. The error is why nobody can.
+pub(crate) fn crowd_of<'a, E: Write>(
+    rt: &'a HostRuntime,
+    serving: Serving,
+    err: &'a mut E,
+) -> Result<Crowd<'a, HostRuntime, E>, Failure>
+    ensures limits { IfOk result (λ crowd. crowd.limits ≡ serving.entry.limits) }
+    ensures none { IfOk result (λ crowd. ⟦<Crowd<'a, HostRuntime, E> as Gathering>⟧.callers crowd ≡ []) }
+    ensures sockets { IfErr result IsOfSockets }
+    ensures serving { IfErr result IsOfServing }
+{
+    let alloc = rt.alloc();
+    let outlet = Outlet::over(alloc, rt, err, STANDARD_ERROR);
+    let log = Log::new(outlet, serving.beside.log);
+    match Crowd::new(alloc, rt, rt, log, serving.limits, serving.connections) {
+        Ok(crowd) => Ok(crowd),
+        Err(error) => Err(of_gathering(error)),
+    }
+}
+
 /// Takes the socket for orders away, if the server listened there.
-fn close_orders(rt: &HostRuntime, serving: Serving, listened: bool) {
+pub(crate) fn close_orders(rt: &HostRuntime, serving: Serving, listened: bool) {
     if listened {
         stop_orders(rt, serving.beside.orders);
     }
@@ -297,12 +323,9 @@ pub fn serve<'a, K: Keeper, O: Opener<K>, W: Write, E: Write>(
         (ServesAll serving.entry.settings serving.entry.limits.at_once serving.entry.limits.buffer) result.0
         (output (W.contents out.old) (W.contents out.new)) }
 {
-    let alloc = rt.alloc();
-    let outlet = Outlet::over(alloc, rt, err, STANDARD_ERROR);
-    let log = Log::new(outlet, serving.beside.log);
-    let mut crowd = match Crowd::new(alloc, rt, rt, log, serving.limits, serving.connections) {
+    let mut crowd = match crowd_of(rt, serving, err) {
         Ok(crowd) => crowd,
-        Err(error) => return (Err(of_gathering(error)), None),
+        Err(failure) => return (Err(failure), None),
     };
     let mut binding = Binding {
         not_bound: None,

@@ -1,5 +1,6 @@
 //! Upload sessions that are opened, get bytes and end unread, with what is known of usages.
-ghost use Rattle.std.specs.Prelude.{◌≡◌, ◌+◌, true, is_some, IfOk};
+ghost use Rattle.std.specs.Prelude.{◌≡◌, ◌+◌, true, is_some, IfOk, IfSome};
+ghost use Rattle.sha2.specs.Sha256.{sha256};
 ghost use Rattle.sqlite.specs.State.{HasCleanDisk};
 ghost use Rattle.sqlite.specs.Held.{state};
 ghost use Rattle.registry_model.specs.World.{has_repo};
@@ -45,7 +46,8 @@ pub(crate) fn open_session<S: Alter>(
     opened
 }
 
-/// Puts bytes behind those of an open session; none that it has are touched.
+/// Puts bytes behind those of an open session, with their SHA-256 where it is known; none that it has are
+/// touched.
 pub(crate) fn append<S: Alter>(
     alloc: Global,
     conn: &mut Connection<S>,
@@ -53,7 +55,9 @@ pub(crate) fn append<S: Alter>(
     repo: &RepoName,
     number: u64,
     bytes: &[u8],
+    hash: Option<[u8; 32]>,
 ) -> Result<(), Fault>
+    requires hashed { IfSome hash (λ h. h ≡ sha256 bytes.now) }
     ensures made { WorldHas S.Store conn.old (λ w. is_some (session_at w repo.now number) ≡ true)
         → MakesWorld S.Store conn.old conn.new result (λ w. append w repo.now number bytes.now) }
     ensures memory { StaysOnMemory S.Store conn.old conn.new result }
@@ -69,7 +73,7 @@ pub(crate) fn append<S: Alter>(
         added: bytes.len() as u64,
         ..NO_CHANGE
     };
-    let made = store_writes::append(alloc, conn, repo, number, bytes);
+    let made = store_writes::append(alloc, conn, repo, number, bytes, hash);
     follow_made(known, repo, Some(longer), &made);
     made
 }

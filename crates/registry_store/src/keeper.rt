@@ -1,6 +1,7 @@
 //! The store as a keeper: each call asks the tables, and what is said of rows is said of the world. Each
 //! write is one transaction. What is known of a repository's usage follows it, or is forgotten.
-ghost use Rattle.std.specs.Prelude.{◌≡◌, ◌≤◌, ◌<◌, ◌+◌, ℤ, true, length, is_some, Ok, None, OnOk, if◌then◌else◌};
+ghost use Rattle.std.specs.Prelude.{◌≡◌, ◌≤◌, ◌<◌, ◌+◌, ℤ, true, length, is_some, Ok, None, OnOk, IfSome, if◌then◌else◌};
+ghost use Rattle.sha2.specs.Sha256.{sha256};
 ghost use Rattle.sqlite.specs.Held.{state};
 ghost use Rattle.oci_types.specs.Digest.{matches};
 ghost use Rattle.oci_types.specs.Manifest.{shown, manifest_in};
@@ -31,6 +32,7 @@ use registry_model::keeper::Found;
 use registry_model::{Grant, Keeper, Level, Quota, Usage};
 use sqlite::Alter;
 use std::alloc::Global;
+use std::rc::Rc;
 
 /// Asks the tables, unless the storage has failed, and notes where it fails now.
 macro_rules! unless_spent {
@@ -100,7 +102,7 @@ impl<S: Alter, O: Origin> Keeper for Store<S, O> {
         read!(self, level(token, repo))
     }
 
-    fn blob(&mut self, alloc: Global, repo: &RepoName, digest: &Digest) -> Found<Vec<u8>> {
+    fn blob(&mut self, alloc: Global, repo: &RepoName, digest: &Digest) -> Found<Rc<Vec<u8>>> {
         read_in!(self, alloc, blob(repo, digest))
     }
 
@@ -208,7 +210,14 @@ impl<S: Alter, O: Origin> Keeper for Store<S, O> {
         unless_spent!(self, open_session(&mut self.conn, &mut self.known, repo))
     }
 
-    fn append(&mut self, repo: &RepoName, number: u64, bytes: &[u8]) -> Result<(), Fault>
+    fn append(
+        &mut self,
+        repo: &RepoName,
+        number: u64,
+        bytes: &[u8],
+        hash: Option<[u8; 32]>,
+    ) -> Result<(), Fault>
+        requires hashed { IfSome hash (λ h. h ≡ sha256 bytes.now) }
         requires open { AsksOf S.Store O.is_ours self.old
             (λ w. is_some (session_at w repo.now number) ≡ true) }
         requires fits { AsksOf S.Store O.is_ours self.old
@@ -216,7 +225,7 @@ impl<S: Alter, O: Origin> Keeper for Store<S, O> {
         ensures { WritesOnce S.Store O.is_ours self.old self.new result
             (λ w. append w repo.now number bytes.now) }
     {
-        counted!(self, append(repo, number, bytes))
+        counted!(self, append(repo, number, bytes, hash))
     }
 
     fn finish(

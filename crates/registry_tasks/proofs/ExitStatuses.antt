@@ -1,28 +1,26 @@
 -- What exit statuses say of what was read and written, and of why the program ended.
-use Rattle.std.proofs.Common.{arith, ◌≡◌, ◌⊎◌, ◌∙◌, ◌<◌, ◌≤◌, ◌≢◌, ℕ, Bool, true, false, List, [], ◌∷◌, Result, Ok, Err, inl, inr, refl, ap, sym, subst}
-use Rattle.std.specs.Prelude.{MatchResult, ⊤, if◌then◌else◌}
+use Rattle.std.proofs.Common.{arith, ◌≡◌, ◌⊎◌, ◌∙◌, ◌<◌, ◌≤◌, ◌≢◌, ℕ, false, Result, Ok, Err, inl, inr, refl, ap, subst}
+use Rattle.std.specs.Prelude.{MatchResult, ⊤}
 use Rattle.std.specs.Io.KnownBytes.{Appends}
 use Rattle.oci_types.specs.Text.{Text}
 use Rattle.registry_http.specs.declared.ending.End.{End}
 use Rattle.registry_http.specs.declared.ending.End.TheVariants as ending
-use Rattle.registry_model.specs.World.{World, no_world, has_repo}
-use Rattle.registry_model.specs.Command.{set_repo, grant}
-use Rattle.registry_model.specs.Keeping.{State, Kept, bare}
+use Rattle.registry_model.specs.World.{World, no_world}
+use Rattle.registry_model.specs.Keeping.{Kept, bare}
 use Rattle.registry_model.specs.Doing.{keeps}
 use Rattle.registry_maps.specs.declared.map_keeper.MapKeeper.{MapKeeper}
 use Rattle.registry_maps.specs.Maps.{world_of, kept_of}
 use Rattle.registry_orders.specs.declared.failure.Failure.{Failure}
 use Rattle.registry_orders.specs.declared.failure.Failure.TheVariants as failure
 use Rattle.registry_orders.specs.declared.options.Setup.{Setup}
-use Rattle.registry_orders.specs.declared.options.RepoOption.{RepoOption}
-use Rattle.registry_orders.specs.declared.options.GrantOption.{GrantOption}
 use Rattle.registry_orders.specs.Failures.{status_of, status_if, IsOfConnection, IsOfOpening, IsOfServing}
 use Rattle.registry_orders.specs.Outputs.{Output, AppendsPart, IsSilent}
-use Rattle.registry_orders.specs.Setting.{with_repos, with_levels, levels_if, world_by, world_from, SetsUp}
+use Rattle.registry_orders.specs.Setting.{world_by, world_from, SetsUp}
 use Rattle.registry_tasks.specs.Checking.{IsOfCheck}
 use Rattle.registry_tasks.specs.Failures.{ended_as}
 use Rattle.registry_tasks.specs.Telling.{TellsLine}
 use Rattle.registry_conversation.specs.Accepting.{Streams}
+use Rattle.registry_tasks.proofs.SetupLemmas.{setup_fault, served, stopped}
 use Rattle.registry_tasks.specs.Program.{StopsFor, IsUntouched, ServesFrom, ServesMemory, RunsMemory, ServesSetUp, ServesOne, Tells}
 use Rattle.registry_model.specs.declared.settings.Settings.{Settings}
 
@@ -98,31 +96,6 @@ untouched_telling status e errors t more less = go t.1
 
 -- ---- status 2 is told of words alone
 
-there_fault : (there : Bool) (next : Result World Failure) (f : Failure) → (next ≡ Err f → status_of f ≡ 1)
-    → (if there then Err failure.RepoThere else next) ≡ Err f → status_of f ≡ 1
-there_fault true next f later e = ap status_of (sym (let same : failure.RepoThere ≡ f = cc in same))
-there_fault false next f later e = later e
-
-missing_fault : (there : Bool) (next : Result World Failure) (f : Failure) → (next ≡ Err f → status_of f ≡ 1)
-    → (if there then next else Err failure.NoRepo) ≡ Err f → status_of f ≡ 1
-missing_fault true next f later e = later e
-missing_fault false next f later e = ap status_of (sym (let same : failure.NoRepo ≡ f = cc in same))
-
-repos_fault : (os : List RepoOption) (w : World) (f : Failure) → with_repos w os ≡ Err f → status_of f ≡ 1
-repos_fault [] w f e = absurd (let x : Ok w ≡ Err f = e in cc)
-repos_fault (o ∷ os) w f e = there_fault (has_repo w o.name) (with_repos (set_repo w o.name o.quota.bytes) os) f (repos_fault os (set_repo w o.name o.quota.bytes) f) e
-
-levels_fault : (os : List GrantOption) (w : World) (f : Failure) → with_levels w os ≡ Err f → status_of f ≡ 1
-levels_fault [] w f e = absurd (let x : Ok w ≡ Err f = e in cc)
-levels_fault (o ∷ os) w f e = missing_fault (has_repo w o.name) (with_levels (grant w o.token o.name o.level) os) f (levels_fault os (grant w o.token o.name o.level) f) e
-
-setup_fault : (setup : Setup) (f : Failure) → world_by setup ≡ Err f → status_of f ≡ 1
-setup_fault setup f e = go (with_repos no_world setup.repos.items) (repos_fault setup.repos.items no_world f) e
-  where
-    go : (r : Result World Failure) → (r ≡ Err f → status_of f ≡ 1) → levels_if r setup.grants.items ≡ Err f → status_of f ≡ 1
-    go (Ok w) first e = levels_fault setup.grants.items w f e
-    go (Err x) first e = first e
-
 pub opening_status : (f : Failure) → IsOfOpening f → 3 ≤ status_of f
 opening_status f is = serving_status f (serving_of_opening f is)
 
@@ -130,26 +103,6 @@ pub opening_read : (f : Failure) → IsOfOpening f → status_of f ≢ 2
 opening_read f is two = let more : 3 ≤ status_of f = serving_status f (serving_of_opening f is) in omega arith
 
 module _ (settings : Settings) where
-  pub served : (setup : Setup) (w : World) (ended : Result (Unit {0}) Failure) (e : Streams) → world_by setup ≡ Ok w → ServesFrom settings w ended e → ServesMemory settings setup ended e
-  served setup w ended e m s = inr (subst (λ r. MatchResult r (λ w. ServesFrom settings w ended e) (λ f. StopsFor f ended e)) (sym m) s)
-
-  refused : (setup : Setup) (f : Failure) (ended : Result (Unit {0}) Failure) (e : Streams) → world_by setup ≡ Err f → StopsFor f ended e → ServesMemory settings setup ended e
-  refused setup f ended e m g = inr (subst (λ r. MatchResult r (λ w. ServesFrom settings w ended e) (λ f. StopsFor f ended e)) (sym m) g)
-
-  pub stopped : (setup : Setup) (f : Failure) (s : State) (ended : Result (Unit {0}) Failure) (e : Streams) → SetsUp (world_by setup) (Err f) s → s.spent ≡ false → StopsFor f ended e → ServesMemory settings setup ended e
-  stopped setup failure.OutOfMemory s ended e m spent g = inl g
-  stopped setup failure.StorageFailure s ended e m spent g = absurd (let x : true ≡ false = sym m ∙ spent in cc)
-  stopped setup failure.NoRepo s ended e m spent g = refused setup failure.NoRepo ended e m g
-  stopped setup failure.NoGrant s ended e m spent g = refused setup failure.NoGrant ended e m g
-  stopped setup failure.RepoThere s ended e m spent g = refused setup failure.RepoThere ended e m g
-  stopped setup failure.InvalidName s ended e m spent g = refused setup failure.InvalidName ended e m g
-  stopped setup failure.InvalidToken s ended e m spent g = refused setup failure.InvalidToken ended e m g
-  stopped setup failure.InvalidOptions s ended e m spent g = refused setup failure.InvalidOptions ended e m g
-  stopped setup (failure.Schema n) s ended e m spent g = refused setup (failure.Schema n) ended e m g
-  stopped setup failure.NotARegistry s ended e m spent g = refused setup failure.NotARegistry ended e m g
-  stopped setup failure.Damaged s ended e m spent g = refused setup failure.Damaged ended e m g
-  stopped setup failure.ConnectionFailure s ended e m spent g = refused setup failure.ConnectionFailure ended e m g
-
   -- maps that began with nothing were set up
   pub set_up_served : (setup : Setup) (ended : Result (Unit {0}) Failure) (e : Streams) (first : Kept) → first ≡ bare no_world
       → ServesSetUp {K = MapKeeper} (λ k. ⊤) (λ k. kept_of k.repos k.grants) first settings setup ended e → ServesMemory settings setup ended e
@@ -159,10 +112,11 @@ module _ (settings : Settings) where
       go : (w w' : World) (begun : Result (Unit {0}) Failure) → SetsUp (world_from first.world setup) begun (keeps w)
           → MatchResult begun (λ v. ServesOne settings ended e (bare w) (bare w')) (λ f. StopsFor f ended e) → ServesMemory settings setup ended e
       go w w' (Ok v) made serves =
-          served setup w ended e (subst (λ (x : Kept). world_from x.world setup ≡ Ok w) empty made)
+          served (λ w. ServesFrom settings w ended e) (λ f. StopsFor f ended e) setup w (subst (λ (x : Kept). world_from x.world setup ≡ Ok w) empty made)
           (record { end = serves.0; last = keeps w'; ends = serves.1; serves = serves.2 })
       go w w' (Err f) made g =
-          stopped setup f (keeps w) ended e (subst (λ (x : Kept). SetsUp (world_from x.world setup) (Err f) (keeps w)) empty made) refl g
+          stopped (λ w. ServesFrom settings w ended e) (λ f. StopsFor f ended e) setup f (keeps w)
+          (subst (λ (x : Kept). SetsUp (world_from x.world setup) (Err f) (keeps w)) empty made) refl g
 
   -- a connection over memory ends with 0 or 4
   after_serving : (end : End) (ended : Result (Unit {0}) Failure) (status : ℕ) → ended ≡ ended_as end false → status ≡ status_if ended

@@ -1,3 +1,4 @@
+pub mod SetupLemmas
 pub mod ExitStatuses
 pub mod SendingLemmas
 pub mod StatusBounds

@@ -2,6 +2,7 @@
 ghost use Rattle.std.specs.Prelude.{◌≡◌, OnOk, IfOk};
 ghost use Rattle.sqlite.specs.State.{HasCleanDisk, KeepsCommit, Survives};
 ghost use Rattle.sqlite.specs.Held.{state};
+ghost use Rattle.sha2.specs.Sha256.{sha256};
 ghost use Rattle.store_contents.specs.Contents.{IsInside, FindsOrAdds, sha256_text};
 
 use crate::add::add;
@@ -33,14 +34,36 @@ pub fn find_or_add<S: Alter>(
     ensures same_reference { tx.new.conn.ghost_name ≡ tx.old.conn.ghost_name }
     ensures survives { Survives (state S.Store tx.old.conn.now) (state S.Store tx.new.conn.now) (λ _. ⊥) }
 {
-    let Ok(sha256) = hex::encode(alloc, Sha256::digest(bytes)) else {
-        return Err(Fault::Memory);
-    };
-    find_or_add_hashed(tx, sha256.as_str(), bytes)
+    find_or_add_with(alloc, tx, Sha256::digest(bytes), bytes)
 }
 
-/// As `find_or_add`, with the SHA-256 of the bytes as 64 lower-case hexadecimal digits, so that bytes
-/// which a caller has hashed are not hashed again.
+/// As `find_or_add`, with the SHA-256 of the bytes (FIPS 180-4), so that bytes which a caller has hashed are
+/// not hashed again.
+pub fn find_or_add_with<S: Alter>(
+    alloc: Global,
+    tx: &mut Transaction<'_, S>,
+    hash: [u8; 32],
+    bytes: &[u8],
+) -> Result<ContentId, Fault>
+    requires hashed { hash ≡ sha256 bytes.now }
+    ensures content { HasCleanDisk (state S.Store tx.new.conn.now) → IsInside (state S.Store tx.old.conn.now)
+        → IfOk result
+        (λ it. FindsOrAdds (state S.Store tx.old.conn.now).now (state S.Store tx.new.conn.now).now it.id
+        bytes.now) }
+    ensures inside { HasCleanDisk (state S.Store tx.new.conn.now) → IsInside (state S.Store tx.old.conn.now)
+        → OnOk result (IsInside (state S.Store tx.new.conn.now)) }
+    ensures kept { HasCleanDisk (state S.Store tx.new.conn.now) → IsInside (state S.Store tx.old.conn.now)
+        → KeepsCommit (state S.Store tx.old.conn.now) (state S.Store tx.new.conn.now) }
+    ensures same_reference { tx.new.conn.ghost_name ≡ tx.old.conn.ghost_name }
+    ensures survives { Survives (state S.Store tx.old.conn.now) (state S.Store tx.new.conn.now) (λ _. ⊥) }
+{
+    let Ok(text) = hex::encode(alloc, hash) else {
+        return Err(Fault::Memory);
+    };
+    find_or_add_hashed(tx, text.as_str(), bytes)
+}
+
+/// The same with the SHA-256 as 64 lower-case hexadecimal digits.
 pub fn find_or_add_hashed<S: Alter>(
     tx: &mut Transaction<'_, S>,
     sha256: &str,

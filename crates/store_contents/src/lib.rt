@@ -16,7 +16,7 @@ mod search;
 pub use content_id::ContentId;
 pub use fault::{done, fault_of, told};
 pub use hashed::is_hashed;
-pub use keep::{find_or_add, find_or_add_hashed};
+pub use keep::{find_or_add, find_or_add_hashed, find_or_add_with};
 pub use listing::unlinked;
 pub use read::{bytes_of, read_bytes};
 pub use removal::remove;

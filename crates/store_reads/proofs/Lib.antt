@@ -17,3 +17,4 @@ pub mod RepoLists
 pub mod DeletionTurns
 pub mod ForetoldDeletions
 pub mod DeletedRows
+pub mod SharedReads

@@ -1,14 +1,18 @@
 //! The blobs of repositories.
-ghost use Rattle.std.specs.Prelude.{◌≡◌};
+ghost use Rattle.std.specs.Prelude.{◌≡◌, ℕ, Vec, Option, Ok, IfOk};
+ghost use Rattle.std.specs.declared.alloc.Global.{Global};
 ghost use Rattle.registry_model.specs.Lookups.{blob_at, blob_size_at, blob_digests_at};
-ghost use Rattle.registry_model.specs.Keeping.{bytes_in, digests_shown};
+ghost use Rattle.registry_model.specs.Keeping.{bytes_in, shared_in, digests_shown};
 ghost use Rattle.store_statements.specs.Between.{Keeps, Stays, Tells};
 ghost use Rattle.store_statements.specs.Clauses.{Lasts};
+ghost use Rattle.store_statements.specs.Held.{is_storage};
 
 use crate::contents::content;
 use oci_types::{Digest, Fault, RepoName};
+use registry_model::share;
 use sqlite::{Alter, Connection};
 use std::alloc::Global;
+use std::rc::Rc;
 use store_statements::blobs::{find_blob_link, list_blob_digests};
 
 /// The length of a blob in bytes. Reads no blob.
@@ -29,8 +33,23 @@ pub fn blob_size<S: Alter>(
     }
 }
 
+/// What was read, so that several may hold it.
+fn shared(alloc: Global, read: Result<Option<Vec<u8>>, Fault>) -> Result<Option<Rc<Vec<u8>>>, Fault>
+    ensures found { IfOk result (λ v. (b : Option (Vec ℕ Global)) × (read ≡ Ok b)
+        × (shared_in v ≡ bytes_in b)) }
+    ensures storage { is_storage result ≡ is_storage read }
+{
+    match read {
+        Ok(bytes) => match share(alloc, bytes) {
+            Ok(bytes) => Ok(bytes),
+            Err(_) => Err(Fault::Memory),
+        },
+        Err(fault) => Err(fault),
+    }
+}
+
 /// The bytes of a blob.
-pub fn blob<S: Alter>(
+fn blob_bytes<S: Alter>(
     alloc: Global,
     conn: &mut Connection<S>,
     repo: &RepoName,
@@ -49,6 +68,22 @@ pub fn blob<S: Alter>(
         Ok(None) => Ok(None),
         Err(fault) => Err(fault),
     }
+}
+
+/// The bytes of a blob, so that several may hold them.
+pub fn blob<S: Alter>(
+    alloc: Global,
+    conn: &mut Connection<S>,
+    repo: &RepoName,
+    digest: &Digest,
+) -> Result<Option<Rc<Vec<u8>>>, Fault>
+    ensures found { Tells S.Store conn.old conn.new result
+        (λ w v. shared_in v ≡ blob_at w repo.now digest.now) }
+    ensures settled { Stays S.Store conn.old conn.new result }
+    ensures survives { Lasts S.Store conn.old conn.new }
+{
+    let read = blob_bytes(alloc, conn, repo, digest);
+    shared(alloc, read)
 }
 
 /// The digests of a repository's blobs, in byte order. Reads no blob.

@@ -1,5 +1,6 @@
 //! Bytes that are kept once, as links and pieces name them.
-ghost use Rattle.std.specs.Prelude.{◌≡◌, true, IfOk};
+ghost use Rattle.std.specs.Prelude.{◌≡◌, true, IfOk, IfSome};
+ghost use Rattle.sha2.specs.Sha256.{sha256};
 ghost use Rattle.sqlite.specs.State.{HasCleanDisk};
 ghost use Rattle.sqlite.specs.Held.{state};
 ghost use Rattle.oci_types.specs.Digest.{matches};
@@ -13,7 +14,7 @@ use crate::open_check::checked_fault;
 use oci_types::Fault;
 use sqlite::{Alter, Connection, Transaction};
 use std::alloc::Global;
-use store_contents::{ContentId, find_or_add, find_or_add_hashed, is_hashed};
+use store_contents::{ContentId, find_or_add, find_or_add_hashed, find_or_add_with, is_hashed};
 
 /// The content that has the bytes: it was there, or it is added.
 pub fn keep<S: Alter>(
@@ -31,6 +32,29 @@ pub fn keep<S: Alter>(
     ensures survives { LastsUncommitted S.Store tx.old.conn.now tx.new.conn.now }
 {
     find_or_add(alloc, tx, bytes)
+}
+
+/// As `keep`, with the SHA-256 of the bytes, where it is known: then they are not hashed again.
+pub fn keep_with<S: Alter>(
+    alloc: Global,
+    tx: &mut Transaction<'_, S>,
+    hash: Option<[u8; 32]>,
+    bytes: &[u8],
+) -> Result<ContentId, Fault>
+    requires hashed { IfSome hash (λ h. h ≡ sha256 bytes.now) }
+    ensures content { HasCleanDisk (state S.Store tx.new.conn.now) → IsReady (state S.Store tx.old.conn.now)
+        → IfOk result
+        (λ it. IsReady (state S.Store tx.new.conn.now) × ContentKept
+        (held (state S.Store tx.old.conn.now)) (held (state S.Store tx.new.conn.now)) it.id
+        bytes.now) }
+    ensures kept { KeepsInside S.Store tx.old.conn.now tx.new.conn.now }
+    ensures same_reference { tx.new.conn.ghost_name ≡ tx.old.conn.ghost_name }
+    ensures survives { LastsUncommitted S.Store tx.old.conn.now tx.new.conn.now }
+{
+    match hash {
+        Some(hash) => find_or_add_with(alloc, tx, hash, bytes),
+        None => find_or_add(alloc, tx, bytes),
+    }
 }
 
 /// As `keep`, with a digest that the bytes match: one of sha256 spares hashing them again.

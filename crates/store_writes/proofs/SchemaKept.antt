@@ -18,7 +18,7 @@ links_gone name (digest ∷ digests) t = links_gone name digests (blobs_without 
 
 session_kept : (change : SessionChange) (t u : Tables) → SessionMakes change t u → u.beside ≡ t.beside
 session_kept (Open repo number) t u it = ap (λ (x : Tables). x.beside) it.others
-session_kept (Append alloc repo number size bytes) t u it = ap (λ (x : Tables). x.beside) it.others
+session_kept (Append alloc repo number size bytes hash) t u it = ap (λ (x : Tables). x.beside) it.others
 session_kept (Finish alloc repo number digest bytes) t u it = ap (λ (x : Tables). x.beside) it.others
 session_kept (Link repo number digest link) t u it = ap (λ (x : Tables). x.beside) it.others
 session_kept (Take repo number) t u it = ap (λ (x : Tables). x.beside) it

@@ -1,5 +1,6 @@
 //! Bytes come behind those of an open upload session.
-ghost use Rattle.std.specs.Prelude.{◌≡◌, ◌<◌, ◌+◌, ◌^◌, true, length, find, is_some, None, Some, Ok, Err, IfOk, IfErr};
+ghost use Rattle.std.specs.Prelude.{◌≡◌, ◌<◌, ◌+◌, ◌^◌, true, length, find, is_some, None, Some, Ok, Err, IfOk, IfErr, IfSome};
+ghost use Rattle.sha2.specs.Sha256.{sha256};
 ghost use Rattle.registry_model.specs.Lookups.{append, session_at};
 ghost use Rattle.store_statements.specs.Keys.{has_start};
 ghost use Rattle.store_statements.specs.StepsFrom.{StepsFrom};
@@ -14,12 +15,12 @@ use crate::session_change::SessionChange;
 use oci_types::{Fault, RepoName};
 use sqlite::{Alter, Connection, Transaction};
 use std::alloc::Global;
-use store_statements::contents::keep;
+use store_statements::contents::keep_with;
 use store_statements::numbers::{LARGEST, has_room};
 use store_statements::pieces::add_piece;
 use store_statements::uploads::{find_upload, set_size};
 
-/// Puts bytes behind those of a session that has `size` bytes.
+/// Puts bytes behind those of a session that has `size` bytes, with their SHA-256 where it is known.
 pub(crate) fn add_bytes<S: Alter>(
     alloc: Global,
     tx: &mut Transaction<'_, S>,
@@ -27,7 +28,9 @@ pub(crate) fn add_bytes<S: Alter>(
     number: u64,
     size: u64,
     bytes: &[u8],
+    hash: Option<[u8; 32]>,
 ) -> Result<(), Fault>
+    requires hashed { IfSome hash (λ h. h ≡ sha256 bytes.now) }
     requires number_fits { number < 2 ^ 63 }
     requires fits { size + length bytes.now < 2 ^ 63 }
     ensures appended { StepsFrom S.Store tx.old.conn.now tx.new.conn.now result
@@ -38,7 +41,7 @@ pub(crate) fn add_bytes<S: Alter>(
     ensures survives { LastsUncommitted S.Store tx.old.conn.now tx.new.conn.now }
 {
     match set_size(tx, repo, number, size + bytes.len() as u64) {
-        Ok(_) => match keep(alloc, tx, bytes) {
+        Ok(_) => match keep_with(alloc, tx, hash, bytes) {
             Ok(content) => add_piece(tx, repo, number, size, bytes.len() as u64, content),
             Err(fault) => Err(fault),
         },
@@ -59,14 +62,17 @@ fn with_room(found: Result<Option<u64>, Fault>, more: u64) -> Result<u64, Fault>
     }
 }
 
-/// Puts bytes behind those of an open session; none that it has are touched.
+/// Puts bytes behind those of an open session, with their SHA-256 where it is known; none that it has are
+/// touched.
 pub fn append<S: Alter>(
     alloc: Global,
     conn: &mut Connection<S>,
     repo: &RepoName,
     number: u64,
     bytes: &[u8],
+    hash: Option<[u8; 32]>,
 ) -> Result<(), Fault>
+    requires hashed { IfSome hash (λ h. h ≡ sha256 bytes.now) }
     ensures made { WorldHas S.Store conn.old (λ w. is_some (session_at w repo.now number) ≡ true)
         → MakesWorld S.Store conn.old conn.new result (λ w. append w repo.now number bytes.now) }
     ensures grows { Relates S.Store conn.old conn.new result (λ t u. Grow t.contents u.contents) }
@@ -93,6 +99,7 @@ pub fn append<S: Alter>(
                 number,
                 size,
                 bytes,
+                hash,
             }),
         ),
         Err(fault) => Err(fault),

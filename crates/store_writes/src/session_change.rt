@@ -11,13 +11,14 @@ pub(crate) enum SessionChange<'a> {
         repo: &'a str,
         number: u64,
     },
-    /// Bytes come behind those of a session that has `size` bytes.
+    /// Bytes come behind those of a session that has `size` bytes, with their SHA-256 where it is known.
     Append {
         alloc: Global,
         repo: &'a str,
         number: u64,
         size: u64,
         bytes: &'a [u8],
+        hash: Option<[u8; 32]>,
     },
     /// A session ends, and a blob comes that the repository has not.
     Finish {

@@ -32,7 +32,8 @@ pub(crate) fn change_session<S: Alter>(
             number,
             size,
             bytes,
-        } => add_bytes(alloc, tx, repo, number, size, bytes),
+            hash,
+        } => add_bytes(alloc, tx, repo, number, size, bytes, hash),
         SessionChange::Finish {
             alloc,
             repo,

@@ -7,6 +7,10 @@ use oci_types::{Digest, Fault, Kind, Manifest, RepoName, Tag, Token};
 use registry_model::keeper::Found;
 use registry_model::{Grant, Keeper, Level, Quota, Usage};
 use std::alloc::Global;
+use std::rc::Rc;
+
+/// From how many bytes on those of a blob are known while somebody holds them.
+const MANY: usize = 65_536;
 
 impl<K: Keeper> Keeper for Holding<K> {
     ghost kept = { λ h. holding h.stages.map h.pins.map (K.kept h.keeper) };
@@ -37,8 +41,21 @@ impl<K: Keeper> Keeper for Holding<K> {
         self.keeper.level(token, repo)
     }
 
-    fn blob(&mut self, alloc: Global, repo: &RepoName, digest: &Digest) -> Found<Vec<u8>> {
-        self.keeper.blob(alloc, repo, digest)
+    /// The bytes that somebody holds, where the blob was read and has not changed since.
+    fn blob(&mut self, alloc: Global, repo: &RepoName, digest: &Digest) -> Found<Rc<Vec<u8>>> {
+        if self.keeper.spent() {
+            return Err(Fault::Storage);
+        }
+        if let Some(bytes) = self.shared.find(repo, digest) {
+            return Ok(Some(bytes));
+        }
+        let found = self.keeper.blob(alloc, repo, digest);
+        if let Ok(Some(bytes)) = &found {
+            if bytes.len() >= MANY {
+                self.shared.note(repo, digest, bytes);
+            }
+        }
+        found
     }
 
     fn blob_size(&mut self, repo: &RepoName, digest: &Digest) -> Found<u64> {
@@ -133,8 +150,14 @@ impl<K: Keeper> Keeper for Holding<K> {
         self.keeper.open_session(repo)
     }
 
-    fn append(&mut self, repo: &RepoName, number: u64, bytes: &[u8]) -> Result<(), Fault> {
-        self.keeper.append(repo, number, bytes)
+    fn append(
+        &mut self,
+        repo: &RepoName,
+        number: u64,
+        bytes: &[u8],
+        hash: Option<[u8; 32]>,
+    ) -> Result<(), Fault> {
+        self.keeper.append(repo, number, bytes, hash)
     }
 
     fn finish(
@@ -172,10 +195,12 @@ impl<K: Keeper> Keeper for Holding<K> {
     }
 
     fn delete_blob(&mut self, repo: &RepoName, digest: &Digest) -> Result<(), Fault> {
+        self.shared.forget();
         self.keeper.delete_blob(repo, digest)
     }
 
     fn delete_blobs(&mut self, repo: &RepoName, digests: &[Digest]) -> Result<(), Fault> {
+        self.shared.forget();
         self.keeper.delete_blobs(repo, digests)
     }
 
@@ -192,6 +217,7 @@ impl<K: Keeper> Keeper for Holding<K> {
     }
 
     fn drop_repo(&mut self, name: &RepoName) -> Result<(), Fault> {
+        self.shared.forget();
         self.keeper.drop_repo(name)
     }
 

@@ -44,6 +44,7 @@ append-requires g c =
     let name = c.args.name.now in
     let same = λ (honest : g.K.Keeper.is_honest c.goes_over.new.keeper). (told_this (λ (b : Bool). b) c.goes_over.result false (grows_over_at s.world name (length c.args.body.now) 0) s mid c.in-Ok.ensures (c.goes_over.ensures.found honest)).1 in
     record {
+      hashed = tt;
       «open» = λ honest unspent. open_there s mid name c.args.upload (same honest) (c.requires.open (c.goes_over.ensures.honest honest));
       fits = λ honest unspent. open_fits s mid name c.args.upload (length c.args.body.now) (same honest) (c.requires.open (c.goes_over.ensures.honest honest)) c.requires.fits;
     }

@@ -26,9 +26,9 @@ returns-in-Stored g c = record {
 
 pub returns-in-Server : goal.returns-in-Server
 returns-in-Server g c = record {
-  runs = inl ((λ two. let three = c.run_server.ensures.failed (omega arith) in omega arith), rw c.in-Server.is ((λ l had. had), refl, c.run_server.ensures.runs));
-  refused = λ more less. absurd (let three = c.run_server.ensures.failed more in omega arith);
-  status = c.run_server.ensures.status;
+  runs = inl (c.run_server_over.ensures.read, rw c.in-Server.is ((λ l had. had), refl, c.run_server_over.ensures.runs));
+  refused = λ more less. inl (record { left = refl; held = c.run_server_over.ensures.silent more (omega arith) });
+  status = c.run_server_over.ensures.status;
 }
 
 pub returns-in-Order : goal.returns-in-Order

@@ -9,7 +9,7 @@ returns-in-Err g c =
     let had = g.O.Opener.had c.args.opener.now in (
       ends_without k.is_honest k.kept g.O.Opener.opens c.args.path.now had had had _ _
           (none_so_far k.is_honest k.kept g.O.Opener.opens c.args.path.now had _) (λ l is. is),
-      c.of_gathering.ensures,
+      c.in-Err.ensures.serving,
     )
 
 pub returns : goal.returns

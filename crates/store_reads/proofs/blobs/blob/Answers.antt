@@ -1,49 +1,10 @@
-use Rattle.std.proofs.Common.{◌∙◌, None, Some, refl, ap}
-use Rattle.sqlite.specs.Held.{state}
-use Rattle.store_statements.specs.Held.{held}
-use Rattle.store_statements.proofs.Transactions.{registry, survives_all}
-use Rattle.store_reads.proofs.ReadSequences.{stays_behind, told_behind}
-use Rattle.store_reads.proofs.WorldReads.{blob_by, bytes_kept}
+use Rattle.std.proofs.Common.{◌∙◌, sym}
+use Rattle.store_reads.proofs.SharedReads.{told_shared}
 use Rattle.store_reads.proofs.blobs.blob.Goals as goal
 
-pub returns-in-Ok : goal.returns-in-Ok
-returns-in-Ok g c =
-    let old = state g.S.Store c.args.conn.now in
-    let mid = state g.S.Store c.find_blob_link.new.conn in
-    let new = state g.S.Store c.content.new.conn in
-    record {
-      found = λ clean is.
-          told_behind old mid new c.content.ensures.survives (λ early is. c.in-Ok-Some.ensures.settled early is refl) (λ early stays.
-          ap Some (bytes_kept old mid c.in-Ok-Some.link.content.id c.in-Ok.bytes.items stays.1 (c.in-Ok.ensures.found clean stays.0))
-          ∙ blob_by (held old) c.args.repo.now c.args.digest.now (registry old is) (Some c.in-Ok-Some.link)
-          (rw (c.in-Ok-Some.field-0-is, c.as_str.ensures.text, c.as_str-2.ensures.text) at (c.in-Ok-Some.ensures.found early is))) clean is;
-      settled = λ clean is unspent. stays_behind old mid new c.content.ensures.survives (λ early is. c.in-Ok-Some.ensures.settled early is refl) (λ clean is. c.in-Ok.ensures.settled clean is refl) clean is;
-      survives = survives_all old mid new _ _ c.find_blob_link.ensures.survives c.content.ensures.survives;
-    }
-
-pub returns-in-Err-content : goal.returns-in-Err-content
-returns-in-Err-content g c =
-    let old = state g.S.Store c.args.conn.now in
-    let mid = state g.S.Store c.find_blob_link.new.conn in
-    let new = state g.S.Store c.content.new.conn in
-    record {
-      found = λ clean is. tt;
-      settled = λ clean is unspent. stays_behind old mid new c.content.ensures.survives (λ early is. c.in-Ok-Some.ensures.settled early is refl) (λ clean is. c.in-Err-content.ensures.settled clean is unspent) clean is;
-      survives = survives_all old mid new _ _ c.find_blob_link.ensures.survives c.content.ensures.survives;
-    }
-
-pub returns-in-Ok-None : goal.returns-in-Ok-None
-returns-in-Ok-None g c = record {
-  found = λ clean is.
-      blob_by (held (state g.S.Store c.args.conn.now)) c.args.repo.now c.args.digest.now (registry (state g.S.Store c.args.conn.now) is) None
-      (rw (c.in-Ok-None.field-0-is, c.as_str.ensures.text, c.as_str-2.ensures.text) at (c.in-Ok-None.ensures.found clean is));
-  settled = c.in-Ok-None.ensures.settled;
-  survives = c.find_blob_link.ensures.survives;
-}
-
-pub returns-in-Err : goal.returns-in-Err
-returns-in-Err g c = record {
-  found = λ clean is. tt;
-  settled = λ clean is unspent. c.in-Err.ensures.settled clean is unspent;
-  survives = c.find_blob_link.ensures.survives;
+pub returns : goal.returns
+returns g c = record {
+  found = λ clean is. told_shared c.blob_bytes-read.result c.shared.result _ c.shared.ensures.found (c.blob_bytes-read.ensures.found clean is);
+  settled = λ clean is unfailed. c.blob_bytes-read.ensures.settled clean is (sym c.shared.ensures.storage ∙ unfailed);
+  survives = c.blob_bytes-read.ensures.survives;
 }

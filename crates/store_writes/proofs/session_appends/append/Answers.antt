@@ -29,7 +29,7 @@ pub find_upload-requires : goal.find_upload-requires
 find_upload-requires g c = record { fits = not_above c.args.number c.if-number-gt-LARGEST.false }
 
 pub make-requires : goal.make-requires
-make-requires g c = record { fits = (not_above c.args.number c.if-number-gt-LARGEST.false, c.in-Ok.ensures.room) }
+make-requires g c = record { fits = (not_above c.args.number c.if-number-gt-LARGEST.false, c.in-Ok.ensures.room, c.requires.hashed) }
 
 pub returns-then-is_empty : goal.returns-then-is_empty
 returns-then-is_empty g c = record {

@@ -4,7 +4,7 @@ pub add_session-requires : goal.add_session-requires
 add_session-requires g c = record { fits = rw c.in-Open.is at c.requires.fits }
 
 pub add_bytes-requires : goal.add_bytes-requires
-add_bytes-requires g c = let fits = rw c.in-Append.is at c.requires.fits in record { number_fits = fits.0; fits = fits.1 }
+add_bytes-requires g c = let fits = rw c.in-Append.is at c.requires.fits in record { hashed = fits.2; number_fits = fits.0; fits = fits.1 }
 
 pub end_session-requires : goal.end_session-requires
 end_session-requires g c = let fits = rw c.in-Finish.is at c.requires.fits in record { number_fits = fits.0; matching = fits.1; fits = fits.2 }

@@ -1,5 +1,6 @@
 use Rattle.registry_holding.specs.Shown.{held_in}
 use Rattle.registry_holding.proofs.HoldingLemmas.{written_held, spends_held}
+use Rattle.registry_holding.proofs.BlobsStay.{shared_written}
 use Rattle.registry_holding.proofs.holding.keeper.HoldingKeeper.clear.Goals as goal
 
 pub returns : goal.returns
@@ -11,4 +12,12 @@ returns g c =
       made = λ honest. written_held h c.clear.result _ k l (c.clear.ensures.made honest);
       spends = spends_held h c.clear.result k l c.clear.ensures.spends;
       honest = c.clear.ensures.honest;
+    }
+
+pub invariant_of-self : goal.invariant_of-self
+invariant_of-self g c =
+    let k = g.K.Keeper.kept c.args.self.now.keeper in
+    record {
+      shares = shared_written c.args.self.now.shared.map (g.K.Keeper.is_honest c.args.self.now.keeper) (g.K.Keeper.is_honest c.clear.new.self) k (g.K.Keeper.kept c.clear.new.self) c.clear.ensures.honest c.args.self.now.shares
+          c.clear.result _ (λ name digest bytes at. at) c.clear.ensures.made c.clear.ensures.spends;
     }

@@ -4,7 +4,7 @@ use Rattle.registry_orders.specs.declared.options.GrantOption.{GrantOption}
 use Rattle.registry_model.specs.Keeping.{state_of}
 use Rattle.registry_orders.specs.Setting.{with_levels}
 use Rattle.registry_orders.proofs.SettingLemmas.{level_given, level_told}
-use Rattle.registry_tasks.proofs.stdio.give_levels.Goals as goal
+use Rattle.registry_tasks.proofs.setting_up.give_levels.Goals as goal
 
 pub loop-grant-init : goal.loop-grant-init
 loop-grant-init g c = record { honest = λ h. h; so_far = λ h. refl }

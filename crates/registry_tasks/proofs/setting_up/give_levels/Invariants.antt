@@ -1,6 +1,6 @@
 use Rattle.std.proofs.Common.{◌≡◌, drop}
 use Rattle.registry_orders.specs.Setting.{with_levels}
-use Rattle.registry_tasks.proofs.stdio.give_levels.Given as goal
+use Rattle.registry_tasks.proofs.setting_up.give_levels.Given as goal
 
 -- the levels that are left make of this world what all make of the first
 abbrev pub invariant-loop-grant : goal.invariant-loop-grant

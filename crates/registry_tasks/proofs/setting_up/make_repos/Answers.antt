@@ -4,7 +4,7 @@ use Rattle.registry_orders.specs.declared.options.RepoOption.{RepoOption}
 use Rattle.registry_model.specs.Keeping.{state_of}
 use Rattle.registry_orders.specs.Setting.{with_repos}
 use Rattle.registry_orders.proofs.SettingLemmas.{repo_made, repo_told}
-use Rattle.registry_tasks.proofs.stdio.make_repos.Goals as goal
+use Rattle.registry_tasks.proofs.setting_up.make_repos.Goals as goal
 
 pub loop-repo-init : goal.loop-repo-init
 loop-repo-init g c = record { honest = λ h. h; so_far = λ h. refl }

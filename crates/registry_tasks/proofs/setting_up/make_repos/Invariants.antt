@@ -1,6 +1,6 @@
 use Rattle.std.proofs.Common.{◌≡◌, drop}
 use Rattle.registry_orders.specs.Setting.{with_repos}
-use Rattle.registry_tasks.proofs.stdio.make_repos.Given as goal
+use Rattle.registry_tasks.proofs.setting_up.make_repos.Given as goal
 
 -- the repositories that are left make of this world what all make of the first
 abbrev pub invariant-loop-repo : goal.invariant-loop-repo
