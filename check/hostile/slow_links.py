@@ -17,7 +17,8 @@ MIB = 1 << 20
 # MiB of each; fewer do not, even where it takes none.
 BUFFER = "--buffer", str(128 * MIB)
 BODY, PULLS = hashlib.shake_256(b"large").digest(27 * MIB), 3
-GET = request("GET", f"{AT}/blobs/{digest(BODY)}")
+# (who pulls a blob that another pulls has its bytes at once: one that nobody else pulls)
+ALONE = hashlib.shake_256(b"alone").digest(27 * MIB)
 SMALL = request("GET", "/v2/")
 # so long one who takes nothing is borne where replies fill their room, and so much later others are answered
 BORNE, LATER = 15, 4
@@ -25,13 +26,14 @@ CUT = "cut off"
 
 
 def filled(room):
-    """A file that has the blob."""
+    """A file that has the two blobs."""
     db = prepared(room, "links")
     server = Server(db, stderr=subprocess.DEVNULL)
-    with server.connect() as connection:
-        reply = answer(connection, push(BODY))
+    for body in (BODY, ALONE):
+        with server.connect() as connection:
+            reply = answer(connection, push(body))
+        say(reply is not None and reply[0] == 201, f"a blob of {len(body) // MIB} MiB is pushed")
     server.kill()
-    say(reply is not None and reply[0] == 201, f"a blob of {len(BODY) // MIB} MiB is pushed")
     return db
 
 
@@ -48,15 +50,15 @@ class Slow:
         with open(self.path, encoding="utf-8", errors="replace") as it:
             return [line for line in it if CUT in line]
 
-    def pulls(self, count):
-        """So many connections that take little at once, on which the blob is asked for."""
+    def pulls(self, count, body=BODY):
+        """So many connections that take little at once, on which a blob is asked for."""
         connections = []
         for _ in range(count):
             it = socket.socket()
             it.setsockopt(socket.SOL_SOCKET, socket.SO_RCVBUF, 65_536)
             it.settimeout(SECONDS)
             it.connect(("127.0.0.1", self.server.port))
-            it.sendall(GET)
+            it.sendall(request("GET", f"{AT}/blobs/{digest(body)}"))
             connections.append(it)
         return connections
 
@@ -72,19 +74,19 @@ def begin(pulls):
     return [it.recv(1) for it in pulls]
 
 
-def rest_of(connection):
+def rest_of(connection, body=BODY):
     """What comes until the reply is whole or the connection ends."""
     had = bytearray()
     try:
-        while not had.endswith(BODY[-64:]) and (more := connection.recv(MIB)):
+        while not had.endswith(body[-64:]) and (more := connection.recv(MIB)):
             had += more
     except OSError:
         pass
     return bytes(had)
 
 
-def is_whole(reply):
-    return reply.startswith(b"HTTP/1.1 200 ") and reply.endswith(b"\r\n\r\n" + BODY)
+def is_whole(reply, body=BODY):
+    return reply.startswith(b"HTTP/1.1 200 ") and reply.endswith(b"\r\n\r\n" + body)
 
 
 def is_answered(connection):
@@ -146,13 +148,14 @@ def make_slowly(db, refusing):
     deaf = slow.pulls(PULLS - 1)
     begin(deaf)
     os.write(say_wait, bytes([seconds]))
-    (pull,), other, start = slow.pulls(1), slow.asks(), time.monotonic()
+    (pull,), other, start = slow.pulls(1, ALONE), slow.asks(), time.monotonic()
     (first,) = begin([pull])
     took = time.monotonic() - start
     time.sleep(3)
-    reply = first + rest_of(pull)
+    reply = first + rest_of(pull, ALONE)
     what = f"a reply that took {took:.0f} s to make, beside {len(deaf)} that nobody takes, is whole"
-    yield is_whole(reply) and took >= seconds, f"{what}, though it is taken only some seconds later", sizes_of([reply])
+    whole = is_whole(reply, ALONE) and took >= seconds
+    yield whole, f"{what}, though it is taken only some seconds later", sizes_of([reply])
     yield is_answered(other), "another who asks has its reply"
     slow.server.kill()
     for it in (waits, say_wait):
