@@ -22,7 +22,7 @@ abbrev pub AreApart : ℕ → ℕ → ℕ → ℕ → Type 0
 AreApart a n b m = (a + n ≤ b) ⊎ (b + m ≤ a)
 
 -- how many bytes several extents have together
-pub total_of : List Extent → ℕ
+abbrev pub total_of : List Extent → ℕ
 total_of [] = 0
 total_of (e ∷ es) = e.size + total_of es
 
@@ -31,7 +31,7 @@ abbrev pub bytes_of : List ℕ → Extent → List ℕ
 bytes_of file e = slice_range file e.at (e.at + e.size)
 
 -- the bytes of a content, which stand at its extents, one behind the other
-pub bytes_at : List ℕ → List Extent → List ℕ
+abbrev pub bytes_at : List ℕ → List Extent → List ℕ
 bytes_at file [] = []
 bytes_at file (e ∷ es) = bytes_of file e ++ bytes_at file es
 

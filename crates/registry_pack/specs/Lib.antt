@@ -1,2 +1,7 @@
 pub mod Extents
 pub mod Standing
+pub mod Content
+pub mod Heads
+pub mod Holes
+pub mod Joining
+pub mod Space

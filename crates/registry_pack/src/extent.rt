@@ -4,8 +4,8 @@ ghost use Rattle.std.specs.Prelude.{◌≡◌, ◌+◌, ◌<◌, ◌^◌, IfSome
 /// The last offset that an extent may reach: the largest number of a column of the database.
 const LAST: usize = 9_223_372_036_854_775_807;
 
-/// So many bytes of the pack, from this offset on. They end at most at 9,223,372,036,854,775,807, so that both
-/// numbers fit a column of the database.
+/// So many bytes of the pack, from this offset on. They end at most at 9,223,372,036,854,775,807, so that
+/// both numbers fit a column of the database.
 #[derive(Clone, Copy, Debug, PartialEq, Eq)]
 pub struct Extent {
     at: usize,

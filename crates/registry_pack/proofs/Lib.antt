@@ -1,0 +1,14 @@
+pub mod ExtentLemmas
+pub mod RangeLemmas
+pub mod StandingLemmas
+pub mod ContentLemmas
+pub mod HeadLemmas
+pub mod FreeLemmas
+pub mod PointLemmas
+pub mod JoinLemmas
+pub mod SpaceLemmas
+pub mod TakeLemmas
+pub mod RunLemmas
+pub mod TrimLemmas
+pub mod TotalLemmas
+pub mod ApartLemmas
