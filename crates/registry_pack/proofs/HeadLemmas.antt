@@ -13,7 +13,7 @@ use Rattle.registry_pack.specs.Extents.{AreApart}
 use Rattle.registry_pack.specs.Standing.{Lasts, KeepsElsewhere}
 use Rattle.registry_pack.specs.declared.head.Head.{Head}
 use Rattle.registry_pack.specs.declared.head.HeadCopy.{HeadCopy}
-use Rattle.registry_pack.specs.Heads.{Says, head_bytes, head_text, offset_of, signed_bytes}
+use Rattle.registry_pack.specs.Heads.{OneStands, Says, head_bytes, head_text, offset_of, signed_bytes}
 use Rattle.registry_pack.proofs.RangeLemmas.{range_is}
 
 pub length-signed_bytes : (h : Head) → length (signed_bytes h) ≡ 43
@@ -103,3 +103,6 @@ pub Lasts-head_elsewhere : {D : Type 0} (g : Ghosts D) (old new : D) (at n : ℕ
     → AreApart at n (offset_of copy) 75 → Lasts g old (offset_of copy) (head_bytes h) → Lasts g new (offset_of copy) (head_bytes h)
 Lasts-head_elsewhere g old new at n copy h others apart =
     others.lasts (offset_of copy) (head_bytes h) (subst (AreApart at n (offset_of copy)) (sym (length-head_bytes h)) apart)
+
+pub OneStands-same : {D : Type 0} (g : Ghosts D) (old new : D) (h k : Head) → h.mark ≡ k.mark → h.age ≡ k.age → OneStands g old new k → OneStands g old new h
+OneStands-same g old new h k mark age stands = subst (λ (x : Head). OneStands g old new x) (sym (Head-same h k mark age)) stands

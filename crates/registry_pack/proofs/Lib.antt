@@ -12,3 +12,7 @@ pub mod RunLemmas
 pub mod TrimLemmas
 pub mod TotalLemmas
 pub mod ApartLemmas
+pub mod OutcomeLemmas
+pub mod BlockLemmas
+pub mod InUseLemmas
+pub mod OpeningLemmas

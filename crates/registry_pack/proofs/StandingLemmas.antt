@@ -201,3 +201,46 @@ module _ {D : Type 0} (g : Ghosts D) (file : D) where
   pub AreWithin-kept : (es : List Extent) → AreKept g file es → AreWithin (g.seen file) es
   AreWithin-kept [] kept = tt
   AreWithin-kept (e ∷ es) (kept, more) = (kept.within, AreWithin-kept es more)
+
+-- ---- several calls, one after the other
+
+pub KeepsElsewhere-wider : {D : Type 0} (g : Ghosts D) (old new : D) (at n low m : ℕ) → low ≤ at → at + n ≤ low + m
+    → KeepsElsewhere g at n old new → KeepsElsewhere g low m old new
+KeepsElsewhere-wider g old new at n low m le fits kept =
+    let narrow : (a k : ℕ) → AreApart low m a k → AreApart at n a k = λ a k apart. elim apart [ inl x ↦ inl (omega arith) | inr x ↦ inr (omega arith) ] in
+    record {
+      stands = λ a bytes apart. kept.stands a bytes (narrow a (length bytes) apart);
+      lasts = λ a bytes apart. kept.lasts a bytes (narrow a (length bytes) apart);
+      no_shorter = kept.no_shorter;
+      clean = kept.clean;
+    }
+
+pub KeepsElsewhere-then : {D : Type 0} (g : Ghosts D) (old mid new : D) (at n : ℕ) → KeepsElsewhere g at n old mid → KeepsElsewhere g at n mid new
+    → KeepsElsewhere g at n old new
+KeepsElsewhere-then g old mid new at n first then =
+    record {
+      stands = λ a bytes apart was. then.stands a bytes apart (first.stands a bytes apart was);
+      lasts = λ a bytes apart was. then.lasts a bytes apart (first.lasts a bytes apart was);
+      no_shorter = omega (arith, first.no_shorter, then.no_shorter);
+      clean = λ is. first.clean (then.clean is);
+    }
+
+pub Lasts-all : {D : Type 0} (g : Ghosts D) (old new : D) (a : ℕ) (bytes : List ℕ) → KeepsAll g old new → Lasts g old a bytes → Lasts g new a bytes
+Lasts-all g old new a bytes all was = record { now = rw all.seen was.now; after = λ c may. was.after c (all.crash c may) }
+
+pub KeepsElsewhere-all : {D : Type 0} (g : Ghosts D) (old new : D) (at n : ℕ) → KeepsAll g old new → KeepsElsewhere g at n old new
+KeepsElsewhere-all g old new at n all =
+    record {
+      stands = λ a bytes apart was. rw all.seen was;
+      lasts = λ a bytes apart was. Lasts-all g old new a bytes all was;
+      no_shorter = rw all.seen (omega arith);
+      clean = all.clean;
+    }
+
+pub KeepsAll-then : {D : Type 0} (g : Ghosts D) (old mid new : D) → KeepsAll g old mid → KeepsAll g mid new → KeepsAll g old new
+KeepsAll-then g old mid new first then =
+    record {
+      seen = then.seen ∙ first.seen;
+      crash = λ c may. first.crash c (then.crash c may);
+      clean = λ is. first.clean (then.clean is);
+    }

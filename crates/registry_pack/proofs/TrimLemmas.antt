@@ -85,6 +85,13 @@ module _ (xs : List Extent) (hole : Extent) (last : slice_get xs (length xs - 1)
       last_ends front hole parts_order end (λ q g. all q (subst (λ (l : List Extent). IsFree l q) (sym last_parts) g)) p e
       (subst (λ (l : List Extent). IsFree l p) last_parts f)
 
+  pub free_before_end : (p : ℕ) → IsFree xs p → p < hole.at + hole.size
+  free_before_end p f =
+      elim (free_split front (hole ∷ []) p (subst (λ (l : List Extent). IsFree l p) last_parts f)) [
+        | inl x ↦ omega (arith, below_last front hole parts_order p x)
+        | inr y ↦ elim y [ inl k ↦ omega (arith, k.1) | inr z ↦ absurd z ]
+      ]
+
 -- what `last` gave, as an element of the list
 pub at_end : (shown items : List Extent) (found : Option Extent) (hole : Extent) → shown ≡ items
     → found ≡ slice_get shown (length shown - 1) → Some hole ≡ found → slice_get items (length items - 1) ≡ Some hole

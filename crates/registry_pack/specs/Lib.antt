@@ -5,3 +5,7 @@ pub mod Heads
 pub mod Holes
 pub mod Joining
 pub mod Space
+pub mod Blocks
+pub mod Pack
+pub mod Ages
+pub mod Opening

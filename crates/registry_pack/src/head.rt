@@ -1,5 +1,5 @@
 //! The head of the pack: which database it belongs to, and its age.
-ghost use Rattle.std.specs.Prelude.{◌≡◌, ◌<◌, ◌^◌, length};
+ghost use Rattle.std.specs.Prelude.{◌≡◌, ◌+◌, ◌<◌, ◌^◌, length};
 
 use sha2::{Digest, Sha256};
 
@@ -51,6 +51,19 @@ impl HeadCopy {
 impl Head {
     ghost use Rattle.registry_pack.specs.declared.head.Head.{Head};
     ghost use Rattle.registry_pack.specs.Heads.{head_bytes, signed_bytes};
+
+    /// The head of the next age.
+    pub(crate) fn of_next_age(self) -> Head
+        requires { self.age + 1 < 2 ^ 64 }
+        ensures mark { result.mark ≡ self.mark }
+        ensures age { result.age ≡ self.age + 1 }
+    {
+        let mark = self.mark;
+        Head {
+            mark,
+            age: self.age + 1,
+        }
+    }
 
     /// The bytes that a copy's digest is of.
     fn to_signed_bytes(self) -> [u8; SIGNED]

@@ -77,6 +77,24 @@ impl Space {
         Ok(())
     }
 
+    /// What is free in this space or in the other. Takes memory for the holes of both.
+    pub fn union(&self, other: &Space) -> Result<Space, AllocError>
+        ensures { IfOk result
+            (λ space. (p : ℕ) → IsFreeIn space p ↔ (IsFreeIn self.now p ⊎ IsFreeIn other.now p)) }
+    {
+        let mut extents = Vec::new(*self.holes.allocator());
+        extents.extend_from_slice(&other.holes)?;
+        extents.extend_from_slice(&self.holes)?;
+        Space::of(extents)
+    }
+
+    /// Nothing is free from now on.
+    pub fn clear(&mut self)
+        ensures { (p : ℕ) → IsFreeIn self.new p → ⊥ }
+    {
+        self.holes.clear();
+    }
+
     /// The bytes from `from` up to `to` that are not free here. Of the space in use, that is what is free.
     pub fn gaps(&self, from: usize, to: usize) -> Result<Space, AllocError>
         requires { to < 2 ^ 63 }
@@ -130,6 +148,16 @@ impl Space {
         Some(cut(&mut self.holes, index, size))
     }
 
+    /// The offset behind the last free byte; 0 where nothing is free.
+    pub fn end(&self) -> usize
+        ensures { (p : ℕ) → IsFreeIn self.now p → p < result }
+    {
+        let Some(hole) = self.holes.last().copied() else {
+            return 0;
+        };
+        end_of(hole)
+    }
+
     /// Takes the last hole out if it ends at `end`, and gives its first offset; else gives `end`. A file that
     /// ends at `end`, with nothing free behind, may end at the result.
     pub fn trim(&mut self, end: usize) -> usize
@@ -142,10 +170,28 @@ impl Space {
         ensures cut { ((p : ℕ) → IsFreeIn self.old p → p < end)
             → (p : ℕ) → p + 1 ≡ result → IsFreeIn self.old p → ⊥ }
     {
+        self.trim_from(0, end)
+    }
+
+    /// Trims as `trim` does if the last hole begins at `from` or behind it; else gives `end`.
+    pub fn trim_from(&mut self, from: usize, end: usize) -> usize
+        ensures order { result ≤ end }
+        ensures from { result < end → from ≤ result }
+        ensures was_free { (p : ℕ) → result ≤ p → p < end → IsFreeIn self.old p }
+        ensures after { (p : ℕ)
+            → IsFreeIn self.new p ↔ (IsFreeIn self.old p × ¬ ((result ≤ p) × (p < end))) }
+        // No more could be cut.
+        ensures whole { result < end → (p : ℕ) → p + 1 ≡ result → IsFreeIn self.old p → ⊥ }
+        ensures cut { from ≡ 0 → ((p : ℕ) → IsFreeIn self.old p → p < end)
+            → (p : ℕ) → p + 1 ≡ result → IsFreeIn self.old p → ⊥ }
+    {
         let Some(hole) = self.holes.last().copied() else {
             return end;
         };
         if end_of(hole) != end {
+            return end;
+        }
+        if hole.at() < from {
             return end;
         }
         self.holes.pop();
