@@ -54,3 +54,8 @@ pub joint_by : {D : Type 0} (g : Ghosts D) (old new : State) (was is : D) → Ke
 joint_by g old new was is kept joint free (Ok x) memory lives failed = absurd (failed refl)
 joint_by g old new was is kept joint free (Err Memory) memory lives failed = joint_stayed g old was is kept joint free new (memory refl)
 joint_by g old new was is kept joint free (Err Storage) memory lives failed = absurd (lives refl)
+
+-- where it is no failure of the storage, memory was wanting
+pub wanting : (fault : Fault) (P : Type 0) → (fault ≡ Memory → P) → (◌≡◌ {A = Result ⊤ Fault} (Err fault) (Err Storage) → ⊥) → P
+wanting Memory P so lives = so refl
+wanting Storage P so lives = absurd (lives refl)

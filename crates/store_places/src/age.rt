@@ -42,7 +42,9 @@ fn set_rows<S: Alter>(conn: &mut Connection<S>, age: u64) -> Result<(), Fault>
 }
 
 /// What an error of the pack is to a caller.
-fn fault_in(error: RenewError) -> Fault {
+fn fault_in(error: RenewError) -> Fault
+    ensures { result ≡ Fault.Memory → error ≡ RenewError.Memory }
+{
     match error {
         RenewError::Memory => Fault::Memory,
         RenewError::LastAge | RenewError::Disk(_) => Fault::Storage,
@@ -88,6 +90,7 @@ pub fn raise_age<S: Alter, D: Disk>(
         (file_of pack.new)
         (λ w. IsSame w (bytes_in (state S.Store conn.old).now (D.Disk.seen (file_of pack.old)))) }
     ensures elsewhere { KeepsElsewhere D.Disk 0 8192 (file_of pack.old) (file_of pack.new) }
+    ensures usable { (result ≡ Err Fault.Storage → ⊥) → IsTrue (D.Disk.is_usable (file_of pack.new)) }
 {
     if pack.age() >= LAST - 1 {
         return Err(Fault::Storage);

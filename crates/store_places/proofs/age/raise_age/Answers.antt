@@ -1,4 +1,5 @@
 use Rattle.std.proofs.Common.{◌≡◌, ◌+◌, ◌∙◌, Err, ap, arith, refl, sym, subst}
+use Rattle.std.specs.Prelude.{IsTrue}
 use Rattle.sqlite.specs.Effect.{Database}
 use Rattle.sqlite.specs.Held.{state}
 use Rattle.registry_pack.specs.declared.head.HeadCopy.TheVariants.{First}
@@ -7,7 +8,7 @@ use Rattle.store_places.specs.Pack.{PutsPack}
 use Rattle.store_places.specs.Places.{bytes_in}
 use Rattle.store_places.specs.Joint.{IsSame}
 use Rattle.store_places.proofs.JointLemmas.{crashes_same}
-use Rattle.store_places.proofs.AgeLemmas.{crashes_aged, elsewhere_itself, joint_aged, joint_by}
+use Rattle.store_places.proofs.AgeLemmas.{crashes_aged, elsewhere_itself, joint_aged, joint_by, wanting}
 use Rattle.store_places.proofs.age.raise_age.Goals as goal
 
 pub returns-then-age-clause-crash : goal.returns-then-age-clause-crash
@@ -51,3 +52,11 @@ pub returns-in-Err-clause-crash : goal.returns-in-Err-clause-crash
 returns-in-Err-clause-crash g c clean joint says free =
     let file = file_of c.args.pack.now in
     crashes_aged g.D.Disk (state g.S.Store c.args.conn.now) file file (elsewhere_itself g.D.Disk 0 8192 file) joint free (state g.S.Store c.set_rows.new.conn) _ _ (c.set_rows.ensures.crash clean joint.settled _ _ says)
+
+pub returns-in-Err-renew-clause-usable : goal.returns-in-Err-renew-clause-usable
+returns-in-Err-renew-clause-usable g c lives =
+    wanting c.fault_in.result _
+    (λ is.
+    let same : file_of c.renew.new.self ≡ file_of c.args.pack.now = rw (c.fault_in.ensures is) at c.in-Err-renew.ensures.reason in
+    subst (λ file. IsTrue (g.D.Disk.is_usable file)) (sym same) c.requires.usable)
+    lives
